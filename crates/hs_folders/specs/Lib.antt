@@ -1,0 +1,10 @@
+pub mod Appends
+pub mod Calls
+pub mod Causes
+pub mod Changes
+pub mod FileMaps
+pub mod FileTrees
+pub mod MemFolders
+pub mod MemSinks
+pub mod MemSources
+pub mod Moments
