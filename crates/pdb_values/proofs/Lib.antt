@@ -1,0 +1,3 @@
+pub mod CivilLaws
+pub mod DateLaws
+pub mod StemLaws

@@ -1,0 +1,12 @@
+pub mod Blocks
+pub mod CivilTimes
+pub mod Contents
+pub mod Databases
+pub mod Heads
+pub mod Lending
+pub mod Names
+pub mod PalmDates
+pub mod Records
+pub mod Resources
+pub mod Stems
+pub mod Users
