@@ -1,0 +1,9 @@
+pub mod BitLaws
+pub mod BlockLaws
+pub mod EntryLaws
+pub mod FileLaws
+pub mod HeaderLaws
+pub mod NameLaws
+pub mod Numbers
+pub mod ReadLaws
+pub mod WriteLaws

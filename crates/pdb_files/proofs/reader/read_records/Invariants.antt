@@ -1,0 +1,13 @@
+use Rattle.std.proofs.Common.{◌≡◌, ◌++◌, drop, length}
+use Rattle.pdb_files.specs.Blocks.{AreInOrder, AreShort, blocks_in}
+use Rattle.pdb_files.specs.Reading.{records_of}
+use Rattle.pdb_files.proofs.reader.read_records.Given as goal
+
+abbrev pub invariant-loop-place : goal.invariant-loop-place
+invariant-loop-place l = record {
+  head : l.database ≡ record l.initial.database { records = l.database.records };
+  count : length l.database.records ≡ l.place;
+  read : l.database.records ++ records_of (drop l.place l.entries) (blocks_in (drop l.place l.begins) l.bytes) ≡ records_of l.entries (blocks_in l.begins l.bytes);
+  order : AreInOrder 0 (length l.bytes) (drop l.place l.begins);
+  short : AreShort (blocks_in (drop l.place l.begins) l.bytes);
+}
