@@ -1,0 +1,109 @@
+-- Where everything is there that a run needs, no refusal shows its cause.
+use Rattle.std.proofs.Common.{◌≡◌, ◌⊎◌, inl, inr, refl, ap, ◌∙◌, List, ℕ}
+use Rattle.std.specs.Prelude.{Option, None}
+use Rattle.hs_folders.specs.FileMaps.{FileMap}
+use Rattle.pdb_values.specs.Databases.{DatabaseValue}
+use Rattle.pdb_files.specs.Faults.{file_fault}
+use Rattle.pdb_files.specs.declared.bad_kind.BadKind.{BadKind}
+use Rattle.pdb_files.proofs.FileLaws.{file-written, one_database}
+use Rattle.hotsync_run.specs.Carried.{is_carried}
+use Rattle.hotsync_run.specs.FolderNames.{file_name_of}
+use Rattle.std.specs.Prelude.{String}
+use Rattle.std.specs.declared.alloc.Global.{Global}
+use Rattle.hotsync_run.specs.declared.status.FileSide.{FileSide}
+use Rattle.hotsync_run.specs.HandheldFiles.{FileShows, FirstFails, HandheldShows, IsCarriedFile, IsCarriedIn, IsDatabaseFile, IsOtherFile, OneFileShows}
+use Rattle.hotsync_run.specs.Refusals.{HasDesktopFile, IsCommandRefusal}
+use Rattle.hotsync_run.specs.Runs.{IsReady, Shows}
+use Rattle.hotsync_run.specs.declared.status.Status.{Status}
+use Rattle.hotsync_run.specs.declared.status.Status.TheVariants.{Done, Usage, BadFile, HandheldFolder, DesktopFolder, OutWrite, NoMemory, NotYet}
+
+-- a folder has one database file at most
+same_name : (held : FileMap) (name bytes other more : List ℕ) → IsDatabaseFile held name bytes → IsDatabaseFile held other more → other ≡ name
+same_name held name bytes other more one two = let first = one.only in let second = two.only in cc
+
+same_bytes : (held : FileMap) (name bytes other more : List ℕ) → IsDatabaseFile held name bytes → IsDatabaseFile held other more → more ≡ bytes
+same_bytes held name bytes other more one two =
+    let names = same_name held name bytes other more one two in
+    let first = one.holds in
+    let second = two.holds in
+    cc
+
+no_fault : (name bytes : List ℕ) (database : DatabaseValue) → IsCarriedFile name bytes database → file_fault bytes ≡ None
+no_fault name bytes database carried = (file-written database bytes carried.is.text).none
+
+-- a file whose database is carried fails no test
+passes_tests : (name bytes : List ℕ) (database : DatabaseValue) (kind : BadKind) (place : ℕ) → IsCarriedFile name bytes database → FirstFails name bytes kind place → ⊥
+passes_tests name bytes database kind place carried (inl rule) =
+    let none = no_fault name bytes database carried in
+    let some = rule.first in
+    cc
+passes_tests name bytes database kind place carried (inr other) =
+    let same = one_database bytes database other.database carried.is.text other.text in
+    other.other (carried.is.named ∙ ap (λ (found : DatabaseValue). file_name_of found.head.name) same)
+
+-- nor is it one that is not carried yet
+nothing_more : (name bytes : List ℕ) (database : DatabaseValue) → IsCarriedFile name bytes database → IsOtherFile name bytes → ⊥
+nothing_more name bytes database carried other =
+    let same : is_carried database ≡ is_carried other.database = ap is_carried (one_database bytes database other.database carried.is.text other.is.text) in
+    let is = carried.carried in
+    let not = other.other in
+    cc
+
+-- the one file of the folder, by its tests
+bad_file_shown : (held : FileMap) (database : DatabaseValue) (side : FileSide) (file : String Global) (kind : BadKind) (place : ℕ) → IsCarriedIn held database → OneFileShows held (BadFile side file kind place) → ⊥
+bad_file_shown held database side file kind place carried one =
+    let name = same_name held carried.name carried.bytes one.name one.bytes carried.file one.file in
+    let bytes = same_bytes held carried.name carried.bytes one.name one.bytes carried.file one.file in
+    passes_tests carried.name carried.bytes database kind place carried.is (rw (name, bytes) at one.shows.2)
+
+-- the one file of the folder, by what is not carried yet
+more_shown : (held : FileMap) (database : DatabaseValue) → IsCarriedIn held database → HandheldShows NotYet held → ⊥
+more_shown held database carried (inl none) =
+    let only = carried.file.only in
+    cc
+more_shown held database carried (inr one) =
+    let bytes = same_bytes held carried.name carried.bytes one.name one.bytes carried.file one.file in
+    let name = same_name held carried.name carried.bytes one.name one.bytes carried.file one.file in
+    by_file carried.name carried.bytes database carried.is (rw (name, bytes) at one.shows)
+  where
+    by_file : (name bytes : List ℕ) (database : DatabaseValue) → IsCarriedFile name bytes database → FileShows name bytes NotYet → ⊥
+    by_file name bytes database carried (inl rule) =
+        let none = no_fault name bytes database carried in
+        cc
+    by_file name bytes database carried (inr other) = nothing_more name bytes database carried other
+
+-- what is left: a folder that failed, or want of memory
+pub no_cause : (words : List (List ℕ)) (handheld desktop : Option FileMap) (refusal : Status) → IsReady words handheld desktop → IsCommandRefusal refusal → Shows words handheld desktop refusal
+    → (refusal ≡ HandheldFolder) ⊎ (refusal ≡ DesktopFolder) ⊎ (refusal ≡ NoMemory)
+no_cause words handheld desktop Done ready is shows = absurd is
+no_cause words handheld desktop Usage ready is shows = let asked = ready.asked in cc
+no_cause words handheld desktop (BadFile side file kind place) ready is shows =
+    absurd (bad_file_shown ready.held ready.database side file kind place ready.carried (rw ready.on_handheld at shows))
+no_cause words handheld desktop HandheldFolder ready is shows = inl refl
+no_cause words handheld desktop DesktopFolder ready is shows = inr (inl refl)
+no_cause words handheld desktop OutWrite ready is shows = absurd is
+no_cause words handheld desktop NoMemory ready is shows = inr (inr refl)
+no_cause words handheld desktop NotYet ready is shows = absurd (by_folder (rw (ready.on_handheld, ready.on_desktop) at shows))
+  where
+    by_folder : HandheldShows NotYet ready.held ⊎ HasDesktopFile ready.kept → ⊥
+    by_folder (inl more) = more_shown ready.held ready.database ready.carried more
+    by_folder (inr full) = let empty = ready.empty in cc
+
+-- so a refusal of a call that has everything is a fault of a folder, or want of memory
+pub refused_complete : (words : List (List ℕ)) (handheld desktop : Option FileMap) (refusal status : Status) (Handheld Desktop Out : Type 0) → IsCommandRefusal refusal → Shows words handheld desktop refusal
+    → (refusal ≡ HandheldFolder → Handheld) → (refusal ≡ DesktopFolder → Desktop) → (status ≡ refusal) ⊎ (status ≡ NoMemory)
+    → IsReady words handheld desktop → ¬ Handheld → ¬ Desktop → ¬ Out → (status ≡ Done) ⊎ (status ≡ NoMemory)
+refused_complete words handheld desktop refusal status Handheld Desktop Out is shows first second after ready one two three = elim (no_cause words handheld desktop refusal ready is shows) [
+  | inl failed ↦ absurd (one (first failed))
+  | inr (inl failed) ↦ absurd (two (second failed))
+  | inr (inr memory) ↦ inr (elim after [ inl same ↦ same ∙ memory | inr more ↦ more ])
+]
+
+-- and a run that was done stays done, unless standard output fails or memory runs out
+pub done_complete : (words : List (List ℕ)) (handheld desktop : Option FileMap) (status : Status) (Handheld Desktop Out : Type 0) → (status ≡ Done) ⊎ (status ≡ OutWrite) ⊎ (status ≡ NoMemory) → (status ≡ OutWrite → Out)
+    → IsReady words handheld desktop → ¬ Handheld → ¬ Desktop → ¬ Out → (status ≡ Done) ⊎ (status ≡ NoMemory)
+done_complete words handheld desktop status Handheld Desktop Out after failed ready one two three = elim after [
+  | inl done ↦ inl done
+  | inr (inl out) ↦ absurd (three (failed out))
+  | inr (inr memory) ↦ inr memory
+]

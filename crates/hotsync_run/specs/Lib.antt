@@ -1,0 +1,13 @@
+pub mod Carried
+pub mod Codes
+pub mod Copies
+pub mod FolderNames
+pub mod HandheldFiles
+pub mod Lines
+pub mod Opening
+pub mod Printed
+pub mod Refusals
+pub mod Rows
+pub mod Runs
+pub mod Words
+pub mod WordViews

@@ -1,0 +1,25 @@
+//! A synchronisation as one call: the words of a command line, a handheld's folder, a desktop's
+//! folder and the streams beside them go in; the status, a report and both folders come out.
+//!
+//! What runs today is the first path: the live records of the one database on the handheld come
+//! to an empty desktop.
+#![tactic(auto)]
+
+mod answer;
+mod command;
+mod desktop;
+mod handheld;
+mod printing;
+mod report;
+mod rows;
+mod run;
+mod status;
+mod words;
+
+pub use answer::Answer;
+pub use command::hotsync;
+pub use report::{DbReport, Did, Report, SessionEnd};
+pub use status::{FileSide, Status};
+
+#[cfg(test)]
+mod tests;

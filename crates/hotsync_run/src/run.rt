@@ -1,0 +1,105 @@
+// The first path: the handheld's one database comes to an empty desktop.
+ghost use Rattle.std.specs.Prelude.{◌≡◌, ◌≤◌, ◌∷◌, [], IfErr, IfOk, IfSome, IsErrOf, OnErr, OnOk, false};
+ghost use Rattle.hs_folders.specs.Causes.{Rose};
+ghost use Rattle.hs_folders.specs.Moments.{EachMomentSince, IsBeforeOrAfter};
+ghost use Rattle.pdb_values.specs.Heads.{holds_resources};
+ghost use Rattle.hotsync_run.specs.Copies.{IsCopied, IsCopyOf, report_of};
+ghost use Rattle.hotsync_run.specs.Opening.{Opens, OpensAtMost};
+ghost use Rattle.hotsync_run.specs.Refusals.{IsDesktopRefusal, IsRunRefusal, RunShows};
+
+use crate::desktop::{open_desktop, write_desktop};
+use crate::handheld::read_handheld;
+use crate::report::{DbReport, Did};
+use crate::rows::{desktop_rows, file_name};
+use crate::status::Status;
+use crate::words::RunWords;
+use hs_folders::Folder;
+use pdb_files::write_database;
+use pdb_values::{Database, PalmDate};
+use std::alloc::{AllocError, Global};
+
+/// Copies the live records of the handheld's database to the desktop, and reports it.
+#[tactic(auto, using(hs_folders::proofs::MomentLaws::no_moment, crate::proofs::RefusalLaws::handheld_shows, crate::proofs::RefusalLaws::desktop_shows))]
+pub fn run_copy<H: Folder, D: Folder>(
+    alloc: Global,
+    words: &RunWords<'_>,
+    device: &mut H,
+    desk: &mut D,
+) -> Result<Vec<DbReport>, Status>
+    // What was done, or what shows the cause of the refusal.
+    ensures copied { IfOk result (λ databases. IfSome (H.contents device.old) (λ held.
+        IsCopied held words.now.date (D.contents desk.old) (D.contents desk.new) databases.items)) }
+    ensures shown { IfErr result (RunShows (H.contents device.old) (D.contents desk.old)) }
+    ensures handheld_failed { IsErrOf result Status.HandheldFolder → Rose (H.faults device.old) (H.faults device.new) }
+    ensures desktop_failed { IsErrOf result Status.DesktopFolder → Rose (D.faults desk.old) (D.faults desk.new) }
+    ensures refusal { IfErr result IsRunRefusal }
+
+    // The handheld stays as it was. The desktop stays too where the run was refused.
+    ensures handheld_stays { H.contents device.new ≡ H.contents device.old }
+    ensures handheld_moments { H.moments device.new ≡ H.moments device.old }
+    ensures desktop_stays { OnErr result (D.contents desk.new ≡ D.contents desk.old) }
+    ensures each_moment { EachMomentSince (IsBeforeOrAfter (D.contents desk.old) (D.contents desk.new)) (D.moments desk.old) (D.moments desk.new) }
+
+    // Each folder is opened at the path that the words give, or not at all.
+    ensures handheld_opened { OnOk result (Opens words.now.handheld.now (H.paths device.old) (H.paths device.new)) }
+    ensures handheld_path { OpensAtMost words.now.handheld.now (H.paths device.old) (H.paths device.new) }
+    ensures desktop_opened { OnOk result (Opens words.now.desktop.now (D.paths desk.old) (D.paths desk.new)) }
+    ensures desktop_path { OpensAtMost words.now.desktop.now (D.paths desk.old) (D.paths desk.new) }
+{
+    let database = read_handheld(alloc, device, words.handheld)?;
+    open_desktop(alloc, desk, words.desktop)?;
+    let databases = copy_rows(alloc, &database, words.date, desk)?;
+    Ok(databases)
+}
+
+// Writes the rows of a database to the desktop, and reports it.
+#[tactic(auto, using(hs_folders::proofs::MomentLaws::no_moment))]
+fn copy_rows<D: Folder>(
+    alloc: Global,
+    database: &Database,
+    date: PalmDate,
+    desk: &mut D,
+) -> Result<Vec<DbReport>, Status>
+    requires { holds_resources database.now.head.attributes ≡ false }
+    ensures copied { IfOk result (λ databases. IsCopyOf database.now date (D.contents desk.old) (D.contents desk.new) databases.items) }
+    ensures failed { IsErrOf result Status.DesktopFolder → Rose (D.faults desk.old) (D.faults desk.new) }
+    ensures not_yet { ¬ IsErrOf result Status.NotYet }
+    ensures refusal { IfErr result IsDesktopRefusal }
+
+    ensures stays { OnErr result (D.contents desk.new ≡ D.contents desk.old) }
+    ensures each_moment { EachMomentSince (IsBeforeOrAfter (D.contents desk.old) (D.contents desk.new)) (D.moments desk.old) (D.moments desk.new) }
+    ensures paths { D.paths desk.new ≡ D.paths desk.old }
+    ensures count { D.faults desk.old ≤ D.faults desk.new }
+{
+    let rows = desktop_rows(alloc, database, date)?;
+    let bytes = write_database(alloc, &rows)?;
+    let name = file_name(alloc, &rows.head().name)?;
+    let databases = reported(alloc, database, &rows)?;
+    write_desktop(desk, name.as_str(), &bytes)?;
+    Ok(databases)
+}
+
+// What was done with the one database.
+fn reported(
+    alloc: Global,
+    database: &Database,
+    rows: &Database,
+) -> Result<Vec<DbReport>, AllocError>
+    requires { rows.now.head.name ≡ database.now.head.name }
+    ensures { IfOk result (λ databases. databases.items ≡ report_of database.now rows.now.records ∷ []) }
+{
+    let mut databases = Vec::new(alloc);
+    databases.push(DbReport {
+        name: rows.head().name.copy(),
+        did: Did::Synced {
+            fast: false,
+            read: database.records().len() as u32,
+            replaced: 0,
+            added: 0,
+            purged: 0,
+            archived: 0,
+            rows: rows.records().len() as u32,
+        },
+    })?;
+    Ok(databases)
+}
