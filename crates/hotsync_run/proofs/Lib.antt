@@ -1,3 +1,4 @@
+pub mod ExactLaws
 pub mod IdLaws
 pub mod NameLaws
 pub mod PrintedLaws

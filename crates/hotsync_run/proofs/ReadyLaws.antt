@@ -1,6 +1,6 @@
 -- Where everything is there that a run needs, no refusal shows its cause.
 use Rattle.std.proofs.Common.{◌≡◌, ◌⊎◌, inl, inr, refl, ap, ◌∙◌, List, ℕ}
-use Rattle.std.specs.Prelude.{Option, None}
+use Rattle.std.specs.Prelude.{Option, None, Some}
 use Rattle.hs_folders.specs.FileMaps.{FileMap}
 use Rattle.pdb_values.specs.Databases.{DatabaseValue}
 use Rattle.pdb_files.specs.Faults.{file_fault}
@@ -11,35 +11,35 @@ use Rattle.hotsync_run.specs.FolderNames.{file_name_of}
 use Rattle.std.specs.Prelude.{String}
 use Rattle.std.specs.declared.alloc.Global.{Global}
 use Rattle.hotsync_run.specs.declared.status.FileSide.{FileSide}
-use Rattle.hotsync_run.specs.HandheldFiles.{FileShows, FirstFails, HandheldShows, IsCarriedFile, IsCarriedIn, IsDatabaseFile, IsOtherFile, OneFileShows}
-use Rattle.hotsync_run.specs.Refusals.{HasDesktopFile, IsCommandRefusal}
+use Rattle.hotsync_run.specs.HandheldFiles.{FileShows, FirstFails, HandheldShows, IsCarriedFile, IsCarriedIn, IsDatabaseFile, IsDatabaseOf, IsOtherFile, OneFileShows}
+use Rattle.hotsync_run.specs.Refusals.{IsCommandRefusal, IsMore}
 use Rattle.hotsync_run.specs.Runs.{IsReady, Shows}
 use Rattle.hotsync_run.specs.declared.status.Status.{Status}
 use Rattle.hotsync_run.specs.declared.status.Status.TheVariants.{Done, Usage, BadFile, HandheldFolder, DesktopFolder, OutWrite, NoMemory, NotYet}
 
 -- a folder has one database file at most
-same_name : (held : FileMap) (name bytes other more : List ℕ) → IsDatabaseFile held name bytes → IsDatabaseFile held other more → other ≡ name
+pub same_name : (held : FileMap) (name bytes other more : List ℕ) → IsDatabaseFile held name bytes → IsDatabaseFile held other more → other ≡ name
 same_name held name bytes other more one two = let first = one.only in let second = two.only in cc
 
-same_bytes : (held : FileMap) (name bytes other more : List ℕ) → IsDatabaseFile held name bytes → IsDatabaseFile held other more → more ≡ bytes
+pub same_bytes : (held : FileMap) (name bytes other more : List ℕ) → IsDatabaseFile held name bytes → IsDatabaseFile held other more → more ≡ bytes
 same_bytes held name bytes other more one two =
     let names = same_name held name bytes other more one two in
     let first = one.holds in
     let second = two.holds in
     cc
 
-no_fault : (name bytes : List ℕ) (database : DatabaseValue) → IsCarriedFile name bytes database → file_fault bytes ≡ None
-no_fault name bytes database carried = (file-written database bytes carried.is.text).none
+pub no_fault : (name bytes : List ℕ) (database : DatabaseValue) → IsDatabaseOf name bytes database → file_fault bytes ≡ None
+no_fault name bytes database is = (file-written database bytes is.text).none
 
--- a file whose database is carried fails no test
-passes_tests : (name bytes : List ℕ) (database : DatabaseValue) (kind : BadKind) (place : ℕ) → IsCarriedFile name bytes database → FirstFails name bytes kind place → ⊥
+-- a file that is a database's under its name fails no test
+pub passes_tests : (name bytes : List ℕ) (database : DatabaseValue) (kind : BadKind) (place : ℕ) → IsDatabaseOf name bytes database → FirstFails name bytes kind place → ⊥
 passes_tests name bytes database kind place carried (inl rule) =
     let none = no_fault name bytes database carried in
     let some = rule.first in
     cc
 passes_tests name bytes database kind place carried (inr other) =
-    let same = one_database bytes database other.database carried.is.text other.text in
-    other.other (carried.is.named ∙ ap (λ (found : DatabaseValue). file_name_of found.head.name) same)
+    let same = one_database bytes database other.database carried.text other.text in
+    other.other (carried.named ∙ ap (λ (found : DatabaseValue). file_name_of found.head.name) same)
 
 -- nor is it one that is not carried yet
 nothing_more : (name bytes : List ℕ) (database : DatabaseValue) → IsCarriedFile name bytes database → IsOtherFile name bytes → ⊥
@@ -54,10 +54,10 @@ bad_file_shown : (held : FileMap) (database : DatabaseValue) (side : FileSide) (
 bad_file_shown held database side file kind place carried one =
     let name = same_name held carried.name carried.bytes one.name one.bytes carried.file one.file in
     let bytes = same_bytes held carried.name carried.bytes one.name one.bytes carried.file one.file in
-    passes_tests carried.name carried.bytes database kind place carried.is (rw (name, bytes) at one.shows.2)
+    passes_tests carried.name carried.bytes database kind place carried.is.is (rw (name, bytes) at one.shows.2)
 
 -- the one file of the folder, by what is not carried yet
-more_shown : (held : FileMap) (database : DatabaseValue) → IsCarriedIn held database → HandheldShows NotYet held → ⊥
+pub more_shown : (held : FileMap) (database : DatabaseValue) → IsCarriedIn held database → HandheldShows NotYet held → ⊥
 more_shown held database carried (inl none) =
     let only = carried.file.only in
     cc
@@ -68,7 +68,7 @@ more_shown held database carried (inr one) =
   where
     by_file : (name bytes : List ℕ) (database : DatabaseValue) → IsCarriedFile name bytes database → FileShows name bytes NotYet → ⊥
     by_file name bytes database carried (inl rule) =
-        let none = no_fault name bytes database carried in
+        let none = no_fault name bytes database carried.is in
         cc
     by_file name bytes database carried (inr other) = nothing_more name bytes database carried other
 
@@ -85,9 +85,9 @@ no_cause words handheld desktop OutWrite ready is shows = absurd is
 no_cause words handheld desktop NoMemory ready is shows = inr (inr refl)
 no_cause words handheld desktop NotYet ready is shows = absurd (by_folder (rw (ready.on_handheld, ready.on_desktop) at shows))
   where
-    by_folder : HandheldShows NotYet ready.held ⊎ HasDesktopFile ready.kept → ⊥
+    by_folder : IsMore ready.held (Some ready.kept) → ⊥
     by_folder (inl more) = more_shown ready.held ready.database ready.carried more
-    by_folder (inr full) = let empty = ready.empty in cc
+    by_folder (inr full) = let empty = ready.empty in let occupied = full.occupied in cc
 
 -- so a refusal of a call that has everything is a fault of a folder, or want of memory
 pub refused_complete : (words : List (List ℕ)) (handheld desktop : Option FileMap) (refusal status : Status) (Handheld Desktop Out : Type 0) → IsCommandRefusal refusal → Shows words handheld desktop refusal

@@ -1,11 +1,12 @@
 -- What a run of the first path brings to the desktop.
-use Rattle.std.specs.Prelude.{◌≡◌, ℕ, false, List, [], ◌∷◌, length, Option}
+use Rattle.std.specs.Prelude.{◌≡◌, ℕ, false, List, [], ◌∷◌, length, IfSome, Option}
 use Rattle.std.specs.FinMap as finmap
 use Rattle.std.specs.Option.{option_map}
 use Rattle.hs_folders.specs.FileMaps.{FileMap}
 use Rattle.pdb_values.specs.declared.record.Record.{Record}
 use Rattle.pdb_values.specs.Databases.{DatabaseValue}
 use Rattle.pdb_files.specs.Files.{canonical}
+use Rattle.hotsync_run.specs.DesktopFiles.{IsEmptyDesktop}
 use Rattle.hotsync_run.specs.FolderNames.{file_name_of}
 use Rattle.hotsync_run.specs.HandheldFiles.{IsCarriedIn}
 use Rattle.hotsync_run.specs.Rows.{AreRowsOf, rows_database, rows_head}
@@ -28,8 +29,9 @@ pub record IsCopyOf (database : DatabaseValue) (date : ℕ) (before after : Opti
   pub written : after ≡ option_map (λ kept. finmap.insert kept (file_name_of database.head.name) (rows_file database rows date)) before
   pub reported : databases ≡ report_of database rows ∷ []
 
--- the handheld's one database was copied to the desktop
+-- the handheld's one database was copied to a desktop that was empty
 pub record IsCopied (held : FileMap) (date : ℕ) (before after : Option FileMap) (databases : List DbReport) : Type 0 where
   pub database : DatabaseValue
   pub carried : IsCarriedIn held database
+  pub empty : IfSome before IsEmptyDesktop
   pub copy : IsCopyOf database date before after databases

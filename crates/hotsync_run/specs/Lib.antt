@@ -1,6 +1,7 @@
 pub mod Carried
 pub mod Codes
 pub mod Copies
+pub mod DesktopFiles
 pub mod FolderNames
 pub mod HandheldFiles
 pub mod Lines

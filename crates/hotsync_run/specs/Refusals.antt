@@ -1,10 +1,9 @@
 -- Which refusals each part of a run answers.
-use Rattle.std.specs.Prelude.{◌≡◌, ◌⊎◌, ⊤, true, IfSome, Option}
-use Rattle.std.specs.FinMap as finmap
-use Rattle.std.specs.List.{list_any}
+use Rattle.std.specs.Prelude.{◌⊎◌, ⊤, IfSome, Option}
 use Rattle.hs_folders.specs.FileMaps.{FileMap}
-use Rattle.hotsync_run.specs.FolderNames.{is_desktop_name}
-use Rattle.hotsync_run.specs.HandheldFiles.{HandheldShows}
+use Rattle.hotsync_run.specs.DesktopFiles.{HasDesktopFile}
+use Rattle.hotsync_run.specs.HandheldFiles.{HandheldShows, IsCarriedIn}
+use Rattle.pdb_values.specs.Databases.{DatabaseValue}
 use Rattle.hotsync_run.specs.declared.status.Status.{Status}
 use Rattle.hotsync_run.specs.declared.status.Status.TheVariants.{Done, Usage, BadFile, HandheldFolder, DesktopFolder, OutWrite, NoMemory, NotYet}
 
@@ -52,9 +51,15 @@ IsCommandRefusal OutWrite = ⊥
 IsCommandRefusal NoMemory = ⊤
 IsCommandRefusal NotYet = ⊤
 
--- the desktop has a file that a desktop reads
-abbrev pub HasDesktopFile : FileMap → Type 0
-HasDesktopFile kept = list_any is_desktop_name (finmap.keys kept) ≡ true
+-- the handheld's one database is carried, and the desktop is not empty, where it tells what it holds
+pub record IsOccupied (held : FileMap) (desktop : Option FileMap) : Type 0 where
+  pub database : DatabaseValue
+  pub carried : IsCarriedIn held database
+  pub occupied : IfSome desktop HasDesktopFile
+
+-- what the first path does not carry yet, on the handheld or else on the desktop
+abbrev pub IsMore : FileMap → Option FileMap → Type 0
+IsMore held desktop = HandheldShows NotYet held ⊎ IsOccupied held desktop
 
 -- what the two folders show of the cause of each refusal, where they tell what they hold
 abbrev pub RunShows : Option FileMap → Option FileMap → Status → Type 0
@@ -65,4 +70,4 @@ RunShows handheld desktop HandheldFolder = ⊤
 RunShows handheld desktop DesktopFolder = ⊤
 RunShows handheld desktop OutWrite = ⊥
 RunShows handheld desktop NoMemory = ⊤
-RunShows handheld desktop NotYet = IfSome handheld (λ held. IfSome desktop (λ kept. HandheldShows NotYet held ⊎ HasDesktopFile kept))
+RunShows handheld desktop NotYet = IfSome handheld (λ held. IsMore held desktop)

@@ -1,19 +1,18 @@
 -- What holds of every call: the words, the folders and the sink before it, and all of them after it.
-use Rattle.std.specs.Prelude.{◌≡◌, ◌⊎◌, ⊤, ℕ, false, List, [], Option, None, Some, IfSome}
-use Rattle.std.specs.FinMap as finmap
-use Rattle.std.specs.List.{list_any}
+use Rattle.std.specs.Prelude.{◌≡◌, ◌⊎◌, ⊤, ℕ, List, [], Option, None, Some, IfSome}
 use Rattle.hs_folders.specs.Appends.{AppendsPrefix}
 use Rattle.hs_folders.specs.Causes.{Rose}
 use Rattle.hs_folders.specs.FileMaps.{FileMap}
 use Rattle.hs_folders.specs.Moments.{Moments, EachMomentSince, IsBeforeOrAfter}
 use Rattle.pdb_values.specs.Databases.{DatabaseValue}
 use Rattle.hotsync_run.specs.Copies.{IsCopied}
-use Rattle.hotsync_run.specs.FolderNames.{is_desktop_name}
-use Rattle.hotsync_run.specs.HandheldFiles.{IsCarriedIn}
+use Rattle.hotsync_run.specs.DesktopFiles.{IsEmptyDesktop}
+use Rattle.pdb_files.specs.declared.bad_kind.BadKind.{BadKind}
+use Rattle.hotsync_run.specs.HandheldFiles.{FirstFails, IsBadStatus, IsCarriedIn, IsDatabaseFile}
 use Rattle.hotsync_run.specs.Lines.{done_lines, refusal_line}
 use Rattle.hotsync_run.specs.Opening.{Opens, OpensAtMost}
 use Rattle.hotsync_run.specs.Printed.{TookAll, TookBeforeNoMemory, TookLines}
-use Rattle.hotsync_run.specs.Refusals.{RunShows}
+use Rattle.hotsync_run.specs.Refusals.{IsMore, RunShows}
 use Rattle.hotsync_run.specs.Words.{Run, run_of}
 use Rattle.hotsync_run.specs.declared.report.DbReport.{DbReport}
 use Rattle.hotsync_run.specs.declared.status.Status.{Status}
@@ -76,7 +75,27 @@ pub record IsReady (words : List (List ℕ)) (handheld desktop : Option FileMap)
   pub carried : IsCarriedIn held database
   pub kept : FileMap
   pub on_desktop : desktop ≡ Some kept
-  pub empty : list_any is_desktop_name (finmap.keys kept) ≡ false
+  pub empty : IsEmptyDesktop kept
+
+-- the words ask for a run, and the handheld's one file fails this test first
+pub record HasBadFile (words : List (List ℕ)) (handheld : Option FileMap) (name : List ℕ) (kind : BadKind) (place : ℕ) : Type 0 where
+  pub run : Run
+  pub asked : run_of words ≡ Some run
+  pub held : FileMap
+  pub on_handheld : handheld ≡ Some held
+  pub bytes : List ℕ
+  pub file : IsDatabaseFile held name bytes
+  pub fails : FirstFails name bytes kind place
+
+-- the words ask for a run that the first path does not carry yet
+pub record AsksForMore (words : List (List ℕ)) (handheld desktop : Option FileMap) : Type 0 where
+  pub run : Run
+  pub asked : run_of words ≡ Some run
+  pub held : FileMap
+  pub on_handheld : handheld ≡ Some held
+  pub kept : FileMap
+  pub on_desktop : desktop ≡ Some kept
+  pub more : IsMore held (Some kept)
 
 -- What is known of a call. A clause on what an object holds speaks where that object tells it.
 pub record IsRun (words : List (List ℕ)) (palm palm_after desk desk_after : FolderTold) (out out_after : SinkTold) (status : Status) (databases : List DbReport) : Type 0 where
@@ -107,6 +126,10 @@ pub record IsRun (words : List (List ℕ)) (palm palm_after desk desk_after : Fo
   pub printed_in_part : status ≡ OutWrite → AppendsPrefix out.taken out_after.taken (done_lines databases)
   pub printed_refusal : IsRefusal status → TookLines (refusal_line status) (Rose out.faults out_after.faults) out.taken out_after.taken
   pub printed_no_memory : status ≡ NoMemory → TookSomeLines out.taken out_after.taken
-  -- Where everything is there that a run needs and nothing fails, it is done, unless memory runs out.
-  pub complete : IsReady words palm.contents desk.contents → ¬ Rose palm.faults palm_after.faults → ¬ Rose desk.faults desk_after.faults → ¬ Rose out.faults out_after.faults
-      → (status ≡ Done) ⊎ (status ≡ NoMemory)
+  -- Where no object fails, what is there decides: the bad file, what is not carried, or a run that is done.
+  pub bad_file : (name : List ℕ) (kind : BadKind) (place : ℕ) → HasBadFile words palm.contents name kind place
+      → ¬ Rose palm.faults palm_after.faults → ¬ Rose desk.faults desk_after.faults → ¬ Rose out.faults out_after.faults → IsBadStatus name kind place status
+  pub not_yet : AsksForMore words palm.contents desk.contents
+      → ¬ Rose palm.faults palm_after.faults → ¬ Rose desk.faults desk_after.faults → ¬ Rose out.faults out_after.faults → (status ≡ NotYet) ⊎ (status ≡ NoMemory)
+  pub complete : IsReady words palm.contents desk.contents
+      → ¬ Rose palm.faults palm_after.faults → ¬ Rose desk.faults desk_after.faults → ¬ Rose out.faults out_after.faults → (status ≡ Done) ⊎ (status ≡ NoMemory)

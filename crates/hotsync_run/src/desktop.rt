@@ -7,7 +7,8 @@ ghost use Rattle.hs_folders.specs.Causes.{Rose};
 ghost use Rattle.hs_folders.specs.Moments.{EachMomentSince, IsBeforeOrAfter};
 ghost use Rattle.hotsync_run.specs.FolderNames.{is_desktop_name as is_name_read};
 ghost use Rattle.hotsync_run.specs.Opening.{Opens, OpensAtMost};
-ghost use Rattle.hotsync_run.specs.Refusals.{HasDesktopFile, IsDesktopRefusal};
+ghost use Rattle.hotsync_run.specs.DesktopFiles.{HasDesktopFile, IsEmptyDesktop};
+ghost use Rattle.hotsync_run.specs.Refusals.{IsDesktopRefusal};
 
 use crate::handheld::has_ending;
 use crate::status::Status;
@@ -16,7 +17,7 @@ use std::alloc::Global;
 
 /// Opens the desktop's folder at this path, and sees that it is empty.
 pub fn open_desktop<D: Folder>(alloc: Global, desk: &mut D, path: &str) -> Result<(), Status>
-    ensures empty { OnOk result (IfSome (D.contents desk.old) (λ kept. list_any is_name_read (finmap.keys kept) ≡ false)) }
+    ensures empty { OnOk result (IfSome (D.contents desk.old) IsEmptyDesktop) }
     ensures not_yet { IsErrOf result Status.NotYet → IfSome (D.contents desk.old) HasDesktopFile }
     ensures failed { IsErrOf result Status.DesktopFolder → Rose (D.faults desk.old) (D.faults desk.new) }
     ensures refusal { IfErr result IsDesktopRefusal }

@@ -19,7 +19,7 @@ use pdb_values::{Database, PalmDate};
 use std::alloc::{AllocError, Global};
 
 /// Copies the live records of the handheld's database to the desktop, and reports it.
-#[tactic(auto, using(hs_folders::proofs::MomentLaws::no_moment, crate::proofs::RefusalLaws::handheld_shows, crate::proofs::RefusalLaws::desktop_shows))]
+#[tactic(auto, using(hs_folders::proofs::MomentLaws::no_moment, crate::proofs::RefusalLaws::handheld_shows))]
 pub fn run_copy<H: Folder, D: Folder>(
     alloc: Global,
     words: &RunWords<'_>,

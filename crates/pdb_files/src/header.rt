@@ -162,11 +162,13 @@ pub fn push_header(out: &mut Vec<u8>, head: &DbHead, count: u16) -> Result<(), A
     push_u32(out, head.modified.seconds())?;
     push_u32(out, head.backup.seconds())?;
     push_u32(out, head.modnum)?;
+    // No app block and no sort block.
     push_u32(out, 0)?;
     push_u32(out, 0)?;
     out.extend_from_slice(&head.kind.0)?;
     out.extend_from_slice(&head.creator.0)?;
     push_u32(out, head.seed)?;
+    // No second list of entries.
     push_u32(out, 0)?;
     push_u16(out, count)?;
     Ok(())

@@ -1,11 +1,9 @@
 //! Reading a database file.
 
-ghost use Rattle.std.specs.Prelude.{◌≡◌, ◌+◌, ◌*◌, ◌≤◌, ◌<◌, ◌++◌, ◌∷◌, [], false, None, IfOk, IsOkUnless, MatchResult, OnOk, drop, length, map, vec_len};
-ghost use Rattle.std.specs.List.{AllByRecursion};
+ghost use Rattle.std.specs.Prelude.{◌≡◌, ◌+◌, ◌*◌, ◌≤◌, ◌<◌, ◌++◌, ◌∷◌, [], false, None, IfOk, IsOkUnless, MatchResult, OnOk, drop, length, map};
 ghost use Rattle.pdb_values.specs.Databases.{DatabaseValue};
 ghost use Rattle.pdb_values.specs.Heads.{holds_resources};
 ghost use Rattle.pdb_files.specs.Blocks.{AreInOrder, AreShort, blocks_in};
-ghost use Rattle.pdb_files.specs.Entries.{begins_in};
 ghost use Rattle.pdb_files.specs.Reading.{Gives, database_in, entries_in, records_of};
 ghost use Rattle.pdb_files.specs.Faults.{Refuses, file_fault};
 ghost use Rattle.pdb_files.specs.Files.{IsFileText};
@@ -14,7 +12,7 @@ use crate::blocks::{block, check_blocks};
 use crate::entry::{ENTRY_LENGTH, Entry};
 use crate::fault::FileFault;
 use crate::header::{HEADER_LENGTH, Header};
-use pdb_values::{Database, DbHead, Record};
+use pdb_values::{Database, DbHead, PushFault, Record};
 use std::alloc::{AllocError, Global};
 
 /// The database of a file, or the first rule of the format that its bytes break. Resources and blocks are not read
@@ -99,7 +97,7 @@ fn read_records(
     Ok(database)
 }
 
-// Puts a record behind the others.
+// Puts a record behind the others, where there is room for one more.
 fn add(database: &mut Database, item: Record) -> Result<(), FileFault>
     requires plain { holds_resources database.old.head.attributes ≡ false }
     requires room { length database.old.records < 65535 }
@@ -108,6 +106,7 @@ fn add(database: &mut Database, item: Record) -> Result<(), FileFault>
 {
     match database.push_record(item) {
         Ok(()) => Ok(()),
-        Err(_) => Err(FileFault::NoMemory),
+        Err(PushFault::NoMemory(_)) => Err(FileFault::NoMemory),
+        Err(PushFault::Full(_) | PushFault::TooLarge(_)) => unreachable!(),
     }
 }
