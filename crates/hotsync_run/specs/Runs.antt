@@ -106,8 +106,9 @@ pub record IsRun (words : List (List ℕ)) (palm palm_after desk desk_after : Fo
   pub handheld_failed : status ≡ HandheldFolder → Rose palm.faults palm_after.faults
   pub desktop_failed : status ≡ DesktopFolder → Rose desk.faults desk_after.faults
   pub out_failed : status ≡ OutWrite → Rose out.faults out_after.faults
-  -- A run that was done left the rows of the handheld's database on the desktop.
+  -- A run that was done left the rows of the handheld's database on the desktop, also where that could not be said.
   pub done : status ≡ Done → IfSome palm.contents (λ held. CopiedBy words held desk.contents desk_after.contents databases)
+  pub done_unsaid : status ≡ OutWrite → IfSome palm.contents (λ held. CopiedBy words held desk.contents desk_after.contents databases)
   pub nothing_reported : IsRefusal status → databases ≡ []
   -- The handheld is as it was; the desktop too after a refusal, and else as it was or with the rows.
   pub handheld_stays : palm_after.contents ≡ palm.contents
