@@ -1,0 +1,9 @@
+pub mod Crc
+pub mod PacketText
+pub mod Places
+pub mod PacketScan
+pub mod PacketValues
+pub mod FoundPlaces
+pub mod Readers
+pub mod Histories
+pub mod Streams
