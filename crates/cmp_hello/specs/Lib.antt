@@ -1,0 +1,2 @@
+pub mod HelloText
+pub mod HelloFaults
