@@ -1,0 +1,6 @@
+pub mod TextLaws
+pub mod PieceLaws
+pub mod CollectingLaws
+pub mod SenderLaws
+pub mod NeighbourLaws
+pub mod ReceiverLaws

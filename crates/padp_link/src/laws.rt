@@ -1,0 +1,39 @@
+//! What holds of all fragments and of all pieces. Each function here does nothing: its contract is the
+//! law.
+ghost use Rattle.std.specs.Prelude.{◌≡◌, List, ℕ, Some, [], length};
+ghost use Rattle.padp_link.specs.FragmentText.{FragmentValue, FragmentText, IsFragment};
+ghost use Rattle.padp_link.specs.Neighbours.{Outgoing, Neighbours, HaveDifferentIds, HaveDifferentKeys, all_pieces, session_from};
+ghost use Rattle.std.specs.List.{AllByRecursion};
+ghost use Rattle.padp_link.specs.Pieces.{fragments, piece_of, piece_count};
+ghost use Rattle.padp_link.specs.Receivers.{ReceiverValue, AnswersAll, answers_to_all, whole_of};
+ghost use Rattle.padp_link.specs.declared.receiver.Taken.{Taken};
+
+/// No bytes are the text of two fragments.
+pub fn text_determines_fragment()
+    ensures { (x y : FragmentValue) (bytes : List ℕ) → FragmentText x bytes → FragmentText y bytes → x ≡ y }
+{}
+
+/// Where neighbouring messages have different ids, neighbouring pieces have different keys: within a
+/// message and from one message to the next, however often ids come round.
+pub fn neighbours_have_different_keys()
+    ensures { (messages : List Outgoing) → Neighbours HaveDifferentIds messages → Neighbours HaveDifferentKeys (all_pieces messages) }
+{}
+
+/// So have the pieces of all that an end sends in a session: its greeting has the id 255, and what it
+/// sends behind that has 1 to 254, coming round.
+pub fn keys_differ_in_a_session()
+    ensures { (lengths : List ℕ) → Neighbours HaveDifferentKeys (all_pieces (session_from 0 lengths)) }
+{}
+
+/// Each piece of a message makes a fragment of the protocol.
+pub fn pieces_are_fragments()
+    ensures { (id : ℕ) (message : List ℕ) → AllByRecursion IsFragment (fragments id message) }
+{}
+
+/// A receiver that waits for a message takes its pieces, one after the other, and then has the message.
+pub fn pieces_give_the_message()
+    ensures { (id : ℕ) (message : List ℕ) (receiver end : ReceiverValue) (answers : List Taken) →
+        receiver.awaited ≡ Some id → receiver.pieces ≡ [] → ¬ (receiver.last ≡ Some ((piece_of id (length message) 0).key)) →
+        AnswersAll receiver id (fragments id message) answers end →
+        (answers ≡ answers_to_all (piece_count (length message))) × (end.pieces ≡ fragments id message) × (whole_of end.pieces ≡ Some message) }
+{}

@@ -1,0 +1,32 @@
+//! Fragments of messages: the packet assembly and disassembly protocol (PADP) of Palm handhelds, as
+//! pilot-link has it in `pi-padp.h` and `padp.c`.
+//!
+//! A message of at most 65,535 bytes goes in pieces of at most 1,024. `write_fragment` gives the bytes
+//! of a fragment, and `read_fragment` takes exactly these. A `Sender` says which piece of a message
+//! waits for its acknowledgement, sends it again up to ten times, and goes on with the next one once it
+//! is acknowledged. A `Receiver` takes the pieces of the message that it waits for, in their order and
+//! each once, and lends the whole message. What pieces a message has is in `specs/Pieces.antt`.
+//!
+//! Only `Receiver::new` takes memory.
+#![tactic(auto)]
+
+mod fragment;
+mod laws;
+mod piece;
+mod receiver;
+mod sender;
+
+pub use fragment::{
+    FIRST, Fragment, FragmentFault, HEADER_LEN, LAST, LONG_HEADER, MAX_DATA, MAX_FRAGMENT,
+    MEMORY_ERROR, PadpKind, read_fragment, write_fragment,
+};
+pub use laws::{
+    keys_differ_in_a_session, neighbours_have_different_keys, pieces_are_fragments,
+    pieces_give_the_message, text_determines_fragment,
+};
+pub use piece::{Key, Piece};
+pub use receiver::{Receiver, Taken};
+pub use sender::{MAX_TRIES, Sender, TriesSpent};
+
+#[cfg(test)]
+mod tests;
