@@ -1,0 +1,13 @@
+pub mod AgreedLaws
+pub mod ByIdLaws
+pub mod ChoiceLaws
+pub mod ContentLaws
+pub mod DraftLaws
+pub mod LooseLaws
+pub mod NewsLaws
+pub mod PairingLaws
+pub mod PlanLaws
+pub mod SearchLaws
+pub mod SettledLaws
+pub mod TableLaws
+pub mod ViewLaws

@@ -1,0 +1,84 @@
+-- Pairing: what is left without a partner, and how often.
+use Rattle.std.proofs.Common.{◌≡◌, ◌≢◌, ℕ, suc, ◌+◌, ◌<◌, ◌≤◌, ◌==◌, List, [], ◌∷◌, ◌++◌, refl, ap, ◌∙◌, sym, arith, true, false, Bool, not, Some, None, if◌then◌else◌, length, drop, append_assoc, get_or}
+use Rattle.std.specs.List.{position, position_or_len, remove}
+use Rattle.std.proofs.lemmas.Grind.{common_steps}
+use Rattle.std.proofs.lemmas.Bool.Decides.{nat_tests}
+use Rattle.std.proofs.lemmas.List.{at_drop_more}
+use Rattle.pdb_values.specs.Contents.{ContentValue}
+use Rattle.conduit_rules.specs.Contents.{same_content, count_of}
+use Rattle.conduit_rules.specs.News.{less_one, unpaired, without_first}
+use Rattle.conduit_rules.proofs.ContentLaws.{same_content-same, same_content-is}
+
+-- the place of the first content that is equal to c, or the length
+abbrev place : ContentValue → List ContentValue → ℕ
+place c xs = position_or_len (λ x. same_content x c) xs
+
+removed_by : (b : Bool) (c x : ContentValue) (xs : List ContentValue) → same_content x c ≡ b → place c (x ∷ xs) < length (x ∷ xs) → (place c xs < length xs → remove xs (place c xs) ≡ without_first c xs)
+    → remove (x ∷ xs) (place c (x ∷ xs)) ≡ without_first c (x ∷ xs)
+removed_by true c x xs e within rest =
+    let here : place c (x ∷ xs) ≡ 0 = grind (arith, e) in
+    let left : without_first c (x ∷ xs) ≡ xs = grind (arith, e) in
+    ap (remove (x ∷ xs)) here ∙ sym left
+removed_by false c x xs e within rest =
+    let later : place c (x ∷ xs) ≡ suc (place c xs) = grind (arith, e) in
+    let left : without_first c (x ∷ xs) ≡ x ∷ without_first c xs = grind (arith, e) in
+    ap (remove (x ∷ xs)) later ∙ ap (λ ys. x ∷ ys) (rest (omega arith)) ∙ sym left
+
+removed : (c : ContentValue) (xs : List ContentValue) → place c xs < length xs → remove xs (place c xs) ≡ without_first c xs
+removed c [] within = absurd (omega arith)
+removed c (x ∷ xs) within = removed_by (same_content x c) c x xs refl within (removed c xs)
+
+counted : (c : ContentValue) (xs : List ContentValue) → place c xs < length xs → count_of c xs ≢ 0
+counted c [] within = absurd (omega arith)
+counted c (x ∷ xs) within = grind (arith, common_steps, counted c xs)
+
+not_counted : (c : ContentValue) (xs : List ContentValue) → length xs ≤ place c xs → count_of c xs ≡ 0
+not_counted c [] past = grind (arith, common_steps)
+not_counted c (x ∷ xs) past = grind (arith, common_steps, not_counted c xs)
+
+not_removed : (c : ContentValue) (xs : List ContentValue) → length xs ≤ place c xs → xs ≡ without_first c xs
+not_removed c [] past = refl
+not_removed c (x ∷ xs) past = grind (arith, common_steps, not_removed c xs)
+
+pub remove-found : (c : ContentValue) (xs : List ContentValue) (i : ℕ) → position (λ x. same_content x c) xs ≡ Some i → remove xs i ≡ without_first c xs
+remove-found c xs i is = grind (arith, nat_tests, is, removed c xs)
+
+pub count-found : (c : ContentValue) (xs : List ContentValue) (i : ℕ) → position (λ x. same_content x c) xs ≡ Some i → true ≡ not (count_of c xs == 0)
+count-found c xs i is = grind (arith, nat_tests, is, counted c xs)
+
+pub without_first-missed : (c : ContentValue) (xs : List ContentValue) → position (λ x. same_content x c) xs ≡ None → xs ≡ without_first c xs
+without_first-missed c xs is = grind (arith, nat_tests, is, not_removed c xs)
+
+pub count-missed : (c : ContentValue) (xs : List ContentValue) → position (λ x. same_content x c) xs ≡ None → false ≡ not (count_of c xs == 0)
+count-missed c xs is = grind (arith, nat_tests, is, not_counted c xs)
+
+pub unpaired-same : (free other : ContentValue → ℕ) (xs : List ContentValue) → ((c : ContentValue) → free c ≡ other c) → unpaired free xs ≡ unpaired other xs
+unpaired-same free other [] same = refl
+unpaired-same free other (x ∷ xs) same = grind (arith, common_steps, same x, unpaired-same free other xs same, unpaired-same (less_one free x) (less_one other x) xs (λ c. grind (arith, same c)))
+
+-- one partner that is taken out of a list is one less of its content
+pub count-without_first : (o : ContentValue) (xs : List ContentValue) (c : ContentValue) → count_of c (without_first o xs) ≡ less_one (λ x. count_of x xs) o c
+count-without_first o [] c = grind (arith, common_steps)
+count-without_first o (x ∷ xs) c = grind (arith, common_steps, same_content-same, same_content-is x o, same_content-is o c, count-without_first o xs c)
+
+zero_less : (free : ContentValue → ℕ) (o c : ContentValue) → free o ≡ 0 → less_one free o c ≡ free c
+zero_less free o c none = grind (arith, none, same_content-is o c)
+
+-- one offer
+pub unpaired-step : (free : List ContentValue) (o : ContentValue) (rest : List ContentValue)
+    → unpaired (λ c. count_of c free) (o ∷ rest) ≡ (if not (count_of o free == 0) then [] else o ∷ []) ++ unpaired (λ c. count_of c (without_first o free)) rest
+unpaired-step free o rest = grind (
+  arith,
+  nat_tests,
+  unpaired-same (less_one (λ c. count_of c free) o) (λ c. count_of c (without_first o free)) rest (λ c. sym (count-without_first o free c)),
+  λ (none : count_of o free ≡ 0). unpaired-same (λ c. count_of c free) (λ c. count_of c (without_first o free)) rest (λ c. sym (zero_less (λ x. count_of x free) o c none) ∙ sym (count-without_first o free c)),
+)
+
+abbrev counts : List ContentValue → ContentValue → ℕ
+counts free c = count_of c free
+
+-- the step of the loop over the offers
+pub unpaired-next : (adds free : List ContentValue) (offers : List ContentValue) (k : ℕ) (o : ContentValue) → k < length offers → o ≡ get_or offers k o
+    → adds ++ unpaired (counts free) (drop k offers) ≡ (adds ++ (if not (count_of o free == 0) then [] else o ∷ [])) ++ unpaired (counts (without_first o free)) (drop (k + 1) offers)
+unpaired-next adds free offers k o within is =
+    ap (λ ys. adds ++ ys) (at_drop_more (unpaired (counts free)) offers k o within ∙ ap (λ x. unpaired (counts free) (x ∷ drop (k + 1) offers)) (sym is) ∙ unpaired-step free o (drop (k + 1) offers)) ∙ sym (append_assoc adds _ _)

@@ -1,0 +1,68 @@
+-- What the conduit chooses for one database.
+use Rattle.std.specs.Prelude.{ℕ, Bool, List, ◌++◌, Option, None, option_to_list, map}
+use Rattle.pdb_values.specs.Contents.{ContentValue}
+use Rattle.pdb_values.specs.declared.record.Record.{Record}
+use Rattle.conduit_rules.specs.ById.{each_id}
+use Rattle.conduit_rules.specs.Contents.{count_of}
+use Rattle.conduit_rules.specs.States.{Held, live_of, held, Based, no_base, row, gone, base_at, has_row}
+use Rattle.conduit_rules.specs.Fates.{Fate, fate}
+use Rattle.conduit_rules.specs.Views.{view_held}
+use Rattle.conduit_rules.specs.News.{loose, live_contents, archived_records, unpaired}
+use Rattle.conduit_rules.specs.declared.view.Seen.{Seen}
+
+-- one database as its base, its view and its rows show it: by id, and the rows without a base row
+pub record Sides : Type 0 where
+  pub base : ℕ → Based
+  pub handheld : ℕ → Held
+  pub desktop : ℕ → Held
+  pub loose_live : List ContentValue
+  pub loose_archived : List ContentValue
+
+-- the sides of a database; gone rows of the base count or are left out
+abbrev pub sides_of : List Seen → List Record → List Record → Bool → Sides
+sides_of view rows base gone_counts = record {
+  base = base_at base gone_counts;
+  handheld = view_held view;
+  desktop = held rows;
+  loose_live = live_contents (loose (has_row base) rows);
+  loose_archived = archived_records (loose (has_row base) rows);
+}
+
+-- what becomes of an id
+abbrev pub fate_at : Sides → ℕ → Fate
+fate_at s i = fate (s.base i) (s.handheld i) (s.desktop i)
+
+-- a new record of the handheld: a live one without a base row
+abbrev pub partner : Based → Held → Option ContentValue
+partner no_base h = live_of h
+partner (row b) h = None
+partner (gone b) h = None
+
+abbrev pub partner_at : Sides → ℕ → Option ContentValue
+partner_at s i = partner (s.base i) (s.handheld i)
+
+-- the new records of the handheld, in rising ids
+abbrev pub partners : Sides → List ContentValue
+partners s = each_id (λ i. option_to_list (partner_at s i))
+
+-- the new records of the desktop: the live rows without a base row in their order, then the cells' news in rising ids
+abbrev pub offers : Sides → List ContentValue
+offers s = s.loose_live ++ each_id (λ i. option_to_list (fate_at s i).news)
+
+-- what stays under each id, what is archived (under id 0 where no id is known), and the contents that become new records
+pub record Choice : Type 0 where
+  pub keep : ℕ → Option ContentValue
+  pub archive : List (ℕ × ContentValue)
+  pub adds : List ContentValue
+
+-- a choice by what becomes of each id, the handheld's new records, the desktop's, and the archived rows without a base row
+abbrev pub choice_of : (ℕ → Fate) → List ContentValue → List ContentValue → List ContentValue → Choice
+choice_of fates mates news archived = record {
+  keep = λ i. (fates i).keep;
+  archive = map (λ c. (0, c)) archived ++ each_id (λ i. map (λ c. (i, c)) (fates i).archive);
+  adds = unpaired (λ c. count_of c mates) news;
+}
+
+-- the choice of a synchronisation
+abbrev pub choice : Sides → Choice
+choice s = choice_of (fate_at s) (partners s) (offers s) s.loose_archived

@@ -1,0 +1,59 @@
+-- What becomes of an id: the cell of the table, and the rules for an id without a base row.
+use Rattle.std.specs.Prelude.{Bool, true, false, List, [], ◌∷◌, ◌++◌, Option, Some, None, option_to_list}
+use Rattle.pdb_values.specs.Contents.{ContentValue}
+use Rattle.conduit_rules.specs.Table.{decision}
+use Rattle.conduit_rules.specs.States.{Held, nothing, live_of, archived_of, content_of, Based, no_base, row, gone, state, equal_contents}
+use Rattle.conduit_rules.specs.declared.table.Side.TheVariants.{Gone}
+use Rattle.conduit_rules.specs.declared.table.Keep.{Keep}
+use Rattle.conduit_rules.specs.declared.table.Keep.TheVariants.{None as KeepNone, Base as KeepBase, Handheld as KeepHandheld, Desktop as KeepDesktop}
+use Rattle.conduit_rules.specs.declared.table.Archive.{Archive}
+use Rattle.conduit_rules.specs.declared.table.Archive.TheVariants.{None as ArchiveNone, Base as ArchiveBase, Handheld as ArchiveHandheld, Desktop as ArchiveDesktop, Both as ArchiveBoth}
+use Rattle.conduit_rules.specs.declared.table.Outcome.{Outcome}
+
+-- the content that both sides keep under the id, those that are archived, and the desktop's where it becomes a new record
+pub record Fate : Type 0 where
+  pub keep : Option ContentValue
+  pub archive : List ContentValue
+  pub news : Option ContentValue
+
+-- the content that a cell keeps
+abbrev pub kept_content : Keep → ContentValue → Held → Held → Option ContentValue
+kept_content KeepNone b h d = None
+kept_content KeepBase b h d = Some b
+kept_content KeepHandheld b h d = content_of h
+kept_content KeepDesktop b h d = content_of d
+
+-- the contents that a cell archives, the handheld's first
+abbrev pub archived_contents : Archive → ContentValue → Held → Held → List ContentValue
+archived_contents ArchiveNone b h d = []
+archived_contents ArchiveBase b h d = b ∷ []
+archived_contents ArchiveHandheld b h d = option_to_list (content_of h)
+archived_contents ArchiveDesktop b h d = option_to_list (content_of d)
+archived_contents ArchiveBoth b h d = option_to_list (content_of h) ++ option_to_list (content_of d)
+
+-- the desktop's content, where it is news
+abbrev pub news_content : Bool → Held → Option ContentValue
+news_content true d = content_of d
+news_content false d = None
+
+-- an outcome in contents
+abbrev pub fate_by : Outcome → ContentValue → Held → Held → Fate
+fate_by o b h d = record { keep = kept_content o.keep b h d; archive = archived_contents o.archive b h d; news = news_content o.news d }
+
+-- under a base row
+abbrev pub cell : ContentValue → Held → Held → Fate
+cell b h d = fate_by (decision (state b h) (state b d) (equal_contents h d)) b h d
+
+-- under a gone base row
+abbrev pub gone_cell : ContentValue → Held → Fate
+gone_cell b h = fate_by (decision (state b h) Gone false) b h nothing
+
+-- without a base row a live record stays and an archived one is archived
+abbrev pub unbased : Held → Fate
+unbased h = record { keep = live_of h; archive = option_to_list (archived_of h); news = None }
+
+-- what becomes of an id
+abbrev pub fate : Based → Held → Held → Fate
+fate no_base h d = unbased h
+fate (row b) h d = cell b h d
+fate (gone b) h d = gone_cell b h

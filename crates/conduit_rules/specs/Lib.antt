@@ -1,0 +1,11 @@
+pub mod Borrowed
+pub mod ById
+pub mod Choices
+pub mod Contents
+pub mod Fates
+pub mod News
+pub mod Plans
+pub mod Searches
+pub mod States
+pub mod Table
+pub mod Views

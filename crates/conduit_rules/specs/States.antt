@@ -1,0 +1,96 @@
+-- What a side holds under an id, what the base has there, and a side's state against the base row.
+use Rattle.std.specs.Prelude.{ℕ, Bool, true, false, if◌then◌else◌, ◌==◌, List, Option, Some, None}
+use Rattle.std.specs.List.{find}
+use Rattle.pdb_values.specs.Contents.{ContentValue}
+use Rattle.pdb_values.specs.Records.{kind_of}
+use Rattle.pdb_values.specs.declared.record.Record.{Record}
+use Rattle.pdb_values.specs.declared.record.Kind.{Kind}
+use Rattle.pdb_values.specs.declared.record.Kind.TheVariants.{Live as KindLive, Archived as KindArchived, Deleted as KindDeleted}
+use Rattle.conduit_rules.specs.Contents.{same_content}
+use Rattle.conduit_rules.specs.declared.table.Side.{Side}
+use Rattle.conduit_rules.specs.declared.table.Side.TheVariants.{Same, Changed, Deleted, ArchivedSame, ArchivedChanged}
+
+-- what a side holds under an id; a record that is deleted without leave to archive it is nothing
+pub data Held : Type 0 where
+  nothing : Held
+  live : ContentValue → Held
+  archived : ContentValue → Held
+
+-- the content of a live record
+abbrev pub live_of : Held → Option ContentValue
+live_of nothing = None
+live_of (live c) = Some c
+live_of (archived c) = None
+
+-- the content of an archived record
+abbrev pub archived_of : Held → Option ContentValue
+archived_of nothing = None
+archived_of (live c) = None
+archived_of (archived c) = Some c
+
+-- the content of either
+abbrev pub content_of : Held → Option ContentValue
+content_of nothing = None
+content_of (live c) = Some c
+content_of (archived c) = Some c
+
+-- a content by the kind of its record
+abbrev pub held_by : Kind → ContentValue → Held
+held_by KindLive c = live c
+held_by KindArchived c = archived c
+held_by KindDeleted c = nothing
+
+-- what a record is to its side
+abbrev pub record_held : Record → Held
+record_held r = held_by (kind_of r) r.content
+
+-- the first record of an id
+abbrev pub first : ℕ → List Record → Option Record
+first i records = find (λ r. r.id == i) records
+
+abbrev pub held_where : Option Record → Held
+held_where None = nothing
+held_where (Some r) = record_held r
+
+-- what a side's records hold under an id: the first record of the id decides
+abbrev pub held : List Record → ℕ → Held
+held records i = held_where (first i records)
+
+-- what the base has under an id
+pub data Based : Type 0 where
+  no_base : Based
+  row : ContentValue → Based
+  gone : ContentValue → Based
+
+-- a base record with the delete bit is a gone row, where these count
+abbrev pub based_where : Bool → Option Record → Based
+based_where gone_counts None = no_base
+based_where gone_counts (Some r) = if r.deleted then (if gone_counts then gone r.content else no_base) else row r.content
+
+-- what base records have under an id: nothing under id 0, else the first record of the id decides
+abbrev pub base_at : List Record → Bool → ℕ → Based
+base_at base gone_counts i = if i == 0 then no_base else based_where gone_counts (first i base)
+
+abbrev pub is_row : Based → Bool
+is_row no_base = false
+is_row (row b) = true
+is_row (gone b) = false
+
+-- whether an id has a base row that isn't gone
+abbrev pub has_row : List Record → ℕ → Bool
+has_row base i = is_row (base_at base false i)
+
+-- the state of what is held, against the content of the base row
+abbrev pub state : ContentValue → Held → Side
+state b nothing = Deleted
+state b (live c) = if same_content c b then Same else Changed
+state b (archived c) = if same_content c b then ArchivedSame else ArchivedChanged
+
+abbrev pub same_contents : Option ContentValue → Option ContentValue → Bool
+same_contents None d = false
+same_contents (Some c) None = false
+same_contents (Some c) (Some x) = same_content c x
+
+-- whether both sides hold a content, and the same one
+abbrev pub equal_contents : Held → Held → Bool
+equal_contents h d = same_contents (content_of h) (content_of d)
