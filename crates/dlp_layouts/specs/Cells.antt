@@ -1,0 +1,94 @@
+-- Cells, the parts of an argument's data, and their texts (pilot-link, `dlp.c`: big-endian numbers, and texts with a zero).
+use Rattle.std.specs.Prelude.{◌≡◌, ℕ, ◌<◌, ◌≤◌, ◌^◌, List, [], ◌∷◌, ◌++◌, length, Option, Some, None, IfSome, ◌==◌}
+use Rattle.std.specs.List.{position_or_len}
+use Rattle.std.specs.Int.{w16, w32, to_be_bytes}
+
+-- A number of one, two or four bytes; a byte that isn't looked at; so many bytes. And what stands up to the end: a text
+-- with one zero, at its end; such a text or nothing; at most 65,500 bytes; their number and then at most 65,500 bytes;
+-- any bytes; the lengths of two runs of bytes and then both.
+pub data Kind : Type 0 where
+  Byte : Kind
+  Half : Kind
+  Word : Kind
+  Pad : Kind
+  Run : ℕ → Kind
+  Text : Kind
+  MaybeText : Kind
+  Rest : Kind
+  Counted : Kind
+  Whole : Kind
+  Names : Kind
+
+-- what a cell holds; texts stand without their zero
+abbrev pub Cell : Kind → Type 0
+Cell Byte = ℕ
+Cell Half = ℕ
+Cell Word = ℕ
+Cell Pad = Unit {0}
+Cell (Run n) = List ℕ
+Cell Text = List ℕ
+Cell MaybeText = Option (List ℕ)
+Cell Rest = List ℕ
+Cell Counted = List ℕ
+Cell Whole = List ℕ
+Cell Names = List ℕ × List ℕ
+
+-- the place of the first zero, or the length
+abbrev pub first_zero : List ℕ → ℕ
+first_zero bytes = position_or_len (λ byte. byte == 0) bytes
+
+-- no zero is among the bytes
+abbrev pub HasNoZero : List ℕ → Type 0
+HasNoZero bytes = first_zero bytes ≡ length bytes
+
+-- a text and its zero
+abbrev pub IsTextCell : List ℕ → List ℕ → Type 0
+IsTextCell text bytes = (bytes ≡ text ++ 0 ∷ []) × HasNoZero text
+
+-- a text and its zero, or no byte
+abbrev pub IsMaybeTextCell : Option (List ℕ) → List ℕ → Type 0
+IsMaybeTextCell None bytes = bytes ≡ []
+IsMaybeTextCell (Some text) bytes = IsTextCell text bytes
+
+-- the bytes are a text of the cell, and the rest may follow
+abbrev pub IsCell : (k : Kind) → Cell k → List ℕ → List ℕ → Type 0
+IsCell Byte n bytes rest = (bytes ≡ n ∷ []) × (n < 2 ^ 8)
+IsCell Half n bytes rest = (bytes ≡ to_be_bytes w16 n) × (n < 2 ^ 16)
+IsCell Word n bytes rest = (bytes ≡ to_be_bytes w32 n) × (n < 2 ^ 32)
+IsCell Pad pad bytes rest = length bytes ≡ 1
+IsCell (Run n) run bytes rest = (bytes ≡ run) × (length run ≡ n)
+IsCell Text text bytes rest = IsTextCell text bytes × (rest ≡ [])
+IsCell MaybeText text bytes rest = IsMaybeTextCell text bytes × (rest ≡ [])
+IsCell Rest some bytes rest = (bytes ≡ some) × (length some ≤ 65500) × (rest ≡ [])
+IsCell Counted some bytes rest = (bytes ≡ to_be_bytes w16 (length some) ++ some) × (length some ≤ 65500) × (rest ≡ [])
+IsCell Whole some bytes rest = (bytes ≡ some) × (rest ≡ [])
+IsCell Names names bytes rest = (bytes ≡ length names.0 ∷ length names.1 ∷ names.0 ++ names.1) × (length names.0 < 256) × (length names.1 < 256) × (rest ≡ [])
+
+-- the text that is written of a cell; a byte that isn't looked at is written 0
+abbrev pub cell_text : (k : Kind) → Cell k → List ℕ
+cell_text Byte n = n ∷ []
+cell_text Half n = to_be_bytes w16 n
+cell_text Word n = to_be_bytes w32 n
+cell_text Pad pad = 0 ∷ []
+cell_text (Run n) run = run
+cell_text Text text = text ++ 0 ∷ []
+cell_text MaybeText None = []
+cell_text MaybeText (Some text) = text ++ 0 ∷ []
+cell_text Rest some = some
+cell_text Counted some = to_be_bytes w16 (length some) ++ some
+cell_text Whole some = some
+cell_text Names names = length names.0 ∷ length names.1 ∷ names.0 ++ names.1
+
+-- the bounds of what has a text
+abbrev pub CellFits : (k : Kind) → Cell k → Type 0
+CellFits Byte n = n < 2 ^ 8
+CellFits Half n = n < 2 ^ 16
+CellFits Word n = n < 2 ^ 32
+CellFits Pad pad = Unit {0}
+CellFits (Run n) run = length run ≡ n
+CellFits Text text = HasNoZero text
+CellFits MaybeText text = IfSome text HasNoZero
+CellFits Rest some = length some ≤ 65500
+CellFits Counted some = length some ≤ 65500
+CellFits Whole some = Unit {0}
+CellFits Names names = (length names.0 < 256) × (length names.1 < 256)

@@ -1,0 +1,4 @@
+pub mod Cells
+pub mod Fields
+pub mod Functions
+pub mod Reading

@@ -1,0 +1,139 @@
+// Reading requests.
+ghost use Rattle.std.specs.Prelude.{◌≡◌, List, ℕ, Result, Ok, IfOk};
+ghost use Rattle.std.specs.Option.{option_map};
+ghost use Rattle.dlp_args.specs.Views.{Gives};
+ghost use Rattle.dlp_requests.specs.Faults as faults;
+ghost use Rattle.dlp_requests.specs.RequestReading as reading;
+ghost use Rattle.dlp_requests.specs.RequestReading.{request_at};
+ghost use Rattle.dlp_requests.specs.RequestTexts.{RequestText};
+ghost use Rattle.dlp_requests.specs.RequestValues.{RequestValue};
+ghost use Rattle.dlp_requests.specs.Views.{request_value};
+
+use crate::fault::RequestFault;
+use crate::request::Request;
+use crate::{database, record, resource, session};
+use dlp_args::{Args, read_args};
+use dlp_layouts::Function;
+
+/// Reads a request, which is all of the bytes. It takes no memory.
+///
+/// The tests stand in this order: there are two bytes, or the one byte names no function (`Illegal`); the first byte names
+/// a function; the arguments pass the tests of `read_args`; their ids are those of the function (`Argument`); the argument
+/// has a length that its layout allows, and each text one zero, at its end (`Size`).
+pub fn read_request(bytes: &[u8]) -> Result<Request<'_>, RequestFault>
+    // What is read has this text.
+    ensures found { IfOk result (λ request. RequestText (request_value request) bytes.now) }
+    // What has this text is read.
+    ensures only { (value : RequestValue) → RequestText value bytes.now → Gives request_value result (Ok value) }
+    // Which rule is the first that is broken.
+    ensures exact { Gives request_value result (request_at bytes.now) }
+{
+    take_request(bytes)
+}
+
+#[tactic(auto, unfolding(crate::specs::RequestReading::request_at))]
+fn take_request(bytes: &[u8]) -> Result<Request<'_>, RequestFault>
+    ensures { Gives request_value result (request_at bytes.now) }
+{
+    let [number, rest @ ..] = bytes else {
+        return Err(RequestFault::Wrapper(0));
+    };
+    let Some(function) = Function::of(*number) else {
+        return Err(RequestFault::Illegal(*number));
+    };
+    let [count, ..] = rest else {
+        return Err(RequestFault::Wrapper(0));
+    };
+    let args = read_args(bytes, *count, 2)?;
+    request_of(function, &args)
+}
+
+// The request of a function by its arguments.
+#[tactic(auto, unfolding(crate::specs::RequestReading::request_of))]
+fn request_of<'a>(function: Function, args: &Args<'a>) -> Result<Request<'a>, RequestFault>
+    ensures { Gives request_value result (reading.request_of function args.now) }
+{
+    match function {
+        Function::ReadUserInfo => none(args, Request::ReadUserInfo),
+        Function::WriteUserInfo => sized(session::write_user_info(only(args, 0x20)?)),
+        Function::ReadDbList => sized(database::read_db_list(only(args, 0x20)?)),
+        Function::OpenDb => sized(database::open_db(only(args, 0x20)?)),
+        Function::CreateDb => sized(database::create_db(only(args, 0x20)?)),
+        Function::CloseDb => sized(database::close_db(only(args, 0x20)?)),
+        Function::DeleteDb => sized(database::delete_db(only(args, 0x20)?)),
+        Function::ReadAppBlock => sized(database::read_app_block(only(args, 0x20)?)),
+        Function::ReadSortBlock => sized(database::read_sort_block(only(args, 0x20)?)),
+        Function::WriteAppBlock => sized(database::write_app_block(only(args, 0x20)?)),
+        Function::WriteSortBlock => sized(database::write_sort_block(only(args, 0x20)?)),
+        Function::ReadNextModifiedRec => sized(record::read_next_modified_rec(only(args, 0x20)?)),
+        Function::ReadRecord => read_record(args),
+        Function::WriteRecord => sized(record::write_record(only(args, 0x20)?)),
+        Function::DeleteRecord => sized(record::delete_record(only(args, 0x20)?)),
+        Function::ReadResource => read_resource(args),
+        Function::WriteResource => sized(resource::write_resource(only(args, 0x20)?)),
+        Function::DeleteResource => sized(resource::delete_resource(only(args, 0x20)?)),
+        Function::CleanUpDatabase => sized(record::clean_up_database(only(args, 0x20)?)),
+        Function::ResetSyncFlags => sized(record::reset_sync_flags(only(args, 0x20)?)),
+        Function::ResetRecordIndex => sized(record::reset_record_index(only(args, 0x20)?)),
+        Function::AddSyncLogEntry => sized(session::add_sync_log_entry(only(args, 0x20)?)),
+        Function::ReadOpenDbInfo => sized(database::read_open_db_info(only(args, 0x20)?)),
+        Function::MoveCategory => sized(record::move_category(only(args, 0x20)?)),
+        Function::OpenConduit => none(args, Request::OpenConduit),
+        Function::EndOfSync => sized(session::end_of_sync(only(args, 0x20)?)),
+        Function::ReadRecordIdList => sized(record::read_record_id_list(only(args, 0x20)?)),
+    }
+}
+
+// ReadRecord by id (argument 0x20) or by index (0x21).
+fn read_record<'a>(args: &Args<'a>) -> Result<Request<'a>, RequestFault>
+    ensures { Gives request_value result (reading.record_argument (reading.first_id args.now) args.now) }
+{
+    let Some(first) = args.iter().next() else {
+        return Err(RequestFault::Argument);
+    };
+    if first.id == 0x21 {
+        sized(record::read_record_by_index(only(args, 0x21)?))
+    } else {
+        sized(record::read_record_by_id(only(args, 0x20)?))
+    }
+}
+
+// ReadResource by index (argument 0x20) or by type and id (0x21).
+fn read_resource<'a>(args: &Args<'a>) -> Result<Request<'a>, RequestFault>
+    ensures { Gives request_value result (reading.resource_argument (reading.first_id args.now) args.now) }
+{
+    let Some(first) = args.iter().next() else {
+        return Err(RequestFault::Argument);
+    };
+    if first.id == 0x21 {
+        sized(resource::read_resource_by_type(only(args, 0x21)?))
+    } else {
+        sized(resource::read_resource_by_index(only(args, 0x20)?))
+    }
+}
+
+// What the one argument has, which bears this id.
+fn only<'a>(args: &Args<'a>, id: u8) -> Result<&'a [u8], RequestFault>
+    ensures { Gives (λ content. content.now) result (reading.only_argument id args.now) }
+{
+    let mut iter = args.iter();
+    match (iter.next(), iter.next()) {
+        (Some(arg), None) if arg.id == id => Ok(arg.bytes),
+        _ => Err(RequestFault::Argument),
+    }
+}
+
+fn sized(request: Option<Request<'_>>) -> Result<Request<'_>, RequestFault>
+    ensures { Gives request_value result (faults.sized (option_map request_value request.entry)) }
+{
+    request.ok_or(RequestFault::Size)
+}
+
+fn none<'a>(args: &Args<'a>, request: Request<'a>) -> Result<Request<'a>, RequestFault>
+    ensures { Gives request_value result (reading.no_argument (request_value request.entry) args.now) }
+{
+    match args.iter().next() {
+        None => Ok(request),
+        Some(_) => Err(RequestFault::Argument),
+    }
+}
