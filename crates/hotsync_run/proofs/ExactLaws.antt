@@ -1,10 +1,8 @@
 -- Where no object fails, the status is the one that the words and the files give cause for.
 use Rattle.std.proofs.Common.{◌≡◌, ◌⊎◌, inl, inr, refl, sym, ap, ◌∙◌, subst, List, ℕ}
-use Rattle.std.specs.Prelude.{Option, None, Some, IfSome}
+use Rattle.std.specs.Prelude.{Option, Some, IfSome}
 use Rattle.hs_folders.specs.FileMaps.{FileMap}
-use Rattle.pdb_files.specs.BadKinds.{bad_file}
 use Rattle.pdb_files.specs.declared.bad_kind.BadKind.{BadKind}
-use Rattle.pdb_files.specs.declared.fault.FileFault.TheVariants as fault
 use Rattle.pdb_files.proofs.FileLaws.{file-written}
 use Rattle.hotsync_run.specs.DesktopFiles.{IsEmptyDesktop}
 use Rattle.hotsync_run.specs.HandheldFiles.{FileShows, FirstFails, IsBadStatus, IsDatabaseFile, OneFileShows}
@@ -46,14 +44,7 @@ bad_is_no_more held desktop name bytes kind place file fails (inl (inr one)) =
     by_file name bytes kind place fails (rw (names, same) at one.shows)
   where
     by_file : (name bytes : List ℕ) (kind : BadKind) (place : ℕ) → FirstFails name bytes kind place → FileShows name bytes NotYet → ⊥
-    by_file name bytes kind place (inl rule) (inl later) =
-        let first = rule.first in
-        let is = rule.is in
-        let same : rule.rule ≡ fault.NotYet = cc in
-        let none : bad_file rule.rule ≡ None = ap bad_file same in
-        cc
-    by_file name bytes kind place (inr other) (inl later) = let none = (file-written other.database bytes other.text).none in cc
-    by_file name bytes kind place fails (inr other) = passes_tests name bytes other.database kind place other.is fails
+    by_file name bytes kind place fails other = passes_tests name bytes other.database kind place other.is fails
 bad_is_no_more held desktop name bytes kind place file fails (inr occupied) =
     let names = same_name held name bytes occupied.carried.name occupied.carried.bytes file occupied.carried.file in
     let same = same_bytes held name bytes occupied.carried.name occupied.carried.bytes file occupied.carried.file in

@@ -39,7 +39,7 @@ passes_tests name bytes database kind place carried (inl rule) =
     cc
 passes_tests name bytes database kind place carried (inr other) =
     let same = one_database bytes database other.database carried.text other.text in
-    other.other (carried.named ∙ ap (λ (found : DatabaseValue). file_name_of found.head.name) same)
+    other.other (carried.named ∙ ap (λ (found : DatabaseValue). file_name_of found.head) same)
 
 -- nor is it one that is not carried yet
 nothing_more : (name bytes : List ℕ) (database : DatabaseValue) → IsCarriedFile name bytes database → IsOtherFile name bytes → ⊥
@@ -67,10 +67,7 @@ more_shown held database carried (inr one) =
     by_file carried.name carried.bytes database carried.is (rw (name, bytes) at one.shows)
   where
     by_file : (name bytes : List ℕ) (database : DatabaseValue) → IsCarriedFile name bytes database → FileShows name bytes NotYet → ⊥
-    by_file name bytes database carried (inl rule) =
-        let none = no_fault name bytes database carried.is in
-        cc
-    by_file name bytes database carried (inr other) = nothing_more name bytes database carried other
+    by_file name bytes database carried other = nothing_more name bytes database carried other
 
 -- what is left: a folder that failed, or want of memory
 pub no_cause : (words : List (List ℕ)) (handheld desktop : Option FileMap) (refusal : Status) → IsReady words handheld desktop → IsCommandRefusal refusal → Shows words handheld desktop refusal

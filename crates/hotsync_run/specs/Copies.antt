@@ -26,7 +26,7 @@ report_of database rows = record { name = database.head.name; did = Synced false
 pub record IsCopyOf (database : DatabaseValue) (date : ℕ) (before after : Option FileMap) (databases : List DbReport) : Type 0 where
   pub rows : List Record
   pub are_rows : AreRowsOf database.records rows
-  pub written : after ≡ option_map (λ kept. finmap.insert kept (file_name_of database.head.name) (rows_file database rows date)) before
+  pub written : after ≡ option_map (λ kept. finmap.insert kept (file_name_of database.head) (rows_file database rows date)) before
   pub reported : databases ≡ report_of database rows ∷ []
 
 -- the handheld's one database was copied to a desktop that was empty

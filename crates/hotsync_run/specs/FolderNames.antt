@@ -1,6 +1,8 @@
 -- Which files of a folder a side reads, by their names.
 use Rattle.std.specs.Prelude.{ℕ, List, [], ◌∷◌, ◌++◌, Bool, ◌||◌, nat_eq, bytes_eq, codes, Option, Some, None, if◌then◌else◌}
 use Rattle.std.specs.List.{ends_with}
+use Rattle.pdb_values.specs.declared.head.DbHead.{DbHead}
+use Rattle.pdb_values.specs.Heads.{holds_resources}
 use Rattle.pdb_values.specs.Stems.{stem_of}
 
 -- a name ends in these bytes
@@ -16,9 +18,9 @@ abbrev pub is_desktop_name : List ℕ → Bool
 is_desktop_name name =
     has_ending (codes ".pdb") name || (has_ending (codes ".base") name || (has_ending (codes ".arc") name || (bytes_eq name (codes "desktop.inf") || bytes_eq name (codes "hotsync.journal"))))
 
--- the file of a record database bears its name
-abbrev pub file_name_of : List ℕ → List ℕ
-file_name_of name = stem_of name ++ codes ".pdb"
+-- the file of a database bears its name, and its ending says what it holds
+abbrev pub file_name_of : DbHead → List ℕ
+file_name_of head = stem_of head.name ++ (if holds_resources head.attributes then codes ".prc" else codes ".pdb")
 
 -- the one name of a list
 abbrev pub only_of : List (List ℕ) → Option (List ℕ)

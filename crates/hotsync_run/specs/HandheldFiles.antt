@@ -10,7 +10,6 @@ use Rattle.pdb_files.specs.Files.{IsFileText}
 use Rattle.pdb_files.specs.declared.bad_kind.BadKind.{BadKind}
 use Rattle.pdb_files.specs.declared.bad_kind.BadKind.TheVariants as bad
 use Rattle.pdb_files.specs.declared.fault.FileFault.{FileFault}
-use Rattle.pdb_files.specs.declared.fault.FileFault.TheVariants as fault
 use Rattle.hotsync_run.specs.Carried.{is_carried}
 use Rattle.hotsync_run.specs.FolderNames.{is_handheld_name, only_database_of, file_name_of}
 use Rattle.hotsync_run.specs.declared.status.FileSide.TheVariants.{Handheld}
@@ -36,7 +35,7 @@ pub record BreaksRule (bytes : List ℕ) (kind : BadKind) (place : ℕ) : Type 0
 pub record HasOtherName (name bytes : List ℕ) (kind : BadKind) (place : ℕ) : Type 0 where
   pub database : DatabaseValue
   pub text : IsFileText database bytes
-  pub other : name ≢ file_name_of database.head.name
+  pub other : name ≢ file_name_of database.head
   pub is : (kind ≡ bad.FileName) × (place ≡ 0)
 
 -- the first failing test of a file: one of its bytes, or else that of its name
@@ -46,7 +45,7 @@ FirstFails name bytes kind place = BreaksRule bytes kind place ⊎ HasOtherName 
 -- the database of a file that bears its name
 pub record IsDatabaseOf (name bytes : List ℕ) (database : DatabaseValue) : Type 0 where
   pub text : IsFileText database bytes
-  pub named : name ≡ file_name_of database.head.name
+  pub named : name ≡ file_name_of database.head
 
 -- the database of a file, which the first path carries
 pub record IsCarriedFile (name bytes : List ℕ) (database : DatabaseValue) : Type 0 where
@@ -68,7 +67,7 @@ FileShows name bytes HandheldFolder = ⊤
 FileShows name bytes DesktopFolder = ⊥
 FileShows name bytes OutWrite = ⊥
 FileShows name bytes NoMemory = ⊤
-FileShows name bytes NotYet = (file_fault bytes ≡ Some fault.NotYet) ⊎ IsOtherFile name bytes
+FileShows name bytes NotYet = IsOtherFile name bytes
 
 -- the one database of the folder, which the first path carries
 pub record IsCarriedIn (held : FileMap) (database : DatabaseValue) : Type 0 where
@@ -105,5 +104,4 @@ IsBadStatus name kind place _ = ⊥
 abbrev pub StandsFor : List ℕ → FileFault → Status → Type 0
 StandsFor name rule (BadFile side file kind place) = (side ≡ Handheld) × (string_bytes {Z = Global} file ≡ name) × (bad_file rule ≡ Some (kind, place))
 StandsFor name rule NoMemory = ⊤
-StandsFor name rule NotYet = rule ≡ fault.NotYet
 StandsFor name rule _ = ⊥

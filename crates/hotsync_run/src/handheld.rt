@@ -135,7 +135,7 @@ fn checked_database(alloc: Global, name: &str, bytes: &[u8]) -> Result<Database,
         Ok(database) => database,
         Err(fault) => return Err(fault_status(alloc, name, fault)),
     };
-    let file_name = rows::file_name(alloc, &database.head().name)?;
+    let file_name = rows::file_name(alloc, database.head())?;
     if file_name.as_str() != name {
         return Err(bad_file(alloc, name, BadKind::FileName, 0));
     }
@@ -149,10 +149,9 @@ fn checked_database(alloc: Global, name: &str, bytes: &[u8]) -> Result<Database,
 fn fault_status(alloc: Global, name: &str, fault: FileFault) -> Status
     ensures { StandsFor name.now fault result }
 {
-    match (fault, fault.bad_file()) {
-        (_, Some((kind, place))) => bad_file(alloc, name, kind, place),
-        (FileFault::NotYet, None) => Status::NotYet,
-        (_, None) => Status::NoMemory,
+    match fault.bad_file() {
+        Some((kind, place)) => bad_file(alloc, name, kind, place),
+        None => Status::NoMemory,
     }
 }
 

@@ -4,11 +4,11 @@ ghost use Rattle.std.specs.List.{list_any};
 ghost use Rattle.std.specs.List.Sorted.{IsNonDecreasingBy};
 ghost use Rattle.pdb_values.specs.Heads.{holds_resources};
 ghost use Rattle.pdb_values.specs.Records.{is_live};
-ghost use Rattle.hotsync_run.specs.Carried.{are_ids, ids_of, is_archived as is_this_archived, is_carried as is_this_carried};
+ghost use Rattle.hotsync_run.specs.Carried.{are_ids, has_records_alone as holds_records_alone, ids_of, is_archived as is_this_archived, is_carried as is_this_carried};
 ghost use Rattle.hotsync_run.specs.FolderNames.{file_name_of};
 ghost use Rattle.hotsync_run.specs.Rows.{AreRowsOf, clear_of, rows_database, rows_head as head_of_rows};
 
-use pdb_values::{Database, DbHead, DbName, Kind, PalmDate, PushFault, Record};
+use pdb_values::{Database, DbHead, Kind, PalmDate, PushFault, Record};
 use std::alloc::{AllocError, Global};
 use std::collections::BTreeSet;
 
@@ -18,20 +18,28 @@ const SKIPPED: u16 = 0x0082;
 // All attributes but those of an open database and of a changed application block.
 const KEPT: u16 = 0x7ffb;
 
-/// The name of a record database's file.
-pub fn file_name(alloc: Global, name: &DbName) -> Result<String, AllocError>
-    ensures { IfOk result (λ file_name. string_bytes file_name ≡ file_name_of name.now) }
+/// The name of a database's file.
+pub fn file_name(alloc: Global, head: &DbHead) -> Result<String, AllocError>
+    ensures { IfOk result (λ file_name. string_bytes file_name ≡ file_name_of head.now) }
 {
-    let mut file_name = name.file_stem(alloc)?;
-    file_name.push_str(".pdb")?;
+    let ending = if head.holds_resources() {
+        ".prc"
+    } else {
+        ".pdb"
+    };
+    let mut file_name = head.name.file_stem(alloc)?;
+    file_name.push_str(ending)?;
     Ok(file_name)
 }
 
-/// Whether the first path carries a database: one that may be changed, whose records have
-/// different ids other than 0, with none archived.
+/// Whether the first path carries a database: one of records without blocks that may be changed,
+/// whose records have different ids other than 0, with none archived.
 pub fn is_carried(alloc: Global, database: &Database) -> Result<bool, AllocError>
     ensures { IfOk result (λ carried. carried ≡ is_this_carried database.now) }
 {
+    if !has_records_alone(database) {
+        return Ok(false);
+    }
     if database.head().attributes & SKIPPED != 0 {
         return Ok(false);
     }
@@ -40,6 +48,13 @@ pub fn is_carried(alloc: Global, database: &Database) -> Result<bool, AllocError
     }
     let distinct = has_distinct_ids(alloc, database.records())?;
     Ok(distinct)
+}
+
+// Whether a database has records, and neither an app block nor a sort block.
+fn has_records_alone(database: &Database) -> bool
+    ensures { result ≡ holds_records_alone database.now }
+{
+    !database.head().holds_resources() && database.app().is_none() && database.sort().is_none()
 }
 
 // Whether a record was deleted with its bytes kept.

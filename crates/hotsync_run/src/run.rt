@@ -73,7 +73,7 @@ fn copy_rows<D: Folder>(
 {
     let rows = desktop_rows(alloc, database, date)?;
     let bytes = write_database(alloc, &rows)?;
-    let name = file_name(alloc, &rows.head().name)?;
+    let name = file_name(alloc, database.head())?;
     let databases = reported(alloc, database, &rows)?;
     write_desktop(desk, name.as_str(), &bytes)?;
     Ok(databases)

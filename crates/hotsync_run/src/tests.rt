@@ -205,17 +205,13 @@ const CASES: &[Case] = &[
         changes: &[(93, 1)],
         ..MEMOS
     },
-    // read-only, a stream, resources, a sort block
+    // read-only, a stream, a sort block
     Case {
         changes: &[(33, 0x02)],
         ..MEMOS
     },
     Case {
         changes: &[(33, 0x80)],
-        ..MEMOS
-    },
-    Case {
-        changes: &[(33, 0x01)],
         ..MEMOS
     },
     Case {
@@ -246,6 +242,13 @@ const CASES: &[Case] = &[
     Case {
         file: "Memo.pdb",
         printed: b"bad file handheld Memo.pdb filename 0\n",
+        code: 3,
+        ..MEMOS
+    },
+    // a resource database in a file that is named for records
+    Case {
+        changes: &[(33, 0x01), (77, 0)],
+        printed: b"bad file handheld MemoDB.pdb filename 0\n",
         code: 3,
         ..MEMOS
     },

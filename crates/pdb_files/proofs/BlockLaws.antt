@@ -56,7 +56,7 @@ pub spans-cons : (begin : ℕ) (begins : List ℕ) (end : ℕ) → spans (begin 
 spans-cons begin [] end = refl
 spans-cons begin (next ∷ begins) end = refl
 
-blocks_in-cons : (begin : ℕ) (begins bytes : List ℕ) → blocks_in (begin ∷ begins) bytes ≡ slice_range bytes begin (next_begin begins (length bytes)) ∷ blocks_in begins bytes
+pub blocks_in-cons : (begin : ℕ) (begins bytes : List ℕ) → blocks_in (begin ∷ begins) bytes ≡ slice_range bytes begin (next_begin begins (length bytes)) ∷ blocks_in begins bytes
 blocks_in-cons begin begins bytes = ap (map (λ (span : ℕ × ℕ). slice_range bytes span.0 span.1)) (spans-cons begin begins (length bytes))
 
 next_within : (before end : ℕ) (begins : List ℕ) → AreInOrder before end begins → before ≤ end → (before ≤ next_begin begins end) × (next_begin begins end ≤ end)

@@ -2,6 +2,7 @@ pub mod BitLaws
 pub mod BlockLaws
 pub mod EntryLaws
 pub mod FileLaws
+pub mod FrontLaws
 pub mod HeaderLaws
 pub mod NameLaws
 pub mod Numbers

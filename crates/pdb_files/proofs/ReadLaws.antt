@@ -1,29 +1,31 @@
 -- How the steps of a reading make its answer.
-use Rattle.std.proofs.Common.{◌≡◌, ℕ, zero, suc, ◌+◌, ◌-◌, ◌<◌, ◌≤◌, ◌==◌, not, eqb, Bool, false, cond, List, [], ◌∷◌, ◌++◌, length, take, drop, map, Option, Some, None, Result, Ok, Err, refl, sym, ap, subst, ◌∙◌, append_assoc, arith}
-use Rattle.std.specs.Prelude.{◌||◌, IfOk, IsOk, IsOkUnless, MatchResult, nat_lt, position}
+use Rattle.std.proofs.Common.{◌≡◌, ℕ, zero, suc, ◌+◌, ◌-◌, ◌*◌, ◌<◌, ◌≤◌, eqb, Bool, true, false, List, [], ◌∷◌, ◌++◌, length, take, drop, Option, Some, None, Result, Ok, Err, refl, sym, ap, subst, ◌∙◌, append_assoc, arith}
+use Rattle.std.specs.Prelude.{◌↔◌, IfOk, IsErr, IsOk, IsOkUnless, MatchResult, nat_lt, position, slice_index, slice_range}
 use Rattle.std.specs.Result.{result_err}
 use Rattle.std.specs.Option.{option_or}
 use Rattle.std.proofs.lemmas.Bool.{le-ltb, lt-ltb, ne_eqb}
-use Rattle.std.proofs.lemmas.List.{append-nil, length-map, length-take, take-take}
+use Rattle.std.proofs.lemmas.List.{append-nil, drop_all, drop_more, length-append, length-drop, length-take, take-take}
 use Rattle.std.proofs.lemmas.List.Quantifiers.{position-Some}
+use Rattle.pdb_values.specs.Blocks.{block_length}
 use Rattle.pdb_values.specs.Databases.{DatabaseValue}
 use Rattle.pdb_values.specs.Heads.{holds_resources}
 use Rattle.pdb_values.specs.Names.{IsName, name_fault}
-use Rattle.pdb_files.specs.declared.entry.Entry.{Entry}
 use Rattle.pdb_files.specs.declared.header.Header.{Header}
 use Rattle.pdb_files.specs.declared.fault.FileFault.{FileFault}
-use Rattle.pdb_files.specs.declared.fault.FileFault.TheVariants.{Short, BadName, Chained, BadOffset, TooLarge, NotYet, NoMemory}
+use Rattle.pdb_files.specs.declared.fault.FileFault.TheVariants.{Short, BadName, Chained, BadOffset, TooLarge, NoMemory}
 use Rattle.pdb_files.specs.Fields.{number_at}
-use Rattle.pdb_files.specs.Headers.{is_zero}
-use Rattle.pdb_files.specs.Reading.{Gives, database_in, entries_in, entry_in, head_in, header_in, records_of}
-use Rattle.pdb_files.specs.Entries.{begins_in}
-use Rattle.pdb_files.specs.Blocks.{AreInOrder, AreShort, blocks_in, is_oversized, spans}
+use Rattle.pdb_files.specs.Headers.{app_place, is_zero, sort_place}
+use Rattle.pdb_files.specs.Reading.{Gives, database_in, database_of, head_in, header_in, items_in, resource_of}
+use Rattle.pdb_files.specs.Entries.{begin_place, begins_in, entry_length}
+use Rattle.pdb_files.specs.Blocks.{AreInOrder, AreShort, begin_list, behind_front, blocks_in, front_block, next_begin}
 use Rattle.pdb_files.specs.Files.{entries_end, IsFileText}
-use Rattle.pdb_files.specs.Faults.{header_fault, not_yet, too_short, blocks_fault, count_in, block_begins, file_fault}
-use Rattle.pdb_files.proofs.BlockLaws.{none_passes, in_order_from_none, in_order_earlier, blocks_short}
+use Rattle.pdb_files.specs.Faults.{header_fault, too_short, blocks_fault, count_in, first_place, of_resources, block_begins, file_fault}
+use Rattle.pdb_files.proofs.BlockLaws.{blocks_in-cons, in_order_earlier}
+use Rattle.pdb_files.proofs.EntryLaws.{records_read, resources_read}
+use Rattle.pdb_files.proofs.FrontLaws.{begins-behind, blocks-behind, front_there, order-behind, short-behind, short-front}
 use Rattle.pdb_files.proofs.NameLaws.{name_before}
 use Rattle.pdb_files.proofs.Numbers.{IsBytes, number_at-fits}
-use Rattle.pdb_files.proofs.FileLaws.{file-read, file-written, or_none, map_none}
+use Rattle.pdb_files.proofs.FileLaws.{file-read, file-written, length-begins_in, sound_from_none}
 
 -- a fault that is the first one is the answer
 pub gives_fault : {A : Type 0} (fault : FileFault) (first : Option FileFault) (expected : A) → first ≡ Some fault → Gives (Err fault) first expected
@@ -32,7 +34,6 @@ gives_fault (BadName n) first expected e = e
 gives_fault Chained first expected e = e
 gives_fault (BadOffset n) first expected e = e
 gives_fault (TooLarge n) first expected e = e
-gives_fault NotYet first expected e = e
 gives_fault NoMemory first expected e = tt
 
 -- ---- the first fault
@@ -41,39 +42,29 @@ pub of_header : (bytes : List ℕ) (fault : FileFault) → header_fault bytes �
 unfolding file_fault
 of_header bytes fault e = rw e refl
 
-pub of_later : (bytes : List ℕ) (fault : FileFault) → header_fault bytes ≡ None → not_yet bytes ≡ Some fault → file_fault bytes ≡ Some fault
+pub of_rest : (bytes : List ℕ) → header_fault bytes ≡ None
+    → file_fault bytes ≡ option_or (too_short (first_place bytes) bytes) (blocks_fault (first_place bytes) (length bytes) (block_begins bytes))
 unfolding file_fault
-of_later bytes fault a e = rw (a, e) refl
+of_rest bytes a = rw a refl
 
-pub of_rest : (bytes : List ℕ) → header_fault bytes ≡ None → not_yet bytes ≡ None
-    → file_fault bytes ≡ option_or (too_short (entries_end (count_in bytes)) bytes) (blocks_fault (entries_end (count_in bytes)) (length bytes) (block_begins bytes))
-unfolding file_fault
-of_rest bytes a b = rw (a, b) refl
+pub of_short : (bytes : List ℕ) (first : ℕ) → header_fault bytes ≡ None → first ≡ first_place bytes → length bytes < first → file_fault bytes ≡ Some (Short (length bytes))
+of_short bytes first a is lt =
+    let short : too_short (first_place bytes) bytes ≡ Some (Short (length bytes)) = rw (← is, lt-ltb (length bytes) first lt) refl in
+    of_rest bytes a ∙ rw short refl
+
+-- the fault of bytes that only their blocks can make bad
+pub of_blocks : (bytes : List ℕ) (first : ℕ) (begins : List ℕ) → header_fault bytes ≡ None → first ≡ first_place bytes → first ≤ length bytes → begins ≡ block_begins bytes
+    → file_fault bytes ≡ blocks_fault first (length bytes) begins
+of_blocks bytes first begins a is le begins-are =
+    let enough : too_short (first_place bytes) bytes ≡ None = rw (← is, le-ltb (length bytes) first le) refl in
+    of_rest bytes a ∙ rw (enough, begins-are, is) refl
 
 -- ---- the header
 
--- a header asks for what isn't read yet
-abbrev pub asks_for_more : Header → Bool
-asks_for_more header = holds_resources header.head.attributes || not (header.app == 0) || not (header.sort == 0)
-
-pub not_yet_is : (header : Header) (bytes : List ℕ) (asked : Bool) → header ≡ header_in bytes → asked ≡ asks_for_more header → not_yet bytes ≡ cond asked (Some NotYet) None
+-- where the entries end that a header counts
+pub first_is : (header : Header) (bytes : List ℕ) (first : ℕ) → header ≡ header_in bytes → first ≡ entries_end (holds_resources header.head.attributes) header.count → first ≡ first_place bytes
 unfolding header_in head_in
-not_yet_is header bytes asked is asks = ap (λ (asked : Bool). cond asked (Some NotYet) None) (sym (asks ∙ ap asks_for_more is))
-
-pub count_is : (header : Header) (bytes : List ℕ) → header ≡ header_in bytes → header.count ≡ count_in bytes
-unfolding header_in
-count_is header bytes is = ap (λ (header : Header). header.count) is
-
--- ---- the entries
-
-pub map-begin : (count : ℕ) (bytes : List ℕ) → map (λ entry. entry.begin) (entries_in count bytes) ≡ begins_in count bytes
-unfolding entry_in
-map-begin zero bytes = refl
-map-begin (suc count) bytes = ap (λ (rest : List ℕ). number_at 4 0 bytes ∷ rest) (map-begin count (drop 8 bytes))
-
-pub length-entries_in : (count : ℕ) (bytes : List ℕ) → length (entries_in count bytes) ≡ count
-length-entries_in zero bytes = refl
-length-entries_in (suc count) bytes = ap suc (length-entries_in count (drop 8 bytes))
+first_is header bytes first is ends = ends ∙ ap (λ (header : Header). entries_end (holds_resources header.head.attributes) header.count) is
 
 -- ---- the answer
 
@@ -87,7 +78,6 @@ no_refusal bytes (BadName n) database none given = absurd cc
 no_refusal bytes Chained database none given = absurd cc
 no_refusal bytes (BadOffset n) database none given = absurd cc
 no_refusal bytes (TooLarge n) database none given = absurd cc
-no_refusal bytes NotYet database none given = absurd cc
 no_refusal bytes NoMemory database none given = refl
 
 pub only_it : (bytes : List ℕ) (answer : Result DatabaseValue FileFault) → Gives answer (file_fault bytes) (database_in bytes)
@@ -95,47 +85,95 @@ pub only_it : (bytes : List ℕ) (answer : Result DatabaseValue FileFault) → G
 only_it bytes (Ok found) given database is = given.1 ∙ (file-written database bytes is).reads
 only_it bytes (Err fault) given database is = no_refusal bytes fault database (file-written database bytes is).none given
 
-pub of_short : (bytes : List ℕ) (count : ℕ) → header_fault bytes ≡ None → not_yet bytes ≡ None → count ≡ count_in bytes → length bytes < entries_end count → file_fault bytes ≡ Some (Short (length bytes))
-of_short bytes count a b is lt =
-    let short : too_short (entries_end (count_in bytes)) bytes ≡ Some (Short (length bytes)) = rw (← is, lt-ltb (length bytes) (entries_end count) lt) refl in
-    of_rest bytes a b ∙ rw short refl
+-- the entries that a header counts are there
+pub entries_room : (header : Header) (bytes : List ℕ) → header ≡ header_in bytes → first_place bytes ≤ length bytes → entry_length (holds_resources header.head.attributes) * header.count ≤ length (drop 78 bytes)
+entries_room header bytes is le =
+    let first = first_is header bytes (entries_end (holds_resources header.head.attributes) header.count) is refl in
+    omega (arith, first, le, length-drop 78 bytes)
 
--- the fault of bytes that only their blocks can make bad
-pub of_blocks : (bytes : List ℕ) (count : ℕ) (begins : List ℕ) → header_fault bytes ≡ None → not_yet bytes ≡ None → count ≡ count_in bytes → entries_end count ≤ length bytes → begins ≡ block_begins bytes
-    → file_fault bytes ≡ blocks_fault (entries_end count) (length bytes) begins
-of_blocks bytes count begins a b is le begins-is =
-    let enough : too_short (entries_end (count_in bytes)) bytes ≡ None = rw (← is, le-ltb (length bytes) (entries_end count) le) refl in
-    of_rest bytes a b ∙ rw (enough, begins-is, is) refl
+-- ---- where the blocks begin
 
--- where the blocks begin that were collected from the entries
-pub begins_are : (bytes : List ℕ) (count : ℕ) (entries : List Entry) (begins : List ℕ) → count ≡ count_in bytes → entries ≡ entries_in count (drop 78 bytes) → begins ≡ map (λ entry. entry.begin) entries → begins ≡ block_begins bytes
-begins_are bytes count entries begins is entries-are begins-are =
-    begins-are ∙ ap (map (λ (entry : Entry). entry.begin)) entries-are ∙ map-begin count (drop 78 bytes) ∙ ap (λ (count : ℕ). begins_in count (drop 78 bytes)) is
+pub begins_are : (header : Header) (bytes begins : List ℕ) → header ≡ header_in bytes
+    → begins ≡ begin_list header.app ++ (begin_list header.sort ++ begins_in (entry_length (holds_resources header.head.attributes)) (begin_place (holds_resources header.head.attributes)) header.count (drop 78 bytes))
+    → begins ≡ block_begins bytes
+unfolding header_in head_in
+begins_are header bytes begins is are =
+    are
+    ∙ ap (λ (header : Header). begin_list header.app ++ (begin_list header.sort ++ begins_in (entry_length (holds_resources header.head.attributes)) (begin_place (holds_resources header.head.attributes)) header.count (drop 78 bytes))) is
 
--- a header counts few entries
-pub entries_few : (bytes rest : List ℕ) (count : ℕ) (entries : List Entry) → IsBytes bytes → count ≡ count_in bytes → entries ≡ entries_in count rest → length entries ≤ 65535
-entries_few bytes rest count entries fits is entries-are = omega (arith, ap length entries-are, length-entries_in count rest, is, number_at-fits 2 76 bytes fits)
+length-begin_list : (offset : ℕ) → length (begin_list offset) ≤ 1
+length-begin_list zero = omega arith
+length-begin_list (suc offset) = omega arith
 
-pub same_length : (entries : List Entry) (begins : List ℕ) → begins ≡ map (λ entry. entry.begin) entries → length begins ≡ length entries
-same_length entries begins are = ap length are ∙ length-map entries (λ entry. entry.begin)
+-- a file has few blocks
+pub begins_few : (bytes : List ℕ) → IsBytes bytes → length (block_begins bytes) ≤ 65537
+begins_few bytes fits =
+    let b : Bool = of_resources bytes in
+    let entries : List ℕ = begins_in (entry_length b) (begin_place b) (count_in bytes) (drop 78 bytes) in
+    let app : List ℕ = begin_list (number_at 4 app_place bytes) in
+    let sort : List ℕ = begin_list (number_at 4 sort_place bytes) in
+    omega (arith, length-append app (sort ++ entries), length-append sort entries, length-begin_list (number_at 4 app_place bytes), length-begin_list (number_at 4 sort_place bytes), length-begins_in (entry_length b) (begin_place b) (count_in bytes) (drop 78 bytes), number_at-fits 2 76 bytes fits)
 
--- blocks that break no rule
-pub blocks_in_order : (first : ℕ) (bytes begins : List ℕ) → blocks_fault first (length bytes) begins ≡ None → AreInOrder 0 (length bytes) begins
-blocks_in_order first bytes begins none =
-    in_order_earlier 0 (length bytes) first begins (omega arith) (in_order_from_none first (length bytes) begins (map_none BadOffset _ (or_none _ _ none).0))
+-- what the reading of blocks that break no rule asks for, and what it gives
+pub record ReadsBlocks (header : Header) (bytes begins : List ℕ) : Type 0 where
+  pub app_there : length (begin_list header.app) ≤ length begins
+  pub sort_there : length (begin_list header.sort) ≤ length (behind_front header.app begins)
+  pub order : AreInOrder 0 (length bytes) begins
+  pub sort_order : AreInOrder 0 (length bytes) (behind_front header.app begins)
+  pub data_order : AreInOrder 0 (length bytes) (behind_front header.sort (behind_front header.app begins))
+  pub short_app : block_length (front_block header.app (blocks_in begins bytes)) ≤ 65500
+  pub short_sort : block_length (front_block header.sort (blocks_in (behind_front header.app begins) bytes)) ≤ 65500
+  pub data_short : AreShort (blocks_in (behind_front header.sort (behind_front header.app begins)) bytes)
+  pub long : 78 + entry_length (holds_resources header.head.attributes) * length (behind_front header.sort (behind_front header.app begins)) ≤ length bytes
+  pub few : length (behind_front header.sort (behind_front header.app begins)) ≤ 65535
+  pub database : record {
+    head = header.head;
+    app = front_block header.app (blocks_in begins bytes);
+    sort = front_block header.sort (blocks_in (behind_front header.app begins) bytes);
+    records = records_read (holds_resources header.head.attributes) (drop 78 bytes) (blocks_in (behind_front header.sort (behind_front header.app begins)) bytes);
+    resources = resources_read (holds_resources header.head.attributes) (drop 78 bytes) (blocks_in (behind_front header.sort (behind_front header.app begins)) bytes);
+  } ≡ database_in bytes
 
-pub blocks_are_short : (first : ℕ) (bytes begins : List ℕ) → blocks_fault first (length bytes) begins ≡ None → AreShort (blocks_in begins bytes)
-blocks_are_short first bytes begins none =
-    blocks_short 0 begins bytes (blocks_in_order first bytes begins none) (none_passes is_oversized 0 (spans begins (length bytes)) (map_none TooLarge _ (or_none _ _ none).1))
+blocks_read_of : (bytes : List ℕ) → IsBytes bytes → file_fault bytes ≡ None → ReadsBlocks (header_in bytes) bytes (block_begins bytes)
+unfolding header_in head_in database_in database_of
+blocks_read_of bytes fits none =
+    let sound = sound_from_none bytes none in
+    let b : Bool = of_resources bytes in
+    let app : ℕ = number_at 4 app_place bytes in
+    let sort : ℕ = number_at 4 sort_place bytes in
+    let places : List ℕ = begins_in (entry_length b) (begin_place b) (count_in bytes) (drop 78 bytes) in
+    let begins : List ℕ = block_begins bytes in
+    let blocks : List (List ℕ) = blocks_in begins bytes in
+    let behind_app : behind_front app begins ≡ begin_list sort ++ places = begins-behind app (begin_list sort ++ places) begins refl in
+    let contents : behind_front sort (behind_front app begins) ≡ places = begins-behind sort places (behind_front app begins) behind_app in
+    let few : length (behind_front sort (behind_front app begins)) ≡ count_in bytes = ap length contents ∙ length-begins_in (entry_length b) (begin_place b) (count_in bytes) (drop 78 bytes) in
+    let order = in_order_earlier 0 (length bytes) (first_place bytes) begins (omega arith) sound.order in
+    let order' = order-behind app (length bytes) begins order in
+    let app-blocks : blocks_in (behind_front app begins) bytes ≡ behind_front app blocks = blocks-behind app begins bytes in
+    let data-blocks : blocks_in (behind_front sort (behind_front app begins)) bytes ≡ behind_front sort (behind_front app blocks) = blocks-behind sort (behind_front app begins) bytes ∙ ap (behind_front sort) app-blocks in
+    record {
+      app_there = front_there app (begin_list sort ++ places) begins refl;
+      sort_there = front_there sort places (behind_front app begins) behind_app;
+      order = order;
+      sort_order = order';
+      data_order = order-behind sort (length bytes) (behind_front app begins) order';
+      short_app = short-front app blocks sound.short;
+      short_sort = short-front sort (blocks_in (behind_front app begins) bytes) (subst AreShort (sym app-blocks) (short-behind app blocks sound.short));
+      data_short = subst AreShort (sym data-blocks) (short-behind sort (behind_front app blocks) (short-behind app blocks sound.short));
+      long = subst (λ (count : ℕ). 78 + entry_length b * count ≤ length bytes) (sym few) sound.entries;
+      few = omega (arith, few, number_at-fits 2 76 bytes fits);
+      database = λ i. record {
+        head = head_in bytes;
+        app = front_block app blocks;
+        sort = front_block sort (app-blocks i);
+        records = records_read b (drop 78 bytes) (data-blocks i);
+        resources = resources_read b (drop 78 bytes) (data-blocks i);
+      };
+    }
 
--- the database that was put together
-pub database_is : (bytes : List ℕ) (header : Header) (entries : List Entry) (begins : List ℕ) → header ≡ header_in bytes → entries ≡ entries_in header.count (drop 78 bytes) → begins ≡ block_begins bytes
-    → record { head = header.head; app = None; sort = None; records = records_of entries (blocks_in begins bytes); resources = [] } ≡ database_in bytes
-unfolding database_in header_in
-database_is bytes header entries begins is entries-are begins-are =
-    let head = ap (λ (header : Header). header.head) is in
-    let same = entries-are ∙ ap (λ (count : ℕ). entries_in count (drop 78 bytes)) (ap (λ (header : Header). header.count) is) in
-    λ i. record { head = head i; app = None; sort = None; records = records_of (same i) (blocks_in (begins-are i) bytes); resources = [] }
+pub blocks_read : (header : Header) (bytes begins : List ℕ) → IsBytes bytes → file_fault bytes ≡ None → header ≡ header_in bytes → begins ≡ block_begins bytes → ReadsBlocks header bytes begins
+blocks_read header bytes begins fits none is are =
+    subst (λ (header : Header). ReadsBlocks header bytes begins) (sym is) (subst (λ (begins : List ℕ). ReadsBlocks (header_in bytes) bytes begins) (sym are) (blocks_read_of bytes fits none))
 
 -- a value that is the expected one is the answer, and so is want of memory
 pub gives_value : {A : Type 0} (answer : Result A FileFault) (first : Option FileFault) (value expected : A) → first ≡ None → IfOk answer (λ found. found ≡ value) → IsOkUnless answer NoMemory → value ≡ expected → Gives answer first expected
@@ -145,21 +183,76 @@ gives_value (Err (BadName n)) first value expected none is memory same = absurd 
 gives_value (Err Chained) first value expected none is memory same = absurd cc
 gives_value (Err (BadOffset n)) first value expected none is memory same = absurd cc
 gives_value (Err (TooLarge n)) first value expected none is memory same = absurd cc
-gives_value (Err NotYet) first value expected none is memory same = absurd cc
 gives_value (Err NoMemory) first value expected none is memory same = tt
 
--- ---- the loop over the entries
+-- ---- the loops over the entries
 
-pub one_more_entry : (front : List Entry) (count read : ℕ) (bytes : List ℕ) (all : List Entry) → read < count → front ++ entries_in (count - read) bytes ≡ all
-    → (front ++ entry_in bytes ∷ []) ++ entries_in (count - (read + 1)) (drop 8 bytes) ≡ all
-one_more_entry front count read bytes all lt so_far =
+-- the offset stands in the entry
+pub place_fits : (b : Bool) (size : ℕ) → entry_length b ≤ size → begin_place b + 4 ≤ size
+place_fits true size le = omega arith
+place_fits false size le = omega arith
+
+-- room for one more entry
+pub one_more_fits : (b : Bool) (count read : ℕ) (entries : List ℕ) → read < count → entry_length b * (count - read) ≤ length entries
+    → (entry_length b ≤ length entries) × (entry_length b * (count - (read + 1)) ≤ length (drop (entry_length b) entries))
+one_more_fits true count read entries lt le = (omega arith, omega (arith, length-drop 10 entries))
+one_more_fits false count read entries lt le = (omega arith, omega (arith, length-drop 8 entries))
+
+pub one_more_begin : (front : List ℕ) (size place count read : ℕ) (bytes all : List ℕ) → read < count → front ++ begins_in size place (count - read) bytes ≡ all
+    → (front ++ number_at 4 place bytes ∷ []) ++ begins_in size place (count - (read + 1)) (drop size bytes) ≡ all
+one_more_begin front size place count read bytes all lt so_far =
     let left : count - read ≡ suc (count - (read + 1)) = omega arith in
-    append_assoc front (entry_in bytes ∷ []) (entries_in (count - (read + 1)) (drop 8 bytes)) ∙ ap (λ (left : ℕ). front ++ entries_in left bytes) (sym left) ∙ so_far
+    append_assoc front (number_at 4 place bytes ∷ []) (begins_in size place (count - (read + 1)) (drop size bytes)) ∙ ap (λ (left : ℕ). front ++ begins_in size place left bytes) (sym left) ∙ so_far
 
-pub no_more_entries : (front : List Entry) (count read : ℕ) (bytes : List ℕ) (all : List Entry) → count ≤ read → front ++ entries_in (count - read) bytes ≡ all → front ≡ all
-no_more_entries front count read bytes all le so_far =
+pub no_more_begins : (front : List ℕ) (size place count read : ℕ) (bytes all : List ℕ) → count ≤ read → front ++ begins_in size place (count - read) bytes ≡ all → front ≡ all
+no_more_begins front size place count read bytes all le so_far =
     let left : count - read ≡ 0 = omega arith in
-    sym (append-nil front) ∙ ap (λ (left : ℕ). front ++ entries_in left bytes) (sym left) ∙ so_far
+    sym (append-nil front) ∙ ap (λ (left : ℕ). front ++ begins_in size place left bytes) (sym left) ∙ so_far
+
+-- the next block of those that are left
+pub at_block : (begins bytes : List ℕ) (place : ℕ) → place < length begins
+    → blocks_in (drop place begins) bytes ≡ slice_range bytes (slice_index begins place) (next_begin (drop (place + 1) begins) (length bytes)) ∷ blocks_in (drop (place + 1) begins) bytes
+at_block begins bytes place lt = ap (λ (begins : List ℕ). blocks_in begins bytes) (drop_more begins place 0 lt) ∙ blocks_in-cons (slice_index begins place) (drop (place + 1) begins) bytes
+
+-- one more item of an entry and its block
+pub one_more_item : {A : Type 0} (size : ℕ) (item : List ℕ → List ℕ → A) (front : List A) (begins bytes entries : List ℕ) (place : ℕ) (all : List A) → place < length begins
+    → front ++ items_in size item entries (blocks_in (drop place begins) bytes) ≡ all
+    → (front ++ item entries (slice_range bytes (slice_index begins place) (next_begin (drop (place + 1) begins) (length bytes))) ∷ []) ++ items_in size item (drop size entries) (blocks_in (drop (place + 1) begins) bytes) ≡ all
+one_more_item size item front begins bytes entries place all lt so_far =
+    append_assoc front (_ ∷ []) (items_in size item (drop size entries) (blocks_in (drop (place + 1) begins) bytes))
+    ∙ ap (λ (blocks : List (List ℕ)). front ++ items_in size item entries blocks) (sym (at_block begins bytes place lt)) ∙ so_far
+
+pub no_more_items : {A : Type 0} (size : ℕ) (item : List ℕ → List ℕ → A) (front : List A) (begins bytes entries : List ℕ) (place : ℕ) (all : List A) → length begins ≤ place
+    → front ++ items_in size item entries (blocks_in (drop place begins) bytes) ≡ all → front ≡ all
+no_more_items size item front begins bytes entries place all le so_far =
+    sym (append-nil front) ∙ ap (λ (begins : List ℕ). front ++ items_in size item entries (blocks_in begins bytes)) (sym (drop_all place begins le)) ∙ so_far
+
+-- where the first block is not absent
+pub behind_some : (offset : ℕ) (begins : List ℕ) → 0 < offset → behind_front offset begins ≡ drop 1 begins
+behind_some zero begins some = absurd (omega arith)
+behind_some (suc offset) begins some = refl
+
+pub begin_some : (offset : ℕ) → 0 < offset → begin_list offset ≡ offset ∷ []
+begin_some zero some = absurd (omega arith)
+begin_some (suc offset) some = refl
+
+-- what is left of blocks in their order, and of short ones
+pub order_left : (end : ℕ) (begins : List ℕ) (place : ℕ) → place < length begins → AreInOrder 0 end (drop place begins) → AreInOrder 0 end (drop (place + 1) begins)
+order_left end begins place lt order =
+    let here : AreInOrder 0 end (slice_index begins place ∷ drop (place + 1) begins) = subst (AreInOrder 0 end) (drop_more begins place 0 lt) order in
+    in_order_earlier 0 end (slice_index begins place) (drop (place + 1) begins) (omega arith) here.2
+
+pub short_left : (begins bytes : List ℕ) (place : ℕ) → place < length begins → AreShort (blocks_in (drop place begins) bytes)
+    → (length (slice_range bytes (slice_index begins place) (next_begin (drop (place + 1) begins) (length bytes))) ≤ 65500) × AreShort (blocks_in (drop (place + 1) begins) bytes)
+short_left begins bytes place lt short = subst AreShort (at_block begins bytes place lt) short
+
+pub short_of : (entry block : List ℕ) → length block ≤ 65500 → length (resource_of entry block).bytes ≤ 65500
+unfolding resource_of
+short_of entry block le = le
+
+pub ok_within : {A E : Type 0} (answer : Result A E) (size : ℕ) → (IsErr answer ↔ (65500 < size)) → size ≤ 65500 → IsOk answer
+ok_within (Ok value) size only le = refl
+ok_within (Err fault) size only le = absurd (omega (arith, only.0 refl, le))
 
 -- ---- names
 

@@ -25,5 +25,4 @@ bad_file (faults.BadName place) = Some (Name, place)
 bad_file faults.Chained = Some (Chained, next_list_place)
 bad_file (faults.BadOffset block) = Some (Offset, block)
 bad_file (faults.TooLarge block) = Some (Large, block)
-bad_file faults.NotYet = None
 bad_file faults.NoMemory = None

@@ -1,12 +1,38 @@
 -- The blocks of a file, one behind the other (Palm File Format Specification). Each is known by where it begins, and
 -- reaches to the next one or to the end of the file.
-use Rattle.std.specs.Prelude.{ℕ, ◌+◌, ◌-◌, ◌||◌, ◌≤◌, nat_lt, Bool, List, [], ◌∷◌, ◌++◌, length, drop, map, slice_range, Option}
+use Rattle.std.specs.Prelude.{ℕ, ◌+◌, ◌-◌, ◌||◌, ◌≤◌, nat_lt, Bool, zero, suc, List, [], ◌∷◌, ◌++◌, length, drop, map, slice_range, Option, Some, None}
 use Rattle.std.specs.List.{AllByRecursion, zip, position_from}
 
 -- where each block begins, the first one at a place
 abbrev pub begins_from : ℕ → List (List ℕ) → List ℕ
 begins_from place [] = []
 begins_from place (block ∷ blocks) = place ∷ begins_from (place + length block) blocks
+
+-- a block that can be absent, as the blocks that it makes
+abbrev pub block_list : Option (List ℕ) → List (List ℕ)
+block_list None = []
+block_list (Some block) = block ∷ []
+
+-- what the header says of such a block: where it begins, or 0 where it is absent
+abbrev pub block_offset : Option (List ℕ) → ℕ → ℕ
+block_offset None place = 0
+block_offset (Some block) place = place
+
+-- where a block begins of which the header says this, if it is there
+abbrev pub begin_list : ℕ → List ℕ
+begin_list zero = []
+begin_list (suc offset) = suc offset ∷ []
+
+-- the first of these blocks, where the header says that it is there
+abbrev pub front_block : ℕ → List (List ℕ) → Option (List ℕ)
+front_block zero blocks = None
+front_block (suc offset) [] = None
+front_block (suc offset) (block ∷ blocks) = Some block
+
+-- what stands behind it
+abbrev pub behind_front : {A : Type 0} → ℕ → List A → List A
+behind_front zero items = items
+behind_front (suc offset) items = drop 1 items
 
 -- where each block ends
 abbrev pub ends : List ℕ → ℕ → List ℕ

@@ -1,23 +1,24 @@
-//! The entries of records: eight bytes each, behind the header.
+//! The entries behind the header: eight bytes for a record, ten for a resource.
 
 ghost use Rattle.std.specs.Prelude.{◌≡◌, ◌++◌, ◌≤◌, ◌<◌, ◌==◌, ◌^◌, IfOk, IsOkUnless, OnOk, bit_and, length, not};
-ghost use Rattle.pdb_files.specs.Entries.{attributes_of, bit_where, entry_text};
-ghost use Rattle.pdb_files.specs.Reading.{entry_in, record_of};
+ghost use Rattle.pdb_files.specs.Entries.{attributes_of, begin_place, bit_where, entry_length, record_entry, resource_entry};
+ghost use Rattle.pdb_files.specs.Files.{FitsRecord, FitsResource};
+ghost use Rattle.pdb_files.specs.Reading.{entry_in, record_of, resource_of};
 
 use crate::fault::FileFault;
-use crate::field::{push_u24, push_u32, u24_at, u32_at};
-use pdb_values::{Category, Content, Record, RecordId};
+use crate::field::{code_at, push_u16, push_u24, push_u32, u16_at, u24_at};
+use pdb_values::{Bytes, Category, Content, Record, RecordId, Resource};
 use std::alloc::{AllocError, Global};
 
-/// The length of an entry.
-pub const ENTRY_LENGTH: usize = 8;
-
-// Where the fields stand.
-const BEGIN: usize = 0;
-
+// Where the fields of a record's entry stand.
 const ATTRIBUTES: usize = 4;
 
 const ID: usize = 5;
+
+// Where the fields of a resource's entry stand.
+const KIND: usize = 0;
+
+const NUMBER: usize = 4;
 
 // The bits of the attributes. The low four are the category.
 const DELETED: u8 = 0x80;
@@ -30,11 +31,23 @@ const SECRET: u8 = 0x10;
 
 const CATEGORY: u8 = 0x0F;
 
+/// The length of an entry of a resource, or else of a record.
+pub fn entry_length(of_resource: bool) -> usize
+    ensures { result ≡ entry_length of_resource }
+{
+    if of_resource { 10 } else { 8 }
+}
+
+/// The place of an entry that says where its data begins.
+pub fn begin_place(of_resource: bool) -> usize
+    ensures { result ≡ begin_place of_resource }
+{
+    if of_resource { 6 } else { 0 }
+}
+
 /// What an entry says of its record.
 #[derive(Debug, Drop)]
 pub struct Entry {
-    /// Where the record's bytes begin in the file.
-    pub begin: u32,
     /// The bits of its attributes.
     pub attributes: u8,
     /// Its id.
@@ -49,7 +62,6 @@ impl Entry {
         ensures { result ≡ entry_in bytes.now }
     {
         Entry {
-            begin: u32_at(bytes, BEGIN),
             attributes: bytes[ATTRIBUTES],
             id: RecordId::new(u24_at(bytes, ID)).unwrap(),
         }
@@ -82,12 +94,40 @@ impl Entry {
     }
 }
 
-/// Writes the entry of a record whose bytes begin at this place of the file.
-#[tactic(auto, unfolding(crate::specs::Entries::entry_text))]
-pub fn push_entry(out: &mut Vec<u8>, begin: u32, item: &Record) -> Result<(), AllocError>
-    ensures text { OnOk result (out.new.items ≡ out.old.items ++ entry_text begin item.now) }
-    ensures id { item.now.id < 2 ^ 24 }
-    ensures category { item.now.content.category < 16 }
+/// The resource of the entry at the front and its data.
+#[tactic(auto, unfolding(crate::specs::Reading::resource_of))]
+pub fn read_resource(alloc: Global, entry: &[u8], bytes: &[u8]) -> Result<Resource, FileFault>
+    requires { 10 ≤ length entry.now }
+    ensures resource { IfOk result (λ resource. resource ≡ resource_of entry.now bytes.now) }
+    ensures memory { IsOkUnless result FileFault.NoMemory }
+{
+    let kind = code_at(entry, KIND);
+    let id = u16_at(entry, NUMBER);
+    let bytes = Bytes::new(Vec::from_slice(alloc, bytes)?);
+    Ok(Resource { kind, id, bytes })
+}
+
+/// Writes the entry of a resource whose data begins at this place of the file.
+#[tactic(auto, unfolding(crate::specs::Entries::resource_entry))]
+pub fn push_resource_entry(
+    out: &mut Vec<u8>,
+    begin: u32,
+    resource: &Resource,
+) -> Result<(), AllocError>
+    ensures text { OnOk result (out.new.items ≡ out.old.items ++ resource_entry begin resource.now) }
+    ensures fits { OnOk result (FitsResource resource.now) }
+{
+    out.extend_from_slice(&resource.kind.0)?;
+    push_u16(out, resource.id)?;
+    push_u32(out, begin)?;
+    Ok(())
+}
+
+/// Writes the entry of a record whose data begins at this place of the file.
+#[tactic(auto, unfolding(crate::specs::Entries::record_entry))]
+pub fn push_record_entry(out: &mut Vec<u8>, begin: u32, item: &Record) -> Result<(), AllocError>
+    ensures text { OnOk result (out.new.items ≡ out.old.items ++ record_entry begin item.now) }
+    ensures fits { FitsRecord item.now }
 {
     let attributes = attributes_of(item);
     let id = item.id.number();

@@ -28,9 +28,6 @@ pub enum FileFault {
     /// A block has more than 65,500 bytes. Here is the number of the first such block, counted from 0.
     #[error("block {0} is too large")]
     TooLarge(u32),
-    /// The database holds resources, an app block or a sort block, which are not read yet.
-    #[error("resources and blocks are not read yet")]
-    NotYet,
     /// There was no memory for the database.
     #[error("out of memory")]
     NoMemory,
@@ -48,7 +45,7 @@ impl FileFault {
             FileFault::Chained => Some((BadKind::Chained, NEXT_LIST as u64)),
             FileFault::BadOffset(block) => Some((BadKind::Offset, u64::from(block))),
             FileFault::TooLarge(block) => Some((BadKind::Large, u64::from(block))),
-            FileFault::NotYet | FileFault::NoMemory => None,
+            FileFault::NoMemory => None,
         }
     }
 }

@@ -2,9 +2,10 @@
 
 ghost use Rattle.std.specs.Prelude.{◌≡◌, ◌+◌, ◌≤◌, ◌<◌, ◌^◌, ◌++◌, OnOk, length};
 ghost use Rattle.byteorder.specs.Endian.{big_bytes};
-ghost use Rattle.pdb_files.specs.Fields.{number_at};
+ghost use Rattle.pdb_files.specs.Fields.{code_at, number_at};
 
 use byteorder::{BigEndian, ByteOrder};
+use pdb_values::FourCc;
 use std::alloc::AllocError;
 
 /// The number in the two bytes from a place on.
@@ -23,6 +24,20 @@ pub fn u32_at(bytes: &[u8], place: usize) -> u32
     ensures { result ≡ number_at 4 place bytes.now }
 {
     BigEndian::read_u32(&bytes[place..])
+}
+
+/// The code of four characters at a place.
+#[tactic(auto, unfolding(crate::specs::Fields::code_at))]
+pub fn code_at(bytes: &[u8], place: usize) -> FourCc
+    requires { place + 4 ≤ length bytes.now }
+    ensures { result.0 ≡ code_at place bytes.now }
+{
+    FourCc([
+        bytes[place],
+        bytes[place + 1],
+        bytes[place + 2],
+        bytes[place + 3],
+    ])
 }
 
 /// Writes a number of two bytes at the end.

@@ -1,18 +1,18 @@
 //! The header of a database file: its first 78 bytes.
 
-ghost use Rattle.std.specs.Prelude.{◌≡◌, ◌+◌, ◌≤◌, ◌<◌, ◌==◌, ◌||◌, ◌++◌, ◌∷◌, not, IfOk, IfSome, OnOk, length, position, take, unwrap_or};
+ghost use Rattle.std.specs.Prelude.{◌≡◌, ◌+◌, ◌≤◌, ◌<◌, ◌++◌, ◌∷◌, IfOk, IfSome, OnOk, length, position, take, unwrap_or};
 ghost use Rattle.std.specs.Result.{result_err};
 ghost use Rattle.pdb_values.specs.Heads.{holds_resources};
 ghost use Rattle.pdb_values.specs.Names.{IsName};
 ghost use Rattle.pdb_files.specs.Faults.{bad_name, header_fault};
-ghost use Rattle.pdb_files.specs.Fields.{code_at};
-ghost use Rattle.pdb_files.specs.Files.{FitsHeader};
+ghost use Rattle.pdb_files.specs.Files.{FitsHeader, entries_end};
 ghost use Rattle.pdb_files.specs.Headers.{header_text, is_zero, name_end, zeros_behind};
 ghost use Rattle.pdb_files.specs.Reading.{head_in, header_in};
 
+use crate::entry::entry_length;
 use crate::fault::FileFault;
-use crate::field::{push_u16, push_u32, u16_at, u32_at};
-use pdb_values::{DbHead, DbName, FourCc, PalmDate};
+use crate::field::{code_at, push_u16, push_u32, u16_at, u32_at};
+use pdb_values::{DbHead, DbName, PalmDate};
 use std::alloc::AllocError;
 
 /// The length of a header.
@@ -85,11 +85,11 @@ impl Header {
         })
     }
 
-    /// Whether the file has resources, an app block or a sort block.
-    pub fn asks_for_more(&self) -> bool
-        ensures { result ≡ (holds_resources self.now.head.attributes || not (self.now.app == 0) || not (self.now.sort == 0)) }
+    /// Where the entries end.
+    pub fn entries_end(&self) -> usize
+        ensures { result ≡ entries_end (holds_resources self.now.head.attributes) self.now.count }
     {
-        self.head.holds_resources() || self.app != 0 || self.sort != 0
+        HEADER_LENGTH + entry_length(self.head.holds_resources()) * self.count as usize
     }
 }
 
@@ -135,24 +135,17 @@ fn head_of(name: DbName, bytes: &[u8]) -> DbHead
     }
 }
 
-// The code of four characters at a place.
-#[tactic(auto, unfolding(crate::specs::Fields::code_at))]
-fn code_at(bytes: &[u8], place: usize) -> FourCc
-    requires { place + 4 ≤ length bytes.now }
-    ensures { result.0 ≡ code_at place bytes.now }
-{
-    FourCc([
-        bytes[place],
-        bytes[place + 1],
-        bytes[place + 2],
-        bytes[place + 3],
-    ])
-}
-
-/// Writes the header of a database with so many entries and no blocks.
+/// Writes the header of a database with so many entries, whose app block and sort block begin at these places. An
+/// absent block has place 0.
 #[tactic(auto, unfolding(crate::specs::Headers::header_text))]
-pub fn push_header(out: &mut Vec<u8>, head: &DbHead, count: u16) -> Result<(), AllocError>
-    ensures text { OnOk result (out.new.items ≡ out.old.items ++ header_text head.now (zeros_behind head.now.name) 0 0 count) }
+pub fn push_header(
+    out: &mut Vec<u8>,
+    head: &DbHead,
+    app: u32,
+    sort: u32,
+    count: u16,
+) -> Result<(), AllocError>
+    ensures text { OnOk result (out.new.items ≡ out.old.items ++ header_text head.now (zeros_behind head.now.name) app sort count) }
     ensures fits { OnOk result (FitsHeader head.now) }
 {
     push_name(out, &head.name)?;
@@ -162,9 +155,8 @@ pub fn push_header(out: &mut Vec<u8>, head: &DbHead, count: u16) -> Result<(), A
     push_u32(out, head.modified.seconds())?;
     push_u32(out, head.backup.seconds())?;
     push_u32(out, head.modnum)?;
-    // No app block and no sort block.
-    push_u32(out, 0)?;
-    push_u32(out, 0)?;
+    push_u32(out, app)?;
+    push_u32(out, sort)?;
     out.extend_from_slice(&head.kind.0)?;
     out.extend_from_slice(&head.creator.0)?;
     push_u32(out, head.seed)?;

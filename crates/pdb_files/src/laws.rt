@@ -1,8 +1,7 @@
 //! What holds of every database and of every text.
 
-ghost use Rattle.std.specs.Prelude.{◌≡◌, ℕ, ◌<◌, All, IfOk, IsOkUnless, List, None, false};
+ghost use Rattle.std.specs.Prelude.{◌≡◌, ℕ, ◌<◌, All, IfOk, IsOkUnless, List, None};
 ghost use Rattle.pdb_values.specs.Databases.{DatabaseValue};
-ghost use Rattle.pdb_values.specs.Heads.{holds_resources};
 ghost use Rattle.pdb_files.specs.Faults.{file_fault};
 ghost use Rattle.pdb_files.specs.Files.{IsFileText};
 
@@ -12,11 +11,8 @@ use crate::writer::write_database;
 use pdb_values::Database;
 use std::alloc::Global;
 
-/// A database of records without blocks, written and read again: it is the same, unless memory runs out.
+/// A database written and read again: it is the same, unless memory runs out.
 pub fn round_trip(alloc: Global, database: &Database) -> Result<Database, FileFault>
-    requires records { holds_resources database.now.head.attributes ≡ false }
-    requires no_app { database.now.app ≡ None }
-    requires no_sort { database.now.sort ≡ None }
     ensures same { IfOk result (λ copy. copy ≡ database.now) }
     ensures memory { IsOkUnless result FileFault.NoMemory }
 {

@@ -1,8 +1,9 @@
-//! Palm database files as bytes: PDB files of records, and why bytes are none.
+//! Palm database files as bytes: PDB files of records, PRC files of resources, and why bytes are neither.
 //!
-//! A file is a header of 78 bytes, one entry for each record, filler, and the records' bytes in the order of the
-//! entries. All numbers are big-endian. The public source is the Palm File Format Specification (Palm OS 3.5 and
-//! later), chapter "Palm Database (PDB) file format"; pilot-link's `pi-file.c` reads and writes the same files.
+//! A file is a header of 78 bytes, one entry for each record or resource, filler, and the blocks: the app block and the
+//! sort block, where they are there, and the data of each entry in order. All numbers are big-endian. The public source
+//! is the Palm File Format Specification (Palm OS 3.5 and later), chapters "Palm Database (PDB) file format" and "Palm
+//! Resource (PRC) file format"; pilot-link's `pi-file.c` reads and writes the same files.
 #![tactic(auto)]
 
 mod bad_kind;

@@ -1,22 +1,22 @@
 //! Reading a database file.
 
-ghost use Rattle.std.specs.Prelude.{◌≡◌, ◌+◌, ◌*◌, ◌≤◌, ◌<◌, ◌++◌, ◌∷◌, [], false, None, IfOk, IsOkUnless, MatchResult, OnOk, drop, length, map};
+ghost use Rattle.std.specs.Prelude.{◌≡◌, ◌+◌, ◌*◌, ◌≤◌, ◌<◌, ◌++◌, ◌∷◌, [], true, false, None, IfOk, IsOkUnless, MatchResult, OnOk, drop, if◌then◌else◌, length};
 ghost use Rattle.pdb_values.specs.Databases.{DatabaseValue};
 ghost use Rattle.pdb_values.specs.Heads.{holds_resources};
 ghost use Rattle.pdb_files.specs.Blocks.{AreInOrder, AreShort, blocks_in};
-ghost use Rattle.pdb_files.specs.Reading.{Gives, database_in, entries_in, records_of};
-ghost use Rattle.pdb_files.specs.Faults.{Refuses, file_fault};
+ghost use Rattle.pdb_files.specs.Entries.{entry_length};
+ghost use Rattle.pdb_files.specs.Faults.{Refuses, block_begins, file_fault};
 ghost use Rattle.pdb_files.specs.Files.{IsFileText};
+ghost use Rattle.pdb_files.specs.Reading.{Gives, database_in, header_in, records_in, resources_in};
 
-use crate::blocks::{block, check_blocks};
-use crate::entry::{ENTRY_LENGTH, Entry};
+use crate::blocks::{behind_front, block, block_begins, check_blocks, front_block};
+use crate::entry::{Entry, entry_length, read_resource};
 use crate::fault::FileFault;
 use crate::header::{HEADER_LENGTH, Header};
-use pdb_values::{Database, DbHead, PushFault, Record};
-use std::alloc::{AllocError, Global};
+use pdb_values::{Database, PushFault, Record, Resource};
+use std::alloc::Global;
 
-/// The database of a file, or the first rule of the format that its bytes break. Resources and blocks are not read
-/// yet.
+/// The database of a file, or the first rule of the format that its bytes break.
 pub fn read_database(alloc: Global, bytes: &[u8]) -> Result<Database, FileFault>
     // What is read has all of the bytes as its text.
     ensures found { IfOk result (λ database. IsFileText database bytes.now) }
@@ -33,78 +33,139 @@ fn read(alloc: Global, bytes: &[u8]) -> Result<Database, FileFault>
     ensures { Gives result (file_fault bytes.now) (database_in bytes.now) }
 {
     let header = Header::read(bytes)?;
-    if header.asks_for_more() {
-        return Err(FileFault::NotYet);
-    }
-    let first = HEADER_LENGTH + ENTRY_LENGTH * header.count as usize;
+    let first = header.entries_end();
     if bytes.len() < first {
         return Err(FileFault::Short(bytes.len() as u64));
     }
-    let entries = read_entries(alloc, bytes, header.count)?;
-    let begins = begins_of(alloc, &entries)?;
+    let begins = block_begins(alloc, &header, bytes)?;
     check_blocks(&begins, first, bytes.len())?;
-    read_records(alloc, header.head, bytes, &entries, &begins)
+    read_blocks(alloc, header, bytes, &begins)
 }
 
-// The entries behind the header of a file.
-fn read_entries(alloc: Global, bytes: &[u8], count: u16) -> Result<Vec<Entry>, AllocError>
-    requires { 78 + 8 * count ≤ length bytes.now }
-    ensures { IfOk result (λ entries. entries.items ≡ entries_in count (drop 78 bytes.now)) }
-{
-    let mut entries = Vec::new(alloc);
-    let mut rest = bytes.split_at(HEADER_LENGTH).1;
-    for _ in 0..count {
-        entries.push(Entry::read(rest))?;
-        rest = rest.split_at(ENTRY_LENGTH).1;
-    }
-    Ok(entries)
-}
-
-// Where the blocks of the entries begin.
-fn begins_of(alloc: Global, entries: &[Entry]) -> Result<Vec<u32>, AllocError>
-    ensures { IfOk result (λ begins. begins.items ≡ map (λ entry. entry.begin) entries.now) }
-{
-    entries.iter().map(|entry| entry.begin).collect(alloc)
-}
-
-// The database of this head whose records have these entries and blocks.
-fn read_records(
+// The database of a file that breaks no rule.
+#[tactic(auto, unfolding(crate::specs::Reading::database_of))]
+fn read_blocks(
     alloc: Global,
-    head: DbHead,
+    header: Header,
     bytes: &[u8],
-    entries: &[Entry],
     begins: &[u32],
 ) -> Result<Database, FileFault>
-    requires plain { holds_resources head.attributes ≡ false }
-    requires few { length entries.now ≤ 65535 }
-    requires same { length begins.now ≡ length entries.now }
-    requires order { AreInOrder 0 (length bytes.now) begins.now }
-    requires short { AreShort (blocks_in begins.now bytes.now) }
-    ensures database { IfOk result (λ database. database ≡ record {
-      head = head;
-      app = None;
-      sort = None;
-      records = records_of entries.now (blocks_in begins.now bytes.now);
-      resources = [];
-    }) }
+    requires none { file_fault bytes.now ≡ None }
+    requires header { header ≡ header_in bytes.now }
+    requires begins { begins.now ≡ block_begins bytes.now }
+    ensures database { IfOk result (λ database. database ≡ database_in bytes.now) }
     ensures memory { IsOkUnless result FileFault.NoMemory }
 {
-    let mut database = Database::new(alloc, head);
-    for (place, entry) in entries.iter().enumerate() {
-        let item = entry.record(alloc, block(bytes, begins, place))?;
-        add(&mut database, item)?;
-    }
+    let behind_app = behind_front(header.app, begins);
+    let data = behind_front(header.sort, behind_app);
+    let app = front_block(alloc, header.app, bytes, begins)?;
+    let sort = front_block(alloc, header.sort, bytes, behind_app)?;
+    let mut database = Database::new(alloc, header.head);
+    database.set_app(app).unwrap();
+    database.set_sort(sort).unwrap();
+    read_entries(alloc, &mut database, bytes, data)?;
     Ok(database)
 }
 
+// Puts the entries into a database that has none yet.
+fn read_entries(
+    alloc: Global,
+    database: &mut Database,
+    bytes: &[u8],
+    begins: &[u32],
+) -> Result<(), FileFault>
+    requires long { 78 + entry_length (holds_resources database.old.head.attributes) * length begins.now ≤ length bytes.now }
+    requires few { length begins.now ≤ 65535 }
+    requires no_records { database.old.records ≡ [] }
+    requires no_resources { database.old.resources ≡ [] }
+    requires order { AreInOrder 0 (length bytes.now) begins.now }
+    requires short { AreShort (blocks_in begins.now bytes.now) }
+    ensures entries { OnOk result (database.new ≡ record database.old {
+      records = if holds_resources database.old.head.attributes then [] else records_in (drop 78 bytes.now) (blocks_in begins.now bytes.now);
+      resources = if holds_resources database.old.head.attributes then resources_in (drop 78 bytes.now) (blocks_in begins.now bytes.now) else [];
+    }) }
+    ensures memory { IsOkUnless result FileFault.NoMemory }
+{
+    if database.head().holds_resources() {
+        read_resources(alloc, database, bytes, begins)
+    } else {
+        read_records(alloc, database, bytes, begins)
+    }
+}
+
+// Puts the records of a file into a database that has none yet.
+fn read_records(
+    alloc: Global,
+    database: &mut Database,
+    bytes: &[u8],
+    begins: &[u32],
+) -> Result<(), FileFault>
+    requires sort { holds_resources database.old.head.attributes ≡ false }
+    requires long { 78 + 8 * length begins.now ≤ length bytes.now }
+    requires few { length begins.now ≤ 65535 }
+    requires no_records { database.old.records ≡ [] }
+    requires order { AreInOrder 0 (length bytes.now) begins.now }
+    requires short { AreShort (blocks_in begins.now bytes.now) }
+    ensures records { OnOk result (database.new ≡ record database.old { records = records_in (drop 78 bytes.now) (blocks_in begins.now bytes.now) }) }
+    ensures memory { IsOkUnless result FileFault.NoMemory }
+{
+    let mut entries = bytes.split_at(HEADER_LENGTH).1;
+    for place in 0..begins.len() {
+        let item = Entry::read(entries).record(alloc, block(bytes, begins, place))?;
+        add_record(database, item)?;
+        entries = entries.split_at(entry_length(false)).1;
+    }
+    Ok(())
+}
+
+// Puts the resources of a file into a database that has none yet.
+fn read_resources(
+    alloc: Global,
+    database: &mut Database,
+    bytes: &[u8],
+    begins: &[u32],
+) -> Result<(), FileFault>
+    requires sort { holds_resources database.old.head.attributes ≡ true }
+    requires long { 78 + 10 * length begins.now ≤ length bytes.now }
+    requires few { length begins.now ≤ 65535 }
+    requires no_resources { database.old.resources ≡ [] }
+    requires order { AreInOrder 0 (length bytes.now) begins.now }
+    requires short { AreShort (blocks_in begins.now bytes.now) }
+    ensures resources { OnOk result (database.new ≡ record database.old { resources = resources_in (drop 78 bytes.now) (blocks_in begins.now bytes.now) }) }
+    ensures memory { IsOkUnless result FileFault.NoMemory }
+{
+    let mut entries = bytes.split_at(HEADER_LENGTH).1;
+    for place in 0..begins.len() {
+        let resource = read_resource(alloc, entries, block(bytes, begins, place))?;
+        add_resource(database, resource)?;
+        entries = entries.split_at(entry_length(true)).1;
+    }
+    Ok(())
+}
+
 // Puts a record behind the others, where there is room for one more.
-fn add(database: &mut Database, item: Record) -> Result<(), FileFault>
-    requires plain { holds_resources database.old.head.attributes ≡ false }
+fn add_record(database: &mut Database, item: Record) -> Result<(), FileFault>
+    requires sort { holds_resources database.old.head.attributes ≡ false }
     requires room { length database.old.records < 65535 }
     ensures added { OnOk result (database.new ≡ record database.old { records = database.old.records ++ item ∷ [] }) }
     ensures memory { IsOkUnless result FileFault.NoMemory }
 {
     match database.push_record(item) {
+        Ok(()) => Ok(()),
+        Err(PushFault::NoMemory(_)) => Err(FileFault::NoMemory),
+        Err(PushFault::Full(_) | PushFault::TooLarge(_)) => unreachable!(),
+    }
+}
+
+// Puts a short resource behind the others, where there is room for one more.
+fn add_resource(database: &mut Database, resource: Resource) -> Result<(), FileFault>
+    requires sort { holds_resources database.old.head.attributes ≡ true }
+    requires short { length resource.bytes ≤ 65500 }
+    requires room { length database.old.resources < 65535 }
+    ensures added { OnOk result (database.new ≡ record database.old { resources = database.old.resources ++ resource ∷ [] }) }
+    ensures memory { IsOkUnless result FileFault.NoMemory }
+{
+    match database.push_resource(resource) {
         Ok(()) => Ok(()),
         Err(PushFault::NoMemory(_)) => Err(FileFault::NoMemory),
         Err(PushFault::Full(_) | PushFault::TooLarge(_)) => unreachable!(),

@@ -36,6 +36,18 @@ const ODD_CANONICAL: [u8; 99] = [
     0x78, 0x79, 0x7a,
 ];
 
+// `Prc` of type `appl` and creator `memo`, with the app block `info`, the sort block `by`, and the resources `code` 1 and
+// `tFRM` 1000.
+const PRC: [u8; 111] = [
+    0x50, 0x72, 0x63, 0x00, 0x00, 0x00, 0x00, 0x00, 0x00, 0x00, 0x00, 0x00, 0x00, 0x00, 0x00, 0x00,
+    0x00, 0x00, 0x00, 0x00, 0x00, 0x00, 0x00, 0x00, 0x00, 0x00, 0x00, 0x00, 0x00, 0x00, 0x00, 0x00,
+    0x00, 0x01, 0x00, 0x02, 0x00, 0x00, 0x00, 0x01, 0x00, 0x00, 0x00, 0x02, 0x00, 0x00, 0x00, 0x03,
+    0x00, 0x00, 0x00, 0x04, 0x00, 0x00, 0x00, 0x64, 0x00, 0x00, 0x00, 0x68, 0x61, 0x70, 0x70, 0x6c,
+    0x6d, 0x65, 0x6d, 0x6f, 0x00, 0x00, 0x00, 0x09, 0x00, 0x00, 0x00, 0x00, 0x00, 0x02, 0x63, 0x6f,
+    0x64, 0x65, 0x00, 0x01, 0x00, 0x00, 0x00, 0x6a, 0x74, 0x46, 0x52, 0x4d, 0x03, 0xe8, 0x00, 0x00,
+    0x00, 0x6c, 0x00, 0x00, 0x69, 0x6e, 0x66, 0x6f, 0x62, 0x79, 0x4e, 0x75, 0x78, 0x79, 0x7a,
+];
+
 // The bits of a record: deleted, dirty, busy, secret.
 fn bits(item: &Record) -> [bool; 4] {
     [item.deleted, item.dirty, item.busy, item.content.secret()]
@@ -90,6 +102,31 @@ fn head(rt: HostRuntime) -> Result<(), Fail> {
     Ok(())
 }
 
+#[test]
+fn resources(rt: HostRuntime) -> Result<(), Fail> {
+    let database = read_database(rt.alloc(), &PRC)?;
+    assert!(rt; database.head().holds_resources());
+    assert_eq!(rt;
+        database.app().expect(&rt, "the app block"),
+        b"info".as_slice()
+    );
+    assert_eq!(rt;
+        database.sort().expect(&rt, "the sort block"),
+        b"by".as_slice()
+    );
+    assert_eq!(rt; database.records().len(), 0);
+    assert_eq!(rt; database.resources().len(), 2);
+    let code: (FourCc, u16, &[u8]) = (FourCc(*b"code"), 1, b"\x4e\x75");
+    let form: (FourCc, u16, &[u8]) = (FourCc(*b"tFRM"), 1000, b"xyz");
+    for (resource, (kind, id, bytes)) in database.resources().iter().zip(&[code, form]) {
+        assert_eq!(rt; (resource.kind, resource.id), (*kind, *id));
+        assert_eq!(rt; resource.bytes.as_slice(), *bytes);
+    }
+    let written = write_database(rt.alloc(), &database)?;
+    assert_eq!(rt; written.as_slice(), PRC.as_slice());
+    Ok(())
+}
+
 // So many zeros, but for the name `A` and these bytes at their places.
 fn file(alloc: Global, length: usize, bytes: &[(usize, u8)]) -> Result<Vec<u8>, Fail> {
     let mut file = vec![in alloc; 0; length]?;
@@ -104,13 +141,16 @@ fn file(alloc: Global, length: usize, bytes: &[(usize, u8)]) -> Result<Vec<u8>, 
     Ok(file)
 }
 
-// How many records a file has, or the word and the place of its refusal.
+// How many entries a file has, or the word and the place of its refusal.
 fn answer(alloc: Global, bytes: &[u8]) -> (&'static str, u64) {
     match read_database(alloc, bytes) {
-        Ok(database) => ("ok", database.records().len() as u64),
+        Ok(database) => (
+            "ok",
+            database.records().len() as u64 + database.resources().len() as u64,
+        ),
         Err(fault) => match fault.bad_file() {
             Some((kind, place)) => (kind.word(), place),
-            None => ("not yet", 0),
+            None => ("no memory", 0),
         },
     }
 }
@@ -151,13 +191,35 @@ fn answers(rt: HostRuntime) -> Result<(), Fail> {
         ("no name", 78, &[(0, 0)], "name", 0),
         ("a byte behind the zero of the name", 78, &full, "ok", 0),
         (
-            "an app block",
+            "a record before the app block",
             100,
-            &[(77, 1), (55, 90), (81, 88)],
-            "not yet",
-            0,
+            &[(55, 90), (77, 1), (81, 88)],
+            "offset",
+            1,
         ),
-        ("resources", 78, &[(33, 1)], "not yet", 0),
+        (
+            "a sort block before the app block",
+            100,
+            &[(55, 90), (59, 89)],
+            "offset",
+            1,
+        ),
+        ("an app block too large", 65_580, &[(55, 79)], "large", 0),
+        ("no resource", 78, &[(33, 1)], "ok", 0),
+        (
+            "an entry of a resource passes the end",
+            87,
+            &[(33, 1), (77, 1)],
+            "short",
+            87,
+        ),
+        (
+            "a resource at the end",
+            88,
+            &[(33, 1), (77, 1), (87, 88)],
+            "ok",
+            1,
+        ),
     ] {
         let (told, at) = answer(rt.alloc(), &file(rt.alloc(), length, bytes)?);
         assert_eq!(rt; told, word, "{what}");

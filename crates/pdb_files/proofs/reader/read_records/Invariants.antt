@@ -1,13 +1,14 @@
-use Rattle.std.proofs.Common.{◌≡◌, ◌++◌, drop, length}
+use Rattle.std.proofs.Common.{◌≡◌, ◌-◌, ◌*◌, ◌≤◌, ◌++◌, drop, length}
 use Rattle.pdb_files.specs.Blocks.{AreInOrder, AreShort, blocks_in}
-use Rattle.pdb_files.specs.Reading.{records_of}
+use Rattle.pdb_files.specs.Reading.{records_in}
 use Rattle.pdb_files.proofs.reader.read_records.Given as goal
 
 abbrev pub invariant-loop-place : goal.invariant-loop-place
 invariant-loop-place l = record {
-  head : l.database ≡ record l.initial.database { records = l.database.records };
+  rest : l.database ≡ record l.initial.database { records = l.database.records };
   count : length l.database.records ≡ l.place;
-  read : l.database.records ++ records_of (drop l.place l.entries) (blocks_in (drop l.place l.begins) l.bytes) ≡ records_of l.entries (blocks_in l.begins l.bytes);
+  read : l.database.records ++ records_in l.entries (blocks_in (drop l.place l.begins) l.bytes) ≡ records_in (drop 78 l.bytes) (blocks_in l.begins l.bytes);
+  left : 8 * (length l.begins - l.place) ≤ length l.entries;
   order : AreInOrder 0 (length l.bytes) (drop l.place l.begins);
   short : AreShort (blocks_in (drop l.place l.begins) l.bytes);
 }

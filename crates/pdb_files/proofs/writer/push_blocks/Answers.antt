@@ -1,7 +1,0 @@
-use Rattle.std.proofs.Common.{◌∙◌}
-use Rattle.pdb_files.proofs.WriteLaws.{one_more_block}
-use Rattle.pdb_files.proofs.writer.push_blocks.Goals as goal
-
-pub loop-item-preserved : goal.loop-item-preserved
-loop-item-preserved c =
-    rw (c.in_ok-extend_from_slice.ensures.items, c.bytes.ensures.bytes) (one_more_block c.loop-item.out.items c.args.records.now c.loop-item.item-index c.item-item.result c.loop-item-test.true c.item-item.is ∙ c.loop-item.invariant)
