@@ -7,14 +7,16 @@
 //! right bytes there, and one of the system tells nothing. Every refusal but want of memory is
 //! counted, so that a caller that reports a failure can be proved to have met one.
 //!
-//! `MemFolder`, `MemSource` and `MemSink` stand in memory. `DirFolder` and `StdoutSink` are the
-//! system's own, and what the system does with their bytes is trusted.
+//! `MemFolder`, `MemSource` and `MemSink` stand in memory. `DirFolder`, `FileSource`, `FileSink`
+//! and `StdoutSink` are the system's own, and what the system does with their bytes is trusted.
 #![tactic(auto)]
 
 mod calls;
 mod changes;
 mod dir_folder;
 mod faults;
+mod file_sink;
+mod file_source;
 mod file_tree;
 mod folder;
 mod mem_folder;
@@ -26,6 +28,8 @@ mod stdout_sink;
 
 pub use dir_folder::DirFolder;
 pub use faults::{FolderFault, SinkFault, SourceFault};
+pub use file_sink::FileSink;
+pub use file_source::FileSource;
 pub use folder::Folder;
 pub use mem_folder::MemFolder;
 pub use mem_sink::MemSink;

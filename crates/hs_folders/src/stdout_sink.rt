@@ -23,7 +23,7 @@ impl<'r, R: Print> StdoutSink<'r, R> {
     }
 }
 
-#[tactic(auto, using(crate::proofs::Prefixes::untold))]
+#[tactic(auto, using(crate::proofs::Prefixes::none_taken))]
 impl<'r, R: Print> Sink for StdoutSink<'r, R> {
     ghost taken = { λ _. None };
 

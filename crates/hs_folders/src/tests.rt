@@ -1,7 +1,7 @@
 // What no clause says: that calls succeed where nothing fails, and what the system does.
 use super::{
-    DirFolder, Folder, FolderFault, MemFolder, MemSink, MemSource, Sink, SinkFault, Source,
-    SourceFault, StdoutSink,
+    DirFolder, FileSink, FileSource, Folder, FolderFault, MemFolder, MemSink, MemSource, Sink,
+    SinkFault, Source, SourceFault, StdoutSink,
 };
 use std::fs;
 use std::test::Fail;
@@ -170,5 +170,22 @@ fn standard_output_takes_bytes(rt: HostRuntime) -> Result<(), Fail> {
     sink.open("out")?;
     sink.write_all(b"")?;
     sink.write_all(b"handheld folder failed\n")?;
+    Ok(())
+}
+
+#[test]
+fn a_file_is_written_and_read(rt: HostRuntime) -> Result<(), Fail> {
+    let mut sink = FileSink::new(&rt);
+    assert_eq!(rt; sink.write_all(b"x"), Err(SinkFault::Failed));
+    sink.open("trace.txt")?;
+    sink.write_all(b"1 D ok ")?;
+    sink.write_all(b"+")?;
+    let mut source = FileSource::new(&rt);
+    assert_eq!(rt; source.open("no.txt"), Err(SourceFault::Failed));
+    source.open("trace.txt")?;
+    let mut room = [0u8; 16];
+    assert_eq!(rt; source.read(&mut room)?, 8);
+    assert_eq!(rt; &room[..8], b"1 D ok +".as_slice());
+    assert_eq!(rt; source.read(&mut room)?, 0);
     Ok(())
 }
