@@ -12,8 +12,8 @@ use Rattle.std.specs.Prelude.{String}
 use Rattle.std.specs.declared.alloc.Global.{Global}
 use Rattle.hotsync_run.specs.declared.status.FileSide.{FileSide}
 use Rattle.hotsync_run.specs.HandheldFiles.{FileShows, FirstFails, HandheldShows, IsCarriedFile, IsCarriedIn, IsDatabaseFile, IsDatabaseOf, IsOtherFile, OneFileShows}
-use Rattle.hotsync_run.specs.Refusals.{IsCommandRefusal, IsMore}
-use Rattle.hotsync_run.specs.Runs.{IsReady, Shows}
+use Rattle.hotsync_run.specs.Refusals.{IsMore, IsRunRefusal, RunShows}
+use Rattle.hotsync_run.specs.Runs.{IsReady}
 use Rattle.hotsync_run.specs.declared.status.Status.{Status}
 use Rattle.hotsync_run.specs.declared.status.Status.TheVariants.{Done, Usage, BadFile, HandheldFolder, DesktopFolder, OutWrite, NoMemory, NotYet}
 
@@ -70,36 +70,36 @@ more_shown held database carried (inr one) =
     by_file name bytes database carried other = nothing_more name bytes database carried other
 
 -- what is left: a folder that failed, or want of memory
-pub no_cause : (words : List (List ℕ)) (handheld desktop : Option FileMap) (refusal : Status) → IsReady words handheld desktop → IsCommandRefusal refusal → Shows words handheld desktop refusal
+pub no_cause : (handheld desktop : Option FileMap) (refusal : Status) → IsReady handheld desktop → IsRunRefusal refusal → RunShows handheld desktop refusal
     → (refusal ≡ HandheldFolder) ⊎ (refusal ≡ DesktopFolder) ⊎ (refusal ≡ NoMemory)
-no_cause words handheld desktop Done ready is shows = absurd is
-no_cause words handheld desktop Usage ready is shows = let asked = ready.asked in cc
-no_cause words handheld desktop (BadFile side file kind place) ready is shows =
+no_cause handheld desktop Done ready is shows = absurd is
+no_cause handheld desktop Usage ready is shows = absurd is
+no_cause handheld desktop (BadFile side file kind place) ready is shows =
     absurd (bad_file_shown ready.held ready.database side file kind place ready.carried (rw ready.on_handheld at shows))
-no_cause words handheld desktop HandheldFolder ready is shows = inl refl
-no_cause words handheld desktop DesktopFolder ready is shows = inr (inl refl)
-no_cause words handheld desktop OutWrite ready is shows = absurd is
-no_cause words handheld desktop NoMemory ready is shows = inr (inr refl)
-no_cause words handheld desktop NotYet ready is shows = absurd (by_folder (rw (ready.on_handheld, ready.on_desktop) at shows))
+no_cause handheld desktop HandheldFolder ready is shows = inl refl
+no_cause handheld desktop DesktopFolder ready is shows = inr (inl refl)
+no_cause handheld desktop OutWrite ready is shows = absurd is
+no_cause handheld desktop NoMemory ready is shows = inr (inr refl)
+no_cause handheld desktop NotYet ready is shows = absurd (by_folder (rw (ready.on_handheld, ready.on_desktop) at shows))
   where
     by_folder : IsMore ready.held (Some ready.kept) → ⊥
     by_folder (inl more) = more_shown ready.held ready.database ready.carried more
     by_folder (inr full) = let empty = ready.empty in let occupied = full.occupied in cc
 
 -- so a refusal of a call that has everything is a fault of a folder, or want of memory
-pub refused_complete : (words : List (List ℕ)) (handheld desktop : Option FileMap) (refusal status : Status) (Handheld Desktop Out : Type 0) → IsCommandRefusal refusal → Shows words handheld desktop refusal
+pub refused_complete : (handheld desktop : Option FileMap) (refusal status : Status) (Handheld Desktop Out : Type 0) → IsRunRefusal refusal → RunShows handheld desktop refusal
     → (refusal ≡ HandheldFolder → Handheld) → (refusal ≡ DesktopFolder → Desktop) → (status ≡ refusal) ⊎ (status ≡ NoMemory)
-    → IsReady words handheld desktop → ¬ Handheld → ¬ Desktop → ¬ Out → (status ≡ Done) ⊎ (status ≡ NoMemory)
-refused_complete words handheld desktop refusal status Handheld Desktop Out is shows first second after ready one two three = elim (no_cause words handheld desktop refusal ready is shows) [
+    → IsReady handheld desktop → ¬ Handheld → ¬ Desktop → ¬ Out → (status ≡ Done) ⊎ (status ≡ NoMemory)
+refused_complete handheld desktop refusal status Handheld Desktop Out is shows first second after ready one two three = elim (no_cause handheld desktop refusal ready is shows) [
   | inl failed ↦ absurd (one (first failed))
   | inr (inl failed) ↦ absurd (two (second failed))
   | inr (inr memory) ↦ inr (elim after [ inl same ↦ same ∙ memory | inr more ↦ more ])
 ]
 
 -- and a run that was done stays done, unless standard output fails or memory runs out
-pub done_complete : (words : List (List ℕ)) (handheld desktop : Option FileMap) (status : Status) (Handheld Desktop Out : Type 0) → (status ≡ Done) ⊎ (status ≡ OutWrite) ⊎ (status ≡ NoMemory) → (status ≡ OutWrite → Out)
-    → IsReady words handheld desktop → ¬ Handheld → ¬ Desktop → ¬ Out → (status ≡ Done) ⊎ (status ≡ NoMemory)
-done_complete words handheld desktop status Handheld Desktop Out after failed ready one two three = elim after [
+pub done_complete : (handheld desktop : Option FileMap) (status : Status) (Handheld Desktop Out : Type 0) → (status ≡ Done) ⊎ (status ≡ OutWrite) ⊎ (status ≡ NoMemory) → (status ≡ OutWrite → Out)
+    → IsReady handheld desktop → ¬ Handheld → ¬ Desktop → ¬ Out → (status ≡ Done) ⊎ (status ≡ NoMemory)
+done_complete handheld desktop status Handheld Desktop Out after failed ready one two three = elim after [
   | inl done ↦ inl done
   | inr (inl out) ↦ absurd (three (failed out))
   | inr (inr memory) ↦ inr memory

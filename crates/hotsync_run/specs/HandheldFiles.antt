@@ -4,12 +4,10 @@ use Rattle.std.specs.FinMap as finmap
 use Rattle.std.specs.declared.alloc.Global.{Global}
 use Rattle.hs_folders.specs.FileMaps.{FileMap}
 use Rattle.pdb_values.specs.Databases.{DatabaseValue}
-use Rattle.pdb_files.specs.BadKinds.{bad_file}
-use Rattle.pdb_files.specs.Faults.{file_fault}
 use Rattle.pdb_files.specs.Files.{IsFileText}
 use Rattle.pdb_files.specs.declared.bad_kind.BadKind.{BadKind}
 use Rattle.pdb_files.specs.declared.bad_kind.BadKind.TheVariants as bad
-use Rattle.pdb_files.specs.declared.fault.FileFault.{FileFault}
+use Rattle.hotsync_run.specs.BadFiles.{BreaksRule}
 use Rattle.hotsync_run.specs.Carried.{is_carried}
 use Rattle.hotsync_run.specs.FolderNames.{is_handheld_name, only_database_of, file_name_of}
 use Rattle.hotsync_run.specs.declared.status.FileSide.TheVariants.{Handheld}
@@ -24,12 +22,6 @@ database_file held = only_database_of (filter is_handheld_name (finmap.keys held
 pub record IsDatabaseFile (held : FileMap) (name bytes : List ℕ) : Type 0 where
   pub only : database_file held ≡ Some name
   pub holds : finmap.get held name ≡ Some bytes
-
--- the bytes break a rule of the format
-pub record BreaksRule (bytes : List ℕ) (kind : BadKind) (place : ℕ) : Type 0 where
-  pub rule : FileFault
-  pub first : file_fault bytes ≡ Some rule
-  pub is : bad_file rule ≡ Some (kind, place)
 
 -- the bytes are those of a database that asks for another file name
 pub record HasOtherName (name bytes : List ℕ) (kind : BadKind) (place : ℕ) : Type 0 where
@@ -93,15 +85,3 @@ HandheldShows DesktopFolder held = ⊥
 HandheldShows OutWrite held = ⊥
 HandheldShows NoMemory held = ⊤
 HandheldShows NotYet held = (database_file held ≡ None) ⊎ OneFileShows held NotYet
-
--- the status of a bad file of the handheld, unless memory ran out
-abbrev pub IsBadStatus : List ℕ → BadKind → ℕ → Status → Type 0
-IsBadStatus name kind place (BadFile side file found at) = (side ≡ Handheld) × (string_bytes {Z = Global} file ≡ name) × (found ≡ kind) × (at ≡ place)
-IsBadStatus name kind place NoMemory = ⊤
-IsBadStatus name kind place _ = ⊥
-
--- the status that stands for a refusal of the file, unless memory ran out
-abbrev pub StandsFor : List ℕ → FileFault → Status → Type 0
-StandsFor name rule (BadFile side file kind place) = (side ≡ Handheld) × (string_bytes {Z = Global} file ≡ name) × (bad_file rule ≡ Some (kind, place))
-StandsFor name rule NoMemory = ⊤
-StandsFor name rule _ = ⊥

@@ -1,3 +1,5 @@
+pub mod BadFiles
+pub mod Calls
 pub mod Carried
 pub mod Codes
 pub mod Copies
@@ -10,5 +12,7 @@ pub mod Printed
 pub mod Refusals
 pub mod Rows
 pub mod Runs
-pub mod Words
+pub mod Scans
+pub mod Told
 pub mod WordViews
+pub mod Words

@@ -40,17 +40,6 @@ IsRunRefusal OutWrite = ⊥
 IsRunRefusal NoMemory = ⊤
 IsRunRefusal NotYet = ⊤
 
--- one of those that a command gives cause for
-abbrev pub IsCommandRefusal : Status → Type 0
-IsCommandRefusal Done = ⊥
-IsCommandRefusal Usage = ⊤
-IsCommandRefusal (BadFile _ _ _ _) = ⊤
-IsCommandRefusal HandheldFolder = ⊤
-IsCommandRefusal DesktopFolder = ⊤
-IsCommandRefusal OutWrite = ⊥
-IsCommandRefusal NoMemory = ⊤
-IsCommandRefusal NotYet = ⊤
-
 -- the handheld's one database is carried, and the desktop is not empty, where it tells what it holds
 pub record IsOccupied (held : FileMap) (desktop : Option FileMap) : Type 0 where
   pub database : DatabaseValue

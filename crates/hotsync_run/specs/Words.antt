@@ -1,5 +1,8 @@
--- Which words ask for a run, and what they give.
-use Rattle.std.specs.Prelude.{ℕ, Bool, not, ◌==◌, ◌&&◌, List, [], ◌∷◌, Option, Some, None, codes, bytes_eq, length, slice_index, option_map, option_and_then, if◌then◌else◌}
+-- What words ask for, and what they give.
+use Rattle.std.specs.Prelude.{ℕ, Bool, not, ◌%◌, ◌==◌, ◌&&◌, ◌||◌, nat_le, List, [], ◌∷◌, Option, Some, None, codes, bytes_eq, length, slice_index, option_map, option_and_then, if◌then◌else◌}
+use Rattle.std.specs.List.{list_all}
+use Rattle.std.specs.Result.{result_unwrap_or}
+use Rattle.hex.specs.Hex.{decode_of}
 use Rattle.pdb_values.specs.PalmDates.{read_text}
 
 -- what follows a first part of a word, where the word begins with that
@@ -22,9 +25,42 @@ pub record Run : Type 0 where
   pub desktop : List ℕ
   pub date : ℕ
 
--- the run that these words ask for: `run`, two plain words and a date, in this order, and nothing else
+-- the run that the words behind `run` ask for: two plain words and a date, in this order, and nothing else
 unfoldable pub run_of : List (List ℕ) → Option Run
-run_of (command ∷ handheld ∷ desktop ∷ date ∷ []) =
-    if bytes_eq command (codes "run") && (is_plain handheld && is_plain desktop)
+run_of (handheld ∷ desktop ∷ date ∷ []) =
+    if is_plain handheld && is_plain desktop
     then option_map (λ seconds. record { handheld = handheld; desktop = desktop; date = seconds }) (date_of date) else None
 run_of _ = None
+
+-- a digit of hexadecimal, `0` to `9` or `a` to `f`
+abbrev pub is_lower_digit : ℕ → Bool
+is_lower_digit byte = (nat_le 48 byte && nat_le byte 57) || (nat_le 97 byte && nat_le byte 102)
+
+-- two digits for each of 1 to 4,096 bytes
+abbrev pub is_hex_length : ℕ → Bool
+is_hex_length count = nat_le 2 count && (nat_le count 8192 && (count % 2 == 0))
+
+-- the lower-case hexadecimal of 1 to 4,096 bytes
+abbrev pub is_hex : List ℕ → Bool
+is_hex word = is_hex_length (length word) && list_all is_lower_digit word
+
+-- the bytes that hexadecimal stands for
+abbrev pub bytes_of : List ℕ → List ℕ
+bytes_of word = result_unwrap_or (decode_of word) []
+
+-- the bytes that the words behind `packet` give: one word of hexadecimal, and nothing else
+unfoldable pub packet_of : List (List ℕ) → Option (List ℕ)
+packet_of (hex ∷ []) = if is_hex hex then Some (bytes_of hex) else None
+packet_of _ = None
+
+-- what words can ask for: a run, or the packets in some bytes
+pub data Task : Type 0 where
+  Sync : Run → Task
+  Scan : List ℕ → Task
+
+-- what these words ask for, by the first of them
+unfoldable pub task_of : List (List ℕ) → Option Task
+task_of [] = None
+task_of (command ∷ words) =
+    if bytes_eq command (codes "run") then option_map Sync (run_of words)
+    else if bytes_eq command (codes "packet") then option_map Scan (packet_of words) else None

@@ -4,16 +4,17 @@ ghost use Rattle.std.specs.Option.{option_copied};
 ghost use Rattle.hs_folders.specs.Causes.{Rose};
 ghost use Rattle.pdb_values.specs.Heads.{holds_resources};
 ghost use Rattle.hotsync_run.specs.FolderNames.{has_ending as has_this_ending, is_handheld_name as is_name_read, only_database_of, only_of};
-ghost use Rattle.hotsync_run.specs.HandheldFiles.{FileShows, HandheldShows, IsBadStatus, IsCarriedFile, IsCarriedIn, StandsFor};
+ghost use Rattle.hotsync_run.specs.HandheldFiles.{FileShows, HandheldShows, IsCarriedFile, IsCarriedIn};
 ghost use Rattle.hotsync_run.specs.Opening.{Opens, OpensAtMost};
 ghost use Rattle.hotsync_run.specs.Refusals.{IsHandheldRefusal};
 
+use crate::bad_file::{bad_file, fault_status};
 use crate::rows;
 use crate::status::{FileSide, Status};
 use hs_folders::{Folder, FolderFault};
-use pdb_files::{BadKind, FileFault, read_database};
+use pdb_files::{BadKind, read_database};
 use pdb_values::Database;
-use std::alloc::{AllocError, Global};
+use std::alloc::Global;
 
 /// Opens the handheld's folder at this path, and reads its one database.
 pub fn read_handheld<H: Folder>(
@@ -133,39 +134,14 @@ fn checked_database(alloc: Global, name: &str, bytes: &[u8]) -> Result<Database,
 {
     let database = match read_database(alloc, bytes) {
         Ok(database) => database,
-        Err(fault) => return Err(fault_status(alloc, name, fault)),
+        Err(fault) => return Err(fault_status(alloc, FileSide::Handheld, name, fault)),
     };
     let file_name = rows::file_name(alloc, database.head())?;
     if file_name.as_str() != name {
-        return Err(bad_file(alloc, name, BadKind::FileName, 0));
+        return Err(bad_file(alloc, FileSide::Handheld, name, BadKind::FileName, 0));
     }
     if !rows::is_carried(alloc, &database)? {
         return Err(Status::NotYet);
     }
     Ok(database)
-}
-
-// What a refusal of the file makes of the run.
-fn fault_status(alloc: Global, name: &str, fault: FileFault) -> Status
-    ensures { StandsFor name.now fault result }
-{
-    match fault.bad_file() {
-        Some((kind, place)) => bad_file(alloc, name, kind, place),
-        None => Status::NoMemory,
-    }
-}
-
-// The status of a bad file of the handheld, where memory serves for its name.
-fn bad_file(alloc: Global, name: &str, kind: BadKind, place: u64) -> Status
-    ensures { IsBadStatus name.now kind place result }
-{
-    match String::from_str(alloc, name) {
-        Ok(name) => Status::BadFile {
-            side: FileSide::Handheld,
-            name,
-            kind,
-            place,
-        },
-        Err(AllocError) => Status::NoMemory,
-    }
 }

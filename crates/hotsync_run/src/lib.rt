@@ -1,14 +1,16 @@
 //! A synchronisation as one call: the words of a command line, a handheld's folder, a desktop's
 //! folder and the streams beside them go in; the status, a report and both folders come out.
 //!
-//! What runs today is the first path: the live records of the one database on the handheld come
-//! to an empty desktop.
+//! What a run does today is the first path: the live records of the one database on the handheld
+//! come to an empty desktop. Beside it, the packets in captured bytes are shown.
 #![tactic(auto)]
 
 mod answer;
+mod bad_file;
 mod command;
 mod desktop;
 mod handheld;
+mod packets;
 mod printing;
 mod report;
 mod rows;

@@ -1,9 +1,7 @@
 // The lines that a call prints, and the status that stands once they are printed.
 ghost use Rattle.std.specs.Prelude.{◌≡◌, ◌≢◌, ◌⊎◌, ◌≤◌, ◌++◌, IfOk, OnOk, string_bytes};
-ghost use Rattle.hs_folders.specs.Causes.{Rose};
 ghost use Rattle.hotsync_run.specs.Lines.{bad_file_line as line_of_bad_file, count_text, database_line as line_of_database, done_lines as lines_of_done, mode_word as word_of_mode, no_memory_line, refusal_line as line_of_refusal};
-ghost use Rattle.hotsync_run.specs.Printed.{TookAll, TookBeforeNoMemory, TookLines};
-ghost use Rattle.hotsync_run.specs.Runs.{IsRefusal, TookSomeLines};
+ghost use Rattle.hotsync_run.specs.Printed.{IsPrinted, IsRefusal};
 ghost use Rattle.hs_folders.specs.Appends.{AppendsPrefix};
 
 use crate::report::{DbReport, Did};
@@ -20,18 +18,30 @@ const USAGE: &str =
 const NO_MEMORY: &[u8] = b"no memory\n";
 
 /// Prints a line each database and then `ended`. A failing sink makes the status `OutWrite`.
+#[tactic(auto, using(crate::proofs::PrintedLaws::memory_printed))]
 pub fn print_done<O: Sink>(alloc: Global, databases: &[DbReport], out: &mut O) -> Status
     ensures status { (result ≡ Status.Done) ⊎ (result ≡ Status.OutWrite) ⊎ (result ≡ Status.NoMemory) }
-    ensures done { result ≡ Status.Done → TookAll (lines_of_done databases.now) (O.taken out.old) (O.taken out.new) }
-    ensures failed { result ≡ Status.OutWrite → Rose (O.faults out.old) (O.faults out.new) × AppendsPrefix (O.taken out.old) (O.taken out.new) (lines_of_done databases.now) }
-    ensures memory { result ≡ Status.NoMemory → TookBeforeNoMemory (lines_of_done databases.now) (O.taken out.old) (O.taken out.new) }
-    ensures paths { O.paths out.new ≡ O.paths out.old }
+    ensures printed { IsPrinted (λ text. text ≡ lines_of_done databases.now)
+        (record { taken = O.taken out.old; paths = O.paths out.old; faults = O.faults out.old })
+        (record { taken = O.taken out.new; paths = O.paths out.new; faults = O.faults out.new }) result }
     ensures count { O.faults out.old ≤ O.faults out.new }
 {
-    let Ok(lines) = done_lines(alloc, databases) else {
-        return print_no_memory(out);
-    };
-    match out.write_all(lines.as_bytes()) {
+    match done_lines(alloc, databases) {
+        Ok(lines) => print_text(lines.as_str(), out),
+        Err(AllocError) => print_no_memory(out),
+    }
+}
+
+/// Prints the text of what was done. A failing sink makes the status `OutWrite`.
+#[tactic(auto, using(crate::proofs::PrintedLaws::memory_printed))]
+pub fn print_text<O: Sink>(text: &str, out: &mut O) -> Status
+    ensures status { (result ≡ Status.Done) ⊎ (result ≡ Status.OutWrite) ⊎ (result ≡ Status.NoMemory) }
+    ensures printed { IsPrinted (λ printed. printed ≡ text.now)
+        (record { taken = O.taken out.old; paths = O.paths out.old; faults = O.faults out.old })
+        (record { taken = O.taken out.new; paths = O.paths out.new; faults = O.faults out.new }) result }
+    ensures count { O.faults out.old ≤ O.faults out.new }
+{
+    match out.write_all(text.as_bytes()) {
         Ok(()) => Status::Done,
         Err(SinkFault::Failed) => Status::OutWrite,
         Err(SinkFault::NoMemory) => print_no_memory(out),
@@ -39,12 +49,13 @@ pub fn print_done<O: Sink>(alloc: Global, databases: &[DbReport], out: &mut O) -
 }
 
 /// Prints the line of a refusal. The refusal stands also where the sink fails.
-#[tactic(auto, using(crate::proofs::PrintedLaws::memory_line))]
+#[tactic(auto, using(crate::proofs::PrintedLaws::memory_printed))]
 pub fn print_refusal<O: Sink>(alloc: Global, refusal: Status, out: &mut O) -> Status
+    requires { IsRefusal refusal ⊎ (refusal ≡ Status.NoMemory) }
     ensures status { (result ≡ refusal) ⊎ (result ≡ Status.NoMemory) }
-    ensures refused { IsRefusal result → TookLines (line_of_refusal result) (Rose (O.faults out.old) (O.faults out.new)) (O.taken out.old) (O.taken out.new) }
-    ensures memory { result ≡ Status.NoMemory → TookSomeLines (O.taken out.old) (O.taken out.new) }
-    ensures paths { O.paths out.new ≡ O.paths out.old }
+    ensures printed { IsPrinted (λ text. ⊥)
+        (record { taken = O.taken out.old; paths = O.paths out.old; faults = O.faults out.old })
+        (record { taken = O.taken out.new; paths = O.paths out.new; faults = O.faults out.new }) result }
     ensures count { O.faults out.old ≤ O.faults out.new }
 {
     match refusal {
@@ -54,13 +65,13 @@ pub fn print_refusal<O: Sink>(alloc: Global, refusal: Status, out: &mut O) -> St
 }
 
 // The same of another refusal than want of memory.
-#[tactic(auto, using(crate::proofs::PrintedLaws::memory_line))]
+#[tactic(auto, using(crate::proofs::PrintedLaws::memory_printed))]
 fn print_line<O: Sink>(alloc: Global, refusal: Status, out: &mut O) -> Status
-    requires { refusal ≢ Status.NoMemory }
+    requires { IsRefusal refusal }
     ensures status { (result ≡ refusal) ⊎ (result ≡ Status.NoMemory) }
-    ensures refused { IsRefusal result → TookLines (line_of_refusal result) (Rose (O.faults out.old) (O.faults out.new)) (O.taken out.old) (O.taken out.new) }
-    ensures memory { result ≡ Status.NoMemory → TookSomeLines (O.taken out.old) (O.taken out.new) }
-    ensures paths { O.paths out.new ≡ O.paths out.old }
+    ensures printed { IsPrinted (λ text. ⊥)
+        (record { taken = O.taken out.old; paths = O.paths out.old; faults = O.faults out.old })
+        (record { taken = O.taken out.new; paths = O.paths out.new; faults = O.faults out.new }) result }
     ensures count { O.faults out.old ≤ O.faults out.new }
 {
     let Ok(line) = refusal_line(alloc, &refusal) else {
@@ -72,9 +83,9 @@ fn print_line<O: Sink>(alloc: Global, refusal: Status, out: &mut O) -> Status
     }
 }
 
-// Prints the one line that takes no memory to make.
-#[tactic(auto, using(crate::proofs::PrintedLaws::all_taken))]
-fn print_no_memory<O: Sink>(out: &mut O) -> Status
+/// Prints the one line that takes no memory to make.
+#[tactic(auto, using(hs_folders::proofs::Prefixes::all_taken))]
+pub fn print_no_memory<O: Sink>(out: &mut O) -> Status
     ensures status { result ≡ Status.NoMemory }
     ensures lines { AppendsPrefix (O.taken out.old) (O.taken out.new) no_memory_line }
     ensures paths { O.paths out.new ≡ O.paths out.old }

@@ -6,21 +6,57 @@ ghost use Rattle.pdb_values.specs.Heads.{holds_resources};
 ghost use Rattle.hotsync_run.specs.Copies.{IsCopied, IsCopyOf, report_of};
 ghost use Rattle.hotsync_run.specs.Opening.{Opens, OpensAtMost};
 ghost use Rattle.hotsync_run.specs.Refusals.{IsDesktopRefusal, IsRunRefusal, RunShows};
+ghost use Rattle.hotsync_run.specs.Runs.{IsRun};
+ghost use Rattle.hotsync_run.specs.WordViews.{run_view};
 
+use crate::answer::Answer;
 use crate::desktop::{open_desktop, write_desktop};
 use crate::handheld::read_handheld;
-use crate::report::{DbReport, Did};
+use crate::printing::{print_done, print_refusal};
+use crate::report::{DbReport, Did, SessionEnd};
 use crate::rows::{desktop_rows, file_name};
 use crate::status::Status;
 use crate::words::RunWords;
-use hs_folders::Folder;
+use hs_folders::{Folder, Sink};
 use pdb_files::write_database;
 use pdb_values::{Database, PalmDate};
 use std::alloc::{AllocError, Global};
 
-/// Copies the live records of the handheld's database to the desktop, and reports it.
+/// Runs: copies the handheld's database to the desktop, and prints what was done.
+pub fn run_folders<H: Folder, D: Folder, O: Sink>(
+    alloc: Global,
+    words: &RunWords<'_>,
+    device: H,
+    desk: D,
+    out: &mut O,
+) -> Answer<H, D>
+    ensures run { IsRun (run_view words.now)
+        (record { contents = H.contents device; moments = H.moments device; paths = H.paths device; faults = H.faults device })
+        (record { contents = H.contents result.device; moments = H.moments result.device; paths = H.paths result.device; faults = H.faults result.device })
+        (record { contents = D.contents desk; moments = D.moments desk; paths = D.paths desk; faults = D.faults desk })
+        (record { contents = D.contents result.desk; moments = D.moments result.desk; paths = D.paths result.desk; faults = D.faults result.desk })
+        (record { taken = O.taken out.old; paths = O.paths out.old; faults = O.faults out.old })
+        (record { taken = O.taken out.new; paths = O.paths out.new; faults = O.faults out.new })
+        result.status result.report.databases.items }
+    ensures end { result.report.end ≡ SessionEnd.NotStarted }
+{
+    let mut device = device;
+    let mut desk = desk;
+    match run_copy(alloc, words, &mut device, &mut desk) {
+        Ok(databases) => {
+            let status = print_done(alloc, &databases, out);
+            Answer::new(status, databases, device, desk)
+        }
+        Err(refusal) => {
+            let status = print_refusal(alloc, refusal, out);
+            Answer::new(status, Vec::new(alloc), device, desk)
+        }
+    }
+}
+
+// Copies the live records of the handheld's database to the desktop, and reports it.
 #[tactic(auto, using(hs_folders::proofs::MomentLaws::no_moment, crate::proofs::RefusalLaws::handheld_shows))]
-pub fn run_copy<H: Folder, D: Folder>(
+fn run_copy<H: Folder, D: Folder>(
     alloc: Global,
     words: &RunWords<'_>,
     device: &mut H,

@@ -1,1 +1,2 @@
 pub mod PacketLines
+pub mod PacketLists

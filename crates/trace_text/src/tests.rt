@@ -1,5 +1,5 @@
 // Packets as text, against lines written by hand.
-use crate::show_packet;
+use crate::{show_packet, show_packets};
 use slp_frames::PacketLent;
 use std::test::Fail;
 
@@ -25,6 +25,26 @@ fn packets_are_shown(rt: HostRuntime) -> Result<(), Fail> {
         let text = show_packet(rt.alloc(), &packet)?;
         let want = format!(in rt.alloc(); "slp 3 3 2 id 255{words}")?;
         assert_eq!(rt; text.as_str(), want.as_str());
+    }
+    Ok(())
+}
+
+#[test]
+fn all_packets_are_shown_and_counted(rt: HostRuntime) -> Result<(), Fail> {
+    const ACK: &[u8] = b"\xbe\xef\xed\x03\x03\x02\x00\x04\x01\xa7\x02\xc0\x00\x02\xce\x11";
+    let two = [ACK, b"\xbe\xef", ACK].concat(rt.alloc())?;
+    let rows: [(&[u8], &str); 4] = [
+        (ACK, "slp 3 3 2 id 1 padp ack c0 2 data 0\npackets 1\n"),
+        (
+            two.as_slice(),
+            "slp 3 3 2 id 1 padp ack c0 2 data 0\nslp 3 3 2 id 1 padp ack c0 2 data 0\npackets 2\n",
+        ),
+        (&ACK[..15], "packets 0\n"),
+        (b"", "packets 0\n"),
+    ];
+    for (bytes, lines) in rows {
+        let text = show_packets(rt.alloc(), bytes)?;
+        assert_eq!(rt; text.as_str(), lines);
     }
     Ok(())
 }
