@@ -137,8 +137,9 @@ pub fn push_record_entry(out: &mut Vec<u8>, begin: u32, item: &Record) -> Result
     Ok(())
 }
 
-// The attributes of a record's entry.
-fn attributes_of(item: &Record) -> u8
+/// The attributes of a record's entry: 0x80 deleted, 0x40 dirty, 0x20 busy, 0x10 secret, and the category in the low
+/// four bits.
+pub fn attributes_of(item: &Record) -> u8
     ensures bits { result ≡ attributes_of item.now }
     ensures category { item.now.content.category < 16 }
 {

@@ -17,6 +17,7 @@ mod reader;
 mod writer;
 
 pub use bad_kind::BadKind;
+pub use entry::attributes_of;
 pub use fault::FileFault;
 pub use laws::{one_database, round_trip, rules_are_the_grammar};
 pub use reader::read_database;

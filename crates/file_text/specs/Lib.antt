@@ -1,0 +1,5 @@
+pub mod Counts
+pub mod Entries
+pub mod Fields
+pub mod Heads
+pub mod Listings

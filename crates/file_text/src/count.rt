@@ -1,0 +1,40 @@
+// How many entries a database has, in words.
+ghost use Rattle.std.specs.Prelude.{◌≡◌, IfOk, string_bytes};
+ghost use Rattle.pdb_files.specs.Files.{entry_count as count_of_entries};
+ghost use Rattle.file_text.specs.Counts.{check_text, entries_word};
+
+use crate::field::push_number;
+use pdb_values::Database;
+use std::alloc::{AllocError, Global};
+
+/// `ok N records`, or `ok N resources`, with its end.
+pub fn check_text(alloc: Global, database: &Database) -> Result<String, AllocError>
+    ensures { IfOk result (λ text. string_bytes text ≡ check_text database.now) }
+{
+    let mut text = String::new(alloc);
+    push_number(&mut text, "ok ", entry_count(database) as u64)?;
+    text.push_str(entries_word(database.head().holds_resources()))?;
+    Ok(text)
+}
+
+// How many records it has, or resources.
+fn entry_count(database: &Database) -> usize
+    ensures { result ≡ count_of_entries database.now }
+{
+    if database.head().holds_resources() {
+        database.resources().len()
+    } else {
+        database.records().len()
+    }
+}
+
+// What the entries are.
+fn entries_word(of_resources: bool) -> &'static str
+    ensures { result.now ≡ entries_word of_resources }
+{
+    if of_resources {
+        " resources\n"
+    } else {
+        " records\n"
+    }
+}
