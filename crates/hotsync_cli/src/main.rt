@@ -1,8 +1,8 @@
-//! The program `hotsync`: the call of the same name over real folders and standard output.
+//! The program `hotsync`: the call of the same name over real folders, files and standard output.
 #![tactic(auto)]
 
 use hotsync_run::hotsync;
-use hs_folders::{DirFolder, MemSink, MemSource, StdoutSink};
+use hs_folders::{DirFolder, FileSink, FileSource, StdoutSink};
 use std::process::ExitCode;
 use std::rt::Env;
 use std::{env, io};
@@ -25,8 +25,8 @@ fn main(rt: HostRuntime) -> ExitCode {
         &words,
         DirFolder::new(&rt, alloc),
         DirFolder::new(&rt, alloc),
-        &mut MemSource::new(alloc, Vec::new(alloc)),
-        &mut MemSink::new(alloc),
+        &mut FileSource::new(&rt),
+        &mut FileSink::new(&rt),
         &mut StdoutSink::new(&rt),
     );
     ExitCode::from(answer.status.code())

@@ -13,7 +13,7 @@ use Rattle.hotsync_run.specs.Runs.{HasBadFile, HoldsMore}
 use Rattle.hotsync_run.specs.declared.status.FileSide.TheVariants.{Handheld}
 use Rattle.hotsync_run.specs.declared.report.DbReport.{DbReport}
 use Rattle.hotsync_run.specs.declared.status.Status.{Status}
-use Rattle.hotsync_run.specs.declared.status.Status.TheVariants.{Done, Usage, BadFile, HandheldFolder, DesktopFolder, OutWrite, NoMemory, NotYet}
+use Rattle.hotsync_run.specs.declared.status.Status.TheVariants.{Done, Usage, BadFile, HandheldFolder, DesktopFolder, SourceRead, TooLong, OutWrite, NoMemory, NotYet}
 use Rattle.hotsync_run.proofs.ReadyLaws.{more_shown, passes_tests, same_bytes, same_name}
 
 -- a file has one first failing test
@@ -69,6 +69,8 @@ bad_refusal handheld desktop name kind place (BadFile side file found at) Palm D
         (shown.shows.0, shown.shows.1 ∙ names, test.0, test.1)
 bad_refusal handheld desktop name kind place HandheldFolder Palm Desk has is shows first second one two = absurd (one (first refl))
 bad_refusal handheld desktop name kind place DesktopFolder Palm Desk has is shows first second one two = absurd (two (second refl))
+bad_refusal handheld desktop name kind place SourceRead Palm Desk has is shows first second one two = is
+bad_refusal handheld desktop name kind place TooLong Palm Desk has is shows first second one two = is
 bad_refusal handheld desktop name kind place OutWrite Palm Desk has is shows first second one two = is
 bad_refusal handheld desktop name kind place NoMemory Palm Desk has is shows first second one two = tt
 bad_refusal handheld desktop name kind place NotYet Palm Desk has is shows first second one two = absurd (bad_is_no_more has.held desktop name has.bytes kind place has.file has.fails (rw has.on_handheld at shows))
@@ -84,6 +86,8 @@ more_refusal handheld desktop (BadFile side file kind place) Palm Desk asks is s
     by_file shown = bad_is_no_more asks.held (Some asks.kept) shown.name shown.bytes kind place shown.file shown.shows.2 asks.more
 more_refusal handheld desktop HandheldFolder Palm Desk asks is shows first second one two = absurd (one (first refl))
 more_refusal handheld desktop DesktopFolder Palm Desk asks is shows first second one two = absurd (two (second refl))
+more_refusal handheld desktop SourceRead Palm Desk asks is shows first second one two = absurd is
+more_refusal handheld desktop TooLong Palm Desk asks is shows first second one two = absurd is
 more_refusal handheld desktop OutWrite Palm Desk asks is shows first second one two = absurd is
 more_refusal handheld desktop NoMemory Palm Desk asks is shows first second one two = inr refl
 more_refusal handheld desktop NotYet Palm Desk asks is shows first second one two = inl refl

@@ -1,5 +1,6 @@
 pub mod ExactLaws
 pub mod IdLaws
+pub mod LookLaws
 pub mod NameLaws
 pub mod PrintedLaws
 pub mod ReadyLaws

@@ -15,7 +15,7 @@ use Rattle.hotsync_run.specs.HandheldFiles.{FileShows, FirstFails, HandheldShows
 use Rattle.hotsync_run.specs.Refusals.{IsMore, IsRunRefusal, RunShows}
 use Rattle.hotsync_run.specs.Runs.{IsReady}
 use Rattle.hotsync_run.specs.declared.status.Status.{Status}
-use Rattle.hotsync_run.specs.declared.status.Status.TheVariants.{Done, Usage, BadFile, HandheldFolder, DesktopFolder, OutWrite, NoMemory, NotYet}
+use Rattle.hotsync_run.specs.declared.status.Status.TheVariants.{Done, Usage, BadFile, HandheldFolder, DesktopFolder, SourceRead, TooLong, OutWrite, NoMemory, NotYet}
 
 -- a folder has one database file at most
 pub same_name : (held : FileMap) (name bytes other more : List ℕ) → IsDatabaseFile held name bytes → IsDatabaseFile held other more → other ≡ name
@@ -78,6 +78,8 @@ no_cause handheld desktop (BadFile side file kind place) ready is shows =
     absurd (bad_file_shown ready.held ready.database side file kind place ready.carried (rw ready.on_handheld at shows))
 no_cause handheld desktop HandheldFolder ready is shows = inl refl
 no_cause handheld desktop DesktopFolder ready is shows = inr (inl refl)
+no_cause handheld desktop SourceRead ready is shows = absurd is
+no_cause handheld desktop TooLong ready is shows = absurd is
 no_cause handheld desktop OutWrite ready is shows = absurd is
 no_cause handheld desktop NoMemory ready is shows = inr (inr refl)
 no_cause handheld desktop NotYet ready is shows = absurd (by_folder (rw (ready.on_handheld, ready.on_desktop) at shows))

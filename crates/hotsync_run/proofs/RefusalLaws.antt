@@ -7,7 +7,7 @@ use Rattle.hotsync_run.specs.HandheldFiles.{HandheldShows, IsCarriedIn}
 use Rattle.hotsync_run.specs.DesktopFiles.{HasDesktopFile}
 use Rattle.hotsync_run.specs.Refusals.{IsDesktopRefusal, IsHandheldRefusal, RunShows}
 use Rattle.hotsync_run.specs.declared.status.Status.{Status}
-use Rattle.hotsync_run.specs.declared.status.Status.TheVariants.{Done, Usage, BadFile, HandheldFolder, DesktopFolder, OutWrite, NoMemory, NotYet}
+use Rattle.hotsync_run.specs.declared.status.Status.TheVariants.{Done, Usage, BadFile, HandheldFolder, DesktopFolder, SourceRead, TooLong, OutWrite, NoMemory, NotYet}
 
 not_yet_handheld : (handheld desktop : Option FileMap) → IfSome handheld (HandheldShows NotYet) → RunShows handheld desktop NotYet
 not_yet_handheld None desktop shows = tt
@@ -24,6 +24,8 @@ handheld_shows handheld desktop Usage is shows = is
 handheld_shows handheld desktop (BadFile side file kind place) is shows = shows
 handheld_shows handheld desktop HandheldFolder is shows = tt
 handheld_shows handheld desktop DesktopFolder is shows = tt
+handheld_shows handheld desktop SourceRead is shows = is
+handheld_shows handheld desktop TooLong is shows = is
 handheld_shows handheld desktop OutWrite is shows = is
 handheld_shows handheld desktop NoMemory is shows = tt
 handheld_shows handheld desktop NotYet is shows = not_yet_handheld handheld desktop shows
@@ -35,6 +37,8 @@ desktop_shows handheld desktop database Usage carried is shows = is
 desktop_shows handheld desktop database (BadFile side file kind place) carried is shows = absurd is
 desktop_shows handheld desktop database HandheldFolder carried is shows = tt
 desktop_shows handheld desktop database DesktopFolder carried is shows = tt
+desktop_shows handheld desktop database SourceRead carried is shows = is
+desktop_shows handheld desktop database TooLong carried is shows = is
 desktop_shows handheld desktop database OutWrite carried is shows = is
 desktop_shows handheld desktop database NoMemory carried is shows = tt
 desktop_shows handheld desktop database NotYet carried is shows = not_yet_desktop handheld desktop database carried (shows refl)

@@ -12,7 +12,7 @@ use Rattle.hotsync_run.specs.Carried.{is_carried}
 use Rattle.hotsync_run.specs.FolderNames.{is_handheld_name, only_database_of, file_name_of}
 use Rattle.hotsync_run.specs.declared.status.FileSide.TheVariants.{Handheld}
 use Rattle.hotsync_run.specs.declared.status.Status.{Status}
-use Rattle.hotsync_run.specs.declared.status.Status.TheVariants.{Done, Usage, BadFile, HandheldFolder, DesktopFolder, OutWrite, NoMemory, NotYet}
+use Rattle.hotsync_run.specs.declared.status.Status.TheVariants.{Done, Usage, BadFile, HandheldFolder, DesktopFolder, SourceRead, TooLong, OutWrite, NoMemory, NotYet}
 
 -- the name of the one database file, where the handheld reads this file and no other
 abbrev pub database_file : FileMap → Option (List ℕ)
@@ -57,6 +57,8 @@ FileShows name bytes Usage = ⊥
 FileShows name bytes (BadFile side file kind place) = (side ≡ Handheld) × (string_bytes {Z = Global} file ≡ name) × FirstFails name bytes kind place
 FileShows name bytes HandheldFolder = ⊤
 FileShows name bytes DesktopFolder = ⊥
+FileShows name bytes SourceRead = ⊥
+FileShows name bytes TooLong = ⊥
 FileShows name bytes OutWrite = ⊥
 FileShows name bytes NoMemory = ⊤
 FileShows name bytes NotYet = IsOtherFile name bytes
@@ -82,6 +84,8 @@ HandheldShows Usage held = ⊥
 HandheldShows (BadFile side file kind place) held = OneFileShows held (BadFile side file kind place)
 HandheldShows HandheldFolder held = ⊤
 HandheldShows DesktopFolder held = ⊥
+HandheldShows SourceRead held = ⊥
+HandheldShows TooLong held = ⊥
 HandheldShows OutWrite held = ⊥
 HandheldShows NoMemory held = ⊤
 HandheldShows NotYet held = (database_file held ≡ None) ⊎ OneFileShows held NotYet

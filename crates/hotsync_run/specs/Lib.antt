@@ -7,6 +7,7 @@ pub mod DesktopFiles
 pub mod FolderNames
 pub mod HandheldFiles
 pub mod Lines
+pub mod Looks
 pub mod Opening
 pub mod Printed
 pub mod Refusals

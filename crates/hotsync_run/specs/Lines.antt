@@ -9,7 +9,7 @@ use Rattle.pdb_files.specs.declared.bad_kind.BadKind.{BadKind}
 use Rattle.hotsync_run.specs.declared.status.FileSide.{FileSide}
 use Rattle.hotsync_run.specs.declared.status.FileSide.TheVariants.{Handheld, Desktop, Source}
 use Rattle.hotsync_run.specs.declared.status.Status.{Status}
-use Rattle.hotsync_run.specs.declared.status.Status.TheVariants.{Done, Usage, BadFile, HandheldFolder, DesktopFolder, OutWrite, NoMemory, NotYet}
+use Rattle.hotsync_run.specs.declared.status.Status.TheVariants.{Done, Usage, BadFile, HandheldFolder, DesktopFolder, SourceRead, TooLong, OutWrite, NoMemory, NotYet}
 use Rattle.hotsync_run.specs.declared.report.Did.{Did}
 use Rattle.hotsync_run.specs.declared.report.Did.TheVariants.{Synced}
 use Rattle.hotsync_run.specs.declared.report.DbReport.{DbReport}
@@ -46,6 +46,8 @@ refusal_line Usage = usage_line
 refusal_line (BadFile side name kind place) = bad_file_line side (string_bytes {Z = Global} name) kind place
 refusal_line HandheldFolder = codes "handheld folder failed" ++ line_feed
 refusal_line DesktopFolder = codes "desktop folder failed" ++ line_feed
+refusal_line SourceRead = codes "source read failed" ++ line_feed
+refusal_line TooLong = codes "source too long" ++ line_feed
 refusal_line OutWrite = []
 refusal_line NoMemory = no_memory_line
 refusal_line NotYet = codes "not yet" ++ line_feed

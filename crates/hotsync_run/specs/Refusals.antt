@@ -5,7 +5,7 @@ use Rattle.hotsync_run.specs.DesktopFiles.{HasDesktopFile}
 use Rattle.hotsync_run.specs.HandheldFiles.{HandheldShows, IsCarriedIn}
 use Rattle.pdb_values.specs.Databases.{DatabaseValue}
 use Rattle.hotsync_run.specs.declared.status.Status.{Status}
-use Rattle.hotsync_run.specs.declared.status.Status.TheVariants.{Done, Usage, BadFile, HandheldFolder, DesktopFolder, OutWrite, NoMemory, NotYet}
+use Rattle.hotsync_run.specs.declared.status.Status.TheVariants.{Done, Usage, BadFile, HandheldFolder, DesktopFolder, SourceRead, TooLong, OutWrite, NoMemory, NotYet}
 
 -- one of those that the handheld's folder gives cause for
 abbrev pub IsHandheldRefusal : Status → Type 0
@@ -14,6 +14,8 @@ IsHandheldRefusal Usage = ⊥
 IsHandheldRefusal (BadFile _ _ _ _) = ⊤
 IsHandheldRefusal HandheldFolder = ⊤
 IsHandheldRefusal DesktopFolder = ⊥
+IsHandheldRefusal SourceRead = ⊥
+IsHandheldRefusal TooLong = ⊥
 IsHandheldRefusal OutWrite = ⊥
 IsHandheldRefusal NoMemory = ⊤
 IsHandheldRefusal NotYet = ⊤
@@ -25,6 +27,8 @@ IsDesktopRefusal Usage = ⊥
 IsDesktopRefusal (BadFile _ _ _ _) = ⊥
 IsDesktopRefusal HandheldFolder = ⊥
 IsDesktopRefusal DesktopFolder = ⊤
+IsDesktopRefusal SourceRead = ⊥
+IsDesktopRefusal TooLong = ⊥
 IsDesktopRefusal OutWrite = ⊥
 IsDesktopRefusal NoMemory = ⊤
 IsDesktopRefusal NotYet = ⊤
@@ -36,6 +40,8 @@ IsRunRefusal Usage = ⊥
 IsRunRefusal (BadFile _ _ _ _) = ⊤
 IsRunRefusal HandheldFolder = ⊤
 IsRunRefusal DesktopFolder = ⊤
+IsRunRefusal SourceRead = ⊥
+IsRunRefusal TooLong = ⊥
 IsRunRefusal OutWrite = ⊥
 IsRunRefusal NoMemory = ⊤
 IsRunRefusal NotYet = ⊤
@@ -57,6 +63,8 @@ RunShows handheld desktop Usage = ⊥
 RunShows handheld desktop (BadFile side file kind place) = IfSome handheld (HandheldShows (BadFile side file kind place))
 RunShows handheld desktop HandheldFolder = ⊤
 RunShows handheld desktop DesktopFolder = ⊤
+RunShows handheld desktop SourceRead = ⊥
+RunShows handheld desktop TooLong = ⊥
 RunShows handheld desktop OutWrite = ⊥
 RunShows handheld desktop NoMemory = ⊤
 RunShows handheld desktop NotYet = IfSome handheld (λ held. IsMore held desktop)

@@ -15,3 +15,9 @@ pub record SinkTold : Type 0 where
   pub taken : Option (List ℕ)
   pub paths : Option (List (List ℕ))
   pub faults : ℕ
+
+-- what a source tells
+pub record SourceTold : Type 0 where
+  pub left : Option (List ℕ)
+  pub paths : Option (List (List ℕ))
+  pub faults : ℕ

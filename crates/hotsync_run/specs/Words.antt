@@ -4,6 +4,8 @@ use Rattle.std.specs.List.{list_all}
 use Rattle.std.specs.Result.{result_unwrap_or}
 use Rattle.hex.specs.Hex.{decode_of}
 use Rattle.pdb_values.specs.PalmDates.{read_text}
+use Rattle.hotsync_run.specs.declared.words.Look.{Look}
+use Rattle.hotsync_run.specs.declared.words.Look.TheVariants.{Check, Show}
 
 -- what follows a first part of a word, where the word begins with that
 abbrev pub after : List ℕ → List ℕ → Option (List ℕ)
@@ -32,6 +34,11 @@ run_of (handheld ∷ desktop ∷ date ∷ []) =
     then option_map (λ seconds. record { handheld = handheld; desktop = desktop; date = seconds }) (date_of date) else None
 run_of _ = None
 
+-- the file that the words behind `check` or `show` name: one plain word, and nothing else
+unfoldable pub file_of : List (List ℕ) → Option (List ℕ)
+file_of (file ∷ []) = if is_plain file then Some file else None
+file_of _ = None
+
 -- a digit of hexadecimal, `0` to `9` or `a` to `f`
 abbrev pub is_lower_digit : ℕ → Bool
 is_lower_digit byte = (nat_le 48 byte && nat_le byte 57) || (nat_le 97 byte && nat_le byte 102)
@@ -53,9 +60,10 @@ unfoldable pub packet_of : List (List ℕ) → Option (List ℕ)
 packet_of (hex ∷ []) = if is_hex hex then Some (bytes_of hex) else None
 packet_of _ = None
 
--- what words can ask for: a run, or the packets in some bytes
+-- what words can ask for: a run, a look at a file, or the packets in some bytes
 pub data Task : Type 0 where
   Sync : Run → Task
+  LookAt : Look → List ℕ → Task
   Scan : List ℕ → Task
 
 -- what these words ask for, by the first of them
@@ -63,4 +71,6 @@ unfoldable pub task_of : List (List ℕ) → Option Task
 task_of [] = None
 task_of (command ∷ words) =
     if bytes_eq command (codes "run") then option_map Sync (run_of words)
+    else if bytes_eq command (codes "check") then option_map (LookAt Check) (file_of words)
+    else if bytes_eq command (codes "show") then option_map (LookAt Show) (file_of words)
     else if bytes_eq command (codes "packet") then option_map Scan (packet_of words) else None

@@ -1,9 +1,10 @@
 // The top call.
 ghost use Rattle.std.specs.Prelude.{◌≡◌, map, string_bytes};
-ghost use Rattle.hotsync_run.specs.Calls.{IsCall, IsSync};
+ghost use Rattle.hotsync_run.specs.Calls.{IsCall, IsLookAt, IsSync};
 ghost use Rattle.hotsync_run.specs.Words.{task_of};
 
 use crate::answer::Answer;
+use crate::look::look_at;
 use crate::packets::print_packets;
 use crate::printing::print_refusal;
 use crate::report::SessionEnd;
@@ -29,11 +30,13 @@ pub fn hotsync<H: Folder, D: Folder, S: Source, T: Sink, O: Sink>(
         (record {
           palm = record { contents = H.contents device; moments = H.moments device; paths = H.paths device; faults = H.faults device };
           desk = record { contents = D.contents desk; moments = D.moments desk; paths = D.paths desk; faults = D.faults desk };
+          source = record { left = S.left source.old; paths = S.paths source.old; faults = S.faults source.old };
           out = record { taken = O.taken out.old; paths = O.paths out.old; faults = O.faults out.old };
         })
         (record {
           palm = record { contents = H.contents result.device; moments = H.moments result.device; paths = H.paths result.device; faults = H.faults result.device };
           desk = record { contents = D.contents result.desk; moments = D.moments result.desk; paths = D.paths result.desk; faults = D.faults result.desk };
+          source = record { left = S.left source.new; paths = S.paths source.new; faults = S.faults source.new };
           out = record { taken = O.taken out.new; paths = O.paths out.new; faults = O.faults out.new };
         })
         result.status result.report.databases.items }
@@ -44,11 +47,15 @@ pub fn hotsync<H: Folder, D: Folder, S: Source, T: Sink, O: Sink>(
     // What the words don't name is not touched.
     ensures device { ¬ IsSync (task_of (map string_bytes words.now)) → result.device ≡ device }
     ensures desk { ¬ IsSync (task_of (map string_bytes words.now)) → result.desk ≡ desk }
-    ensures source { source.new ≡ source.old }
+    ensures source { ¬ IsLookAt (task_of (map string_bytes words.now)) → source.new ≡ source.old }
     ensures trace { trace.new ≡ trace.old }
 {
     match read_command(words) {
         Some(Command::Run(run)) => run_folders(alloc, &run, device, desk, out),
+        Some(Command::Look(look, file)) => {
+            let status = look_at(alloc, look, file, source, out);
+            Answer::new(status, Vec::new(alloc), device, desk)
+        }
         Some(Command::Packet(hex)) => {
             let status = print_packets(alloc, hex, out);
             Answer::new(status, Vec::new(alloc), device, desk)

@@ -2,7 +2,8 @@
 //! folder and the streams beside them go in; the status, a report and both folders come out.
 //!
 //! What a run does today is the first path: the live records of the one database on the handheld
-//! come to an empty desktop. Beside it, the packets in captured bytes are shown.
+//! come to an empty desktop. Beside it, a database file is counted or shown, and so are the packets
+//! in captured bytes.
 #![tactic(auto)]
 
 mod answer;
@@ -10,11 +11,13 @@ mod bad_file;
 mod command;
 mod desktop;
 mod handheld;
+mod look;
 mod packets;
 mod printing;
 mod report;
 mod rows;
 mod run;
+mod source;
 mod status;
 mod words;
 

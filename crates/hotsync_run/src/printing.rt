@@ -166,6 +166,8 @@ fn refusal_line(alloc: Global, refusal: &Status) -> Result<String, AllocError>
         } => bad_file_line(alloc, *side, name.as_str(), *kind, *place),
         Status::HandheldFolder => String::from_str(alloc, "handheld folder failed\n"),
         Status::DesktopFolder => String::from_str(alloc, "desktop folder failed\n"),
+        Status::SourceRead => String::from_str(alloc, "source read failed\n"),
+        Status::TooLong => String::from_str(alloc, "source too long\n"),
         Status::OutWrite => Ok(String::new(alloc)),
         Status::NoMemory => String::from_str(alloc, "no memory\n"),
         Status::NotYet => String::from_str(alloc, "not yet\n"),

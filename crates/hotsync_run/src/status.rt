@@ -32,6 +32,10 @@ pub enum Status {
     HandheldFolder,
     /// The desktop's folder failed.
     DesktopFolder,
+    /// The source failed.
+    SourceRead,
+    /// The source has more than 67,108,864 bytes.
+    TooLong,
     /// Standard output failed.
     OutWrite,
     /// Memory ran out.
@@ -73,8 +77,11 @@ impl Status {
         match self {
             Status::Done => 0,
             Status::Usage => 2,
-            Status::BadFile { .. } => 3,
-            Status::HandheldFolder | Status::DesktopFolder | Status::OutWrite => 4,
+            Status::BadFile { .. } | Status::TooLong => 3,
+            Status::HandheldFolder
+            | Status::DesktopFolder
+            | Status::SourceRead
+            | Status::OutWrite => 4,
             Status::NoMemory => 5,
             Status::NotYet => 8,
         }

@@ -1,4 +1,6 @@
 // Runs over folders in memory.
+mod looks;
+
 use crate::{Answer, Did, FileSide, SessionEnd, Status, hotsync};
 use hs_folders::{Folder, MemFolder, MemSink, MemSource};
 use pdb_files::BadKind;
@@ -136,12 +138,6 @@ fn other_words_give_the_usage_line(rt: HostRuntime) -> Result<(), Fail> {
         &["run", "palm", "desk", "--date=2001-09-31T01:46:40"],
         &["run", "palm", "desk", "--date=1904-01-01T00:00:00"],
         &["run", "palm", "desk", DATE, "--slow"],
-        &["packet"],
-        &["packet", ""],
-        &["packet", "0"],
-        &["packet", "0g"],
-        &["packet", "BE"],
-        &["packet", "be", "ef"],
     ];
     let alloc = rt.alloc();
     for words in WORDS {
@@ -159,31 +155,6 @@ fn other_words_give_the_usage_line(rt: HostRuntime) -> Result<(), Fail> {
 
 const USAGE: &[u8] =
     b"usage: hotsync run HANDHELD DESKTOP --date=D [--script=F] [--trace=F] [--slow]\n";
-
-#[test]
-fn packets_are_shown(rt: HostRuntime) -> Result<(), Fail> {
-    let alloc = rt.alloc();
-    for (hex, printed) in [
-        (
-            "beefed030302000401a702c00002ce11",
-            "slp 3 3 2 id 1 padp ack c0 2 data 0\npackets 1\n",
-        ),
-        ("00", "packets 0\n"),
-    ] {
-        let mut out = MemSink::new(alloc);
-        let palm = MemFolder::new(alloc);
-        let answer = run(
-            alloc,
-            &["packet", hex],
-            palm,
-            MemFolder::new(alloc),
-            &mut out,
-        )?;
-        assert_eq!(rt; answer.status.code(), 0);
-        assert_eq!(rt; out.bytes(), printed.as_bytes());
-    }
-    Ok(())
-}
 
 // The name of the file on the handheld, what differs in it from `TWO`, a file beside it, one on the
 // desktop, what is printed and the exit status.

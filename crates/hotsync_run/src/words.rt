@@ -1,7 +1,7 @@
 // The words of a command line.
 ghost use Rattle.std.specs.Prelude.{◌≡◌, map, string_bytes, option_map, option_copied, bytes_eq, codes};
 ghost use Rattle.std.specs.List.{list_all};
-ghost use Rattle.hotsync_run.specs.Words.{Scan, Sync, after, date_of, is_hex as is_hex_word, is_hex_length, is_lower_digit as is_this_lower_digit, is_plain as is_plain_word, packet_of, run_of, task_of};
+ghost use Rattle.hotsync_run.specs.Words.{LookAt, Scan, Sync, after, date_of, file_of, is_hex as is_hex_word, is_hex_length, is_lower_digit as is_this_lower_digit, is_plain as is_plain_word, packet_of, run_of, task_of};
 ghost use Rattle.hotsync_run.specs.WordViews.{run_view, task_view};
 
 use pdb_values::PalmDate;
@@ -17,11 +17,22 @@ pub struct RunWords<'a> {
     pub date: PalmDate,
 }
 
+/// What is wanted of a database file.
+#[derive(Clone, Copy, Debug, PartialEq, Eq)]
+pub enum Look {
+    /// The number of its entries.
+    Check,
+    /// All that it holds, in lines.
+    Show,
+}
+
 /// What words ask for.
 #[derive(Drop)]
 pub enum Command<'a> {
     /// A run.
     Run(RunWords<'a>),
+    /// A look at the file of this path.
+    Look(Look, &'a str),
     /// The packets in the bytes of this hexadecimal.
     Packet(&'a str),
 }
@@ -36,6 +47,10 @@ pub fn read_command<'a>(words: &'a [String]) -> Option<Command<'a>>
     };
     if command.as_str() == "run" {
         run_command(words)
+    } else if command.as_str() == "check" {
+        look_command(Look::Check, words)
+    } else if command.as_str() == "show" {
+        look_command(Look::Show, words)
     } else if command.as_str() == "packet" {
         packet_command(words)
     } else {
@@ -60,6 +75,20 @@ fn run_command<'a>(words: &'a [String]) -> Option<Command<'a>>
         desktop: desktop.as_str(),
         date,
     }))
+}
+
+// The look at the file that stands behind `check` or `show`.
+#[tactic(auto, unfolding(crate::specs::Words::file_of))]
+fn look_command<'a>(look: Look, words: &'a [String]) -> Option<Command<'a>>
+    ensures { option_map task_view result ≡ option_map (LookAt look) (file_of (map string_bytes words.entry.now)) }
+{
+    let [file] = words else {
+        return None;
+    };
+    if !is_plain(file.as_bytes()) {
+        return None;
+    }
+    Some(Command::Look(look, file.as_str()))
 }
 
 // The hexadecimal behind `packet`.

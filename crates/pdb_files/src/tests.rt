@@ -229,5 +229,8 @@ fn answers(rt: HostRuntime) -> Result<(), Fail> {
     let (told, at) = answer(rt.alloc(), &endless);
     assert_eq!(rt; told, "name");
     assert_eq!(rt; at, 32);
+    // A header without filler, and as it is written.
+    let bare = read_database(rt.alloc(), &file(rt.alloc(), 78, &[])?)?;
+    assert_eq!(rt; write_database(rt.alloc(), &bare)?.len(), 80);
     Ok(())
 }

@@ -1,0 +1,86 @@
+// A look at a database file.
+ghost use Rattle.std.specs.Prelude.{◌≡◌, ◌≤◌, IfErr, IfOk, IfSome, IsErrOf, OnOk, length, string_bytes};
+ghost use Rattle.hs_folders.specs.Causes.{Rose};
+ghost use Rattle.hotsync_run.specs.Looks.{IsLook, IsLookRefusal, IsReadable, IsTextIn, SourceShows, look_text as text_of_look, source_limit};
+ghost use Rattle.hotsync_run.specs.Opening.{Opens, OpensAtMost};
+
+use crate::bad_file::fault_status;
+use crate::printing::{print_refusal, print_text};
+use crate::source::read_source;
+use crate::status::{FileSide, Status};
+use crate::words::Look;
+use file_text::{check_text, show_text};
+use hs_folders::{Sink, Source};
+use pdb_files::read_database;
+use pdb_values::Database;
+use std::alloc::{AllocError, Global};
+
+/// Reads the database of a file, and prints what the look wants of it.
+pub fn look_at<S: Source, O: Sink>(
+    alloc: Global,
+    look: Look,
+    file: &str,
+    source: &mut S,
+    out: &mut O,
+) -> Status
+    ensures { IsLook look file.now
+        (record { left = S.left source.old; paths = S.paths source.old; faults = S.faults source.old })
+        (record { left = S.left source.new; paths = S.paths source.new; faults = S.faults source.new })
+        (record { taken = O.taken out.old; paths = O.paths out.old; faults = O.faults out.old })
+        (record { taken = O.taken out.new; paths = O.paths out.new; faults = O.faults out.new })
+        result }
+{
+    match look_into(alloc, look, file, source) {
+        Ok(text) => print_text(text.as_str(), out),
+        Err(refusal) => print_refusal(alloc, refusal, out),
+    }
+}
+
+// The text of the database of a file.
+fn look_into<S: Source>(
+    alloc: Global,
+    look: Look,
+    file: &str,
+    source: &mut S,
+) -> Result<String, Status>
+    ensures text { IfOk result (λ text. IsTextIn look (S.left source.old) (string_bytes text)) }
+    ensures readable { OnOk result (IfSome (S.left source.old) IsReadable) }
+    ensures shown { IfErr result (λ refusal. IfSome (S.left source.old) (SourceShows file.now refusal)) }
+    ensures failed { IsErrOf result Status.SourceRead → Rose (S.faults source.old) (S.faults source.new) }
+    ensures refusal { IfErr result IsLookRefusal }
+
+    ensures opened { OnOk result (Opens file.now (S.paths source.old) (S.paths source.new)) }
+    ensures path { OpensAtMost file.now (S.paths source.old) (S.paths source.new) }
+    ensures count { S.faults source.old ≤ S.faults source.new }
+{
+    let bytes = read_source(alloc, source, file)?;
+    let text = bytes_text(alloc, look, file, &bytes)?;
+    Ok(text)
+}
+
+// The text of the database in these bytes of a file.
+fn bytes_text(alloc: Global, look: Look, file: &str, bytes: &[u8]) -> Result<String, Status>
+    requires { length bytes.now ≤ source_limit }
+    ensures text { IfOk result (λ text. IsTextIn look (Some bytes.now) (string_bytes text)) }
+    ensures readable { OnOk result (IsReadable bytes.now) }
+    ensures shown { IfErr result (λ refusal. SourceShows file.now refusal bytes.now) }
+    ensures failed { ¬ IsErrOf result Status.SourceRead }
+    ensures refusal { IfErr result IsLookRefusal }
+{
+    let database = match read_database(alloc, bytes) {
+        Ok(database) => database,
+        Err(fault) => return Err(fault_status(alloc, FileSide::Source, file, fault)),
+    };
+    let text = database_text(alloc, look, &database)?;
+    Ok(text)
+}
+
+// What the look wants of a database.
+fn database_text(alloc: Global, look: Look, database: &Database) -> Result<String, AllocError>
+    ensures { IfOk result (λ text. string_bytes text ≡ text_of_look look database.now) }
+{
+    match look {
+        Look::Check => check_text(alloc, database),
+        Look::Show => show_text(alloc, database),
+    }
+}
