@@ -40,12 +40,7 @@ fn push_version(alloc: Global, text: &mut String, head: &DbHead) -> Result<(), A
     ensures { OnOk result (string_bytes text.new ≡ string_bytes text.old ++ version_text head.now) }
 {
     push_number(text, " version ", u64::from(head.version))?;
-    push_hex(
-        alloc,
-        text,
-        " attributes ",
-        &head.attributes.to_be_bytes(),
-    )?;
+    push_hex(alloc, text, " attributes ", &head.attributes.to_be_bytes())?;
     text.push_str("\n")?;
     Ok(())
 }
