@@ -1,0 +1,7 @@
+pub mod ListLaws
+pub mod EntryLaws
+pub mod EntryTexts
+pub mod EntryWritten
+pub mod IdLaws
+pub mod ReplyLaws
+pub mod WriteLaws

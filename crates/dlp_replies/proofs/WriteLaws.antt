@@ -1,0 +1,109 @@
+-- What is written of a reply is one of its texts.
+use Rattle.std.proofs.Common.{◌≡◌, ℕ, ◌*◌, ◌≤◌, Bool, true, ◌&&◌, eqb, leb, List, [], ◌∷◌, ◌++◌, length, map, is_some, Some, None, refl, sym, ap, ◌∙◌, arith, inl, inr}
+use Rattle.std.proofs.lemmas.Bool.{le-leb, eq-eqb}
+use Rattle.std.proofs.lemmas.List.{append-nil, length-append}
+use Rattle.pdb_values.specs.PalmDates.{read_wire, wire_date}
+use Rattle.pdb_values.proofs.DateLaws.{read_wire_of_wire_date}
+use Rattle.dlp_args.specs.Arguments.{header, written_form, arg_text}
+use Rattle.dlp_args.proofs.ArgumentLaws.{written_text}
+use Rattle.dlp_layouts.specs.Functions.{function_of}
+use Rattle.dlp_layouts.specs.Cells.{Kind, Text, HasNoZero}
+use Rattle.dlp_layouts.specs.Reading.{whole, text_in}
+use Rattle.dlp_layouts.specs.Fields.{Fields, fields_in, fields_text, FieldsFit, ends_well}
+use Rattle.dlp_layouts.proofs.CellLaws.{bind_some, map_some, some_is, fields_again, fields_written}
+use Rattle.dlp_replies.specs.EntryLists.{entries_text}
+use Rattle.dlp_replies.specs.EntryReading.{rows_of, rows_or_none, rows_checks, item_of}
+use Rattle.dlp_replies.specs.IdLists.{ids_text, words, ids_checks}
+use Rattle.dlp_replies.specs.Frames.{named, frame, function_byte, reply_text, IsReply}
+use Rattle.dlp_replies.specs.Layouts as layouts
+use Rattle.dlp_replies.specs.Checks as checks
+use Rattle.dlp_replies.specs.Checks.{Checks, first_bad, user_name, date_or_zero, text_or_none}
+use Rattle.dlp_replies.specs.ReplyReading.{reply_byte}
+use Rattle.dlp_replies.specs.ReplyTexts.{IsOne, ReplyText}
+use Rattle.dlp_replies.specs.ReplyValues as values
+use Rattle.dlp_replies.specs.ReplyValues.{ReplyValue}
+use Rattle.dlp_replies.proofs.EntryWritten.{rows_written, rows_pass, items_again}
+use Rattle.dlp_replies.proofs.IdLaws.{words_of_text, ids_text_len, ids_pass}
+
+with_written : (first : ℕ) (kinds : List Kind) (sizes : Fields kinds → Bool) (checks : Fields kinds → Checks) (make : Fields kinds → ReplyValue) (fields : Fields kinds) (value : ReplyValue) → ends_well kinds ≡ true → FieldsFit kinds fields → sizes fields ≡ true → first_bad (checks fields) ≡ None → make fields ≡ value → length (first ∷ 1 ∷ 0 ∷ 0 ∷ arg_text (record { id = 0x20; bytes = fields_text kinds fields })) ≤ 65535 → IsOne first kinds sizes checks make value (first ∷ 1 ∷ 0 ∷ 0 ∷ arg_text (record { id = 0x20; bytes = fields_text kinds fields }))
+with_written first kinds sizes checks make fields value ends fits measured valid made short =
+    let content = fields_text kinds fields in
+    let size : length content ≤ 65535 = omega (arith, length-append (header (written_form (length content)) 0x20 (length content)) content) in
+    record {
+      fields = fields;
+      form = written_form (length content);
+      content = content;
+      text = arg_text (record { id = 0x20; bytes = content });
+      argument = written_text (record { id = 0x20; bytes = content }) (record { low = omega arith; high = omega arith; size = size });
+      fields_text = fields_written kinds fields ends fits;
+      measured = measured;
+      valid = valid;
+      made = made;
+      is = refl;
+    }
+
+record_valid : (id category : ℕ) (bytes : List ℕ) → id ≤ 16777215 → category ≤ 15 → length bytes ≤ 65500 → first_bad ((0, checks.is_id id) ∷ (9, checks.is_category category) ∷ (10, leb (length bytes) 65500) ∷ []) ≡ None
+record_valid id category bytes low kept short = rw (le-leb id 16777215 low, le-leb category 15 kept, le-leb (length bytes) 65500 short) refl
+
+id_valid : (id : ℕ) → id ≤ 16777215 → first_bad ((0, checks.is_id id) ∷ []) ≡ None
+id_valid id low = rw (le-leb id 16777215 low) refl
+
+user_sized : (name password : List ℕ) → user_name (named name) ≡ Some name → length password ≤ 40 → (is_some (user_name (named name)) && leb (length password) 40) ≡ true
+user_sized name password found short = rw (found, le-leb (length password) 40 short) refl
+
+-- ---- a user's name
+
+text_found : (text : List ℕ) → HasNoZero text → text_in (text ++ 0 ∷ []) ≡ Some text
+text_found text none =
+    let bytes = text ++ 0 ∷ [] in
+    let cells : Fields (Text ∷ []) = (text, tt) in
+    let read : fields_in (Text ∷ []) bytes ≡ Some cells = fields_again (Text ∷ []) cells bytes (bytes, [], sym (append-nil bytes), ((refl, none), refl), refl) in
+    let first = bind_some (whole (text_in bytes)) _ cells read in
+    let others = bind_some (fields_in [] first.0.1) _ cells first.2 in
+    let found = map_some (text_in bytes) _ first.0 first.1 in
+    found.1 ∙ ap (λ (t : List ℕ). Some t) (ap (λ (x : List ℕ × List ℕ). x.0) found.2 ∙ ap (λ (x : Fields (Text ∷ [])). x.0) (some_is _ cells others.2))
+
+name_found : (name : List ℕ) → HasNoZero name → user_name (named name) ≡ Some name
+unfolding user_name
+name_found [] none = refl
+name_found (byte ∷ bytes) none = text_found (byte ∷ bytes) none
+
+pub reply_written : (value : ReplyValue) → IsReply value → ReplyText (function_byte (frame value)) value (reply_text value)
+unfolding reply_byte function_of
+reply_written (values.Refused number code) is = inl (code, is.fields.0, is.fields.1, refl, refl)
+reply_written (values.ReadUserInfo user viewer pc good last name password) is =
+    let g = read_wire_of_wire_date good is.values.0 in
+    let l = read_wire_of_wire_date last is.values.1 in
+    let n = name_found name is.values.3 in
+    let short = le-leb (length name) 40 is.values.2 in
+    inr (with_written 0x90 layouts.user_info checks.user_sizes checks.user_checks (λ v. values.ReadUserInfo v.0 v.1.0 v.1.1.0 (date_or_zero (read_wire v.1.1.1.0)) (date_or_zero (read_wire v.1.1.1.1.0)) (text_or_none (user_name v.1.1.1.1.1.0.0)) v.1.1.1.1.1.0.1) (user, (viewer, (pc, (wire_date good, (wire_date last, ((named name, password), tt)))))) _ refl is.fields (user_sized name password n is.values.4) (rw (g, l, n, short) refl) (rw (g, l, n) refl) is.fits)
+reply_written (values.ReadDbList last flags entries) is =
+    let rows = rows_written entries is.values in
+    inr (with_written 0x96 layouts.db_list (λ v. is_some (rows_of v)) (λ v. rows_checks 4 (rows_or_none (rows_of v))) (λ v. values.ReadDbList v.0 v.1.0 (map item_of (rows_or_none (rows_of v)))) (last, (flags, (length entries, (entries_text entries, tt)))) _ refl is.fields (rw rows refl) (rw rows (rows_pass 4 entries is.values)) (rw rows (ap (values.ReadDbList last flags) (items_again entries is.values))) is.fits)
+reply_written (values.OpenDb handle) is = inr (with_written 0x97 layouts.handle_alone (λ v. true) (λ v. []) (λ v. values.OpenDb v.0) (handle, tt) _ refl is.fields refl refl refl is.fits)
+reply_written (values.CreateDb handle) is = inr (with_written 0x98 layouts.handle_alone (λ v. true) (λ v. []) (λ v. values.CreateDb v.0) (handle, tt) _ refl is.fields refl refl refl is.fits)
+reply_written (values.ReadAppBlock bytes) is = inr (with_written 0x9B layouts.block (λ v. true) (λ v. []) (λ v. values.ReadAppBlock v.0) (bytes, tt) _ refl is.fields refl refl refl is.fits)
+reply_written (values.ReadSortBlock bytes) is = inr (with_written 0x9D layouts.block (λ v. true) (λ v. []) (λ v. values.ReadSortBlock v.0) (bytes, tt) _ refl is.fields refl refl refl is.fits)
+reply_written (values.ReadNextModifiedRec id index size attributes category bytes) is = inr (with_written 0x9F layouts.record_reply (λ v. true) checks.record_checks (λ v. values.ReadNextModifiedRec v.0 v.1.0 v.1.1.0 v.1.1.1.0 v.1.1.1.1.0 v.1.1.1.1.1.0) (id, (index, (size, (attributes, (category, (bytes, tt)))))) _ refl is.fields refl (record_valid id category bytes is.values.0 is.values.1 is.values.2) refl is.fits)
+reply_written (values.ReadRecord id index size attributes category bytes) is = inr (with_written 0xA0 layouts.record_reply (λ v. true) checks.record_checks (λ v. values.ReadRecord v.0 v.1.0 v.1.1.0 v.1.1.1.0 v.1.1.1.1.0 v.1.1.1.1.1.0) (id, (index, (size, (attributes, (category, (bytes, tt)))))) _ refl is.fields refl (record_valid id category bytes is.values.0 is.values.1 is.values.2) refl is.fits)
+reply_written (values.WriteRecord id) is = inr (with_written 0xA1 layouts.id_alone (λ v. true) checks.id_checks (λ v. values.WriteRecord v.0) (id, tt) _ refl is.fields refl (id_valid id is.values) refl is.fits)
+reply_written (values.ReadResource kind id index size bytes) is = inr (with_written 0xA3 layouts.resource_reply (λ v. true) (λ v. []) (λ v. values.ReadResource v.0 v.1.0 v.1.1.0 v.1.1.1.0 v.1.1.1.1.0) (kind, (id, (index, (size, (bytes, tt))))) _ refl is.fields refl refl refl is.fits)
+reply_written (values.ReadOpenDbInfo count) is = inr (with_written 0xAB layouts.count_alone (λ v. true) (λ v. []) (λ v. values.ReadOpenDbInfo v.0) (count, tt) _ refl is.fields refl refl refl is.fits)
+reply_written (values.ReadRecordIdList ids) is =
+    let numbers = words_of_text ids is.values in
+    inr (with_written 0xB1 layouts.id_list (λ v. eqb (4 * v.0) (length v.1.0)) (λ v. ids_checks 2 (words v.1.0)) (λ v. values.ReadRecordIdList (words v.1.0)) (length ids, (ids_text ids, tt)) _ refl is.fields (eq-eqb _ _ (sym (ids_text_len ids))) (ap (λ (xs : List ℕ). first_bad (ids_checks 2 xs)) numbers ∙ ids_pass 2 ids is.values) (ap values.ReadRecordIdList numbers) is.fits)
+reply_written values.WriteUserInfo is = inr (refl, refl)
+reply_written values.CloseDb is = inr (refl, refl)
+reply_written values.DeleteDb is = inr (refl, refl)
+reply_written values.WriteAppBlock is = inr (refl, refl)
+reply_written values.WriteSortBlock is = inr (refl, refl)
+reply_written values.DeleteRecord is = inr (refl, refl)
+reply_written values.WriteResource is = inr (refl, refl)
+reply_written values.DeleteResource is = inr (refl, refl)
+reply_written values.CleanUpDatabase is = inr (refl, refl)
+reply_written values.ResetSyncFlags is = inr (refl, refl)
+reply_written values.ResetRecordIndex is = inr (refl, refl)
+reply_written values.AddSyncLogEntry is = inr (refl, refl)
+reply_written values.MoveCategory is = inr (refl, refl)
+reply_written values.OpenConduit is = inr (refl, refl)
+reply_written values.EndOfSync is = inr (refl, refl)

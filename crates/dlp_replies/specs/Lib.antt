@@ -1,0 +1,15 @@
+pub mod Checks
+pub mod EntryLists
+pub mod EntryReading
+pub mod Faults
+pub mod Frames
+pub mod IdLists
+pub mod Layouts
+pub mod Lent
+pub mod ReplyReading
+pub mod ReplyTexts
+pub mod ReplyValues
+pub mod Shapes
+pub mod UserTexts
+pub mod Views
+pub mod Writables

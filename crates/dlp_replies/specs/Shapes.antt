@@ -1,0 +1,57 @@
+-- The reply of each function: no argument, or one with its layout, its values and what they say (pilot-link, `pi-dlp.h`).
+use Rattle.std.specs.Prelude.{◌*◌, ◌==◌, Bool, true, List, [], map, length, Option, Some, None, is_some}
+use Rattle.pdb_values.specs.PalmDates.{read_wire}
+use Rattle.dlp_layouts.specs.declared.function.Function.{Function}
+use Rattle.dlp_layouts.specs.declared.function.Function.TheVariants as function
+use Rattle.dlp_layouts.specs.Cells.{Kind}
+use Rattle.dlp_layouts.specs.Fields.{Fields}
+use Rattle.dlp_replies.specs.Checks.{Checks, user_sizes, user_checks, record_checks, id_checks, user_name, text_or_none, date_or_zero}
+use Rattle.dlp_replies.specs.EntryReading.{rows_of, rows_or_none, rows_checks, item_of}
+use Rattle.dlp_replies.specs.IdLists.{words, ids_checks}
+use Rattle.dlp_replies.specs.Layouts.{user_info, db_list, handle_alone, block, record_reply, id_alone, resource_reply, count_alone, id_list}
+use Rattle.dlp_replies.specs.ReplyValues.{ReplyValue, ReadUserInfo, ReadDbList, OpenDb, CreateDb, ReadAppBlock, ReadSortBlock, ReadNextModifiedRec, ReadRecord, WriteRecord, ReadResource, ReadOpenDbInfo, ReadRecordIdList, WriteUserInfo, CloseDb, DeleteDb, WriteAppBlock, WriteSortBlock, DeleteRecord, WriteResource, DeleteResource, CleanUpDatabase, ResetSyncFlags, ResetRecordIndex, AddSyncLogEntry, MoveCategory, OpenConduit, EndOfSync}
+
+-- no function; no argument; or one argument: its layout, a test of the lengths in it, tests of its values, and what it says
+pub data Shape : Type 0 where
+  Unknown : Shape
+  Bare : ReplyValue → Shape
+  One : (kinds : List Kind) → (Fields kinds → Bool) → (Fields kinds → Checks) → (Fields kinds → ReplyValue) → Shape
+
+-- one argument with any values
+abbrev pub plain : (kinds : List Kind) → (Fields kinds → ReplyValue) → Shape
+plain kinds make = One kinds (λ v. true) (λ v. []) make
+
+-- the shape of each function's reply
+abbrev pub shape : Function → Shape
+shape function.ReadUserInfo = One user_info user_sizes user_checks (λ v. ReadUserInfo v.0 v.1.0 v.1.1.0 (date_or_zero (read_wire v.1.1.1.0)) (date_or_zero (read_wire v.1.1.1.1.0)) (text_or_none (user_name v.1.1.1.1.1.0.0)) v.1.1.1.1.1.0.1)
+shape function.ReadDbList = One db_list (λ v. is_some (rows_of v)) (λ v. rows_checks 4 (rows_or_none (rows_of v))) (λ v. ReadDbList v.0 v.1.0 (map item_of (rows_or_none (rows_of v))))
+shape function.OpenDb = plain handle_alone (λ v. OpenDb v.0)
+shape function.CreateDb = plain handle_alone (λ v. CreateDb v.0)
+shape function.ReadAppBlock = plain block (λ v. ReadAppBlock v.0)
+shape function.ReadSortBlock = plain block (λ v. ReadSortBlock v.0)
+shape function.ReadNextModifiedRec = One record_reply (λ v. true) record_checks (λ v. ReadNextModifiedRec v.0 v.1.0 v.1.1.0 v.1.1.1.0 v.1.1.1.1.0 v.1.1.1.1.1.0)
+shape function.ReadRecord = One record_reply (λ v. true) record_checks (λ v. ReadRecord v.0 v.1.0 v.1.1.0 v.1.1.1.0 v.1.1.1.1.0 v.1.1.1.1.1.0)
+shape function.WriteRecord = One id_alone (λ v. true) id_checks (λ v. WriteRecord v.0)
+shape function.ReadResource = plain resource_reply (λ v. ReadResource v.0 v.1.0 v.1.1.0 v.1.1.1.0 v.1.1.1.1.0)
+shape function.ReadOpenDbInfo = plain count_alone (λ v. ReadOpenDbInfo v.0)
+shape function.ReadRecordIdList = One id_list (λ v. 4 * v.0 == length v.1.0) (λ v. ids_checks 2 (words v.1.0)) (λ v. ReadRecordIdList (words v.1.0))
+shape function.WriteUserInfo = Bare WriteUserInfo
+shape function.CloseDb = Bare CloseDb
+shape function.DeleteDb = Bare DeleteDb
+shape function.WriteAppBlock = Bare WriteAppBlock
+shape function.WriteSortBlock = Bare WriteSortBlock
+shape function.DeleteRecord = Bare DeleteRecord
+shape function.WriteResource = Bare WriteResource
+shape function.DeleteResource = Bare DeleteResource
+shape function.CleanUpDatabase = Bare CleanUpDatabase
+shape function.ResetSyncFlags = Bare ResetSyncFlags
+shape function.ResetRecordIndex = Bare ResetRecordIndex
+shape function.AddSyncLogEntry = Bare AddSyncLogEntry
+shape function.MoveCategory = Bare MoveCategory
+shape function.OpenConduit = Bare OpenConduit
+shape function.EndOfSync = Bare EndOfSync
+
+-- the shape of the function that a byte names
+abbrev pub shape_of : Option Function → Shape
+shape_of None = Unknown
+shape_of (Some found) = shape found

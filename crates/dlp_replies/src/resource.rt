@@ -1,0 +1,43 @@
+// Replies about resources.
+ghost use Rattle.std.specs.Prelude.{◌<◌, ◌^◌, [], true};
+ghost use Rattle.dlp_args.specs.Views.{Gives};
+ghost use Rattle.dlp_replies.specs.ReplyValues as values;
+ghost use Rattle.dlp_replies.specs.Layouts as layouts;
+ghost use Rattle.dlp_replies.specs.ReplyReading.{shaped, made_in};
+ghost use Rattle.dlp_replies.specs.Shapes.{shape};
+ghost use Rattle.dlp_replies.specs.Views.{reply_value};
+
+use crate::argument::only_content;
+use crate::fault::ReplyFault;
+use crate::reply::Reply;
+use dlp_args::Args;
+use dlp_layouts::{Function, rest_of, take_4, take_u16};
+use pdb_values::FourCc;
+
+// A resource.
+#[tactic(auto, unfolding(crate::specs::ReplyReading::shaped))]
+pub(crate) fn resource<'a>(end: usize, args: &Args<'a>) -> Result<Reply<'a>, ReplyFault>
+    requires { end < 2 ^ 63 }
+    ensures { Gives reply_value result (shaped (shape Function.ReadResource) end args.now) }
+{
+    let content = only_content(args)?;
+    resource_reply(end.saturating_sub(content.len()), content)
+}
+
+#[tactic(auto, unfolding(crate::specs::ReplyReading::valid_in))]
+fn resource_reply(place: usize, content: &[u8]) -> Result<Reply<'_>, ReplyFault>
+    ensures { Gives reply_value result (made_in layouts.resource_reply (λ v. true) (λ v. []) (λ v. values.ReadResource v.0 v.1.0 v.1.1.0 v.1.1.1.0 v.1.1.1.1.0) place content.now) }
+{
+    let (kind, rest) = take_4(content).ok_or(ReplyFault::Size)?;
+    let (id, rest) = take_u16(rest).ok_or(ReplyFault::Size)?;
+    let (index, rest) = take_u16(rest).ok_or(ReplyFault::Size)?;
+    let (size, rest) = take_u16(rest).ok_or(ReplyFault::Size)?;
+    let bytes = rest_of(rest).ok_or(ReplyFault::Size)?;
+    Ok(Reply::ReadResource {
+        kind: FourCc(kind),
+        id,
+        index,
+        size,
+        bytes,
+    })
+}
