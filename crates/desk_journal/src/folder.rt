@@ -1,0 +1,66 @@
+// Steps of a change in a folder.
+ghost use Rattle.std.specs.Prelude.{◌≡◌, ◌≤◌, Some, IfSome, IsErrOf, IsSome, OnErr, OnOk};
+ghost use Rattle.std.specs.FinMap as finmap;
+ghost use Rattle.std.specs.Option.{option_map};
+ghost use Rattle.hs_folders.specs.Causes.{Rose};
+ghost use Rattle.hs_folders.specs.Moments.{EachMomentSince};
+ghost use Rattle.file_names.specs.FileNames.{journal_file};
+ghost use Rattle.desk_journal.specs.Entries.{IsJournal, entry_values, journal_text};
+ghost use Rattle.desk_journal.specs.Overlays.{StandsAs, overlay, put_all};
+
+use crate::entry::Entry;
+use file_names::JOURNAL;
+use hs_folders::{Folder, FolderFault};
+
+// Carries out what the folder's journal says, and removes the journal.
+pub(crate) fn carry_out<F: Folder>(folder: &mut F, entries: &[Entry]) -> Result<(), FolderFault>
+    requires form { IsJournal (entry_values entries.now) }
+    requires written { IfSome (F.contents folder.old) (λ held. finmap.get held journal_file ≡ Some (journal_text (entry_values entries.now))) }
+    ensures done { OnOk result (F.contents folder.new ≡ option_map overlay (F.contents folder.old)) }
+    ensures stands { StandsAs (F.contents folder.old) (F.contents folder.new) }
+    ensures each_moment { EachMomentSince (StandsAs (F.contents folder.old)) (F.moments folder.old) (F.moments folder.new) }
+    ensures failed { IsErrOf result FolderFault.Failed → Rose (F.faults folder.old) (F.faults folder.new) }
+    ensures never_missing { ¬ IsErrOf result FolderFault.Missing }
+    ensures paths { F.paths folder.new ≡ F.paths folder.old }
+    ensures count { F.faults folder.old ≤ F.faults folder.new }
+{
+    replace_all(folder, entries)?;
+    remove_journal(folder)?;
+    Ok(())
+}
+
+// Replaces the file of each entry, in their order.
+fn replace_all<F: Folder>(folder: &mut F, entries: &[Entry]) -> Result<(), FolderFault>
+    requires form { IsJournal (entry_values entries.now) }
+    requires written { IfSome (F.contents folder.old) (λ held. finmap.get held journal_file ≡ Some (journal_text (entry_values entries.now))) }
+    ensures done { OnOk result (F.contents folder.new ≡ option_map (put_all (entry_values entries.now)) (F.contents folder.old)) }
+    ensures stands { StandsAs (F.contents folder.old) (F.contents folder.new) }
+    ensures each_moment { EachMomentSince (StandsAs (F.contents folder.old)) (F.moments folder.old) (F.moments folder.new) }
+    ensures failed { IsErrOf result FolderFault.Failed → Rose (F.faults folder.old) (F.faults folder.new) }
+    ensures never_missing { ¬ IsErrOf result FolderFault.Missing }
+    ensures paths { F.paths folder.new ≡ F.paths folder.old }
+    ensures count { F.faults folder.old ≤ F.faults folder.new }
+{
+    for entry in entries {
+        folder.replace(entry.name.as_str(), &entry.bytes)?;
+    }
+    Ok(())
+}
+
+// Removes the journal, which is there. A folder that tells nothing may say that it is missing: then it is removed.
+fn remove_journal<F: Folder>(folder: &mut F) -> Result<(), FolderFault>
+    requires there { IfSome (F.contents folder.old) (λ held. IsSome (finmap.get held journal_file)) }
+    ensures removed { OnOk result (F.contents folder.new ≡ option_map (λ held. finmap.remove held journal_file) (F.contents folder.old)) }
+    ensures contents { OnErr result (F.contents folder.new ≡ F.contents folder.old) }
+    ensures each_moment { EachMomentSince (λ told. told ≡ F.contents folder.new) (F.moments folder.old) (F.moments folder.new) }
+    ensures failed { IsErrOf result FolderFault.Failed → Rose (F.faults folder.old) (F.faults folder.new) }
+    ensures never_missing { ¬ IsErrOf result FolderFault.Missing }
+    ensures paths { F.paths folder.new ≡ F.paths folder.old }
+    ensures count { F.faults folder.old ≤ F.faults folder.new }
+{
+    match folder.remove(JOURNAL) {
+        Ok(()) => Ok(()),
+        Err(FolderFault::Missing) => Ok(()),
+        Err(fault) => Err(fault),
+    }
+}

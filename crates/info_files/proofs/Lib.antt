@@ -1,0 +1,3 @@
+pub mod HexLaws
+pub mod InfoLaws
+pub mod LineLaws

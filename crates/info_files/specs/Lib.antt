@@ -1,0 +1,5 @@
+pub mod Hexadecimal
+pub mod InfoFiles
+pub mod Lines
+pub mod Reading
+pub mod Views
