@@ -1,0 +1,12 @@
+pub mod Changes
+pub mod DatabaseFunctions
+pub mod DeviceRuns
+pub mod DeviceSteps
+pub mod Errors
+pub mod Links
+pub mod Reached
+pub mod RecordFunctions
+pub mod ResourceFunctions
+pub mod Talks
+pub mod Targets
+pub mod UserFunctions

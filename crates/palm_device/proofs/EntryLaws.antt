@@ -1,0 +1,152 @@
+-- The first entry that passes a test, by its place.
+use Rattle.std.proofs.Common.{◌≡◌, ℕ, zero, suc, ◌+◌, ◌<◌, ◌≤◌, Bool, true, false, cond, List, [], ◌∷◌, ◌++◌, map, take, drop, length, refl, ap, ◌∙◌, arith, add-one, Some, None, slice_get, slice_set}
+use Rattle.std.specs.Prelude.{position, remove, not, nat_lt, filter, ◌&&◌}
+use Rattle.std.specs.List.{position_or_len, list_all}
+use Rattle.std.specs.Option.{option_map}
+use Rattle.std.proofs.lemmas.Bool.{ltb-true, ltb-false}
+use Rattle.std.proofs.lemmas.List.Sums.{prefix_len-le-length}
+use Rattle.palm_device.specs.Entries.{put_entry, without_entry, set_some, change_at}
+
+-- ---- places
+
+found_by : (first len k : ℕ) (b : Bool) → nat_lt first len ≡ b → cond b (Some first) None ≡ Some k → (first ≡ k) × (k < len)
+found_by first len k true below is =
+    let same : first ≡ k = cc in
+    let lt : first < len = ltb-true _ _ below in
+    (same, omega arith)
+found_by first len k false below is = absurd cc
+
+-- the place that a search found is the first that passes, and lies within
+pub position_found : {X : Type 0} (test : X → Bool) (xs : List X) (k : ℕ) → position test xs ≡ Some k → (position_or_len test xs ≡ k) × (k < length xs)
+position_found test xs k found = found_by (position_or_len test xs) (length xs) k (nat_lt (position_or_len test xs) (length xs)) refl found
+
+none_by : (first len : ℕ) (b : Bool) → nat_lt first len ≡ b → cond b (Some first) None ≡ None → len ≤ first
+none_by first len true below is = absurd cc
+none_by first len false below is = ltb-false _ _ below
+
+pub position_none : {X : Type 0} (test : X → Bool) (xs : List X) → position test xs ≡ None → length xs ≤ position_or_len test xs
+position_none test xs none = none_by (position_or_len test xs) (length xs) (nat_lt (position_or_len test xs) (length xs)) refl none
+
+some_within : {X : Type 0} (xs : List X) (k : ℕ) → k < length xs → slice_get xs k ≡ None → ⊥
+some_within [] k within none = omega arith
+some_within (x ∷ xs) zero within none = cc
+some_within (x ∷ xs) (suc k) within none = some_within xs k (omega arith) none
+
+-- there is an entry at the place that a search found
+pub position_within : {X : Type 0} (test : X → Bool) (xs : List X) (k : ℕ) → position test xs ≡ Some k → slice_get xs k ≡ None → ⊥
+position_within test xs k found none = some_within xs k (position_found test xs k found).1 none
+
+-- the first place that passes, or the length
+pub place_found : {X : Type 0} (test : X → Bool) (xs : List X) (k : ℕ) → position test xs ≡ Some k → position_or_len test xs ≡ k
+place_found test xs k found = (position_found test xs k found).0
+
+pub place_past : {X : Type 0} (test : X → Bool) (xs : List X) → position test xs ≡ None → position_or_len test xs ≡ length xs
+place_past test xs none = let most : position_or_len test xs ≤ length xs = prefix_len-le-length _ xs in let least = position_none test xs none in omega arith
+
+pub first_here : (b : Bool) (n : ℕ) → cond (not b) (1 + n) 0 ≡ 0 → b ≡ true
+first_here true n is = refl
+first_here false n is = absurd (omega arith)
+
+pub first_later : (b : Bool) (n k : ℕ) → cond (not b) (1 + n) 0 ≡ suc k → (b ≡ false) × (n ≡ k)
+first_later true n k is = absurd (omega arith)
+first_later false n k is = (refl, omega arith)
+
+pub past_later : (b : Bool) (n len : ℕ) → suc len ≤ cond (not b) (1 + n) 0 → (b ≡ false) × (len ≤ n)
+past_later true n len is = absurd (omega arith)
+past_later false n len is = (refl, omega arith)
+
+-- ---- a changed entry, and a new one
+
+put_first : {X : Type 0} (test : X → Bool) (change : X → X) (new : X) (xs : List X) (k : ℕ) (x : X) → position_or_len test xs ≡ k → slice_get xs k ≡ Some x → put_entry test change new xs ≡ slice_set xs k (change x)
+unfolding put_entry
+put_first test change new [] k x first here = absurd cc
+put_first test change new (y ∷ ys) zero x first here =
+    let passes : test y ≡ true = first_here (test y) _ first in
+    let same : y ≡ x = cc in
+    rw (passes, same) refl
+put_first test change new (y ∷ ys) (suc k) x first here =
+    let later = first_later (test y) _ k first in
+    rw later.0 (ap (λ zs. y ∷ zs) (put_first test change new ys k x later.1 here))
+
+-- where an entry passes the test, it changes in its place
+pub put_entry_at : {X : Type 0} (test : X → Bool) (change : X → X) (new : X) (xs : List X) (k : ℕ) (x : X) → position test xs ≡ Some k → slice_get xs k ≡ Some x → put_entry test change new xs ≡ slice_set xs k (change x)
+put_entry_at test change new xs k x found here = put_first test change new xs k x (position_found test xs k found).0 here
+
+put_past : {X : Type 0} (test : X → Bool) (change : X → X) (new : X) (xs : List X) → length xs ≤ position_or_len test xs → put_entry test change new xs ≡ xs ++ new ∷ []
+unfolding put_entry
+put_past test change new [] past = refl
+put_past test change new (y ∷ ys) past =
+    let later = past_later (test y) _ (length ys) past in
+    rw later.0 (ap (λ zs. y ∷ zs) (put_past test change new ys later.1))
+
+-- where none does, the new one stands behind the others
+pub put_entry_new : {X : Type 0} (test : X → Bool) (change : X → X) (new : X) (xs : List X) → position test xs ≡ None → put_entry test change new xs ≡ xs ++ new ∷ []
+put_entry_new test change new xs none = put_past test change new xs (position_none test xs none)
+
+-- ---- an entry left out
+
+without_first : {X : Type 0} (test : X → Bool) (xs : List X) (k : ℕ) → position_or_len test xs ≡ k → k < length xs → without_entry test xs ≡ remove xs k
+unfolding without_entry
+without_first test [] k first within = absurd (omega arith)
+without_first test (y ∷ ys) zero first within = rw (first_here (test y) _ first) refl
+without_first test (y ∷ ys) (suc k) first within =
+    let later = first_later (test y) _ k first in
+    rw later.0 (ap (λ zs. y ∷ zs) (without_first test ys k later.1 (omega arith)))
+
+-- where an entry passes the test, it is taken out of its place
+pub without_entry_at : {X : Type 0} (test : X → Bool) (xs : List X) (k : ℕ) → position test xs ≡ Some k → without_entry test xs ≡ remove xs k
+without_entry_at test xs k found = let at = position_found test xs k found in without_first test xs k at.0 at.1
+
+without_past : {X : Type 0} (test : X → Bool) (xs : List X) → length xs ≤ position_or_len test xs → without_entry test xs ≡ xs
+unfolding without_entry
+without_past test [] past = refl
+without_past test (y ∷ ys) past =
+    let later = past_later (test y) _ (length ys) past in
+    rw later.0 (ap (λ zs. y ∷ zs) (without_past test ys later.1))
+
+-- where none does, all stay
+pub without_entry_none : {X : Type 0} (test : X → Bool) (xs : List X) → position test xs ≡ None → without_entry test xs ≡ xs
+without_entry_none test xs none = without_past test xs (position_none test xs none)
+
+pub and_true : (a b : Bool) → (a && b) ≡ true → (a ≡ true) × (b ≡ true)
+and_true true b both = (refl, both)
+and_true false b both = absurd cc
+
+-- ---- a list whose entries are changed or left out one after the other
+
+change_later : {X : Type 0} (change : X → X) (y : X) (ys : List X) (k : ℕ) → change_at change (suc k) (y ∷ ys) ≡ y ∷ change_at change k ys
+change_later change y ys k = elim (slice_get ys k) as (λ o. set_some (suc k) (y ∷ ys) (option_map change o) ≡ y ∷ set_some k ys (option_map change o)) [ None ↦ refl | Some x ↦ refl ]
+
+map_next_suc : {X : Type 0} (change : X → X) (xs : List X) (k : ℕ) → change_at change k (map change (take k xs) ++ drop k xs) ≡ map change (take (suc k) xs) ++ drop (suc k) xs
+map_next_suc change [] zero = refl
+map_next_suc change [] (suc k) = refl
+map_next_suc change (y ∷ ys) zero = refl
+map_next_suc change (y ∷ ys) (suc k) = change_later change (change y) (map change (take k ys) ++ drop k ys) k ∙ ap (λ zs. change y ∷ zs) (map_next_suc change ys k)
+
+-- the entry at a place is changed like those before it
+pub map_next : {X : Type 0} (change : X → X) (xs : List X) (k : ℕ) → change_at change k (map change (take k xs) ++ drop k xs) ≡ map change (take (k + 1) xs) ++ drop (k + 1) xs
+map_next change xs k = rw add-one (map_next_suc change xs k)
+
+-- leaving out an entry that isn't kept keeps the same
+pub filter_out : {X : Type 0} (keep : X → Bool) (xs : List X) (k : ℕ) (x : X) → slice_get xs k ≡ Some x → keep x ≡ false → filter keep (remove xs k) ≡ filter keep xs
+filter_out keep [] k x here lost = absurd cc
+filter_out keep (y ∷ ys) zero x here lost =
+    let same : y ≡ x = cc in
+    rw (same, lost) refl
+filter_out keep (y ∷ ys) (suc k) x here lost = elim (keep y) as (λ b. cond b (y ∷ filter keep (remove ys k)) (filter keep (remove ys k)) ≡ cond b (y ∷ filter keep ys) (filter keep ys)) [
+  | true ↦ ap (λ zs. y ∷ zs) (filter_out keep ys k x here lost)
+  | false ↦ filter_out keep ys k x here lost
+]
+
+-- where each entry is kept, all are
+pub filter_all : {X : Type 0} (keep : X → Bool) (xs : List X) → list_all keep xs ≡ true → filter keep xs ≡ xs
+filter_all keep [] all = refl
+filter_all keep (y ∷ ys) all =
+    let both = and_true (keep y) (list_all keep ys) all in
+    rw both.0 (ap (λ zs. y ∷ zs) (filter_all keep ys both.1))
+
+-- what stands before a place stays when that place's entry is taken out
+pub take_remove : {X : Type 0} (xs : List X) (k : ℕ) → k < length xs → take k (remove xs k) ≡ take k xs
+take_remove [] k within = absurd (omega arith)
+take_remove (y ∷ ys) zero within = refl
+take_remove (y ∷ ys) (suc k) within = ap (λ zs. y ∷ zs) (take_remove ys k (omega arith))

@@ -1,0 +1,6 @@
+pub mod EntryLaws
+pub mod IdLaws
+pub mod KeepingLaws
+pub mod NameLaws
+pub mod RecordLaws
+pub mod ResourceLaws

@@ -1,0 +1,9 @@
+use Rattle.std.proofs.Common.{◌≡◌, length}
+use Rattle.palm_device.specs.Records.{with_records}
+use Rattle.palm_device.proofs.record.clear_records.Given as goal
+
+abbrev pub invariant-loop-database : goal.invariant-loop-database
+invariant-loop-database l = l.database ≡ with_records l.database.records l.fn.database
+
+abbrev pub decreases-loop-database : goal.decreases-loop-database
+decreases-loop-database l = length l.database.records

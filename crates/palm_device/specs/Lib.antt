@@ -1,0 +1,10 @@
+pub mod Blocks
+pub mod Devices
+pub mod Entries
+pub mod FreshIds
+pub mod Handles
+pub mod Heads
+pub mod Kept
+pub mod Records
+pub mod Resources
+pub mod Soundness

@@ -1,0 +1,68 @@
+// The databases of a device, in byte order of their names.
+ghost use Rattle.std.specs.Prelude.{◌≡◌, ◌<◌, ◌≤◌, IfSome, OnErr, OnOk, length, position};
+ghost use Rattle.palm_device.specs.Devices as devices;
+
+use pdb_values::Database;
+use std::alloc::AllocError;
+use std::cmp::Ordering;
+
+// Whether a database has this name.
+fn is_named(database: &Database, name: &[u8]) -> bool
+    ensures { result ≡ devices.is_named name.now database.now }
+{
+    database.head().name.as_bytes() == name
+}
+
+/// Where the database of a name stands.
+pub fn place_of(databases: &[Database], name: &[u8]) -> Option<usize>
+    ensures place { result ≡ devices.place_of name.now databases.now }
+    ensures within { IfSome result (λ place. place < length databases.now) }
+{
+    databases
+        .iter()
+        .position(|database| is_named(database, name))
+}
+
+// Whether a name stands before that of a database in byte order.
+fn comes_before(name: &[u8], database: &Database) -> bool
+    ensures { result ≡ devices.comes_before name.now database.now.head.name }
+{
+    match name.cmp(database.head().name.as_bytes()) {
+        Ordering::Less => true,
+        _ => false,
+    }
+}
+
+// Where the first database of a greater name stands.
+fn first_greater(databases: &[Database], name: &[u8]) -> Option<usize>
+    ensures place { result ≡ position (λ database. devices.comes_before name.now database.head.name) databases.now }
+    ensures within { IfSome result (λ place. place < length databases.now) }
+{
+    databases
+        .iter()
+        .position(|database| comes_before(name, database))
+}
+
+/// Where a new database of this name goes: in front of the first greater name, or behind all.
+#[tactic(auto, using(crate::proofs::EntryLaws::place_found, crate::proofs::EntryLaws::place_past))]
+pub fn place_for(databases: &[Database], name: &[u8]) -> usize
+    ensures place { result ≡ devices.place_for name.now databases.now }
+    ensures within { result ≤ length databases.now }
+{
+    match first_greater(databases, name) {
+        Some(place) => place,
+        None => databases.len(),
+    }
+}
+
+/// Puts a new database at its place in the order of names.
+pub fn insert(databases: &mut Vec<Database>, database: Database) -> Result<(), AllocError>
+    ensures inserted { OnOk result (databases.new.items ≡ devices.with_new database databases.old.items) }
+    ensures stays { OnErr result (databases.new.items ≡ databases.old.items) }
+{
+    let place = place_for(databases, database.head().name.as_bytes());
+    match databases.insert(place, database) {
+        Ok(()) => Ok(()),
+        Err(_) => Err(AllocError),
+    }
+}

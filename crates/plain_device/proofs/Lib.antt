@@ -1,0 +1,4 @@
+pub mod DataLaws
+pub mod Fits
+pub mod FreeLaws
+pub mod StepLaws

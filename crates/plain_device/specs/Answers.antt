@@ -1,0 +1,23 @@
+-- What a function of the plain program did, against the table.
+use Rattle.std.specs.Prelude.{◌≡◌, ℕ, List, Result, Ok, Err}
+use Rattle.dlp_replies.specs.ReplyValues.{ReplyValue, Refused}
+use Rattle.dlp_replies.specs.Frames.{reply_text}
+use Rattle.palm_device.specs.Devices.{Device}
+use Rattle.dlp_commands.specs.DeviceSteps.{outcome}
+use Rattle.dlp_commands.specs.Reached.{Tried}
+use Rattle.plain_device.specs.declared.refusal.Refusal.{Refusal}
+use Rattle.plain_device.specs.Refusals.{code_of}
+
+-- what was found, seen by `view`, is what the table finds, or the refusal is the table's
+abbrev pub Finds : {X Y : Type 0} → (X → Y) → Result X Refusal → Result Y ℕ → Type 0
+Finds view (Ok x) found = found ≡ Ok (view x)
+Finds view (Err refusal) found = found ≡ Err (code_of refusal)
+
+-- the reply to a function: what its answer says, or its error
+abbrev pub answer_text : {A : Type 0} → ℕ → (A → ReplyValue) → Result A Refusal → List ℕ
+answer_text number reply (Ok x) = reply_text (reply x)
+answer_text number reply (Err refusal) = reply_text (Refused number (code_of refusal))
+
+-- the answer's reply and the new device are what the table says of the old one
+abbrev pub Does : {A : Type 0} → ℕ → (A → ReplyValue) → Device → Device → Result A Refusal → Tried → Type 0
+Does number reply old new result tried = outcome old number tried ≡ (answer_text number reply result, new)

@@ -1,0 +1,27 @@
+//! A handheld in memory, without a line: the table of the Desktop Link Protocol's functions as a plain program, a small
+//! function for each, and a link to it.
+//!
+//! It keeps its databases in a `Vec` and searches by walking. What it does is `dlp_commands`' definition of a device, and
+//! it is the fake that tests of a session use.
+#![tactic(auto)]
+
+mod answer;
+mod database;
+mod device;
+mod exchanged;
+mod holds;
+mod mem_link;
+mod reached;
+mod record;
+mod refusal;
+mod resource;
+mod serve;
+mod user;
+
+pub use device::PlainDevice;
+pub use exchanged::Exchanged;
+pub use mem_link::MemLink;
+pub use refusal::Refusal;
+
+#[cfg(test)]
+mod tests;
