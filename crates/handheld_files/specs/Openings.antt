@@ -1,0 +1,60 @@
+-- What opening a handheld's folder finds in it.
+use Rattle.std.specs.Prelude.{◌≡◌, ◌<◌, ◌≤◌, ⊤, ℕ, true, if◌then◌else◌, List, ◌∷◌, ◌++◌, count_by, length, All, IfSome, Option, Some, None, string_bytes, bytes_eq}
+use Rattle.std.specs.FinMap as finmap
+use Rattle.std.specs.List.{list_any}
+use Rattle.std.specs.declared.alloc.Global.{Global}
+use Rattle.hs_folders.specs.FileMaps.{FileMap}
+use Rattle.pdb_values.specs.Databases.{DatabaseValue}
+use Rattle.pdb_values.specs.declared.user.UserInfo.{UserInfo}
+use Rattle.pdb_files.specs.declared.bad_kind.BadKind.{BadKind}
+use Rattle.palm_device.specs.Devices.{most_databases}
+use Rattle.palm_device.specs.Soundness.{NamesRise}
+use Rattle.file_names.specs.FileNames.{is_handheld_file}
+use Rattle.handheld_files.specs.BadFiles.{FirstFails}
+use Rattle.handheld_files.specs.Handhelds.{Files, StandFor, is_database_file}
+use Rattle.handheld_files.specs.Settled.{are_settled}
+use Rattle.handheld_files.specs.declared.fault.OpenFault.{OpenFault}
+use Rattle.handheld_files.specs.declared.fault.OpenFault.TheVariants.{Keeper, TooMany, BadFile, NoMemory}
+
+-- the folder's files of these names, and no others
+abbrev pub among : List (List ℕ) → FileMap → Files
+among names held name = if list_any (bytes_eq name) names then finmap.get held name else None
+
+-- how many files of databases a folder has
+abbrev pub database_count : FileMap → ℕ
+database_count held = count_by is_database_file (finmap.keys held)
+
+-- The first bad file of these names: those before it stand for databases and a user, and it fails a test.
+pub record IsFirstBad (names : List (List ℕ)) (held : FileMap) (name : List ℕ) (kind : BadKind) (place : ℕ) : Type 0 where
+  pub before : List (List ℕ)
+  pub after : List (List ℕ)
+  pub order : names ≡ before ++ name ∷ after
+  pub databases : List DatabaseValue
+  pub user : UserInfo
+  pub good : StandFor (among before held) databases user
+  pub bytes : List ℕ
+  pub there : finmap.get held name ≡ Some bytes
+  pub is_read : is_handheld_file name ≡ true
+  pub fails : FirstFails databases name bytes kind place
+
+-- what a folder shows of the cause of each refusal to open it
+abbrev pub Shows : OpenFault → FileMap → Type 0
+Shows Keeper held = ⊤
+Shows TooMany held = most_databases < database_count held
+Shows (BadFile name kind place) held = (database_count held ≤ most_databases) × IsFirstBad (finmap.keys held) held (string_bytes {Z = Global} name) kind place
+Shows NoMemory held = ⊤
+
+-- what a folder holds that was opened
+pub record HoldsAll (held : FileMap) (databases : List DatabaseValue) (user : UserInfo) : Type 0 where
+  pub few : database_count held ≤ most_databases
+  pub stands : StandFor (finmap.get held) databases user
+
+-- databases as a store keeps them, whatever its folder tells
+pub record AreKept (databases : List DatabaseValue) : Type 0 where
+  pub order : NamesRise databases
+  pub few : length databases ≤ most_databases
+  pub settled : All (λ database. are_settled database.records ≡ true) databases
+
+-- what a folder holds, where it is told, stands for these databases and this user
+abbrev pub Stands : Option FileMap → List DatabaseValue → UserInfo → Type 0
+Stands told databases user = IfSome told (λ held. StandFor (finmap.get held) databases user)
