@@ -1,5 +1,5 @@
 // A link to a handheld in memory.
-ghost use Rattle.std.specs.Prelude.{◌≡◌, [], None, Some, false, true};
+ghost use Rattle.std.specs.Prelude.{◌≡◌, IfSome, None, Some, false, true};
 ghost use Rattle.plain_device.specs.MemLinks.{is_settled};
 
 use crate::device::PlainDevice;
@@ -21,13 +21,12 @@ pub struct MemLink {
 
 impl MemLink {
     ghost use Rattle.dlp_commands.specs.Talks.{fresh};
-    ghost use Rattle.plain_device.specs.MemLinks.{talk_of};
 
     /// A link to this device, over which nothing was said.
     pub fn new(alloc: Global, device: PlainDevice) -> MemLink
-        ensures talk { talk_of result.device result.exchanges.items result.left ≡ fresh device }
-        ensures begun { result.begun ≡ false }
-        ensures fault { result.fault ≡ None }
+        ensures talk { ⟦<MemLink as Link>⟧.talk result ≡ Some (fresh device) }
+        ensures begun { ⟦<MemLink as Link>⟧.begun result ≡ false }
+        ensures fault { ⟦<MemLink as Link>⟧.fault result ≡ None }
     {
         MemLink {
             alloc,
@@ -41,7 +40,7 @@ impl MemLink {
 
     /// The device, after all that was said.
     pub fn device(&self) -> &PlainDevice
-        ensures { result.now ≡ self.now.device }
+        ensures { IfSome (⟦<MemLink as Link>⟧.talk self.now) (λ talk. result.now ≡ talk.device) }
     {
         &self.device
     }
