@@ -1,0 +1,3 @@
+pub mod FindLaws
+pub mod LoopLaws
+pub mod OpenLaws

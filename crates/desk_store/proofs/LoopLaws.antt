@@ -1,0 +1,96 @@
+-- One step of a loop over names or databases.
+use Rattle.std.proofs.Common.{◌≡◌, ◌+◌, ◌++◌, ◌∙◌, ◌<◌, ◌≤◌, ℕ, zero, suc, Bool, true, false, cond, List, [], ◌∷◌, Option, None, Some, length, take, drop, get_or, refl, sym, ap, subst, arith}
+use Rattle.std.specs.Prelude.{Err, IfSome, Result, String, bytes_eq, codes, filter, map, string_bytes}
+use Rattle.std.specs.Option.{option_or}
+use Rattle.std.specs.declared.alloc.Global.{Global}
+use Rattle.std.proofs.Math.Seq.{split_at}
+use Rattle.std.proofs.lemmas.List.{length-append, length-map, map_push, take-map, take_all, take_more}
+use Rattle.std.proofs.lemmas.List.Elements.{filter-append}
+use Rattle.hs_folders.specs.FileMaps.{FileMap}
+use Rattle.pdb_values.specs.Databases.{DatabaseValue}
+use Rattle.file_names.specs.FileNames.{has_ending}
+use Rattle.desk_store.specs.Finds.{AddsAny, FindsAll, FoundValue, RefusesAmong, RefusesAt, bad_at, file_at, first_bad, rows_count}
+use Rattle.desk_store.specs.Shelves.{named}
+use Rattle.desk_store.specs.declared.fault.DeskOpenFault.{DeskOpenFault}
+use Rattle.desk_store.proofs.FindLaws.{found_more, found_none, named-append, refused_among}
+
+-- one more of a list
+pub map_more : {X Y : Type 0} (f : X → Y) (xs : List X) (place : ℕ) (x : X) → place < length xs → x ≡ get_or xs place x → take (place + 1) (map f xs) ≡ take place (map f xs) ++ f x ∷ []
+map_more {X = X} {Y = Y} f xs place x less is =
+    take-map f (place + 1) xs
+    ∙ (ap (map f) (take_more xs place x less ∙ ap (λ (y : X). take place xs ++ y ∷ []) (sym is))
+    ∙ (map_push f (take place xs) x ∙ ap (λ (ys : List Y). ys ++ f x ∷ []) (sym (take-map f place xs))))
+
+pub all_taken : {X Y : Type 0} (f : X → Y) (xs : List X) (place : ℕ) → length xs ≤ place → take place (map f xs) ≡ map f xs
+all_taken f xs place past = let same : length (map f xs) ≡ length xs = simp length-map in take_all place (map f xs) (omega arith)
+
+-- ---- databases of a name
+
+pub named_at : (databases : List DatabaseValue) (name : List ℕ) (place : ℕ) (item : DatabaseValue) → place < length databases → item ≡ get_or databases place item → named (take place databases) name ≡ None → bytes_eq item.head.name name ≡ true → named databases name ≡ Some item
+named_at databases name place item less is none here =
+    ap (λ (ds : List DatabaseValue). named ds name) (split_at databases place item less ∙ ap (λ (d : DatabaseValue). take place databases ++ d ∷ drop (suc place) databases) (sym is))
+    ∙ behind (take place databases) (drop (suc place) databases) none
+  where
+    behind : (front back : List DatabaseValue) → named front name ≡ None → named (front ++ item ∷ back) name ≡ Some item
+    behind [] back none = ap (λ (b : Bool). cond b (Some item) (named back name)) here
+    behind (first ∷ front) back none = step (bytes_eq first.head.name name) none (behind front back)
+      where
+        step : (b : Bool) → cond b (Some first) (named front name) ≡ None → (named front name ≡ None → named (front ++ item ∷ back) name ≡ Some item) → cond b (Some first) (named (front ++ item ∷ back) name) ≡ Some item
+        step true h later = absurd cc
+        step false h later = later h
+
+pub named_not : (databases : List DatabaseValue) (name : List ℕ) (place : ℕ) (item : DatabaseValue) → place < length databases → item ≡ get_or databases place item → named (take place databases) name ≡ None → bytes_eq item.head.name name ≡ false → named (take (place + 1) databases) name ≡ None
+named_not databases name place item less is none other =
+    ap (λ (ds : List DatabaseValue). named ds name) (take_more databases place item less ∙ ap (λ (d : DatabaseValue). take place databases ++ d ∷ []) (sym is))
+    ∙ (named-append (take place databases) item name
+    ∙ (ap (λ (o : Option DatabaseValue). option_or o (cond (bytes_eq item.head.name name) (Some item) None)) none ∙ ap (λ (b : Bool). cond b (Some item) None) other))
+
+-- ---- files of rows
+
+one_or_none : (b : Bool) (name : List ℕ) → length (cond b (name ∷ []) []) ≡ cond b 1 0
+one_or_none true name = refl
+one_or_none false name = refl
+
+pub rows_more : (names : List (String Global)) (place : ℕ) (item : String Global) → place < length names → item ≡ get_or names place item
+    → rows_count (take (place + 1) (map string_bytes names)) ≡ rows_count (take place (map string_bytes names)) + cond (has_ending (codes ".pdb") (string_bytes item)) 1 0
+rows_more names place item less is =
+    ap rows_count (map_more string_bytes names place item less is)
+    ∙ (ap length (filter-append (has_ending (codes ".pdb")) (take place (map string_bytes names)) (string_bytes item ∷ []))
+    ∙ (length-append (filter (has_ending (codes ".pdb")) (take place (map string_bytes names))) (filter (has_ending (codes ".pdb")) (string_bytes item ∷ []))
+    ∙ ap (λ (n : ℕ). rows_count (take place (map string_bytes names)) + n) (one_or_none (has_ending (codes ".pdb") (string_bytes item)) (string_bytes item))))
+
+-- ---- files, where contents are told or not
+
+-- what was found in these files, where contents are told
+abbrev pub FindsTold : Option FileMap → List (List ℕ) → FoundValue → Type 0
+FindsTold told names found = IfSome told (λ held. FindsAll held names found)
+
+pub told_none : (told : Option FileMap) (found : FoundValue) → found ≡ record { marks = None; rows = []; bases = []; archives = [] } → FindsTold told [] found
+told_none None found is = tt
+told_none (Some held) found is = found_none held found is
+
+pub told_more : (told : Option FileMap) (names : List (List ℕ)) (file : List ℕ) (old new : FoundValue) → FindsTold told names old → IfSome told (λ held. AddsAny (file_at held file) old new) → FindsTold told (names ++ file ∷ []) new
+told_more None names file old new so_far adds = tt
+told_more (Some held) names file old new so_far adds = found_more held names file old new so_far adds
+
+pub told_refused : (told : Option FileMap) (names : List (List ℕ)) (place : ℕ) (file : List ℕ) (found : FoundValue) (fault : DeskOpenFault) → place < length names → file ≡ get_or names place file
+    → FindsTold told (take place names) found → IfSome told (λ held. RefusesAt file (bad_at held file) fault) → IfSome told (λ held. RefusesAmong (first_bad held names) fault)
+told_refused None names place file found fault less is so_far refused = tt
+told_refused (Some held) names place file found fault less is so_far refused =
+    let all : names ≡ take place names ++ file ∷ drop (suc place) names = split_at names place file less ∙ ap (λ (n : List ℕ). take place names ++ n ∷ drop (suc place) names) (sym is) in
+    subst (λ (ns : List (List ℕ)). RefusesAmong (first_bad held ns) fault) (sym all) (refused_among held (take place names) (drop (suc place) names) file fault so_far.good refused)
+
+-- an item of a list, mapped
+pub mapped_at : {X Y : Type 0} (f : X → Y) (xs : List X) (place : ℕ) (x : X) → place < length xs → x ≡ get_or xs place x → f x ≡ get_or (map f xs) place (f x)
+mapped_at f [] place x less is = absurd (omega arith)
+mapped_at f (y ∷ ys) zero x less is = ap f is
+mapped_at f (y ∷ ys) (suc place) x less is = mapped_at f ys place x (omega arith) is
+
+pub empty_value : (rows bases archives : List DatabaseValue) → rows ≡ [] → bases ≡ [] → archives ≡ [] → ◌≡◌ {A = FoundValue} (record { marks = None; rows = rows; bases = bases; archives = archives }) (record { marks = None; rows = []; bases = []; archives = [] })
+empty_value rows bases archives a b c =
+    ap (λ (xs : List DatabaseValue). let f : FoundValue = record { marks = None; rows = xs; bases = bases; archives = archives } in f) a
+    ∙ (ap (λ (xs : List DatabaseValue). let f : FoundValue = record { marks = None; rows = []; bases = xs; archives = archives } in f) b
+    ∙ ap (λ (xs : List DatabaseValue). let f : FoundValue = record { marks = None; rows = []; bases = []; archives = xs } in f) c)
+
+pub err_is : {A E : Type 0} (x y : E) → (let r : Result A E = Err x in r) ≡ Err y → x ≡ y
+err_is x y e = cc

@@ -1,0 +1,32 @@
+-- Desktops: what a folder stands for, and when it stands for none.
+use Rattle.std.specs.Prelude.{◌≡◌, ⊤, ◌<◌, ◌≤◌, ℕ, List, None, Some, unwrap_or, string_bytes}
+use Rattle.std.specs.FinMap as finmap
+use Rattle.std.specs.declared.alloc.Global.{Global}
+use Rattle.hs_folders.specs.FileMaps.{FileMap}
+use Rattle.pdb_values.specs.Databases.{DatabaseValue}
+use Rattle.pdb_values.specs.declared.user.Marks.{Marks}
+use Rattle.desk_files.specs.declared.role.Role.{Role}
+use Rattle.desk_journal.specs.Overlays.{HasNoJournal}
+use Rattle.desk_store.specs.Finds.{first_bad, rows_count}
+use Rattle.desk_store.specs.Shelves.{database_at, first_marks, marks_in, named}
+use Rattle.desk_store.specs.declared.fault.DeskOpenFault.{DeskOpenFault}
+use Rattle.desk_store.specs.declared.fault.DeskOpenFault.TheVariants.{DeskFault, TooMany, BadFile, NoMemory}
+
+-- these are all databases and the marks of a folder, which has no journal
+pub record IsDeskOf (held : FileMap) (marks : Marks) (shelf : Role → List DatabaseValue) : Type 0 where
+  pub no_journal : HasNoJournal held
+  pub marked : marks ≡ unwrap_or (marks_in held) first_marks
+  pub shelved : (role : Role) (name : List ℕ) → named (shelf role) name ≡ database_at held role name
+
+-- there are not too many files of rows, and none is bad
+pub record IsReadable (held : FileMap) : Type 0 where
+  pub few : rows_count (finmap.keys held) ≤ 200
+  pub good : first_bad held (finmap.keys held) ≡ None
+
+-- what the files of a folder show of the cause of each refusal
+abbrev pub Shows : FileMap → DeskOpenFault → Type 0
+Shows held DeskFault = ⊤
+Shows held TooMany = 200 < rows_count (finmap.keys held)
+Shows held (BadFile name kind place) =
+    (rows_count (finmap.keys held) ≤ 200) × (first_bad held (finmap.keys held) ≡ Some (string_bytes {Z = Global} name, record { kind = kind; place = place }))
+Shows held NoMemory = ⊤

@@ -1,0 +1,4 @@
+pub mod Desks
+pub mod Finds
+pub mod Shelves
+pub mod Views

@@ -1,0 +1,42 @@
+// Why a folder was not opened.
+ghost use Rattle.std.specs.Prelude.{◌≡◌};
+ghost use Rattle.desk_store.specs.declared.fault.DeskOpenFault.TheVariants.{NoMemory};
+
+use pdb_files::BadKind;
+use std::alloc::{AllocError, AllocFailed};
+
+/// Why a folder was not opened as a desktop.
+#[derive(Debug, Drop)]
+pub enum DeskOpenFault {
+    /// The folder failed.
+    DeskFault,
+    /// It has more than 200 files of rows.
+    TooMany,
+    /// A file is bad.
+    BadFile {
+        /// The name of the first bad file in byte order.
+        name: String,
+        /// The first test that it fails.
+        kind: BadKind,
+        /// The place that messages name: a byte, a length or a block.
+        place: u64,
+    },
+    /// Memory ran out.
+    NoMemory,
+}
+
+impl From<AllocError> for DeskOpenFault {
+    ghost from_gives = { λ _ fault. fault ≡ NoMemory };
+
+    fn from(_: AllocError) -> Self {
+        DeskOpenFault::NoMemory
+    }
+}
+
+impl<T: Drop> From<AllocFailed<T>> for DeskOpenFault {
+    ghost from_gives = { λ _ fault. fault ≡ NoMemory };
+
+    fn from(_: AllocFailed<T>) -> Self {
+        DeskOpenFault::NoMemory
+    }
+}
