@@ -1,5 +1,5 @@
 -- Reading one file more, and the first bad one.
-use Rattle.std.proofs.Common.{◌≡◌, ◌⊎◌, inl, inr, ◌||◌, ◌++◌, ℕ, Bool, true, false, cond, List, [], ◌∷◌, Option, None, Some, Result, Ok, Err, refl, sym, ap, subst, ◌∙◌, arith}
+use Rattle.std.proofs.Common.{◌≡◌, ◌⊎◌, inl, inr, ◌||◌, ◌++◌, ℕ, Bool, true, false, cond, List, [], ◌∷◌, Option, None, Some, Result, Ok, Err, refl, sym, ap, subst, ◌∙◌}
 use Rattle.std.specs.Prelude.{bytes_eq, is_some, option_and_then}
 use Rattle.std.specs.FinMap as finmap
 use Rattle.std.specs.List.{list_any}
@@ -7,7 +7,6 @@ use Rattle.std.specs.Option.{option_map, option_or}
 use Rattle.std.specs.Ordering.{eq_by_cmp, nat_cmp}
 use Rattle.std.specs.Cmp.Lexicographic.{slice_cmp}
 use Rattle.std.proofs.lemmas.Map.Text.{is_eq-slice_cmp}
-use Rattle.std.proofs.lemmas.Slice.Eq.{bytes_eq-Decides}
 use Rattle.hs_folders.specs.FileMaps.{FileMap}
 use Rattle.pdb_values.specs.Databases.{DatabaseValue}
 use Rattle.pdb_values.specs.declared.user.Marks.{Marks}
@@ -15,6 +14,7 @@ use Rattle.pdb_files.specs.declared.bad_kind.BadKind.TheVariants as kinds
 use Rattle.file_names.specs.FileNames.{desktop_info_file, journal_file}
 use Rattle.desk_journal.specs.Overlays.{bad_of}
 use Rattle.desk_journal.specs.declared.bad_journal.BadJournal.{BadJournal}
+use Rattle.palm_device.specs.Devices.{database_of}
 use Rattle.desk_files.specs.DeskFiles.{file_in, role_file}
 use Rattle.desk_files.specs.declared.fault.BadDeskFile.{BadDeskFile}
 use Rattle.desk_files.specs.declared.file.DeskFile.{DeskFile}
@@ -22,21 +22,14 @@ use Rattle.desk_files.specs.declared.file.DeskFile.TheVariants as files
 use Rattle.desk_files.specs.declared.role.Role.{Role}
 use Rattle.desk_files.specs.declared.role.Role.TheVariants.{Rows, Base, Archive}
 use Rattle.desk_files.proofs.OwnLaws.{database_is_own, journal_is_bad, marks_in_info, same_file}
-use Rattle.desk_store.specs.Finds.{Adds, AddsAny, FindsAll, FoundValue, RefusesAmong, RefusesAt, bad_at, file_at, first_bad, is_among, shelf_of, with_database}
-use Rattle.desk_store.specs.Shelves.{database_at, if_bad, if_database, if_marks, marks_in, named}
+use Rattle.desk_store.specs.Finds.{Adds, AddsAny, FindsAll, RefusesAmong, RefusesAt, first_bad, is_among}
+use Rattle.desk_store.specs.Shelves.{bad_at, database_at, file_at, if_bad, if_database, if_marks, marks_in, shelf_of, with_database}
+use Rattle.desk_store.specs.declared.found.Found.{Found}
 use Rattle.desk_store.specs.declared.fault.DeskOpenFault.{DeskOpenFault}
 use Rattle.desk_store.specs.declared.fault.DeskOpenFault.TheVariants.{DeskFault, TooMany, BadFile, NoMemory}
+use Rattle.desk_store.proofs.OrderLaws.{bytes_is, bytes_other, bytes_same, database_of-with}
 
 -- ---- names
-
-bytes_is : (xs ys : List ℕ) → bytes_eq xs ys ≡ true → xs ≡ ys
-bytes_is xs ys e = grind (arith, e, bytes_eq-Decides xs ys)
-
-bytes_same : (xs : List ℕ) → bytes_eq xs xs ≡ true
-bytes_same xs = grind (arith, bytes_eq-Decides xs xs)
-
-bytes_other : (xs ys : List ℕ) → (xs ≡ ys → ⊥) → bytes_eq xs ys ≡ false
-bytes_other xs ys other = grind (arith, other, bytes_eq-Decides xs ys)
 
 among_more : (names : List (List ℕ)) (file name : List ℕ) → is_among (names ++ file ∷ []) name ≡ (is_among names name || bytes_eq name file)
 among_more [] file name = or_false (bytes_eq name file)
@@ -105,15 +98,6 @@ marks_there : (held : FileMap) (file bytes : List ℕ) → finmap.get held file 
 marks_there held file bytes there same =
     ap (λ (f : List ℕ). option_and_then (λ b. if_marks (file_in f b)) (finmap.get held f)) (bytes_is desktop_info_file file same) ∙ ap (option_and_then (λ b. if_marks (file_in file b))) there
 
--- a database behind others
-named_cases : (first database : DatabaseValue) (all databases : Option DatabaseValue) (b here : Bool) → all ≡ option_or databases (cond here (Some database) None) → cond b (Some first) all ≡ option_or (cond b (Some first) databases) (cond here (Some database) None)
-named_cases first database all databases true here is = refl
-named_cases first database all databases false here is = is
-
-pub named-append : (databases : List DatabaseValue) (database : DatabaseValue) (name : List ℕ) → named (databases ++ database ∷ []) name ≡ option_or (named databases name) (cond (bytes_eq database.head.name name) (Some database) None)
-named-append [] database name = refl
-named-append (first ∷ databases) database name = named_cases first database (named (databases ++ database ∷ []) name) (named databases name) (bytes_eq first.head.name name) (bytes_eq database.head.name name) (named-append databases database name)
-
 -- the file of a database, against the file of a name
 own_name : (role : Role) (file : List ℕ) (database : DatabaseValue) (name : List ℕ) → file ≡ role_file role database.head.name → bytes_eq (role_file role name) file ≡ bytes_eq database.head.name name
 own_name role file database name own = cases (bytes_eq database.head.name name) refl
@@ -125,52 +109,32 @@ own_name role file database name own = cases (bytes_eq database.head.name name) 
 other_role : (role other : Role) (file : List ℕ) (database : DatabaseValue) (name : List ℕ) → (other ≡ role → ⊥) → file ≡ role_file role database.head.name → bytes_eq (role_file other name) file ≡ false
 other_role role other file database name apart own = bytes_other (role_file other name) file (λ e. apart (same_file other role name database.head.name (e ∙ own)).0)
 
--- the shelf that a database goes to
-on_shelf : (before here : Bool) (held_at : Option DatabaseValue) (found : Option DatabaseValue) (database : DatabaseValue) → found ≡ where_read before held_at → (here ≡ true → held_at ≡ Some database) → option_or found (cond here (Some database) None) ≡ where_read (before || here) held_at
-on_shelf true true held_at found database is own = ap (λ (o : Option DatabaseValue). option_or o (Some database)) (is ∙ own refl) ∙ sym (own refl)
-on_shelf true false held_at found database is own = keep held_at ∙ ap (λ (o : Option DatabaseValue). o) refl
-  where
-    keep : (o : Option DatabaseValue) → option_or found None ≡ held_at
-    keep o = none_behind found ∙ is
-      where
-        none_behind : (o : Option DatabaseValue) → option_or o None ≡ o
-        none_behind (Some x) = refl
-        none_behind None = refl
-on_shelf false true held_at found database is own = ap (λ (o : Option DatabaseValue). option_or o (Some database)) is ∙ sym (own refl)
-on_shelf false false held_at found database is own = ap (λ (o : Option DatabaseValue). option_or o None) is
+-- the database that was read stands for that of the file
+on_shelf : (before here : Bool) (held_at found : Option DatabaseValue) (database : DatabaseValue) → found ≡ where_read before held_at → (here ≡ true → held_at ≡ Some database) → cond here (Some database) found ≡ where_read (before || here) held_at
+on_shelf true true held_at found database is own = sym (own refl)
+on_shelf true false held_at found database is own = is
+on_shelf false true held_at found database is own = sym (own refl)
+on_shelf false false held_at found database is own = is
 
 -- each shelf, with a database of this role more
-shelved_more : (held : FileMap) (names : List (List ℕ)) (file bytes : List ℕ) (role : Role) (database : DatabaseValue) (old : FoundValue) (other : Role) (name : List ℕ) → finmap.get held file ≡ Some bytes → file_in file bytes ≡ Ok (files.Database role database)
-    → ((r : Role) (n : List ℕ) → named (shelf_of old r) n ≡ where_read (is_among names (role_file r n)) (database_at held r n))
-    → (shelf_of (with_database role database old) other ≡ shelf_of old other ++ database ∷ []) × (other ≡ role) ⊎ (shelf_of (with_database role database old) other ≡ shelf_of old other) × (other ≡ role → ⊥)
-    → named (shelf_of (with_database role database old) other) name ≡ where_read (is_among (names ++ file ∷ []) (role_file other name)) (database_at held other name)
+shelved_more : (held : FileMap) (names : List (List ℕ)) (file bytes : List ℕ) (role : Role) (database : DatabaseValue) (old : Found) (other : Role) (name : List ℕ) → finmap.get held file ≡ Some bytes → file_in file bytes ≡ Ok (files.Database role database)
+    → ((r : Role) (n : List ℕ) → database_of n (shelf_of old.shelves r) ≡ where_read (is_among names (role_file r n)) (database_at held r n))
+    → (other ≡ role) × (database_of name (shelf_of (with_database role database old.shelves) other) ≡ cond (bytes_eq database.head.name name) (Some database) (database_of name (shelf_of old.shelves other))) ⊎ (other ≡ role → ⊥) × (shelf_of (with_database role database old.shelves) other ≡ shelf_of old.shelves other)
+    → database_of name (shelf_of (with_database role database old.shelves) other) ≡ where_read (is_among (names ++ file ∷ []) (role_file other name)) (database_at held other name)
 shelved_more held names file bytes role database old other name there says so_far (inl same) =
-    let own : file ≡ role_file other database.head.name = database_is_own file bytes role database says ∙ ap (λ (r : Role). role_file r database.head.name) (sym same.1) in
+    let own : file ≡ role_file other database.head.name = database_is_own file bytes role database says ∙ ap (λ (r : Role). role_file r database.head.name) (sym same.0) in
     let here : bytes_eq (role_file other name) file ≡ bytes_eq database.head.name name = own_name other file database name own in
-    ap (λ (ds : List DatabaseValue). named ds name) same.0
-    ∙ (named-append (shelf_of old other) database name
-    ∙ (on_shelf (is_among names (role_file other name)) (bytes_eq database.head.name name) (database_at held other name) (named (shelf_of old other) name) database (so_far other name)
-    (λ yes. database_there held file bytes other name there (here ∙ yes) ∙ ap if_database says)
+    same.1
+    ∙ (on_shelf (is_among names (role_file other name)) (bytes_eq database.head.name name) (database_at held other name) _ database (so_far other name) (λ yes. database_there held file bytes other name there (here ∙ yes) ∙ ap if_database says)
     ∙ ap (λ (b : Bool). where_read (is_among names (role_file other name) || b) (database_at held other name)) (sym here)
-    ∙ ap (λ (b : Bool). where_read b (database_at held other name)) (sym (among_more names file (role_file other name)))))
+    ∙ ap (λ (b : Bool). where_read b (database_at held other name)) (sym (among_more names file (role_file other name))))
 shelved_more held names file bytes role database old other name there says so_far (inr apart) =
     let own : file ≡ role_file role database.head.name = database_is_own file bytes role database says in
-    let not_here : bytes_eq (role_file other name) file ≡ false = other_role role other file database name apart.1 own in
-    ap (λ (ds : List DatabaseValue). named ds name) apart.0
+    let not_here : bytes_eq (role_file other name) file ≡ false = other_role role other file database name apart.0 own in
+    ap (database_of name) apart.1
     ∙ (so_far other name
     ∙ (sym (unchanged (is_among names (role_file other name)) (bytes_eq (role_file other name) file) (database_at held other name) (λ yes. absurd (cc (sym not_here ∙ yes))))
     ∙ ap (λ (b : Bool). where_read b (database_at held other name)) (sym (among_more names file (role_file other name)))))
-
-which_shelf : (role other : Role) (database : DatabaseValue) (old : FoundValue) → (shelf_of (with_database role database old) other ≡ shelf_of old other ++ database ∷ []) × (other ≡ role) ⊎ (shelf_of (with_database role database old) other ≡ shelf_of old other) × (other ≡ role → ⊥)
-which_shelf Rows Rows database old = inl (refl, refl)
-which_shelf Rows Base database old = inr (refl, λ e. cc e)
-which_shelf Rows Archive database old = inr (refl, λ e. cc e)
-which_shelf Base Rows database old = inr (refl, λ e. cc e)
-which_shelf Base Base database old = inl (refl, refl)
-which_shelf Base Archive database old = inr (refl, λ e. cc e)
-which_shelf Archive Rows database old = inr (refl, λ e. cc e)
-which_shelf Archive Base database old = inr (refl, λ e. cc e)
-which_shelf Archive Archive database old = inl (refl, refl)
 
 -- a file that holds no database changes no shelf, one that holds no marks leaves them
 same_shelf : (held : FileMap) (names : List (List ℕ)) (file : List ℕ) (role : Role) (name : List ℕ) (found : Option DatabaseValue) → found ≡ where_read (is_among names (role_file role name)) (database_at held role name) → (bytes_eq (role_file role name) file ≡ true → database_at held role name ≡ None)
@@ -189,11 +153,6 @@ still_good held names file so_far good = first_bad-append held names (file ∷ [
 bad_is : (held : FileMap) (file bytes : List ℕ) (said : Result DeskFile BadDeskFile) → finmap.get held file ≡ Some bytes → file_in file bytes ≡ said → bad_at held file ≡ if_bad said
 bad_is held file bytes said there says = ap (λ (o : Option (List ℕ)). option_and_then if_bad (option_map (file_in file) o)) there ∙ ap if_bad says
 
-marks_stay : (role : Role) (database : DatabaseValue) (old : FoundValue) → (with_database role database old).marks ≡ old.marks
-marks_stay Rows database old = refl
-marks_stay Base database old = refl
-marks_stay Archive database old = refl
-
 or_true : (b : Bool) → (b || true) ≡ true
 or_true true = refl
 or_true false = refl
@@ -205,40 +164,32 @@ marks_now held names file bytes marks there says =
     let among : is_among (names ++ file ∷ []) desktop_info_file ≡ true = among_more names file desktop_info_file ∙ (ap (λ (b : Bool). is_among names desktop_info_file || b) same ∙ or_true (is_among names desktop_info_file)) in
     sym (ap (λ (b : Bool). where_read b (marks_in held)) among ∙ (marks_there held file bytes there same ∙ ap if_marks says))
 
-file_more : (held : FileMap) (names : List (List ℕ)) (file bytes : List ℕ) (old new : FoundValue) (said : Result DeskFile BadDeskFile) → finmap.get held file ≡ Some bytes → file_in file bytes ≡ said → Adds said old new → FindsAll held names old → FindsAll held (names ++ file ∷ []) new
+file_more : (held : FileMap) (names : List (List ℕ)) (file bytes : List ℕ) (old new : Found) (said : Result DeskFile BadDeskFile) → finmap.get held file ≡ Some bytes → file_in file bytes ≡ said → Adds said old new → FindsAll held names old → FindsAll held (names ++ file ∷ []) new
 file_more held names file bytes old new (Ok (files.Database role database)) there says adds so_far =
     subst (FindsAll held (names ++ file ∷ [])) (sym adds)
     (record {
       good = still_good held names file so_far.good (bad_is held file bytes (Ok (files.Database role database)) there says);
-      marked = marks_stay role database old ∙ same_marks held names file old.marks so_far.marked (λ yes. marks_there held file bytes there yes ∙ ap if_marks says);
-      shelved = λ other name. shelved_more held names file bytes role database old other name there says so_far.shelved (which_shelf role other database old);
+      marked = same_marks held names file old.marks so_far.marked (λ yes. marks_there held file bytes there yes ∙ ap if_marks says);
+      shelved = λ other name. shelved_more held names file bytes role database old other name there says so_far.shelved (database_of-with role other name database old.shelves);
     })
 file_more held names file bytes old new (Ok (files.Marks marks)) there says adds so_far =
     subst (FindsAll held (names ++ file ∷ [])) (sym adds)
     (record {
       good = still_good held names file so_far.good (bad_is held file bytes (Ok (files.Marks marks)) there says);
       marked = marks_now held names file bytes marks there says;
-      shelved = λ role name. shelf_stays role name (so_far.shelved role name);
+      shelved = λ role name. same_shelf held names file role name _ (so_far.shelved role name) (λ yes. database_there held file bytes role name there yes ∙ ap if_database says);
     })
-  where
-    shelf_stays : (role : Role) (name : List ℕ) → named (shelf_of old role) name ≡ where_read (is_among names (role_file role name)) (database_at held role name) → named (shelf_of (record old { marks = Some marks }) role) name ≡ where_read (is_among (names ++ file ∷ []) (role_file role name)) (database_at held role name)
-    shelf_stays role name is = ap (λ (ds : List DatabaseValue). named ds name) (same_list role) ∙ same_shelf held names file role name (named (shelf_of old role) name) is (λ yes. database_there held file bytes role name there yes ∙ ap if_database says)
-      where
-        same_list : (r : Role) → shelf_of (record old { marks = Some marks }) r ≡ shelf_of old r
-        same_list Rows = refl
-        same_list Base = refl
-        same_list Archive = refl
 file_more held names file bytes old new (Ok files.Other) there says adds so_far =
     subst (FindsAll held (names ++ file ∷ [])) (sym adds)
     (record {
       good = still_good held names file so_far.good (bad_is held file bytes (Ok files.Other) there says);
       marked = same_marks held names file old.marks so_far.marked (λ yes. marks_there held file bytes there yes ∙ ap if_marks says);
-      shelved = λ role name. same_shelf held names file role name (named (shelf_of old role) name) (so_far.shelved role name) (λ yes. database_there held file bytes role name there yes ∙ ap if_database says);
+      shelved = λ role name. same_shelf held names file role name _ (so_far.shelved role name) (λ yes. database_there held file bytes role name there yes ∙ ap if_database says);
     })
 file_more held names file bytes old new (Err bad) there says adds so_far = absurd adds
 
 -- one file more was read
-pub found_more : (held : FileMap) (names : List (List ℕ)) (file : List ℕ) (old new : FoundValue) → FindsAll held names old → AddsAny (file_at held file) old new → FindsAll held (names ++ file ∷ []) new
+pub found_more : (held : FileMap) (names : List (List ℕ)) (file : List ℕ) (old new : Found) → FindsAll held names old → AddsAny (file_at held file) old new → FindsAll held (names ++ file ∷ []) new
 found_more held names file old new so_far adds = by_file (finmap.get held file) refl adds
   where
     by_file : (o : Option (List ℕ)) → finmap.get held file ≡ o → AddsAny (option_map (file_in file) o) old new → FindsAll held (names ++ file ∷ []) new
@@ -248,14 +199,14 @@ found_more held names file old new so_far adds = by_file (finmap.get held file) 
         (record {
           good = still_good held names file so_far.good (ap (λ (o : Option (List ℕ)). option_and_then if_bad (option_map (file_in file) o)) there);
           marked = same_marks held names file old.marks so_far.marked (λ yes. ap (option_and_then (λ b. if_marks (file_in desktop_info_file b))) (get_file held file desktop_info_file yes ∙ there));
-          shelved = λ role name. same_shelf held names file role name (named (shelf_of old role) name) (so_far.shelved role name) (λ yes. ap (option_and_then (λ b. if_database (file_in (role_file role name) b))) (get_file held file (role_file role name) yes ∙ there));
+          shelved = λ role name. same_shelf held names file role name _ (so_far.shelved role name) (λ yes. ap (option_and_then (λ b. if_database (file_in (role_file role name) b))) (get_file held file (role_file role name) yes ∙ there));
         })
 
 -- nothing was read yet
-pub found_none : (held : FileMap) (found : FoundValue) → found ≡ record { marks = None; rows = []; bases = []; archives = [] } → FindsAll held [] found
-found_none held found is = subst (FindsAll held []) (sym is) (record { good = refl; marked = refl; shelved = λ role name. nothing role name })
+pub found_none : (held : FileMap) (found : Found) → found ≡ record { marks = None; shelves = record { rows = []; bases = []; archives = [] } } → FindsAll held [] found
+found_none held found is = subst (FindsAll held []) (sym is) (record { good = refl; marked = refl; shelved = nothing })
   where
-    nothing : (role : Role) (name : List ℕ) → named (shelf_of (record { marks = None; rows = []; bases = []; archives = [] }) role) name ≡ None
+    nothing : (role : Role) (name : List ℕ) → database_of name (shelf_of (record { rows = []; bases = []; archives = [] }) role) ≡ None
     nothing Rows name = refl
     nothing Base name = refl
     nothing Archive name = refl
@@ -266,11 +217,11 @@ at_all : {A : Type 0} (read : Bool) (found held_at : Option A) → found ≡ whe
 at_all true found held_at is none = is
 at_all false found held_at is none = is ∙ sym (none refl)
 
-pub all_databases : (held : FileMap) (found : FoundValue) → FindsAll held (finmap.keys held) found → (role : Role) (name : List ℕ) → named (shelf_of found role) name ≡ database_at held role name
+pub all_databases : (held : FileMap) (found : Found) → FindsAll held (finmap.keys held) found → (role : Role) (name : List ℕ) → database_of name (shelf_of found.shelves role) ≡ database_at held role name
 all_databases held found is role name =
     at_all (is_among (finmap.keys held) (role_file role name)) _ _ (is.shelved role name) (λ no. ap (option_and_then (λ b. if_database (file_in (role_file role name) b))) (absent held (role_file role name) no))
 
-pub all_marks : (held : FileMap) (found : FoundValue) → FindsAll held (finmap.keys held) found → found.marks ≡ marks_in held
+pub all_marks : (held : FileMap) (found : Found) → FindsAll held (finmap.keys held) found → found.marks ≡ marks_in held
 all_marks held found is = at_all (is_among (finmap.keys held) desktop_info_file) _ _ is.marked (λ no. ap (option_and_then (λ b. if_marks (file_in desktop_info_file b))) (absent held desktop_info_file no))
 
 -- ---- a bad journal
@@ -294,6 +245,13 @@ good_among held (name ∷ names) q good there = by_name (bytes_eq q name) refl t
     by_name true is among none later = ap (bad_at held) (bytes_is q name is) ∙ not_bad (bad_at held name) name none.0
     by_name false is among none later = later none.1 among
 
+pub good_all : (held : FileMap) → first_bad held (finmap.keys held) ≡ None → (q : List ℕ) → bad_at held q ≡ None
+good_all held good q = by_listing (is_among (finmap.keys held) q) refl
+  where
+    by_listing : (b : Bool) → is_among (finmap.keys held) q ≡ b → bad_at held q ≡ None
+    by_listing true listed = good_among held (finmap.keys held) q good listed
+    by_listing false listed = ap (λ (o : Option (List ℕ)). option_and_then if_bad (option_map (file_in q) o)) (absent held q listed)
+
 pub no_bad_journal : (held : FileMap) (bad : BadJournal) → first_bad held (finmap.keys held) ≡ None → Some bad ≡ bad_of (finmap.get held journal_file) → ⊥
 no_bad_journal held bad good is = by_journal (finmap.get held journal_file) refl is
   where
@@ -301,8 +259,4 @@ no_bad_journal held bad good is = by_journal (finmap.get held journal_file) refl
     by_journal None there e = cc e
     by_journal (Some bytes) there e =
         let found : bad_at held journal_file ≡ Some (record { kind = kinds.Journal; place = bad.place }) = bad_is held journal_file bytes _ there (journal_is_bad bytes bad (sym e)) in
-        by_listing (is_among (finmap.keys held) journal_file) refl found
-      where
-        by_listing : (b : Bool) → is_among (finmap.keys held) journal_file ≡ b → bad_at held journal_file ≡ Some (record { kind = kinds.Journal; place = bad.place }) → ⊥
-        by_listing true listed found = cc (sym (good_among held (finmap.keys held) journal_file good listed) ∙ found)
-        by_listing false listed found = cc (sym (absent held journal_file listed) ∙ there)
+        cc (sym (good_all held good journal_file) ∙ found)

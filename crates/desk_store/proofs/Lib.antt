@@ -1,3 +1,10 @@
 pub mod FindLaws
 pub mod LoopLaws
 pub mod OpenLaws
+pub mod OrderLaws
+pub mod SizeLaws
+pub mod FileLaws
+pub mod ChangedLaws
+pub mod JournalLaws
+pub mod CommitLaws
+pub mod CountLaws

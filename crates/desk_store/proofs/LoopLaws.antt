@@ -1,18 +1,17 @@
 -- One step of a loop over names or databases.
 use Rattle.std.proofs.Common.{◌≡◌, ◌+◌, ◌++◌, ◌∙◌, ◌<◌, ◌≤◌, ℕ, zero, suc, Bool, true, false, cond, List, [], ◌∷◌, Option, None, Some, length, take, drop, get_or, refl, sym, ap, subst, arith}
-use Rattle.std.specs.Prelude.{Err, IfSome, Result, String, bytes_eq, codes, filter, map, string_bytes}
-use Rattle.std.specs.Option.{option_or}
+use Rattle.std.specs.Prelude.{Err, IfSome, Result, String, codes, filter, map, string_bytes}
 use Rattle.std.specs.declared.alloc.Global.{Global}
 use Rattle.std.proofs.Math.Seq.{split_at}
 use Rattle.std.proofs.lemmas.List.{length-append, length-map, map_push, take-map, take_all, take_more}
 use Rattle.std.proofs.lemmas.List.Elements.{filter-append}
 use Rattle.hs_folders.specs.FileMaps.{FileMap}
-use Rattle.pdb_values.specs.Databases.{DatabaseValue}
 use Rattle.file_names.specs.FileNames.{has_ending}
-use Rattle.desk_store.specs.Finds.{AddsAny, FindsAll, FoundValue, RefusesAmong, RefusesAt, bad_at, file_at, first_bad, rows_count}
-use Rattle.desk_store.specs.Shelves.{named}
+use Rattle.desk_store.specs.Finds.{AddsAny, FindsAll, RefusesAmong, RefusesAt, first_bad, rows_count}
+use Rattle.desk_store.specs.Shelves.{bad_at, file_at}
+use Rattle.desk_store.specs.declared.found.Found.{Found}
 use Rattle.desk_store.specs.declared.fault.DeskOpenFault.{DeskOpenFault}
-use Rattle.desk_store.proofs.FindLaws.{found_more, found_none, named-append, refused_among}
+use Rattle.desk_store.proofs.FindLaws.{found_more, found_none, refused_among}
 
 -- one more of a list
 pub map_more : {X Y : Type 0} (f : X → Y) (xs : List X) (place : ℕ) (x : X) → place < length xs → x ≡ get_or xs place x → take (place + 1) (map f xs) ≡ take place (map f xs) ++ f x ∷ []
@@ -23,27 +22,6 @@ map_more {X = X} {Y = Y} f xs place x less is =
 
 pub all_taken : {X Y : Type 0} (f : X → Y) (xs : List X) (place : ℕ) → length xs ≤ place → take place (map f xs) ≡ map f xs
 all_taken f xs place past = let same : length (map f xs) ≡ length xs = simp length-map in take_all place (map f xs) (omega arith)
-
--- ---- databases of a name
-
-pub named_at : (databases : List DatabaseValue) (name : List ℕ) (place : ℕ) (item : DatabaseValue) → place < length databases → item ≡ get_or databases place item → named (take place databases) name ≡ None → bytes_eq item.head.name name ≡ true → named databases name ≡ Some item
-named_at databases name place item less is none here =
-    ap (λ (ds : List DatabaseValue). named ds name) (split_at databases place item less ∙ ap (λ (d : DatabaseValue). take place databases ++ d ∷ drop (suc place) databases) (sym is))
-    ∙ behind (take place databases) (drop (suc place) databases) none
-  where
-    behind : (front back : List DatabaseValue) → named front name ≡ None → named (front ++ item ∷ back) name ≡ Some item
-    behind [] back none = ap (λ (b : Bool). cond b (Some item) (named back name)) here
-    behind (first ∷ front) back none = step (bytes_eq first.head.name name) none (behind front back)
-      where
-        step : (b : Bool) → cond b (Some first) (named front name) ≡ None → (named front name ≡ None → named (front ++ item ∷ back) name ≡ Some item) → cond b (Some first) (named (front ++ item ∷ back) name) ≡ Some item
-        step true h later = absurd cc
-        step false h later = later h
-
-pub named_not : (databases : List DatabaseValue) (name : List ℕ) (place : ℕ) (item : DatabaseValue) → place < length databases → item ≡ get_or databases place item → named (take place databases) name ≡ None → bytes_eq item.head.name name ≡ false → named (take (place + 1) databases) name ≡ None
-named_not databases name place item less is none other =
-    ap (λ (ds : List DatabaseValue). named ds name) (take_more databases place item less ∙ ap (λ (d : DatabaseValue). take place databases ++ d ∷ []) (sym is))
-    ∙ (named-append (take place databases) item name
-    ∙ (ap (λ (o : Option DatabaseValue). option_or o (cond (bytes_eq item.head.name name) (Some item) None)) none ∙ ap (λ (b : Bool). cond b (Some item) None) other))
 
 -- ---- files of rows
 
@@ -62,18 +40,18 @@ rows_more names place item less is =
 -- ---- files, where contents are told or not
 
 -- what was found in these files, where contents are told
-abbrev pub FindsTold : Option FileMap → List (List ℕ) → FoundValue → Type 0
+abbrev pub FindsTold : Option FileMap → List (List ℕ) → Found → Type 0
 FindsTold told names found = IfSome told (λ held. FindsAll held names found)
 
-pub told_none : (told : Option FileMap) (found : FoundValue) → found ≡ record { marks = None; rows = []; bases = []; archives = [] } → FindsTold told [] found
+pub told_none : (told : Option FileMap) (found : Found) → found ≡ record { marks = None; shelves = record { rows = []; bases = []; archives = [] } } → FindsTold told [] found
 told_none None found is = tt
 told_none (Some held) found is = found_none held found is
 
-pub told_more : (told : Option FileMap) (names : List (List ℕ)) (file : List ℕ) (old new : FoundValue) → FindsTold told names old → IfSome told (λ held. AddsAny (file_at held file) old new) → FindsTold told (names ++ file ∷ []) new
+pub told_more : (told : Option FileMap) (names : List (List ℕ)) (file : List ℕ) (old new : Found) → FindsTold told names old → IfSome told (λ held. AddsAny (file_at held file) old new) → FindsTold told (names ++ file ∷ []) new
 told_more None names file old new so_far adds = tt
 told_more (Some held) names file old new so_far adds = found_more held names file old new so_far adds
 
-pub told_refused : (told : Option FileMap) (names : List (List ℕ)) (place : ℕ) (file : List ℕ) (found : FoundValue) (fault : DeskOpenFault) → place < length names → file ≡ get_or names place file
+pub told_refused : (told : Option FileMap) (names : List (List ℕ)) (place : ℕ) (file : List ℕ) (found : Found) (fault : DeskOpenFault) → place < length names → file ≡ get_or names place file
     → FindsTold told (take place names) found → IfSome told (λ held. RefusesAt file (bad_at held file) fault) → IfSome told (λ held. RefusesAmong (first_bad held names) fault)
 told_refused None names place file found fault less is so_far refused = tt
 told_refused (Some held) names place file found fault less is so_far refused =
@@ -85,12 +63,6 @@ pub mapped_at : {X Y : Type 0} (f : X → Y) (xs : List X) (place : ℕ) (x : X)
 mapped_at f [] place x less is = absurd (omega arith)
 mapped_at f (y ∷ ys) zero x less is = ap f is
 mapped_at f (y ∷ ys) (suc place) x less is = mapped_at f ys place x (omega arith) is
-
-pub empty_value : (rows bases archives : List DatabaseValue) → rows ≡ [] → bases ≡ [] → archives ≡ [] → ◌≡◌ {A = FoundValue} (record { marks = None; rows = rows; bases = bases; archives = archives }) (record { marks = None; rows = []; bases = []; archives = [] })
-empty_value rows bases archives a b c =
-    ap (λ (xs : List DatabaseValue). let f : FoundValue = record { marks = None; rows = xs; bases = bases; archives = archives } in f) a
-    ∙ (ap (λ (xs : List DatabaseValue). let f : FoundValue = record { marks = None; rows = []; bases = xs; archives = archives } in f) b
-    ∙ ap (λ (xs : List DatabaseValue). let f : FoundValue = record { marks = None; rows = []; bases = []; archives = xs } in f) c)
 
 pub err_is : {A E : Type 0} (x y : E) → (let r : Result A E = Err x in r) ≡ Err y → x ≡ y
 err_is x y e = cc

@@ -1,22 +1,29 @@
 -- Desktops: what a folder stands for, and when it stands for none.
-use Rattle.std.specs.Prelude.{◌≡◌, ⊤, ◌<◌, ◌≤◌, ℕ, List, None, Some, unwrap_or, string_bytes}
+use Rattle.std.specs.Prelude.{◌≡◌, ⊤, ◌<◌, ◌≤◌, ℕ, List, Option, None, Some, IfSome, unwrap_or, string_bytes}
 use Rattle.std.specs.FinMap as finmap
 use Rattle.std.specs.declared.alloc.Global.{Global}
 use Rattle.hs_folders.specs.FileMaps.{FileMap}
 use Rattle.pdb_values.specs.Databases.{DatabaseValue}
 use Rattle.pdb_values.specs.declared.user.Marks.{Marks}
+use Rattle.palm_device.specs.Devices.{database_of}
 use Rattle.desk_files.specs.declared.role.Role.{Role}
 use Rattle.desk_journal.specs.Overlays.{HasNoJournal}
 use Rattle.desk_store.specs.Finds.{first_bad, rows_count}
-use Rattle.desk_store.specs.Shelves.{database_at, first_marks, marks_in, named}
+use Rattle.desk_store.specs.Shelves.{AreOrdered, ShelvesValue, bad_at, database_at, first_marks, marks_in, shelf_of}
 use Rattle.desk_store.specs.declared.fault.DeskOpenFault.{DeskOpenFault}
 use Rattle.desk_store.specs.declared.fault.DeskOpenFault.TheVariants.{DeskFault, TooMany, BadFile, NoMemory}
 
--- these are all databases and the marks of a folder, which has no journal
+-- these are all databases and the marks of a folder, which has no journal and no bad file
 pub record IsDeskOf (held : FileMap) (marks : Marks) (shelf : Role → List DatabaseValue) : Type 0 where
   pub no_journal : HasNoJournal held
   pub marked : marks ≡ unwrap_or (marks_in held) first_marks
-  pub shelved : (role : Role) (name : List ℕ) → named (shelf role) name ≡ database_at held role name
+  pub shelved : (role : Role) (name : List ℕ) → database_of name (shelf role) ≡ database_at held role name
+  pub good : (name : List ℕ) → bad_at held name ≡ None
+
+-- a desktop has its databases in byte order of their names, and is that of its folder, where that tells what it holds
+pub record IsDesk (told : Option FileMap) (marks : Marks) (shelves : ShelvesValue) : Type 0 where
+  pub ordered : AreOrdered shelves
+  pub stands : IfSome told (λ held. IsDeskOf held marks (shelf_of shelves))
 
 -- there are not too many files of rows, and none is bad
 pub record IsReadable (held : FileMap) : Type 0 where

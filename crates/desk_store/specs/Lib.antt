@@ -1,3 +1,4 @@
+pub mod Changes
 pub mod Desks
 pub mod Finds
 pub mod Shelves

@@ -1,15 +1,21 @@
--- What a desktop's folder holds: the database in each file, and the marks.
-use Rattle.std.specs.Prelude.{ℕ, bytes_eq, List, [], ◌∷◌, if◌then◌else◌, Option, None, Some, option_and_then, Result, Ok, Err}
+-- What a desktop's folder holds: the database in each file, and the marks; and the databases of a desktop in byte order of their names.
+use Rattle.std.specs.Prelude.{◌≡◌, ℕ, List, [], Option, None, Some, IsSome, option_and_then, slice_set, codes, true, Result, Ok, Err}
 use Rattle.std.specs.FinMap as finmap
+use Rattle.std.specs.Option.{option_map}
 use Rattle.hs_folders.specs.FileMaps.{FileMap}
 use Rattle.pdb_values.specs.Databases.{DatabaseValue}
 use Rattle.pdb_values.specs.declared.user.Marks.{Marks}
-use Rattle.file_names.specs.FileNames.{desktop_info_file}
+use Rattle.palm_device.specs.Devices.{database_of, place_of, with_new}
+use Rattle.palm_device.specs.Soundness.{NamesRise}
+use Rattle.file_names.specs.FileNames.{desktop_info_file, has_ending, rows_file}
 use Rattle.desk_files.specs.DeskFiles.{file_in, role_file}
 use Rattle.desk_files.specs.declared.fault.BadDeskFile.{BadDeskFile}
 use Rattle.desk_files.specs.declared.file.DeskFile.{DeskFile}
 use Rattle.desk_files.specs.declared.file.DeskFile.TheVariants as files
 use Rattle.desk_files.specs.declared.role.Role.{Role}
+use Rattle.desk_files.specs.declared.role.Role.TheVariants.{Rows, Base, Archive}
+
+-- ---- files
 
 -- the database of a good file
 abbrev pub if_database : Result DeskFile BadDeskFile → Option DatabaseValue
@@ -30,6 +36,14 @@ abbrev pub if_bad : Result DeskFile BadDeskFile → Option BadDeskFile
 if_bad (Ok file) = None
 if_bad (Err bad) = Some bad
 
+-- what the file of this name holds
+abbrev pub file_at : FileMap → List ℕ → Option (Result DeskFile BadDeskFile)
+file_at held name = option_map (file_in name) (finmap.get held name)
+
+-- the first failing test of the file of this name
+abbrev pub bad_at : FileMap → List ℕ → Option BadDeskFile
+bad_at held name = option_and_then if_bad (file_at held name)
+
 -- the rows, base rows or archive of the database of this name
 abbrev pub database_at : FileMap → Role → List ℕ → Option DatabaseValue
 database_at held role name = option_and_then (λ bytes. if_database (file_in (role_file role name) bytes)) (finmap.get held (role_file role name))
@@ -42,7 +56,42 @@ marks_in held = option_and_then (λ bytes. if_marks (file_in desktop_info_file b
 abbrev pub first_marks : Marks
 first_marks = record { pc = 1; user = 0; last = 0; name = [] }
 
--- the first database of this name
-abbrev pub named : List DatabaseValue → List ℕ → Option DatabaseValue
-named [] name = None
-named (database ∷ databases) name = if bytes_eq database.head.name name then Some database else named databases name
+-- ---- databases
+
+-- the databases of a desktop, by what they are to it
+pub record ShelvesValue : Type 0 where
+  pub rows : List DatabaseValue
+  pub bases : List DatabaseValue
+  pub archives : List DatabaseValue
+
+-- those of a role
+abbrev pub shelf_of : ShelvesValue → Role → List DatabaseValue
+shelf_of shelves Rows = shelves.rows
+shelf_of shelves Base = shelves.bases
+shelf_of shelves Archive = shelves.archives
+
+-- the names of each list rise in byte order, so that no two are equal
+pub record AreOrdered (shelves : ShelvesValue) : Type 0 where
+  pub rows : NamesRise shelves.rows
+  pub bases : NamesRise shelves.bases
+  pub archives : NamesRise shelves.archives
+
+-- the database at this place becomes another, or a new one goes to its place in the order of names
+abbrev pub put_at : Option ℕ → DatabaseValue → List DatabaseValue → List DatabaseValue
+put_at (Some place) database databases = slice_set databases place database
+put_at None database databases = with_new database databases
+
+-- a database takes the place of the one of its name, or else its own
+abbrev pub with_put : DatabaseValue → List DatabaseValue → List DatabaseValue
+with_put database databases = put_at (place_of database.head.name databases) database databases
+
+-- the same among those of its role
+abbrev pub with_database : Role → DatabaseValue → ShelvesValue → ShelvesValue
+with_database Rows database shelves = record shelves { rows = with_put database shelves.rows }
+with_database Base database shelves = record shelves { bases = with_put database shelves.bases }
+with_database Archive database shelves = record shelves { archives = with_put database shelves.archives }
+
+-- each of the databases has its file of rows in the folder, and each file of rows there its database
+pub record AreRowsOf (held : FileMap) (rows : List DatabaseValue) : Type 0 where
+  pub each : (name : List ℕ) → IsSome (database_of name rows) → IsSome (finmap.get held (rows_file name))
+  pub all : (file : List ℕ) → has_ending (codes ".pdb") file ≡ true → IsSome (finmap.get held file) → (name : List ℕ) × (file ≡ rows_file name) × IsSome (database_of name rows)

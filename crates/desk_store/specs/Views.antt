@@ -1,27 +1,22 @@
--- What contracts see of an opened desktop, and of what opening answers.
+-- What contracts see of an opened desktop, and of what a call answers.
 use Rattle.std.specs.Prelude.{List, Result, Ok, Err}
 use Rattle.pdb_values.specs.Databases.{DatabaseValue}
 use Rattle.pdb_values.specs.declared.user.Marks.{Marks}
-use Rattle.desk_files.specs.declared.role.Role.{Role}
-use Rattle.desk_files.specs.declared.role.Role.TheVariants.{Rows, Base, Archive}
-use Rattle.desk_store.specs.declared.desk.Desk.{Desk}
-use Rattle.desk_store.specs.declared.fault.DeskOpenFault.{DeskOpenFault}
+use Rattle.desk_store.specs.Shelves.{ShelvesValue}
 
--- the folder of a desktop
-abbrev pub folder_of : {F : Type 0} → Desk F → F
-folder_of desk = desk.folder
+-- a desktop is its folder, its marks, and its rows, base rows and archives
+pub record DeskValue (F : Type 0) : Type 0 where
+  pub folder : F
+  pub marks : Marks
+  pub rows : List DatabaseValue
+  pub bases : List DatabaseValue
+  pub archives : List DatabaseValue
 
--- its marks
-abbrev pub marks_of : {F : Type 0} → Desk F → Marks
-marks_of desk = desk.marks
-
--- its databases of a role
-abbrev pub databases_of : {F : Type 0} → Desk F → Role → List DatabaseValue
-databases_of desk Rows = desk.rows.items
-databases_of desk Base = desk.bases.items
-databases_of desk Archive = desk.archives.items
+-- its databases by what they are to it
+abbrev pub shelves_of : {F : Type 0} → DeskValue F → ShelvesValue
+shelves_of desk = record { rows = desk.rows; bases = desk.bases; archives = desk.archives }
 
 -- the folder that is handed back, or that the desktop has
-abbrev pub folder_in : {F : Type 0} → Result (Desk F) (DeskOpenFault × F) → F
+abbrev pub folder_in : {F E : Type 0} → Result (DeskValue F) (E × F) → F
 folder_in (Ok desk) = desk.folder
 folder_in (Err refusal) = refusal.1

@@ -1,5 +1,6 @@
-// Why a folder was not opened.
+// Why a folder was not opened, or a change not carried out.
 ghost use Rattle.std.specs.Prelude.{◌≡◌};
+ghost use Rattle.desk_store.specs.declared.fault.CommitFault.TheVariants as commit_faults;
 ghost use Rattle.desk_store.specs.declared.fault.DeskOpenFault.TheVariants.{NoMemory};
 
 use pdb_files::BadKind;
@@ -38,5 +39,22 @@ impl<T: Drop> From<AllocFailed<T>> for DeskOpenFault {
 
     fn from(_: AllocFailed<T>) -> Self {
         DeskOpenFault::NoMemory
+    }
+}
+
+/// Why a change was not carried out, or not to its end.
+#[derive(Clone, Copy, Debug, PartialEq, Eq)]
+pub enum CommitFault {
+    /// The folder failed.
+    DeskFault,
+    /// Memory ran out.
+    NoMemory,
+}
+
+impl From<AllocError> for CommitFault {
+    ghost from_gives = { λ _ fault. fault ≡ commit_faults.NoMemory };
+
+    fn from(_: AllocError) -> Self {
+        CommitFault::NoMemory
     }
 }

@@ -1,21 +1,20 @@
 // What was found in the files of a folder.
 ghost use Rattle.std.specs.Prelude.{◌≡◌, IfErr, OnOk};
 ghost use Rattle.desk_files.specs.DeskFiles.{file_in};
-ghost use Rattle.desk_store.specs.Finds.{Adds, Refuses, found_value};
-ghost use Rattle.desk_store.specs.Shelves.{if_bad};
+ghost use Rattle.desk_store.specs.Finds.{Adds, Refuses};
+ghost use Rattle.desk_store.specs.Shelves.{AreOrdered, if_bad};
 
 use crate::fault::DeskOpenFault;
-use desk_files::{DeskFile, DeskFileFault, Role, read_desk_file};
-use pdb_values::{Database, Marks};
+use crate::shelves::Shelves;
+use desk_files::{DeskFile, DeskFileFault, read_desk_file};
+use pdb_values::Marks;
 use std::alloc::Global;
 
-// The marks, where their file was there, and the databases of each role.
+// The marks, where their file was there, and the databases.
 #[derive(Drop)]
 pub(crate) struct Found {
     pub(crate) marks: Option<Marks>,
-    pub(crate) rows: Vec<Database>,
-    pub(crate) bases: Vec<Database>,
-    pub(crate) archives: Vec<Database>,
+    pub(crate) shelves: Shelves,
 }
 
 // Adds what the file of this name and these bytes holds.
@@ -25,7 +24,8 @@ pub(crate) fn add_file(
     bytes: &[u8],
     found: &mut Found,
 ) -> Result<(), DeskOpenFault>
-    ensures added { OnOk result (Adds (file_in name.now bytes.now) (found_value found.old) (found_value found.new)) }
+    ensures added { OnOk result (Adds (file_in name.now bytes.now) found.old found.new) }
+    ensures ordered { AreOrdered found.old.shelves → OnOk result (AreOrdered found.new.shelves) }
     ensures refused { IfErr result (Refuses name.now (if_bad (file_in name.now bytes.now))) }
 {
     let file = match read_desk_file(alloc, name, bytes) {
@@ -40,9 +40,7 @@ pub(crate) fn add_file(
         Err(DeskFileFault::NoMemory) => return Err(DeskOpenFault::NoMemory),
     };
     match file {
-        DeskFile::Database(Role::Rows, database) => found.rows.push(database)?,
-        DeskFile::Database(Role::Base, database) => found.bases.push(database)?,
-        DeskFile::Database(Role::Archive, database) => found.archives.push(database)?,
+        DeskFile::Database(role, database) => found.shelves.put(role, database)?,
         DeskFile::Marks(marks) => found.marks = Some(marks),
         DeskFile::Other => {}
     }

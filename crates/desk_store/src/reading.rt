@@ -3,10 +3,12 @@ ghost use Rattle.std.specs.Prelude.{◌≡◌, ◌≤◌, ◌<◌, IfErr, IfOk, 
 ghost use Rattle.std.specs.FinMap as finmap;
 ghost use Rattle.std.specs.Option.{option_map};
 ghost use Rattle.hs_folders.specs.Causes.{Rose};
-ghost use Rattle.desk_store.specs.Finds.{AddsAny, FindsAll, RefusesAmong, RefusesAt, bad_at, file_at, first_bad, found_value, rows_count};
+ghost use Rattle.desk_store.specs.Shelves.{AreOrdered, bad_at, file_at};
+ghost use Rattle.desk_store.specs.Finds.{AddsAny, FindsAll, RefusesAmong, RefusesAt, first_bad};
 
 use crate::fault::DeskOpenFault;
 use crate::found::{Found, add_file};
+use crate::shelves::Shelves;
 use hs_folders::{Folder, FolderFault};
 use std::alloc::Global;
 
@@ -16,7 +18,8 @@ pub(crate) fn read_files<F: Folder>(
     folder: &mut F,
     names: &[String],
 ) -> Result<Found, DeskOpenFault>
-    ensures found { IfOk result (λ found. IfSome (F.contents folder.old) (λ held. FindsAll held (map string_bytes names.now) (found_value found))) }
+    ensures found { IfOk result (λ found. IfSome (F.contents folder.old) (λ held. FindsAll held (map string_bytes names.now) found)) }
+    ensures ordered { IfOk result (λ found. AreOrdered found.shelves) }
     ensures refused { IfErr result (λ fault. IfSome (F.contents folder.old) (λ held. RefusesAmong (first_bad held (map string_bytes names.now)) fault)) }
     ensures failed { IsErrOf result DeskOpenFault.DeskFault → Rose (F.faults folder.old) (F.faults folder.new) }
 
@@ -27,9 +30,7 @@ pub(crate) fn read_files<F: Folder>(
 {
     let mut found = Found {
         marks: None,
-        rows: Vec::new(alloc),
-        bases: Vec::new(alloc),
-        archives: Vec::new(alloc),
+        shelves: Shelves::new(alloc),
     };
     for name in names {
         match read_file(alloc, folder, name.as_str(), &mut found) {
@@ -47,7 +48,8 @@ fn read_file<F: Folder>(
     name: &str,
     found: &mut Found,
 ) -> Result<(), DeskOpenFault>
-    ensures added { OnOk result (IfSome (F.contents folder.old) (λ held. AddsAny (file_at held name.now) (found_value found.old) (found_value found.new))) }
+    ensures added { OnOk result (IfSome (F.contents folder.old) (λ held. AddsAny (file_at held name.now) found.old found.new)) }
+    ensures ordered { AreOrdered found.old.shelves → OnOk result (AreOrdered found.new.shelves) }
     ensures refused { IfErr result (λ fault. IfSome (F.contents folder.old) (λ held. RefusesAt name.now (bad_at held name.now) fault)) }
     ensures failed { IsErrOf result DeskOpenFault.DeskFault → Rose (F.faults folder.old) (F.faults folder.new) }
 

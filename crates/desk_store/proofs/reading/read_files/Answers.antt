@@ -1,15 +1,17 @@
 -- Each file that is read adds what it holds, and the first bad one is named.
-use Rattle.std.proofs.Common.{◌≡◌, ◌<◌, ◌∙◌, ℕ, List, length, take, arith, refl, sym, ap, subst, Err}
+use Rattle.std.proofs.Common.{◌≡◌, ◌<◌, ◌∙◌, ℕ, List, length, take, None, arith, refl, rules, sym, ap, subst, Err}
 use Rattle.std.specs.Prelude.{map, string_bytes}
 use Rattle.std.proofs.lemmas.List.{length-map}
-use Rattle.desk_store.specs.Finds.{found_value}
 use Rattle.desk_journal.proofs.OverlayLaws.{rose_since}
-use Rattle.desk_store.proofs.LoopLaws.{FindsTold, all_taken, empty_value, err_is, map_more, mapped_at, told_more, told_none, told_refused}
+use Rattle.desk_store.specs.Shelves.{ShelvesValue}
+use Rattle.desk_store.specs.declared.found.Found.{Found}
+use Rattle.desk_store.proofs.LoopLaws.{FindsTold, all_taken, err_is, map_more, mapped_at, told_more, told_none, told_refused}
 use Rattle.desk_store.proofs.reading.read_files.Goals as goal
 
 pub loop-name-init : goal.loop-name-init
 loop-name-init g c = record {
-  found = told_none (g.F.Folder.contents c.args.folder.now) _ (empty_value c.new.result.items c.new-2.result.items c.new-3.result.items c.new.ensures.items c.new-2.ensures.items c.new-3.ensures.items);
+  found = told_none (g.F.Folder.contents c.args.folder.now) _ (ap (λ (s : ShelvesValue). let f : Found = record { marks = None; shelves = s } in f) c.new.ensures);
+  ordered = search rules;
   contents = refl;
   moments = refl;
   paths = refl;
@@ -24,8 +26,9 @@ loop-name-preserved g c =
     let item = c.name-item.result in
     let adds = rw (c.as_str.ensures.value, c.loop-name.invariant.contents) at c.in-Ok.ensures.added in
     record {
-      found = subst (λ (files : List (List ℕ)). FindsTold before files (found_value c.read_file.new.found)) (sym (map_more string_bytes c.args.names.now place item c.loop-name-test.true c.name-item.is))
-          (told_more before (take place names) (string_bytes item) (found_value c.loop-name.found) (found_value c.read_file.new.found) c.loop-name.invariant.found adds);
+      found = subst (λ (files : List (List ℕ)). FindsTold before files c.read_file.new.found) (sym (map_more string_bytes c.args.names.now place item c.loop-name-test.true c.name-item.is))
+          (told_more before (take place names) (string_bytes item) c.loop-name.found c.read_file.new.found c.loop-name.invariant.found adds);
+      ordered = search rules;
       contents = c.read_file.ensures.contents ∙ c.loop-name.invariant.contents;
       moments = c.read_file.ensures.moments ∙ c.loop-name.invariant.moments;
       paths = c.read_file.ensures.paths ∙ c.loop-name.invariant.paths;
@@ -40,11 +43,11 @@ returns-in-Err-clause-refused g c =
     let refused = rw (c.as_str.ensures.value, c.loop-name.invariant.contents) at c.in-Err.ensures.refused in
     let count : length names ≡ length c.args.names.now = simp length-map in
     let less : place < length names = omega (arith, count, c.loop-name-test.true) in
-    told_refused (g.F.Folder.contents c.args.folder.now) names place (string_bytes item) (found_value c.loop-name.found) c.in-Err.fault less (mapped_at string_bytes c.args.names.now place item c.loop-name-test.true c.name-item.is) c.loop-name.invariant.found refused
+    told_refused (g.F.Folder.contents c.args.folder.now) names place (string_bytes item) c.loop-name.found c.in-Err.fault less (mapped_at string_bytes c.args.names.now place item c.loop-name-test.true c.name-item.is) c.loop-name.invariant.found refused
 
 pub returns-in-Err-clause-failed : goal.returns-in-Err-clause-failed
 returns-in-Err-clause-failed g c = λ failed. rose_since _ _ _ c.loop-name.invariant.count (c.in-Err.ensures.failed (ap Err (err_is c.in-Err.fault _ failed)))
 
 pub returns-clause-found : goal.returns-clause-found
 returns-clause-found g c =
-    subst (λ (files : List (List ℕ)). FindsTold (g.F.Folder.contents c.args.folder.now) files (found_value c.loop-name.found)) (all_taken string_bytes c.args.names.now c.loop-name.name-index c.loop-name-test.false) c.loop-name.invariant.found
+    subst (λ (files : List (List ℕ)). FindsTold (g.F.Folder.contents c.args.folder.now) files c.loop-name.found) (all_taken string_bytes c.args.names.now c.loop-name.name-index c.loop-name-test.false) c.loop-name.invariant.found

@@ -1,0 +1,120 @@
+-- How long the files of a change are.
+use Rattle.std.proofs.Common.{◌≡◌, ℕ, ◌+◌, ◌*◌, ◌/◌, ◌%◌, ◌^◌, ◌<◌, ◌≤◌, ltb, Bool, true, false, List, [], ◌∷◌, ◌++◌, length, Option, None, Some, refl, ap, subst, ◌∙◌, arith}
+use Rattle.std.specs.Prelude.{◌||◌, cond, codes}
+use Rattle.std.specs.Int.{w32, to_be_bytes}
+use Rattle.std.specs.List.{AllByRecursion, concat}
+use Rattle.std.proofs.Math.Nat.{mul-suc}
+use Rattle.std.proofs.lemmas.Bool.{ltb-false}
+use Rattle.std.proofs.lemmas.List.{length-append, length-map}
+use Rattle.hex.specs.Hex.{lower_digits}
+use Rattle.hex.proofs.HexLemmas.{length-encode_with}
+use Rattle.pdb_values.specs.Databases.{DatabaseValue}
+use Rattle.pdb_values.specs.Names.{IsName}
+use Rattle.pdb_values.specs.Stems.{hex_digit, is_plain, stem_byte, stem_of}
+use Rattle.pdb_values.specs.Users.{password_of}
+use Rattle.pdb_values.specs.declared.head.DbHead.{DbHead}
+use Rattle.pdb_values.specs.declared.user.Marks.{Marks}
+use Rattle.pdb_values.specs.declared.record.Record.{Record}
+use Rattle.pdb_files.specs.Blocks.{AreShort, begins_from, block_list, block_offset}
+use Rattle.pdb_files.specs.Entries.{record_data, record_entries, record_entry}
+use Rattle.pdb_files.specs.Files.{IsFileText, app_begin, blocks_of, canonical, data_begin, data_of, entries_text, entry_count, file_text, has_resources, sort_begin}
+use Rattle.pdb_files.specs.Headers.{header_text, zeros_behind}
+use Rattle.pdb_files.proofs.WriteLaws.{length-zeros_behind}
+use Rattle.info_files.specs.InfoFiles.{IsDesktopFile, desktop_forms, desktop_values}
+use Rattle.info_files.specs.Hexadecimal.{bytes_text}
+use Rattle.info_files.specs.Lines.{AreLines, Date, Form, Kind, Name, Number, Password, Positive, Says, Title, Value, Values}
+use Rattle.desk_files.specs.DeskFiles.{role_file}
+use Rattle.desk_files.specs.declared.role.Role.{Role}
+use Rattle.desk_files.specs.declared.role.Role.TheVariants.{Rows, Base, Archive}
+
+-- ---- names
+
+stem_byte-length : (byte : ℕ) → length (stem_byte byte) ≤ 3
+unfolding stem_byte
+stem_byte-length byte = elim (is_plain byte) as (λ b. length (cond b (byte ∷ []) (37 ∷ hex_digit (byte / 16) ∷ hex_digit (byte % 16) ∷ [])) ≤ 3) [ true ↦ omega arith | false ↦ omega arith ]
+
+stem-length : (name : List ℕ) → length (stem_of name) ≤ 3 * length name
+stem-length [] = omega arith
+stem-length (byte ∷ name) = omega (arith, length-append (stem_byte byte) (stem_of name), stem_byte-length byte, stem-length name, mul-suc 3 (length name))
+
+pub file-short : (role : Role) (name : List ℕ) → IsName name → length (role_file role name) < 2 ^ 8
+file-short Rows name is = omega (arith, is.short, stem-length name, length-append (stem_of name) (codes ".pdb"))
+file-short Base name is = omega (arith, is.short, stem-length name, length-append (stem_of name) (codes ".base"))
+file-short Archive name is = omega (arith, is.short, stem-length name, length-append (stem_of name) (codes ".arc"))
+
+-- ---- databases
+
+header-length : (head : DbHead) (after : List ℕ) (app sort count : ℕ) → length head.name + 1 + length after ≡ 32 → length head.kind.0 ≡ 4 → length head.creator.0 ≡ 4 → length (header_text head after app sort count) ≡ 78
+unfolding header_text
+header-length head after app sort count field kind creator = grind (arith, length-append, field, kind, creator)
+
+record-length : (begin : ℕ) (item : Record) → length (record_entry begin item) ≡ 8
+unfolding record_entry
+record-length begin item = refl
+
+records-length : (place : ℕ) (items : List Record) → length (record_entries (begins_from place (record_data items)) items) ≡ 8 * length items
+records-length place [] = omega arith
+records-length place (item ∷ items) =
+    let next : ℕ = place + length item.content.bytes in
+    omega (arith, length-append (record_entry place item) (record_entries (begins_from next (record_data items)) items), record-length place item, records-length next items, mul-suc 8 (length items))
+
+blocks-length : (blocks : List (List ℕ)) → AreShort blocks → length (concat blocks) ≤ 65500 * length blocks
+blocks-length [] short = omega arith
+blocks-length (block ∷ blocks) short = omega (arith, length-append block (concat blocks), short.0, blocks-length blocks short.1, mul-suc 65500 (length blocks))
+
+block_list-length : (block : Option (List ℕ)) → length (block_list block) ≤ 1
+block_list-length None = omega arith
+block_list-length (Some block) = omega arith
+
+-- a database of records is shorter than 2^32 bytes
+pub canonical-short : (database : DatabaseValue) → has_resources database ≡ false → IsFileText database (canonical database) → length (canonical database) < 2 ^ 32
+unfolding file_text
+canonical-short database records is =
+    let filler : List ℕ = 0 ∷ 0 ∷ [] in
+    let blocks = blocks_of database in
+    let top = header_text database.head (zeros_behind database.head.name) (block_offset database.app (app_begin database filler)) (block_offset database.sort (sort_begin database filler)) (entry_count database) in
+    let middle = entries_text (begins_from (data_begin database filler) (data_of database)) database in
+    let top-length : length top ≡ 78 = header-length database.head _ _ _ _ (length-zeros_behind database.head.name is.head.name.short) is.head.kind is.head.creator in
+    let data-is : data_of database ≡ record_data database.records = rw records refl in
+    let few : length database.records < 2 ^ 16 = subst (λ (n : ℕ). n < 2 ^ 16) (rw records refl) is.count in
+    let middle-is : middle ≡ record_entries (begins_from (data_begin database filler) (record_data database.records)) database.records = rw records refl in
+    let middle-length : length middle ≡ 8 * length database.records = ap length middle-is ∙ records-length (data_begin database filler) database.records in
+    let number : length blocks ≤ 2 + length database.records =
+    omega (arith, length-append (block_list database.app) (block_list database.sort ++ data_of database), length-append (block_list database.sort) (data_of database), block_list-length database.app, block_list-length database.sort, ap length data-is, length-map database.records (λ item. item.content.bytes)) in
+    omega (arith, few, top-length, middle-length, number, blocks-length blocks is.short, length-append ((top ++ middle) ++ filler) (concat blocks), length-append (top ++ middle) filler, length-append top middle)
+
+-- ---- marks
+
+few_bytes : (bytes : List ℕ) (most : Bool) → cond (ltb 40 (length bytes) || most) None (Some bytes) ≡ Some bytes → length bytes ≤ 40
+few_bytes bytes most is = by (ltb 40 (length bytes)) refl is
+  where
+    by : (b : Bool) → ltb 40 (length bytes) ≡ b → cond (b || most) None (Some bytes) ≡ Some bytes → length bytes ≤ 40
+    by true long is = absurd cc
+    by false short is = ltb-false _ _ short
+
+few_password : (bytes : List ℕ) → password_of bytes ≡ Some bytes → length bytes ≤ 40
+few_password bytes is = by (ltb 40 (length bytes)) refl is
+  where
+    by : (b : Bool) → ltb 40 (length bytes) ≡ b → cond b None (Some bytes) ≡ Some bytes → length bytes ≤ 40
+    by true long is = absurd cc
+    by false short is = ltb-false _ _ short
+
+text-length : (bytes : List ℕ) → length bytes ≤ 40 → length (bytes_text bytes) ≤ 80
+text-length [] few = omega arith
+text-length (byte ∷ bytes) few = omega (arith, few, length-encode_with lower_digits (byte ∷ bytes))
+
+value-length : (kind : Kind) (value : Value kind) (text : List ℕ) → Says kind value text → length text ≤ 80
+value-length Title value text is = omega (arith, ap length is)
+value-length Number number text is = omega (arith, ap length is.0, length-encode_with lower_digits (to_be_bytes w32 number))
+value-length Positive number text is = omega (arith, ap length is.0, length-encode_with lower_digits (to_be_bytes w32 number))
+value-length Date seconds text is = omega (arith, ap length is.1, length-encode_with lower_digits is.0, is.2.eight)
+value-length Name name text is = omega (arith, ap length is.0, text-length name (few_bytes name _ is.2))
+value-length Password password text is = omega (arith, ap length is.0, text-length password (few_password password is.2))
+
+lines-length : (forms : List Form) (values : Values forms) (bytes : List ℕ) → AllByRecursion (λ form. length form.key ≤ 19) forms → AreLines forms values bytes → length bytes ≤ 100 * length forms
+lines-length [] values bytes keys are = omega (arith, ap length are)
+lines-length (form ∷ forms) values bytes keys are =
+    omega (arith, ap length are.2, length-append form.key (are.0 ++ 10 ∷ are.1), length-append are.0 (10 ∷ are.1), keys.0, value-length form.kind values.0 are.0 are.3, lines-length forms values.1 are.1 keys.1 are.4, mul-suc 100 (length forms))
+
+pub marks-short : (marks : Marks) (bytes : List ℕ) → IsDesktopFile marks bytes → length bytes < 2 ^ 32
+marks-short marks bytes is = let few = lines-length desktop_forms (desktop_values marks) bytes (omega arith, (omega arith, (omega arith, (omega arith, (omega arith, tt))))) is in omega (arith, few)

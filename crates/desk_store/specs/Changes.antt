@@ -1,0 +1,93 @@
+-- Changes of a desktop: the files that each writes, and the databases that it leaves.
+use Rattle.std.specs.Prelude.{◌≡◌, ◌<◌, ◌≤◌, ℕ, false, bytes_eq, List, [], ◌∷◌, ◌++◌, length, map, if◌then◌else◌, Option, None, Some, IfSome}
+use Rattle.std.specs.List.{AllByRecursion, flat_map}
+use Rattle.pdb_values.specs.Databases.{DatabaseValue}
+use Rattle.pdb_values.specs.declared.user.Marks.{Marks}
+use Rattle.pdb_values.specs.Heads.{holds_resources}
+use Rattle.pdb_files.specs.Files.{IsFileText, canonical}
+use Rattle.palm_device.specs.Soundness.{NamesRise}
+use Rattle.info_files.specs.InfoFiles.{desktop_text}
+use Rattle.file_names.specs.FileNames.{desktop_info_file}
+use Rattle.desk_journal.specs.Entries.{EntryValue}
+use Rattle.desk_files.specs.DeskFiles.{role_file}
+use Rattle.desk_files.specs.declared.role.Role.{Role}
+use Rattle.desk_files.specs.declared.role.Role.TheVariants.{Rows, Base, Archive}
+use Rattle.desk_store.specs.Shelves.{ShelvesValue, with_database}
+use Rattle.desk_store.specs.declared.change.DbChange.{DbChange}
+use Rattle.desk_store.specs.declared.change.DeskChange.{DeskChange}
+
+-- a database holds records under this name
+pub record IsOf (name : List ℕ) (database : DatabaseValue) : Type 0 where
+  pub records : holds_resources database.head.attributes ≡ false
+  pub named : database.head.name ≡ name
+
+-- rows, base rows and archive hold records under one name, and an archive that is given has an entry
+pub record IsDbChange (change : DbChange) : Type 0 where
+  pub rows : holds_resources change.rows.head.attributes ≡ false
+  pub base : IsOf change.rows.head.name change.base
+  pub archive : IfSome change.archive (λ archive. IsOf change.rows.head.name archive × (0 < length archive.records))
+
+-- the number of the marks isn't 0, and at most 200 databases change, whose names rise in byte order
+pub record IsDeskChange (change : DeskChange) : Type 0 where
+  pub number : change.marks.pc ≡ 0 → ⊥
+  pub few : length change.databases.items ≤ 200
+  pub rise : NamesRise (map (λ database. database.rows) change.databases.items)
+  pub each : AllByRecursion IsDbChange change.databases.items
+
+-- ---- files
+
+-- the file of a database, in its canonical bytes
+abbrev pub database_entry : Role → DatabaseValue → EntryValue
+database_entry role database = record { name = role_file role database.head.name; bytes = canonical database }
+
+-- the file of an archive that is given
+abbrev pub archive_entries : Option DatabaseValue → List EntryValue
+archive_entries None = []
+archive_entries (Some archive) = database_entry Archive archive ∷ []
+
+-- the files of a database that changes: rows, base rows and archive
+abbrev pub db_entries : DbChange → List EntryValue
+db_entries change = database_entry Rows change.rows ∷ database_entry Base change.base ∷ archive_entries change.archive
+
+-- the information file
+abbrev pub marks_entry : Marks → EntryValue
+marks_entry marks = record { name = desktop_info_file; bytes = desktop_text marks }
+
+-- the files of a change: those of each database in order, and then the information file
+abbrev pub change_entries : DeskChange → List EntryValue
+change_entries change = flat_map db_entries change.databases.items ++ marks_entry change.marks ∷ []
+
+-- ---- databases
+
+-- what a change of a database makes of a role
+abbrev pub changed_to : Role → DbChange → Option DatabaseValue
+changed_to Rows change = Some change.rows
+changed_to Base change = Some change.base
+changed_to Archive change = change.archive
+
+-- what a change makes of the database of a role and a name, where it has one
+abbrev pub changed : Role → List ℕ → List DbChange → Option DatabaseValue
+changed role name [] = None
+changed role name (change ∷ changes) = if bytes_eq change.rows.head.name name then changed_to role change else changed role name changes
+
+-- an archive that is given is put among the others
+abbrev pub with_archive : Option DatabaseValue → ShelvesValue → ShelvesValue
+with_archive None shelves = shelves
+with_archive (Some archive) shelves = with_database Archive archive shelves
+
+-- with a database that changed
+abbrev pub with_change : DbChange → ShelvesValue → ShelvesValue
+with_change change shelves = with_archive change.archive (with_database Base change.base (with_database Rows change.rows shelves))
+
+-- with all of them, the last one first
+abbrev pub with_changes : List DbChange → ShelvesValue → ShelvesValue
+with_changes [] shelves = shelves
+with_changes (change ∷ changes) shelves = with_change change (with_changes changes shelves)
+
+-- ---- what was written
+
+-- the canonical bytes of each database that changes are a text of it
+pub record IsDbWritten (change : DbChange) : Type 0 where
+  pub rows : IsFileText change.rows (canonical change.rows)
+  pub base : IsFileText change.base (canonical change.base)
+  pub archive : IfSome change.archive (λ archive. IsFileText archive (canonical archive))
