@@ -22,9 +22,9 @@ use Rattle.file_names.specs.FileNames.{has_ending, rows_file}
 use Rattle.desk_files.specs.declared.role.Role.TheVariants.{Rows}
 use Rattle.desk_files.proofs.OwnLaws.{same_file}
 use Rattle.desk_journal.proofs.OverlayLaws.{same_name, same_name-is, same_name-other}
-use Rattle.desk_store.specs.Desks.{IsDesk}
+use Rattle.desk_store.specs.Desks.{AreRowsOf, IsDesk}
 use Rattle.desk_store.specs.Finds.{rows_count}
-use Rattle.desk_store.specs.Shelves.{AreRowsOf, ShelvesValue}
+use Rattle.desk_store.specs.Shelves.{ShelvesValue}
 use Rattle.desk_store.proofs.ChangedLaws.{differs_behind}
 use Rattle.desk_store.proofs.FileLaws.{ends}
 use Rattle.desk_store.proofs.OpenLaws.{told_rows}

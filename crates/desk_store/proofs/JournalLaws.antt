@@ -71,12 +71,12 @@ change_files change is written marks =
 
 -- ---- the last file of a name
 
+none_behind : (o : Option (List ℕ)) → option_or o None ≡ o
+none_behind (Some x) = refl
+none_behind None = refl
+
 pub last_of-append : (q : List ℕ) (xs ys : List EntryValue) → last_of q (xs ++ ys) ≡ option_or (last_of q ys) (last_of q xs)
-last_of-append q [] ys = none_behind (last_of q ys)
-  where
-    none_behind : (o : Option (List ℕ)) → o ≡ option_or o None
-    none_behind (Some x) = refl
-    none_behind None = refl
+last_of-append q [] ys = sym (none_behind (last_of q ys))
 last_of-append q (x ∷ xs) ys = ap (λ (o : Option (List ℕ)). option_or o (cond (same_name q x.name) (Some x.bytes) None)) (last_of-append q xs ys) ∙ regroup (last_of q ys) (last_of q xs) (cond (same_name q x.name) (Some x.bytes) None)
   where
     regroup : (a b c : Option (List ℕ)) → option_or (option_or a b) c ≡ option_or a (option_or b c)
@@ -117,19 +117,11 @@ last_here Base name change is written =
     let base = same_role Base name change.base.head.name ∙ ap (λ (n : List ℕ). bytes_eq n name) is.base.named in
     let rows = other_role Base Rows name change.rows.head.name (λ e. cc) in
     rw (no_archive Base name change.archive (λ e. cc), base, rows) (none_behind (cond (bytes_eq change.rows.head.name name) (Some (canonical change.base)) None))
-  where
-    none_behind : (o : Option (List ℕ)) → option_or o None ≡ o
-    none_behind (Some x) = refl
-    none_behind None = refl
 last_here Archive name change is written =
     let archive = last_archive name change.rows.head.name change.archive (λ database here. (changed_to_is Archive change database is written here).named) in
     let base = other_role Archive Base name change.base.head.name (λ e. cc) in
     let rows = other_role Archive Rows name change.rows.head.name (λ e. cc) in
-    rw (archive, base, rows) (none_behind (cond (bytes_eq change.rows.head.name name) (option_map canonical change.archive) None))
-  where
-    none_behind : (o : Option (List ℕ)) → option_or (option_or o None) None ≡ o
-    none_behind (Some x) = refl
-    none_behind None = refl
+    rw (archive, base, rows) (let here = cond (bytes_eq change.rows.head.name name) (option_map canonical change.archive) None in none_behind (option_or here None) ∙ none_behind here)
 
 -- what a change writes of the database of a role and a name
 last_databases : (role : Role) (name : List ℕ) (changes : List DbChange) → NamesRise (rows_of changes) → AllByRecursion IsDbChange changes → AllByRecursion IsDbWritten changes → last_of (role_file role name) (flat_map db_entries changes) ≡ option_map canonical (changed role name changes)
@@ -140,10 +132,6 @@ last_databases role name (change ∷ changes) rise each written =
     ∙ (ap (option_or (option_map canonical (changed role name changes))) (last_here role name change each.0 written.0)
     ∙ by (bytes_eq change.rows.head.name name) refl))
   where
-    none_behind : (o : Option (List ℕ)) → option_or o None ≡ o
-    none_behind (Some x) = refl
-    none_behind None = refl
-
     by : (here : Bool) → bytes_eq change.rows.head.name name ≡ here
         → option_or (option_map canonical (changed role name changes)) (cond here (option_map canonical (changed_to role change)) None) ≡ option_map canonical (cond here (changed_to role change) (changed role name changes))
     by true is =

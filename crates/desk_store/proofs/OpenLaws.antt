@@ -20,9 +20,9 @@ use Rattle.desk_files.specs.declared.role.Role.{Role}
 use Rattle.desk_files.specs.declared.role.Role.TheVariants.{Rows}
 use Rattle.desk_journal.specs.Overlays.{HasNoJournal, bad_of, finished, overlay}
 use Rattle.desk_journal.specs.declared.bad_journal.BadJournal.{BadJournal}
-use Rattle.desk_store.specs.Desks.{IsDesk, IsDeskOf, Shows}
+use Rattle.desk_store.specs.Desks.{AreRowsOf, IsDesk, IsDeskOf, Shows}
 use Rattle.desk_store.specs.Finds.{FindsAll, RefusesAmong, first_bad, rows_count}
-use Rattle.desk_store.specs.Shelves.{AreOrdered, AreRowsOf, ShelvesValue, first_marks, if_bad, if_database, shelf_of}
+use Rattle.desk_store.specs.Shelves.{AreOrdered, ShelvesValue, first_marks, if_bad, if_database, shelf_of}
 use Rattle.desk_store.specs.declared.fault.DeskOpenFault.{DeskOpenFault}
 use Rattle.desk_store.specs.declared.fault.DeskOpenFault.TheVariants.{DeskFault, TooMany, BadFile, NoMemory}
 use Rattle.desk_store.specs.declared.found.Found.{Found}

@@ -1,11 +1,12 @@
 -- Desktops: what a folder stands for, and when it stands for none.
-use Rattle.std.specs.Prelude.{◌≡◌, ⊤, ◌<◌, ◌≤◌, ℕ, List, Option, None, Some, IfSome, unwrap_or, string_bytes}
+use Rattle.std.specs.Prelude.{◌≡◌, ⊤, ◌<◌, ◌≤◌, ℕ, List, Option, None, Some, IfSome, IsSome, codes, true, unwrap_or, string_bytes}
 use Rattle.std.specs.FinMap as finmap
 use Rattle.std.specs.declared.alloc.Global.{Global}
 use Rattle.hs_folders.specs.FileMaps.{FileMap}
 use Rattle.pdb_values.specs.Databases.{DatabaseValue}
 use Rattle.pdb_values.specs.declared.user.Marks.{Marks}
 use Rattle.palm_device.specs.Devices.{database_of}
+use Rattle.file_names.specs.FileNames.{has_ending, rows_file}
 use Rattle.desk_files.specs.declared.role.Role.{Role}
 use Rattle.desk_journal.specs.Overlays.{HasNoJournal}
 use Rattle.desk_store.specs.Finds.{first_bad, rows_count}
@@ -24,6 +25,11 @@ pub record IsDeskOf (held : FileMap) (marks : Marks) (shelf : Role → List Data
 pub record IsDesk (told : Option FileMap) (marks : Marks) (shelves : ShelvesValue) : Type 0 where
   pub ordered : AreOrdered shelves
   pub stands : IfSome told (λ held. IsDeskOf held marks (shelf_of shelves))
+
+-- each of the databases has its file of rows in the folder, and each file of rows there its database
+pub record AreRowsOf (held : FileMap) (rows : List DatabaseValue) : Type 0 where
+  pub each : (name : List ℕ) → IsSome (database_of name rows) → IsSome (finmap.get held (rows_file name))
+  pub all : (file : List ℕ) → has_ending (codes ".pdb") file ≡ true → IsSome (finmap.get held file) → (name : List ℕ) × (file ≡ rows_file name) × IsSome (database_of name rows)
 
 -- there are not too many files of rows, and none is bad
 pub record IsReadable (held : FileMap) : Type 0 where

@@ -1,13 +1,13 @@
 -- What a desktop's folder holds: the database in each file, and the marks; and the databases of a desktop in byte order of their names.
-use Rattle.std.specs.Prelude.{◌≡◌, ℕ, List, [], Option, None, Some, IsSome, option_and_then, slice_set, codes, true, Result, Ok, Err}
+use Rattle.std.specs.Prelude.{ℕ, List, [], Option, None, Some, option_and_then, slice_set, Result, Ok, Err}
 use Rattle.std.specs.FinMap as finmap
 use Rattle.std.specs.Option.{option_map}
 use Rattle.hs_folders.specs.FileMaps.{FileMap}
 use Rattle.pdb_values.specs.Databases.{DatabaseValue}
 use Rattle.pdb_values.specs.declared.user.Marks.{Marks}
-use Rattle.palm_device.specs.Devices.{database_of, place_of, with_new}
+use Rattle.palm_device.specs.Devices.{place_of, with_new}
 use Rattle.palm_device.specs.Soundness.{NamesRise}
-use Rattle.file_names.specs.FileNames.{desktop_info_file, has_ending, rows_file}
+use Rattle.file_names.specs.FileNames.{desktop_info_file}
 use Rattle.desk_files.specs.DeskFiles.{file_in, role_file}
 use Rattle.desk_files.specs.declared.fault.BadDeskFile.{BadDeskFile}
 use Rattle.desk_files.specs.declared.file.DeskFile.{DeskFile}
@@ -90,8 +90,3 @@ abbrev pub with_database : Role → DatabaseValue → ShelvesValue → ShelvesVa
 with_database Rows database shelves = record shelves { rows = with_put database shelves.rows }
 with_database Base database shelves = record shelves { bases = with_put database shelves.bases }
 with_database Archive database shelves = record shelves { archives = with_put database shelves.archives }
-
--- each of the databases has its file of rows in the folder, and each file of rows there its database
-pub record AreRowsOf (held : FileMap) (rows : List DatabaseValue) : Type 0 where
-  pub each : (name : List ℕ) → IsSome (database_of name rows) → IsSome (finmap.get held (rows_file name))
-  pub all : (file : List ℕ) → has_ending (codes ".pdb") file ≡ true → IsSome (finmap.get held file) → (name : List ℕ) × (file ≡ rows_file name) × IsSome (database_of name rows)

@@ -10,9 +10,9 @@ ghost use Rattle.palm_device.specs.Soundness.{NamesRise};
 ghost use Rattle.desk_files.specs.declared.role.Role.{Role};
 ghost use Rattle.desk_journal.specs.Overlays.{HasNoJournal, StandsAs, finished, put_all};
 ghost use Rattle.desk_store.specs.Changes.{IsDeskChange, change_entries, changed};
-ghost use Rattle.desk_store.specs.Desks.{IsDesk, IsReadable, Shows};
+ghost use Rattle.desk_store.specs.Desks.{AreRowsOf, IsDesk, IsReadable, Shows};
 ghost use Rattle.desk_store.specs.Finds.{FindsAll, rows_count};
-ghost use Rattle.desk_store.specs.Shelves.{AreOrdered, AreRowsOf, first_marks, shelf_of};
+ghost use Rattle.desk_store.specs.Shelves.{AreOrdered, first_marks, shelf_of};
 ghost use Rattle.desk_store.specs.Views.{folder_in, shelves_of};
 
 use crate::change::DeskChange;
