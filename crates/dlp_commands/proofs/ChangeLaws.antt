@@ -1,13 +1,11 @@
 -- What a request that was not refused made of a device.
 use Rattle.std.proofs.Common.{◌≡◌, ◌<◌, ◌+◌, ◌-◌, ℕ, Bool, true, false, cond, List, [], length, drop, min, take, Option, Some, None, Result, Ok, Err, IfOk, refl, ap, sym, subst, ◌∙◌, slice_get}
-use Rattle.std.specs.Prelude.{option_and_then, not, remove, is_none, nat_lt, nat_le, ◌%◌, ◌==◌, ◌&&◌}
+use Rattle.std.specs.Prelude.{option_and_then, not, remove, is_none, nat_lt, nat_le, ◌%◌, ◌&&◌}
 use Rattle.std.specs.Option.{option_map}
 use Rattle.std.proofs.lemmas.Bool.{ltb-true}
 use Rattle.std.proofs.lemmas.List.{length-set}
 use Rattle.pdb_values.specs.Databases.{DatabaseValue}
-use Rattle.pdb_values.specs.PalmDates.{read_wire}
 use Rattle.pdb_values.specs.Records.{is_live}
-use Rattle.pdb_values.specs.Users.{user_name_of}
 use Rattle.pdb_values.specs.declared.record.Record.{Record}
 use Rattle.dlp_requests.specs.RequestValues as request
 use Rattle.dlp_requests.specs.RequestValues.{RequestValue}
@@ -238,7 +236,7 @@ list_change old value flags card start =
 marks_change : (old : Device) (user viewer pc : ℕ) (date : List ℕ) (bits name_len : ℕ) (name : Option (List ℕ)) → IfOk (users.write_user_info old user viewer pc date bits name_len name) (λ done. Change old (request.WriteUserInfo user viewer pc date bits name_len name) done.0)
 unfolding users.write_user_info
 marks_change old user viewer pc date bits name_len name =
-    ok_next (need 4 (read_wire date)) _ _ (λ seconds is. ok_next (check 4 (name_len == users.name_length name)) _ _ (λ counted is. ok_next (need 4 (user_name_of (users.name_or_empty name))) _ _ (λ named is. Marked refl refl)))
+    ok_next (users.marked user viewer pc date bits name_len name old.user) _ _ (λ known is. Marked refl refl)
 
 -- ---- every request
 

@@ -1,19 +1,23 @@
 -- The functions on the user and on the whole session: the table, with the errors in its order (pilot-link, `pi-dlp.h`).
-use Rattle.std.specs.Prelude.{ℕ, ◌+◌, List, [], length, Option, Some, None, Ok, ◌==◌, if◌then◌else◌}
+use Rattle.std.specs.Prelude.{ℕ, ◌+◌, List, [], length, Option, Some, None, Result, Ok, ◌==◌, if◌then◌else◌}
 use Rattle.pdb_values.specs.PalmDates.{read_wire}
 use Rattle.pdb_values.specs.Users.{user_name_of}
 use Rattle.pdb_values.specs.declared.user.UserInfo.{UserInfo}
 use Rattle.dlp_replies.specs.ReplyValues as reply
+use Rattle.dlp_replies.specs.ReplyValues.{ReplyValue}
 use Rattle.palm_device.specs.Devices.{Device, with_handles}
 use Rattle.palm_device.specs.Handles.{no_handles}
 use Rattle.palm_device.specs.Heads.{has_bit}
 use Rattle.dlp_commands.specs.Errors.{parameter, ◌>>=◌, check, need}
 use Rattle.dlp_commands.specs.Reached.{Tried}
 
+-- the reply with what a device knows of its user
+abbrev pub user_reply : UserInfo → ReplyValue
+user_reply user = reply.ReadUserInfo user.user user.viewer user.pc user.good user.last user.name user.password
+
 -- ReadUserInfo replies what the device knows
 abbrev pub read_user_info : Device → Tried
-read_user_info device =
-    Ok (device, reply.ReadUserInfo device.user.user device.user.viewer device.user.pc device.user.good device.user.last device.user.name device.user.password)
+read_user_info device = Ok (device, user_reply device.user)
 
 -- the length that goes with a name counts its zero; without a name it is 0
 abbrev pub name_length : Option (List ℕ) → ℕ
@@ -41,13 +45,17 @@ with_marks bits user viewer pc date name old =
       name = chosen 0x10 bits name old.name;
     }
 
--- WriteUserInfo: a bad date, a name length other than the name's, or a name that is no user's: parameter. Sets what the bits say
-unfoldable pub write_user_info : Device → ℕ → ℕ → ℕ → List ℕ → ℕ → ℕ → Option (List ℕ) → Tried
-write_user_info device user viewer pc date bits name_len name = do
+-- what the device knows then: a bad date, a name length other than the name's, or a name that is no user's: parameter
+abbrev pub marked : ℕ → ℕ → ℕ → List ℕ → ℕ → ℕ → Option (List ℕ) → UserInfo → Result UserInfo ℕ
+marked user viewer pc date bits name_len name old = do
   seconds ← need parameter (read_wire date)
   counted ← check parameter (name_len == name_length name)
   named ← need parameter (user_name_of (name_or_empty name))
-  Ok (record device { user = with_marks bits user viewer pc seconds named device.user }, reply.WriteUserInfo)
+  Ok (with_marks bits user viewer pc seconds named old)
+
+-- WriteUserInfo sets what the bits say
+unfoldable pub write_user_info : Device → ℕ → ℕ → ℕ → List ℕ → ℕ → ℕ → Option (List ℕ) → Tried
+write_user_info device user viewer pc date bits name_len name = marked user viewer pc date bits name_len name device.user >>= λ known. Ok (record device { user = known }, reply.WriteUserInfo)
 
 -- AddSyncLogEntry keeps nothing
 abbrev pub add_sync_log_entry : Device → Tried

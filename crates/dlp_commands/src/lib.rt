@@ -4,16 +4,42 @@
 //! `ResourceFunctions` have a definition a function, with its errors in their order and then its effect. `DeviceSteps` makes
 //! of them what a message does to a device, `DeviceRuns` what several do. A `Link` is a device behind a line. The public
 //! source is pilot-link's `pi-dlp.h` and `dlp.c`.
+//!
+//! What every program that is a device shares is here too: a request as a `Command`, what a `Reading` finds in a database, the
+//! `Edit` that a `Writing` plans, and how replies and errors are written. `tables` has examples of all functions for tests.
 #![tactic(auto)]
 
+mod block;
+mod command;
+mod edit;
+mod holds;
 mod laws;
 mod link;
+mod listing;
+mod reading;
+mod record;
+mod refusal;
+mod reply;
+mod resource;
+pub mod tables;
+mod user;
+mod writing;
 
+pub use command::{Change, Command, Quiet};
 pub use dlp_args::{Message, MessageText};
 pub use dlp_replies::{Entries, ErrorCode, Ids, Reply, ReplyFault, read_reply, write_reply};
 pub use dlp_requests::{Request, RequestFault, read_request, write_request};
+pub use edit::Edit;
+pub use holds::Holds;
 pub use laws::{
     end_of_sync_closes_all, only_the_target_changes, reading_keeps_databases,
     refused_changes_nothing, runs_append, soundness_stays, step_is_determined,
 };
 pub use link::{Link, LinkFault};
+pub use listing::{is_writable, listed, more_flag, named};
+pub use reading::Reading;
+pub use record::{content_of, given_id, next_record};
+pub use refusal::Refusal;
+pub use reply::{put_done, put_fault, put_listed, put_refusal, put_reply};
+pub use user::{UserMarks, marked, user_reply};
+pub use writing::Writing;

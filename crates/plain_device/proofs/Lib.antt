@@ -1,4 +1,1 @@
-pub mod DataLaws
-pub mod Fits
 pub mod FreeLaws
-pub mod StepLaws

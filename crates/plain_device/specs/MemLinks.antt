@@ -1,5 +1,5 @@
 -- What a link in memory tells: its device, the exchanges that were answered, and the request that was left.
-use Rattle.std.specs.Prelude.{ℕ, Bool, ◌||◌, is_none, is_some, List, map, Option}
+use Rattle.std.specs.Prelude.{Bool, ◌||◌, is_none, is_some, List, map, Option}
 use Rattle.std.specs.Option.{option_map}
 use Rattle.dlp_args.specs.Messages.{MessageTextValue}
 use Rattle.palm_device.specs.Devices.{Device}

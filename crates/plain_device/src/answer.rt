@@ -1,41 +1,14 @@
 // One step by the bytes of a request.
-ghost use Rattle.std.specs.Prelude.{◌≡◌, ◌<◌, ◌≤◌, OnErr, OnOk, Ok, length};
-ghost use Rattle.dlp_requests.specs.Views.{request_value};
-ghost use Rattle.dlp_commands.specs.DeviceSteps as steps;
-ghost use Rattle.dlp_commands.specs.DeviceSteps.{DeviceStep, MayGiveTo};
-ghost use Rattle.dlp_commands.specs.Errors as errors;
+ghost use Rattle.std.specs.Prelude.{◌≡◌, ◌≤◌, OnErr, OnOk, length};
+ghost use Rattle.dlp_commands.specs.Commands.{Acts, IsShortCommand, MayGiveBy};
+ghost use Rattle.dlp_commands.specs.DeviceSteps.{DeviceStep};
 ghost use Rattle.palm_device.specs.Records.{IsFree};
 
 use crate::device::PlainDevice;
-use dlp_commands::{ErrorCode, Message, Reply, Request, RequestFault, read_request, write_reply};
+use dlp_commands::{Change, Command, Message, Writing, put_fault, read_request};
 use palm_device::place_of_id;
 use pdb_values::{Record, RecordId};
 use std::alloc::{AllocError, Global};
-
-// The error for bytes that are no request.
-fn fault_code(fault: RequestFault) -> ErrorCode
-    ensures code { result ≡ errors.fault_code fault }
-    ensures some { 0 < result }
-{
-    ErrorCode::of(match fault {
-        RequestFault::Illegal(_) => 2,
-        RequestFault::Wrapper(_) => 19,
-        RequestFault::BadId(_) => 20,
-        RequestFault::BadSize(_) => 21,
-        RequestFault::Argument => 20,
-        RequestFault::Size => 21,
-    })
-}
-
-// The first byte of a message, or 0 of one that has none.
-fn first_byte(bytes: &[u8]) -> u8
-    ensures { result ≡ steps.first_byte bytes.now }
-{
-    match bytes {
-        [first, ..] => *first,
-        [] => 0,
-    }
-}
 
 impl PlainDevice {
     /// Does what the bytes of a request ask, and replaces the reply. Want of memory changes nothing.
@@ -49,27 +22,43 @@ impl PlainDevice {
         ensures stays { OnErr result (self.new ≡ self.old) }
     {
         match read_request(bytes) {
-            Ok(request) => {
-                let free = self.free_for(&request);
-                self.serve(alloc, free, request, reply)
-            }
+            Ok(request) => self.act(alloc, Command::of(request), reply),
             Err(fault) => {
-                let refused = Reply::Refused {
-                    function: first_byte(bytes),
-                    code: fault_code(fault),
-                };
-                write_reply(&refused, reply);
+                put_fault(reply, bytes, fault);
                 Ok(())
             }
         }
     }
 
-    // The id that a new record of this request gets: the least free one.
-    fn free_for(&self, request: &Request<'_>) -> RecordId
-        ensures { MayGiveTo self.now result (Ok (request_value request.now)) }
+    // Does a command. Want of memory changes nothing.
+    fn act(
+        &mut self,
+        alloc: Global,
+        command: Command<'_>,
+        out: &mut Message,
+    ) -> Result<(), AllocError>
+        requires { IsShortCommand command }
+        ensures step { OnOk result (Acts self.old command.entry out.new self.new) }
+        ensures stays { OnErr result (self.new ≡ self.old) }
     {
-        match request {
-            Request::WriteRecord { handle, id: 0, .. } => match self.base_at(*handle) {
+        match command {
+            Command::Quiet(asked) => self.quiet(alloc, asked, out),
+            Command::Change(asked) => {
+                let free = self.free_for(&asked);
+                self.change(alloc, free, asked, out)
+            }
+        }
+    }
+
+    // The id that a new record gets: the least free one.
+    fn free_for(&self, asked: &Change<'_>) -> RecordId
+        ensures { MayGiveBy self.now result asked.now }
+    {
+        match asked {
+            Change::Write {
+                handle,
+                writing: Writing::Record { id: 0, .. },
+            } => match self.base_at(*handle) {
                 Some(base) => free_id(base.database.records()),
                 None => least(),
             },

@@ -1,18 +1,13 @@
 // A handheld in memory.
-ghost use Rattle.std.specs.Prelude.{◌≡◌, ◌<◌, [], IfOk, IfSome, OnErr, OnOk, Ok, Some, slice_get};
+ghost use Rattle.std.specs.Prelude.{◌≡◌, [], IfSome, OnErr, OnOk, Some, slice_get};
 ghost use Rattle.std.specs.Option.{option_map};
 ghost use Rattle.palm_device.specs.Devices.{with_new};
 ghost use Rattle.palm_device.specs.Handles as handles;
 ghost use Rattle.palm_device.specs.Handles.{no_handles};
-ghost use Rattle.dlp_commands.specs.Reached as steps;
-ghost use Rattle.plain_device.specs.Answers.{Finds};
-ghost use Rattle.plain_device.specs.Holding.{fits};
 ghost use Rattle.plain_device.specs.Views.{base_of};
 
-use crate::holds::Holds;
 use crate::reached::Reached;
-use crate::refusal::Refusal;
-use palm_device::{Handles, has_bit, place_of};
+use palm_device::{Handles, place_of};
 use pdb_values::{Database, UserInfo};
 use std::alloc::{AllocError, Global};
 use std::marker::Model;
@@ -67,42 +62,4 @@ impl PlainDevice {
             database,
         })
     }
-
-    // What a handle leads to, for functions that read.
-    pub(crate) fn reached(&self, handle: u8, holds: Holds) -> Result<Reached<'_>, Refusal>
-        ensures base { Finds base_of result (steps.reached (fits holds) self.now handle) }
-        ensures there { IfOk result (λ base. slice_get self.now.databases base.place ≡ Some base.database.now) }
-    {
-        let Some(base) = self.base_at(handle) else {
-            return Err(Refusal::NoneOpen);
-        };
-        if !holds.fits(base.database) {
-            return Err(Refusal::NotSupported);
-        }
-        Ok(base)
-    }
-
-    // What a handle leads to, for functions that write.
-    pub(crate) fn writable(&self, handle: u8, holds: Holds) -> Result<Reached<'_>, Refusal>
-        ensures base { Finds base_of result (steps.writable (fits holds) self.now handle) }
-        ensures there { IfOk result (λ base. slice_get self.now.databases base.place ≡ Some base.database.now) }
-    {
-        let Some(base) = self.base_at(handle) else {
-            return Err(Refusal::NoneOpen);
-        };
-        if !is_writable(base) {
-            return Err(Refusal::ReadOnly);
-        }
-        if !holds.fits(base.database) {
-            return Err(Refusal::NotSupported);
-        }
-        Ok(base)
-    }
-}
-
-// Whether the database may be written under this handle.
-fn is_writable(base: Reached<'_>) -> bool
-    ensures { result ≡ handles.is_writable (base_of base.entry) }
-{
-    has_bit(0x40, base.opened.mode as u16) && !has_bit(0x0002, base.database.head().attributes)
 }

@@ -6,22 +6,18 @@
 #![tactic(auto)]
 
 mod answer;
-mod database;
+mod change;
 mod device;
+mod edit;
 mod exchanged;
-mod holds;
 mod mem_link;
+mod quiet;
 mod reached;
-mod record;
-mod refusal;
-mod resource;
-mod serve;
-mod user;
 
 pub use device::PlainDevice;
+pub use dlp_commands::Refusal;
 pub use exchanged::Exchanged;
 pub use mem_link::MemLink;
-pub use refusal::Refusal;
 
 #[cfg(test)]
 mod tests;

@@ -2,9 +2,8 @@
 ghost use Rattle.std.specs.Prelude.{◌≡◌};
 ghost use Rattle.dlp_commands.specs.Links.{MayExchange};
 
-mod tables;
-
 use crate::{MemLink, PlainDevice};
+use dlp_commands::tables::*;
 use dlp_commands::{Link, LinkFault, Message};
 use pdb_values::{
     Bytes, Category, Content, Database, DbName, FourCc, PalmDate, Password, Record, RecordId,
@@ -13,7 +12,6 @@ use pdb_values::{
 use std::alloc::Global;
 use std::process::Abort;
 use std::test::Fail;
-use tables::*;
 
 // What a handheld knows that was never synchronized.
 fn nobody() -> Option<UserInfo> {

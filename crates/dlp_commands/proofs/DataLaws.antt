@@ -2,7 +2,7 @@
 use Rattle.std.proofs.Common.{◌≤◌, ℕ, List, length, lit≤}
 use Rattle.dlp_requests.specs.RequestTexts.{RequestText}
 use Rattle.dlp_requests.specs.RequestValues.{RequestValue, ReadUserInfo, WriteUserInfo, ReadDbList, OpenDb, CreateDb, CloseDb, DeleteDb, ReadAppBlock, ReadSortBlock, WriteAppBlock, WriteSortBlock, ReadNextModifiedRec, ReadRecordById, ReadRecordByIndex, WriteRecord, DeleteRecord, ReadResourceByIndex, ReadResourceByType, WriteResource, DeleteResource, CleanUpDatabase, ResetSyncFlags, ResetRecordIndex, AddSyncLogEntry, ReadOpenDbInfo, MoveCategory, OpenConduit, EndOfSync, ReadRecordIdList}
-use Rattle.plain_device.specs.Requests.{data_of}
+use Rattle.dlp_commands.specs.RequestData.{data_of}
 
 -- at most 65,500 bytes
 pub data_short : (value : RequestValue) (bytes : List ℕ) → RequestText value bytes → length (data_of value) ≤ 65500

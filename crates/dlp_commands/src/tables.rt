@@ -1,9 +1,10 @@
-// Requests and the replies to them, in hexadecimal, each table in order over an empty device.
+//! Requests and the replies to them, in hexadecimal, for the tests of whatever is a device: each table in order, over one
+//! without a database unless it says otherwise. A new record of id 0 gets the least free id.
 
 /// A request and its reply.
 pub type Row = (&'static str, &'static str);
 
-// An empty device, from the first request to the last.
+/// An empty device, from the first request to the last.
 pub const STORE: [Row; 14] = [
     ("1801201074657374727372630000000100015200", "98010000200101"),
     ("2401200d0100434f444500010003616263", "a4000000"),
@@ -27,7 +28,7 @@ pub const STORE: [Row; 14] = [
     ("1a01200400005200", "9a000005"),
 ];
 
-// Bytes that are no request, and requests with no handle open.
+/// Bytes that are no request, and requests with no handle open.
 pub const ANY_BYTES: [Row; 11] = [
     ("2b01200109", "ab000006"),
     ("2b0120020900", "ab000015"),
@@ -42,7 +43,7 @@ pub const ANY_BYTES: [Row; 11] = [
     ("2a00", "aa000014"),
 ];
 
-// The user, and what keeps nothing.
+/// The user, and what keeps nothing.
 pub const SESSION: [Row; 12] = [
     (
         "1000",
@@ -85,7 +86,7 @@ pub const SESSION: [Row; 12] = [
     ("2f0120020000", "af000000"),
 ];
 
-// Databases, handles and blocks.
+/// Databases, handles and blocks.
 pub const DATABASES: [Row; 43] = [
     ("1601200480010000", "96000004"),
     ("1601200400000000", "96000005"),
@@ -141,7 +142,7 @@ pub const DATABASES: [Row; 43] = [
     ("2b01200101", "ab000006"),
 ];
 
-// Records.
+/// Records.
 pub const RECORDS: [Row; 38] = [
     ("1801201074657374646174610000000000014d00", "98010000200101"),
     ("2101200a018000000005ff036162", "a1010000200400000005"),
@@ -195,7 +196,7 @@ pub const RECORDS: [Row; 38] = [
     ("2b01200101", "ab01000020020000"),
 ];
 
-// Resources.
+/// Resources.
 pub const RESOURCES: [Row; 16] = [
     ("1801201074657374646174610000000100015200", "98010000200101"),
     ("2401200c0100434f4445000100026162", "a4000000"),
@@ -221,7 +222,7 @@ pub const RESOURCES: [Row; 16] = [
     ("2b01200101", "ab01000020020000"),
 ];
 
-// Each function with a handle that isn't open.
+/// Each function with a handle that isn't open.
 pub const CLOSED: [Row; 20] = [
     ("1901200101", "99000006"),
     ("1b01200601000000ffff", "9b000006"),
@@ -245,7 +246,7 @@ pub const CLOSED: [Row; 20] = [
     ("3101200601000000ffff", "b1000006"),
 ];
 
-// Each function that writes, under a handle that is open for reading.
+/// Each function that writes, under a handle that is open for reading.
 pub const NOT_FOR_WRITING: [Row; 12] = [
     ("1801201074657374646174610000000000014d00", "98010000200101"),
     ("1901200101", "99000000"),
@@ -261,7 +262,7 @@ pub const NOT_FOR_WRITING: [Row; 12] = [
     ("2c01200401000000", "ac00000f"),
 ];
 
-// Functions of resources on records, and of records on resources.
+/// Functions of resources on records, and of records on resources.
 pub const OF_THE_OTHER_SORT: [Row; 16] = [
     ("1801201074657374646174610000000000014d00", "98010000200101"),
     ("1801201074657374646174610000000100015200", "98010000200102"),
@@ -281,7 +282,7 @@ pub const OF_THE_OTHER_SORT: [Row; 16] = [
     ("3101200602000000ffff", "b100000d"),
 ];
 
-// Eight handles.
+/// Eight handles.
 pub const EIGHT_OPEN: [Row; 14] = [
     ("1801201074657374646174610000000000016100", "98010000200101"),
     ("1801201074657374646174610000000000016200", "98010000200102"),
@@ -299,7 +300,7 @@ pub const EIGHT_OPEN: [Row; 14] = [
     ("1701200400c06300", "97000008"),
 ];
 
-// Records of which two were deleted, one of them to be archived.
+/// Records of which two were deleted, one of them to be archived.
 pub const FLAGGED: [Row; 8] = [
     ("1701200400c04d00", "97010000200101"),
     ("1f01200101", "9f010000200a00000001000000008000"),
@@ -311,7 +312,7 @@ pub const FLAGGED: [Row; 8] = [
     ("3101200601000000ffff", "b10100002006000100000003"),
 ];
 
-// Databases of 65,535 records and of 65,535 resources.
+/// Databases of 65,535 records and of 65,535 resources.
 pub const FULL: [Row; 8] = [
     ("1701200400c04d00", "97010000200101"),
     ("21012009018000010000000061", "a1000011"),
@@ -323,5 +324,5 @@ pub const FULL: [Row; 8] = [
     ("2b01200102", "ab0100002002ffff"),
 ];
 
-// A further database beside 200.
+/// A further database beside 200.
 pub const ONE_TOO_MANY: Row = ("1801201074657374646174610000000000015a00", "98000011");

@@ -2,8 +2,8 @@
 use Rattle.std.specs.Prelude.{Bool}
 use Rattle.pdb_values.specs.Databases.{DatabaseValue}
 use Rattle.dlp_commands.specs.Reached.{on_any, on_records, on_resources}
-use Rattle.plain_device.specs.declared.holds.Holds.{Holds}
-use Rattle.plain_device.specs.declared.holds.Holds.TheVariants as holds
+use Rattle.dlp_commands.specs.declared.holds.Holds.{Holds}
+use Rattle.dlp_commands.specs.declared.holds.Holds.TheVariants as holds
 
 -- whether a database has what the function works on
 abbrev pub fits : Holds → DatabaseValue → Bool

@@ -1,8 +1,8 @@
 -- The error that is replied for each refusal.
 use Rattle.std.specs.Prelude.{ℕ}
 use Rattle.dlp_commands.specs.Errors as error
-use Rattle.plain_device.specs.declared.refusal.Refusal.{Refusal}
-use Rattle.plain_device.specs.declared.refusal.Refusal.TheVariants.{Parameter, NotFound, NoneOpen, AlreadyOpen, TooManyOpen, Exists, NotSupported, ReadOnly, Limit}
+use Rattle.dlp_commands.specs.declared.refusal.Refusal.{Refusal}
+use Rattle.dlp_commands.specs.declared.refusal.Refusal.TheVariants.{Parameter, NotFound, NoneOpen, AlreadyOpen, TooManyOpen, Exists, NotSupported, ReadOnly, Limit}
 
 -- by its number
 abbrev pub code_of : Refusal → ℕ

@@ -1,5 +1,5 @@
 -- The replies of a device fit into a message.
-use Rattle.std.proofs.Common.{◌≡◌, ◌+◌, ◌*◌, ◌≤◌, ℕ, zero, suc, Bool, true, false, cond, List, [], ◌∷◌, ◌++◌, length, refl, ap, arith, length-append, one-add, lit≤}
+use Rattle.std.proofs.Common.{◌≡◌, ◌+◌, ◌*◌, ◌≤◌, ℕ, suc, Bool, true, false, cond, List, [], ◌∷◌, ◌++◌, length, refl, ap, arith, length-append, one-add, lit≤}
 use Rattle.std.specs.Prelude.{nat_lt, not, ◌==◌, ◌||◌, if◌then◌else◌}
 use Rattle.std.specs.List.{flat_map, list_any, position_or_len}
 use Rattle.std.specs.Int.{w16, w32, to_be_bytes}
@@ -8,7 +8,7 @@ use Rattle.pdb_values.specs.PalmDates.{wire_date, wire_of}
 use Rattle.pdb_values.specs.declared.civil.CivilTime.{CivilTime}
 use Rattle.pdb_values.specs.declared.head.DbHead.{DbHead}
 use Rattle.dlp_layouts.specs.Cells.{HasNoZero}
-use Rattle.dlp_args.specs.Arguments.{Form, Tiny, Short, header, arg_text}
+use Rattle.dlp_args.specs.Arguments.{Tiny, Short, header, arg_text}
 use Rattle.dlp_replies.specs.EntryLists.{entry_text}
 use Rattle.dlp_replies.specs.Frames.{named}
 use Rattle.dlp_replies.specs.ReplyValues.{ReadUserInfo, ReadDbList, ReadRecordIdList, ReadAppBlock, ReadSortBlock, ReadNextModifiedRec, ReadRecord, ReadResource}

@@ -1,6 +1,6 @@
 // What a function works on.
 ghost use Rattle.std.specs.Prelude.{◌≡◌};
-ghost use Rattle.plain_device.specs.Holding.{fits};
+ghost use Rattle.dlp_commands.specs.Holding.{fits};
 
 use pdb_values::Database;
 

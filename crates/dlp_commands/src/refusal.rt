@@ -1,8 +1,8 @@
 // Why a request is refused.
 ghost use Rattle.std.specs.Prelude.{◌≡◌, ◌<◌};
-ghost use Rattle.plain_device.specs.Refusals.{code_of};
+ghost use Rattle.dlp_commands.specs.Refusals.{code_of};
 
-use dlp_commands::ErrorCode;
+use dlp_replies::ErrorCode;
 
 /// Why a request is refused.
 #[derive(Clone, Copy, Debug, PartialEq, Eq)]

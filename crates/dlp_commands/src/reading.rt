@@ -1,0 +1,225 @@
+// The functions that read the database of a handle.
+ghost use Rattle.std.specs.Prelude.{◌≡◌, ◌≤◌, IfOk, OnOk, length};
+ghost use Rattle.dlp_replies.specs.Views.{reply_value};
+ghost use Rattle.dlp_replies.specs.Writables.{IsWritable};
+ghost use Rattle.dlp_commands.specs.Answers.{Finds, answered};
+ghost use Rattle.dlp_commands.specs.Readings.{read_in, read_number, read_of, read_on};
+
+use crate::block::block_part;
+use crate::holds::Holds;
+use crate::record::{ids_from, record_part};
+use crate::refusal::Refusal;
+use crate::reply::{put_ids, put_refusal, put_reply};
+use crate::resource::resource_part;
+use dlp_args::Message;
+use dlp_replies::{Reply, write_reply};
+use palm_device::{entry_count, place_of_id, place_of_resource};
+use pdb_values::{Database, FourCc};
+use std::alloc::{AllocError, Global};
+
+/// What a function reads of the database that its handle leads to: at most so many bytes from an offset on, a number of
+/// entries, or ids.
+#[derive(Clone, Copy, Debug)]
+pub enum Reading {
+    AppBlock {
+        offset: u16,
+        count: u16,
+    },
+    SortBlock {
+        offset: u16,
+        count: u16,
+    },
+    EntryCount,
+    RecordOfId {
+        id: u32,
+        offset: u16,
+        count: u16,
+    },
+    RecordAt {
+        index: u16,
+        offset: u16,
+        count: u16,
+    },
+    /// The ids of records from an index on.
+    RecordIds {
+        start: u16,
+        maximum: u16,
+    },
+    ResourceOfType {
+        kind: FourCc,
+        id: u16,
+        offset: u16,
+        count: u16,
+    },
+    ResourceAt {
+        index: u16,
+        offset: u16,
+        count: u16,
+    },
+}
+
+#[tactic(auto, using(crate::proofs::AnswerLaws::found_text))]
+impl Reading {
+    /// The function's byte.
+    pub fn number(&self) -> u8
+        ensures { result ≡ read_number self.now }
+    {
+        match self {
+            Reading::AppBlock { .. } => 0x1B,
+            Reading::SortBlock { .. } => 0x1D,
+            Reading::EntryCount => 0x2B,
+            Reading::RecordOfId { .. } => 0x20,
+            Reading::RecordAt { .. } => 0x20,
+            Reading::RecordIds { .. } => 0x31,
+            Reading::ResourceOfType { .. } => 0x23,
+            Reading::ResourceAt { .. } => 0x23,
+        }
+    }
+
+    // What the database has to hold.
+    fn holds(&self) -> Holds
+        ensures { result ≡ read_on self.now }
+    {
+        match self {
+            Reading::AppBlock { .. } => Holds::Either,
+            Reading::SortBlock { .. } => Holds::Either,
+            Reading::EntryCount => Holds::Either,
+            Reading::RecordOfId { .. } => Holds::Records,
+            Reading::RecordAt { .. } => Holds::Records,
+            Reading::RecordIds { .. } => Holds::Records,
+            Reading::ResourceOfType { .. } => Holds::Resources,
+            Reading::ResourceAt { .. } => Holds::Resources,
+        }
+    }
+
+    /// Replies what the database has of it, or the error. Want of memory comes for ids alone.
+    pub fn answer(
+        &self,
+        alloc: Global,
+        database: &Database,
+        out: &mut Message,
+    ) -> Result<(), AllocError>
+        ensures { OnOk result (out.new ≡ answered (read_number self.now) (read_in self.now database.now)) }
+    {
+        if !self.holds().fits(database) {
+            put_refusal(out, self.number(), Refusal::NotSupported);
+            return Ok(());
+        }
+        self.answer_suited(alloc, database, out)
+    }
+
+    // The same, where the database holds it.
+    fn answer_suited(
+        &self,
+        alloc: Global,
+        database: &Database,
+        out: &mut Message,
+    ) -> Result<(), AllocError>
+        ensures { OnOk result (out.new ≡ answered (read_number self.now) (read_of self.now database.now)) }
+    {
+        let number = self.number();
+        match *self {
+            Reading::AppBlock { offset, count } => {
+                put_reply(out, number, app_block(database, offset, count));
+            }
+            Reading::SortBlock { offset, count } => {
+                put_reply(out, number, sort_block(database, offset, count));
+            }
+            Reading::EntryCount => {
+                let count = entry_count(database);
+                write_reply(&Reply::ReadOpenDbInfo { count }, out);
+            }
+            Reading::RecordOfId { id, offset, count } => {
+                put_reply(out, number, record_of_id(database, id, offset, count));
+            }
+            Reading::RecordAt {
+                index,
+                offset,
+                count,
+            } => {
+                put_reply(
+                    out,
+                    number,
+                    record_part(database, index as usize, offset, count),
+                );
+            }
+            Reading::RecordIds { start, maximum } => {
+                let count = maximum.min(16_000) as usize;
+                let ids = ids_from(alloc, database.records(), start as usize, count)?;
+                put_ids(out, &ids);
+            }
+            Reading::ResourceOfType {
+                kind,
+                id,
+                offset,
+                count,
+            } => {
+                put_reply(
+                    out,
+                    number,
+                    resource_of_type(database, kind, id, offset, count),
+                );
+            }
+            Reading::ResourceAt {
+                index,
+                offset,
+                count,
+            } => {
+                put_reply(
+                    out,
+                    number,
+                    resource_part(database, index as usize, offset, count),
+                );
+            }
+        }
+        Ok(())
+    }
+}
+
+// A part of the app block.
+#[tactic(auto, using(crate::proofs::Fits::app_fits))]
+fn app_block(database: &Database, offset: u16, count: u16) -> Result<Reply<'_>, Refusal>
+    ensures part { Finds reply_value result (read_of (Reading.AppBlock offset count) database.now) }
+    ensures writable { IfOk result (λ reply. IsWritable (reply_value reply)) }
+{
+    let bytes = block_part(database.app(), offset, count)?;
+    Ok(Reply::ReadAppBlock { bytes })
+}
+
+// A part of the sort block.
+#[tactic(auto, using(crate::proofs::Fits::sort_fits))]
+fn sort_block(database: &Database, offset: u16, count: u16) -> Result<Reply<'_>, Refusal>
+    ensures part { Finds reply_value result (read_of (Reading.SortBlock offset count) database.now) }
+    ensures writable { IfOk result (λ reply. IsWritable (reply_value reply)) }
+{
+    let bytes = block_part(database.sort(), offset, count)?;
+    Ok(Reply::ReadSortBlock { bytes })
+}
+
+// A part of the record of an id.
+fn record_of_id(database: &Database, id: u32, offset: u16, count: u16) -> Result<Reply<'_>, Refusal>
+    ensures part { Finds reply_value result (read_of (Reading.RecordOfId id offset count) database.now) }
+    ensures writable { IfOk result (λ reply. IsWritable (reply_value reply)) }
+{
+    let Some(index) = place_of_id(database.records(), id) else {
+        return Err(Refusal::NotFound);
+    };
+    record_part(database, index, offset, count)
+}
+
+// A part of the first resource of a type and id.
+fn resource_of_type(
+    database: &Database,
+    kind: FourCc,
+    id: u16,
+    offset: u16,
+    count: u16,
+) -> Result<Reply<'_>, Refusal>
+    ensures part { Finds reply_value result (read_of (Reading.ResourceOfType kind id offset count) database.now) }
+    ensures writable { IfOk result (λ reply. IsWritable (reply_value reply)) }
+{
+    let Some(index) = place_of_resource(database.resources(), kind, id) else {
+        return Err(Refusal::NotFound);
+    };
+    resource_part(database, index, offset, count)
+}
