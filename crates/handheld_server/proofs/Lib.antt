@@ -1,0 +1,7 @@
+pub mod EditLaws
+pub mod FreeLaws
+pub mod KeepLaws
+pub mod LendingLaws
+pub mod NameLaws
+pub mod ServeLaws
+pub mod WriteLaws

@@ -1,0 +1,113 @@
+// The server.
+ghost use Rattle.std.specs.Prelude.{◌≡◌, OnErr, OnOk, IsErrOf, false, true};
+ghost use Rattle.hs_folders.specs.Causes.{HasCause};
+ghost use Rattle.hs_folders.specs.Moments.{EachMomentSince, IsBeforeOrAfter};
+ghost use Rattle.palm_device.specs.Handles.{no_handles};
+ghost use Rattle.handheld_files.specs.Openings.{Stands};
+ghost use Rattle.dlp_commands.specs.Changes.{changes};
+ghost use Rattle.dlp_commands.specs.Commands.{Acts, IsShortCommand};
+ghost use Rattle.dlp_commands.specs.DeviceSteps.{DeviceStep};
+ghost use Rattle.handheld_server.specs.Keeping.{Keeps};
+ghost use Rattle.handheld_server.specs.Servers.{is_quiet, store_of};
+
+use crate::fault::ServeFault;
+use dlp_commands::{Command, Message, put_fault, read_request};
+use handheld_store::Store;
+use hs_folders::Folder;
+use palm_device::Handles;
+use std::alloc::AllocError;
+use std::marker::Model;
+
+/// A handheld over a folder: what its store keeps, and the handles of open databases.
+#[derive(Drop)]
+pub struct Server<F: Folder> {
+    pub(crate) store: Store<F>,
+    pub(crate) handles: Handles,
+}
+
+impl<F: Folder> Model for Server<F> {
+    ghost use Rattle.palm_device.specs.Devices.{Device};
+    ghost use Rattle.handheld_server.specs.Servers.{ServerValue, device_of};
+
+    ghost Value = { ServerValue F };
+
+    ghost view = { λ server. record {
+      folder = server.store.folder;
+      device = device_of server.store server.handles;
+      sound = server.store.sound;
+    } };
+}
+
+impl<F: Folder> Server<F> {
+    /// The server over a store, with no handle open.
+    pub fn new(store: Store<F>) -> Server<F>
+        ensures { result ≡ record { folder = store.folder; device = record { databases = store.databases; user = store.user; handles = no_handles }; sound = store.sound } }
+    {
+        Server {
+            store,
+            handles: Handles::new(),
+        }
+    }
+
+    /// Whether the folder stands for the device: no request met the folder's failure or want of memory while a file was to be
+    /// changed.
+    pub fn is_sound(&self) -> bool
+        ensures { result ≡ self.now.sound }
+    {
+        self.store.is_sound()
+    }
+
+    /// Hands the folder back.
+    pub fn into_folder(self) -> F
+        ensures { result ≡ self.folder }
+    {
+        let Server { store, handles: _ } = self;
+        store.into_folder()
+    }
+
+    /// Does what the bytes of a request ask, and replaces the reply. What changes is kept in the folder first.
+    pub fn serve(&mut self, request: &[u8], reply: &mut Message) -> Result<(), ServeFault>
+        requires { self.old.sound ≡ true }
+        // One step of the device, for which the folder stands afterwards.
+        ensures step { OnOk result (DeviceStep self.old.device request.now reply.new self.new.device) }
+        ensures stands { Stands (F.contents self.old.folder) self.old.device.databases self.old.device.user → OnOk result (Stands (F.contents self.new.folder) self.new.device.databases self.new.device.user) }
+        ensures sound { OnOk result (self.new.sound ≡ true) }
+
+        // A fault leaves the folder as it was; the server is as it was too, or it is not sound.
+        ensures stays { OnErr result (self.new.sound ≡ true → self.new ≡ self.old) }
+        ensures contents { OnErr result (F.contents self.new.folder ≡ F.contents self.old.folder) }
+        ensures moments { OnErr result (F.moments self.new.folder ≡ F.moments self.old.folder) }
+        ensures cause { HasCause (F.faults self.old.folder) (F.faults self.new.folder) (IsErrOf result ServeFault.Keeper) }
+
+        // The folder at each moment, and where it was opened; only requests that change something touch it.
+        ensures each_moment { EachMomentSince (IsBeforeOrAfter (F.contents self.old.folder) (F.contents self.new.folder)) (F.moments self.old.folder) (F.moments self.new.folder) }
+        ensures paths { F.paths self.new.folder ≡ F.paths self.old.folder }
+        ensures quiet { changes request.now ≡ false → self.new.folder ≡ self.old.folder }
+    {
+        match read_request(request) {
+            Ok(asked) => self.act(&Command::of(asked), reply),
+            Err(fault) => {
+                put_fault(reply, request, fault);
+                Ok(())
+            }
+        }
+    }
+
+    // Does a command.
+    fn act(&mut self, command: &Command<'_>, out: &mut Message) -> Result<(), ServeFault>
+        requires sound { self.old.sound ≡ true }
+        requires short { IsShortCommand command.now }
+        ensures acts { OnOk result (Acts self.old.device command.now out.new self.new.device) }
+        ensures keeps { Keeps F.contents F.moments F.paths F.faults (store_of self.old) (store_of self.new) result }
+        ensures stays { OnErr result (self.new.sound ≡ true → self.new ≡ self.old) }
+        ensures quiet { is_quiet command.now ≡ true → self.new.folder ≡ self.old.folder }
+    {
+        match command {
+            Command::Quiet(asked) => match self.quiet(asked, out) {
+                Ok(()) => Ok(()),
+                Err(AllocError) => Err(ServeFault::NoMemory),
+            },
+            Command::Change(asked) => self.change(asked, out),
+        }
+    }
+}
