@@ -1,4 +1,5 @@
 pub mod EditLaws
+pub mod FileLaws
 pub mod FreeLaws
 pub mod KeepLaws
 pub mod LendingLaws

@@ -6,7 +6,7 @@ ghost use Rattle.dlp_commands.specs.Commands.{Acts, IsShortChange, marks_tried};
 ghost use Rattle.dlp_commands.specs.DatabaseFunctions as databases;
 ghost use Rattle.dlp_commands.specs.DeviceSteps.{outcome};
 ghost use Rattle.dlp_commands.specs.Writings.{IsShortWriting};
-ghost use Rattle.handheld_server.specs.Keeping.{Keeps};
+ghost use Rattle.handheld_server.specs.Keeping.{Keeps, Touches};
 ghost use Rattle.handheld_server.specs.Lending.{attributes_in, created_by, deleted_by};
 ghost use Rattle.handheld_server.specs.Servers.{store_of};
 
@@ -30,6 +30,7 @@ impl<F: Folder> Server<F> {
         requires short { IsShortChange asked.now }
         ensures acts { OnOk result (Acts self.old.device (Command.Change asked.now) out.new self.new.device) }
         ensures keeps { Keeps F.contents F.moments F.paths F.faults (store_of self.old) (store_of self.new) result }
+        ensures files { OnOk result (Touches F.contents (store_of self.old) (store_of self.new)) }
         ensures stays { OnErr result (self.new.sound ≡ true → self.new ≡ self.old) }
     {
         match *asked {
@@ -52,6 +53,7 @@ impl<F: Folder> Server<F> {
         requires { self.old.sound ≡ true }
         ensures done { OnOk result (outcome self.old.device 0x11 (marks_tried self.old.device marks.now) ≡ (out.new, self.new.device)) }
         ensures keeps { Keeps F.contents F.moments F.paths F.faults (store_of self.old) (store_of self.new) result }
+        ensures files { OnOk result (Touches F.contents (store_of self.old) (store_of self.new)) }
         ensures stays { OnErr result (self.new.sound ≡ true → self.new ≡ self.old) }
     {
         let user = match marked(self.store.user(), marks) {
@@ -84,6 +86,7 @@ impl<F: Folder> Server<F> {
         requires { self.old.sound ≡ true }
         ensures done { OnOk result (outcome self.old.device 0x18 (databases.create_db self.old.device creator.0 kind.0 card flags version name.now) ≡ (out.new, self.new.device)) }
         ensures keeps { Keeps F.contents F.moments F.paths F.faults (store_of self.old) (store_of self.new) result }
+        ensures files { OnOk result (Touches F.contents (store_of self.old) (store_of self.new)) }
         ensures stays { OnErr result (self.new.sound ≡ true → self.new ≡ self.old) }
     {
         match self.created(creator, kind, card, flags, version, name) {
@@ -112,6 +115,7 @@ impl<F: Folder> Server<F> {
         requires { self.old.sound ≡ true }
         ensures done { IfOk result (λ answer. Does 0x18 reply.CreateDb self.old.device self.new.device answer (created_by self.old.device creator.0 kind.0 card flags version name.now (attributes_in name.now self.old.device.databases))) }
         ensures keeps { Keeps F.contents F.moments F.paths F.faults (store_of self.old) (store_of self.new) result }
+        ensures files { OnOk result (Touches F.contents (store_of self.old) (store_of self.new)) }
         ensures stays { OnErr result (self.new.sound ≡ true → self.new ≡ self.old) }
     {
         let kept = match named(card, name) {
@@ -147,6 +151,7 @@ impl<F: Folder> Server<F> {
         requires { self.old.sound ≡ true }
         ensures done { OnOk result (outcome self.old.device 0x1A (databases.delete_db self.old.device card name.now) ≡ (out.new, self.new.device)) }
         ensures keeps { Keeps F.contents F.moments F.paths F.faults (store_of self.old) (store_of self.new) result }
+        ensures files { OnOk result (Touches F.contents (store_of self.old) (store_of self.new)) }
         ensures stays { OnErr result (self.new.sound ≡ true → self.new ≡ self.old) }
     {
         match self.deleted(card, name) {
@@ -167,6 +172,7 @@ impl<F: Folder> Server<F> {
         requires { self.old.sound ≡ true }
         ensures done { IfOk result (λ answer. Does 0x1A (λ _. reply.DeleteDb) self.old.device self.new.device answer (deleted_by self.old.device card name.now (attributes_in name.now self.old.device.databases))) }
         ensures keeps { Keeps F.contents F.moments F.paths F.faults (store_of self.old) (store_of self.new) result }
+        ensures files { OnOk result (Touches F.contents (store_of self.old) (store_of self.new)) }
         ensures stays { OnErr result (self.new.sound ≡ true → self.new ≡ self.old) }
     {
         let kept = match named(card, name) {
@@ -197,6 +203,7 @@ impl<F: Folder> Server<F> {
         requires short { IsShortWriting writing.now }
         ensures acts { OnOk result (Acts self.old.device (Command.Change (Change.Write handle writing.now)) out.new self.new.device) }
         ensures keeps { Keeps F.contents F.moments F.paths F.faults (store_of self.old) (store_of self.new) result }
+        ensures files { OnOk result (Touches F.contents (store_of self.old) (store_of self.new)) }
         ensures stays { OnErr result (self.new.sound ≡ true → self.new ≡ self.old) }
     {
         let number = writing.number();

@@ -7,7 +7,7 @@ ghost use Rattle.handheld_files.specs.Openings.{Stands};
 ghost use Rattle.dlp_commands.specs.Changes.{changes};
 ghost use Rattle.dlp_commands.specs.Commands.{Acts, IsShortCommand};
 ghost use Rattle.dlp_commands.specs.DeviceSteps.{DeviceStep};
-ghost use Rattle.handheld_server.specs.Keeping.{Keeps};
+ghost use Rattle.handheld_server.specs.Keeping.{Keeps, Touches};
 ghost use Rattle.handheld_server.specs.Servers.{is_quiet, store_of};
 
 use crate::fault::ServeFault;
@@ -82,6 +82,7 @@ impl<F: Folder> Server<F> {
         // The folder at each moment, and where it was opened; only requests that change something touch it.
         ensures each_moment { EachMomentSince (IsBeforeOrAfter (F.contents self.old.folder) (F.contents self.new.folder)) (F.moments self.old.folder) (F.moments self.new.folder) }
         ensures paths { F.paths self.new.folder ≡ F.paths self.old.folder }
+        ensures files { OnOk result (Touches F.contents (store_of self.old) (store_of self.new)) }
         ensures quiet { changes request.now ≡ false → self.new.folder ≡ self.old.folder }
     {
         match read_request(request) {
@@ -99,6 +100,7 @@ impl<F: Folder> Server<F> {
         requires short { IsShortCommand command.now }
         ensures acts { OnOk result (Acts self.old.device command.now out.new self.new.device) }
         ensures keeps { Keeps F.contents F.moments F.paths F.faults (store_of self.old) (store_of self.new) result }
+        ensures files { OnOk result (Touches F.contents (store_of self.old) (store_of self.new)) }
         ensures stays { OnErr result (self.new.sound ≡ true → self.new ≡ self.old) }
         ensures quiet { is_quiet command.now ≡ true → self.new.folder ≡ self.old.folder }
     {

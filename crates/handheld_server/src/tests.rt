@@ -144,3 +144,18 @@ fn a_folder_that_fails_leaves_its_files(rt: HostRuntime) -> Result<(), Fail> {
     assert!(rt; names.is_empty());
     Ok(())
 }
+
+#[test]
+fn the_user_is_written_where_nothing_differs(rt: HostRuntime) -> Result<(), Fail> {
+    let mut server = server_over(rt.alloc(), MemFolder::new(rt.alloc()))?;
+    for _ in 0..2 {
+        let text = reply_to(
+            rt.alloc(),
+            &mut server,
+            "1101201900000007000000080000000907d10909012e2800f803416c00",
+        )?;
+        assert_eq!(rt; text.as_str(), "91000000");
+    }
+    assert_eq!(rt; server.into_folder().moments(), 2);
+    Ok(())
+}

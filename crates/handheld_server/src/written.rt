@@ -1,7 +1,7 @@
 // What a command writes into the one database that the store lends it.
 ghost use Rattle.std.specs.Prelude.{◌≡◌, IfOk, OnOk, true};
 ghost use Rattle.dlp_commands.specs.Writings.{IsShortWriting};
-ghost use Rattle.handheld_server.specs.Keeping.{Keeps};
+ghost use Rattle.handheld_server.specs.Keeping.{Keeps, Touches};
 ghost use Rattle.handheld_server.specs.Lending.{Writes};
 
 use crate::edit::apply;
@@ -25,6 +25,7 @@ pub fn write_named<F: Folder>(
     ensures writes { IfOk result (λ answer. Writes mode writing.now name.now store.old.databases answer store.new.databases) }
     ensures user { OnOk result (store.new.user ≡ store.old.user) }
     ensures keeps { Keeps F.contents F.moments F.paths F.faults store.old store.new result }
+    ensures files { OnOk result (Touches F.contents store.old store.new) }
 {
     let alloc = store.alloc();
     let mut base = match store.open(name, false) {

@@ -6,7 +6,9 @@ use Rattle.dlp_commands.specs.Writings.{edit_given, edited, write_reply, written
 use Rattle.handheld_files.specs.Openings.{Stands}
 use Rattle.handheld_files.proofs.ChangeLaws.{named_so}
 use Rattle.handheld_server.proofs.EditLaws.{edited_head}
+use Rattle.handheld_server.proofs.FileLaws.{keep_touches}
 use Rattle.handheld_server.proofs.KeepLaws.{keep_changes, keep_stood, wrote_plan}
+use Rattle.handheld_server.specs.Keeping.{Touches}
 use Rattle.handheld_server.specs.Lending.{Wrote, may_write}
 use Rattle.handheld_server.proofs.written.write_named.Goals as goal
 
@@ -34,3 +36,13 @@ returns-in-Ok-keep-clause-keeps g c =
       same_paths = search rules;
       cause = search rules;
     }
+
+pub returns-in-Ok-keep-clause-files : goal.returns-in-Ok-keep-clause-files
+returns-in-Ok-keep-clause-files g c =
+    let made = edited c.in-Ok-apply.given c.in-Ok-plan.edit (database_in c.in-Ok.base) in
+    let name = ap (λ head. head.name) (edited_head c.in-Ok-apply.given c.in-Ok-plan.edit (database_in c.in-Ok.base)) ∙ named_so c.args.name.now c.args.store.now.databases (database_in c.in-Ok.base) c.in-Ok.ensures.database in
+    let last : c.keep.new.self.0 ≡ c.store-in-Ok-apply-1.given.0 = search rules in
+    subst (Touches g.F.Folder.contents c.args.store.now) last
+    (keep_touches g.F.Folder.contents c.in-Ok.base c.apply.new.base c.args.store.now c.keep.new.self.0 c.args.name.now made c.in-Ok-apply.ensures.loan c.in-Ok.ensures.first c.in-Ok.ensures.database c.in-Ok-apply.ensures.edited name
+    (ap (λ (s : StoreValue g.row.F.Denot). s.databases) (keep_changes c.in-Ok.base c.apply.new.base c.args.store.now _ c.args.name.now made c.in-Ok-apply.ensures.loan c.in-Ok.ensures.others c.in-Ok-apply.ensures.edited name c.in-Ok-keep.ensures.kept))
+    (λ e. (c.in-Ok-keep.ensures.unchanged e).1) c.in-Ok-keep.ensures.written)
