@@ -52,7 +52,7 @@ impl LentRecord {
     ghost use Rattle.handheld_files.specs.Settled.{are_settled};
 
     // A database that did not change.
-    pub fn new(database: Database) -> LentRecord
+    pub(crate) fn new(database: Database) -> LentRecord
         requires { are_settled database.records ≡ true }
         ensures { result ≡ record { database = database; place = 0; changed = false } }
     {
@@ -64,7 +64,7 @@ impl LentRecord {
     }
 
     // The database.
-    pub fn database(&self) -> &Database
+    pub(crate) fn database(&self) -> &Database
         ensures database { result.now ≡ self.now.database }
         ensures settled { are_settled self.now.database.records ≡ true }
     {
@@ -72,14 +72,14 @@ impl LentRecord {
     }
 
     // Whether it changed.
-    pub fn is_changed(&self) -> bool
+    pub(crate) fn is_changed(&self) -> bool
         ensures { result ≡ self.now.changed }
     {
         self.changed
     }
 
     // The database again.
-    pub fn into_database(self) -> Database
+    pub(crate) fn into_database(self) -> Database
         ensures database { result ≡ self.database }
         ensures settled { are_settled result.records ≡ true }
     {
@@ -92,7 +92,7 @@ impl LentRecord {
     }
 
     // Selects the record of an id, if there is one.
-    pub fn select(&mut self, id: RecordId) -> bool
+    pub(crate) fn select(&mut self, id: RecordId) -> bool
         ensures found { result ≡ is_some (place_of_this_id id self.old.database.records) }
         ensures none { result ≡ false → self.new ≡ self.old }
         ensures database { self.new.database ≡ self.old.database }
@@ -145,7 +145,7 @@ impl LentRecord {
     }
 
     // Puts a new last record, live and dirty, under an id that is free.
-    pub fn put_new(&mut self, id: RecordId, content: Content) -> Result<(), AllocError>
+    pub(crate) fn put_new(&mut self, id: RecordId, content: Content) -> Result<(), AllocError>
         requires records { holds_resources self.old.database.head.attributes ≡ false }
         requires free { IsFree id self.old.database.records }
         requires room { length self.old.database.records < 65535 }
@@ -158,7 +158,7 @@ impl LentRecord {
     }
 
     // Takes out the record of an id. Answers whether there was one.
-    pub fn purge(&mut self, id: RecordId) -> bool
+    pub(crate) fn purge(&mut self, id: RecordId) -> bool
         ensures found { result ≡ is_some (place_of_this_id id self.old.database.records) }
         ensures purged { Becomes self.old self.new (with_records (records.without_record id self.old.database.records) self.old.database) }
     {
@@ -168,7 +168,7 @@ impl LentRecord {
     }
 
     // Keeps only such records.
-    pub fn keep_only(&mut self, kept: &Kept)
+    pub(crate) fn keep_only(&mut self, kept: &Kept)
         ensures { Becomes self.old self.new (with_records (filter (is_kept kept.now) self.old.database.records) self.old.database) }
     {
         let differs = keep_only(&mut self.database, kept);
@@ -176,7 +176,7 @@ impl LentRecord {
     }
 
     // Takes out every record.
-    pub fn clear_records(&mut self)
+    pub(crate) fn clear_records(&mut self)
         ensures { Becomes self.old self.new (with_records [] self.old.database) }
     {
         let differs = clear_records(&mut self.database);
@@ -184,7 +184,7 @@ impl LentRecord {
     }
 
     // Puts every record of one category into another, and makes it dirty.
-    pub fn move_category(&mut self, from: Category, to: Category)
+    pub(crate) fn move_category(&mut self, from: Category, to: Category)
         ensures { Becomes self.old self.new (with_records (records.move_category from to self.old.database.records) self.old.database) }
     {
         let differs = move_all(&mut self.database, from, to);
@@ -192,7 +192,7 @@ impl LentRecord {
     }
 
     // Clears each dirty bit.
-    pub fn reset_flags(&mut self)
+    pub(crate) fn reset_flags(&mut self)
         ensures { Becomes self.old self.new (with_records (records.reset_flags self.old.database.records) self.old.database) }
     {
         let some = clear_flags(&mut self.database);
@@ -200,7 +200,7 @@ impl LentRecord {
     }
 
     // Sets or takes away the app block.
-    pub fn set_app(&mut self, block: Option<Vec<u8>>)
+    pub(crate) fn set_app(&mut self, block: Option<Vec<u8>>)
         requires { block_length (block_of block) ≤ 65500 }
         ensures { Becomes self.old self.new (record self.old.database { app = block_of block }) }
     {
@@ -209,7 +209,7 @@ impl LentRecord {
     }
 
     // Sets or takes away the sort block.
-    pub fn set_sort(&mut self, block: Option<Vec<u8>>)
+    pub(crate) fn set_sort(&mut self, block: Option<Vec<u8>>)
         requires { block_length (block_of block) ≤ 65500 }
         ensures { Becomes self.old self.new (record self.old.database { sort = block_of block }) }
     {
@@ -218,7 +218,7 @@ impl LentRecord {
     }
 
     // Puts a resource in the place of the first one of its type and id, or behind all others.
-    pub fn put_resource(&mut self, resource: Resource) -> Result<(), AllocError>
+    pub(crate) fn put_resource(&mut self, resource: Resource) -> Result<(), AllocError>
         requires resources { holds_resources self.old.database.head.attributes ≡ true }
         requires room { place_of_resource resource.kind.0 resource.id self.old.database.resources ≡ None → length self.old.database.resources < 65535 }
         requires short { length resource.bytes ≤ 65500 }
@@ -231,7 +231,7 @@ impl LentRecord {
     }
 
     // Takes out the first resource of a type and id. Answers whether there was one.
-    pub fn purge_resource(&mut self, kind: FourCc, id: u16) -> bool
+    pub(crate) fn purge_resource(&mut self, kind: FourCc, id: u16) -> bool
         ensures found { result ≡ is_some (place_of_resource kind.0 id self.old.database.resources) }
         ensures purged { Becomes self.old self.new (with_resources (resources.without_resource kind.0 id self.old.database.resources) self.old.database) }
     {
@@ -241,7 +241,7 @@ impl LentRecord {
     }
 
     // Takes out every resource.
-    pub fn clear_resources(&mut self)
+    pub(crate) fn clear_resources(&mut self)
         ensures { Becomes self.old self.new (with_resources [] self.old.database) }
     {
         let differs = clear_resources(&mut self.database);

@@ -241,7 +241,7 @@ impl<F: Folder> Store<F> {
 
     // Gives a database back, and writes its file where it changed.
     #[tactic(auto, using(crate::proofs::KeepLaws::stands_same))]
-    pub fn put_back(&mut self, database: Database, changed: bool) -> Result<(), StoreFault>
+    pub(crate) fn put_back(&mut self, database: Database, changed: bool) -> Result<(), StoreFault>
         requires sound { self.old.sound ≡ true }
         requires settled { are_settled database.records ≡ true }
         ensures unchanged { changed ≡ false → (result ≡ Ok tt) × (self.new ≡ record self.old { databases = replaced database self.old.databases }) }
