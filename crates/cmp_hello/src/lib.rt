@@ -11,6 +11,3 @@ mod laws;
 
 pub use hello::{HELLO_LEN, Hello, HelloFault, HelloKind, MAJOR_VERSION, read_hello, write_hello};
 pub use laws::text_determines_hello;
-
-#[cfg(test)]
-mod tests;

@@ -24,6 +24,3 @@ pub use planned::Plan;
 pub use planner::plan;
 pub use table::{Archive, Keep, Outcome, Side, decide};
 pub use view::{Seen, SeenState, View};
-
-#[cfg(test)]
-mod tests;

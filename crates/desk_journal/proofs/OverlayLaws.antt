@@ -11,7 +11,7 @@ use Rattle.std.proofs.lemmas.Slice.Eq.{bytes_eq-Decides}
 use Rattle.std.proofs.lemmas.List.{map_push, take-map, take_all, take_more}
 use Rattle.hs_folders.specs.Causes.{Rose}
 use Rattle.hs_folders.specs.FileMaps.{FileMap}
-use Rattle.file_names.specs.FileNames.{is_kept_file, journal_file}
+use Rattle.folder_files.specs.FileNames.{is_kept_file, journal_file}
 use Rattle.desk_journal.specs.declared.bad_journal.BadJournal.{BadJournal}
 use Rattle.desk_journal.specs.declared.entry.Entry.{Entry}
 use Rattle.desk_journal.specs.Entries.{AreEntries, EntryValue, IsJournal, entry_value, entry_values, journal_text}

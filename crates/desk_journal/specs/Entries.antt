@@ -3,7 +3,7 @@ use Rattle.std.specs.Prelude.{◌≡◌, ◌<◌, ◌^◌, ℕ, Bool, true, fals
 use Rattle.std.specs.Int.{w16, w32, to_be_bytes}
 use Rattle.std.specs.List.{flat_map, list_any}
 use Rattle.std.specs.Str.{is_utf8}
-use Rattle.file_names.specs.FileNames.{is_kept_file}
+use Rattle.folder_files.specs.FileNames.{is_kept_file}
 use Rattle.desk_journal.specs.declared.entry.Entry.{Entry}
 
 -- a file's name and its new bytes

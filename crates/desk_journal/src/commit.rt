@@ -9,7 +9,7 @@ ghost use Rattle.desk_journal.specs.Overlays.{HasNoJournal, StandsAs, put_all};
 use crate::entry::Entry;
 use crate::folder::carry_out;
 use crate::writer::write_journal;
-use file_names::JOURNAL;
+use folder_files::JOURNAL;
 use hs_folders::{Folder, FolderFault};
 use std::alloc::{AllocError, Global};
 

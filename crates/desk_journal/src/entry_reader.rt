@@ -6,7 +6,7 @@ ghost use Rattle.desk_journal.specs.Reading.{ReadsEntries, data_at, entries_at, 
 ghost use Rattle.desk_journal.specs.declared.entry_reader.EntryFault.TheVariants.{OutOfMemory};
 
 use crate::entry::Entry;
-use file_names::is_kept_file;
+use folder_files::is_kept_file;
 use std::alloc::{AllocError, AllocFailed, Global};
 
 // Why entries were not read.

@@ -4,14 +4,14 @@ ghost use Rattle.std.specs.FinMap as finmap;
 ghost use Rattle.std.specs.Option.{option_map};
 ghost use Rattle.hs_folders.specs.Causes.{Rose};
 ghost use Rattle.hs_folders.specs.Moments.{EachMomentSince};
-ghost use Rattle.file_names.specs.FileNames.{journal_file};
+ghost use Rattle.folder_files.specs.FileNames.{journal_file};
 ghost use Rattle.desk_journal.specs.Overlays.{HasNoJournal, StandsAs, bad_of, finished};
 
 use crate::bad_journal::BadJournal;
 use crate::fault::JournalFault;
 use crate::folder::carry_out;
 use crate::reader::read_journal;
-use file_names::JOURNAL;
+use folder_files::JOURNAL;
 use hs_folders::{Folder, FolderFault};
 use std::alloc::Global;
 

@@ -4,12 +4,12 @@ ghost use Rattle.std.specs.FinMap as finmap;
 ghost use Rattle.std.specs.Option.{option_map};
 ghost use Rattle.hs_folders.specs.Causes.{Rose};
 ghost use Rattle.hs_folders.specs.Moments.{EachMomentSince};
-ghost use Rattle.file_names.specs.FileNames.{journal_file};
+ghost use Rattle.folder_files.specs.FileNames.{journal_file};
 ghost use Rattle.desk_journal.specs.Entries.{IsJournal, entry_values, journal_text};
 ghost use Rattle.desk_journal.specs.Overlays.{StandsAs, overlay, put_all};
 
 use crate::entry::Entry;
-use file_names::JOURNAL;
+use folder_files::JOURNAL;
 use hs_folders::{Folder, FolderFault};
 
 // Carries out what the folder's journal says, and removes the journal.

@@ -29,6 +29,3 @@ pub use fault::JournalFault;
 pub use finish::finish_journal;
 pub use reader::read_journal;
 pub use writer::write_journal;
-
-#[cfg(test)]
-mod tests;

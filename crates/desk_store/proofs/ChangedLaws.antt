@@ -14,8 +14,8 @@ use Rattle.pdb_files.specs.Files.{IsFileText, canonical}
 use Rattle.palm_device.specs.Devices.{comes_before, database_of}
 use Rattle.palm_device.specs.Soundness.{NamesRise}
 use Rattle.palm_device.proofs.EntryLaws.{and_true}
-use Rattle.desk_files.specs.declared.role.Role.{Role}
-use Rattle.desk_files.specs.declared.role.Role.TheVariants.{Rows, Base, Archive}
+use Rattle.desk_store.specs.declared.role.Role.{Role}
+use Rattle.desk_store.specs.declared.role.Role.TheVariants.{Rows, Base, Archive}
 use Rattle.desk_store.specs.Changes.{IsDbChange, IsDbWritten, IsOf, changed, changed_to, with_archive, with_change, with_changes}
 use Rattle.desk_store.specs.Shelves.{AreOrdered, ShelvesValue, shelf_of, with_put}
 use Rattle.desk_store.specs.declared.change.DbChange.{DbChange}

@@ -8,11 +8,11 @@ use Rattle.hs_folders.specs.FileMaps.{FileMap}
 use Rattle.pdb_values.specs.Databases.{DatabaseValue}
 use Rattle.pdb_values.specs.declared.user.Marks.{Marks}
 use Rattle.pdb_files.specs.Files.{canonical}
-use Rattle.info_files.specs.InfoFiles.{IsDesktopFile, desktop_text}
+use Rattle.folder_files.specs.InfoFiles.{IsDesktopFile, desktop_text}
 use Rattle.palm_device.specs.Devices.{database_of}
-use Rattle.file_names.specs.FileNames.{desktop_info_file, is_kept_file, journal_file}
-use Rattle.desk_files.specs.DeskFiles.{file_in, role_file}
-use Rattle.desk_files.specs.declared.role.Role.{Role}
+use Rattle.folder_files.specs.FileNames.{desktop_info_file, is_kept_file, journal_file}
+use Rattle.desk_store.specs.DeskFiles.{file_in, role_file}
+use Rattle.desk_store.specs.declared.role.Role.{Role}
 use Rattle.desk_journal.specs.Entries.{EntryValue}
 use Rattle.desk_journal.specs.Overlays.{put_all}
 use Rattle.desk_journal.proofs.OverlayLaws.{get-put_all, last_of, same_name, same_name-is, same_name-other}

@@ -18,9 +18,9 @@ use Rattle.pdb_values.specs.declared.user.Marks.{Marks}
 use Rattle.palm_device.specs.Devices.{comes_before, database_of}
 use Rattle.palm_device.specs.Soundness.{NamesRise}
 use Rattle.palm_device.proofs.EntryLaws.{and_true}
-use Rattle.file_names.specs.FileNames.{has_ending, rows_file}
-use Rattle.desk_files.specs.declared.role.Role.TheVariants.{Rows}
-use Rattle.desk_files.proofs.OwnLaws.{same_file}
+use Rattle.folder_files.specs.FileNames.{has_ending, rows_file}
+use Rattle.desk_store.specs.declared.role.Role.TheVariants.{Rows}
+use Rattle.desk_store.proofs.OwnLaws.{same_file}
 use Rattle.desk_journal.proofs.OverlayLaws.{same_name, same_name-is, same_name-other}
 use Rattle.desk_store.specs.Desks.{AreRowsOf, IsDesk}
 use Rattle.desk_store.specs.Finds.{rows_count}

@@ -9,14 +9,14 @@ use Rattle.pdb_values.specs.Heads.{holds_resources}
 use Rattle.pdb_values.specs.Stems.{stem_of}
 use Rattle.pdb_values.specs.declared.user.Marks.{Marks}
 use Rattle.pdb_files.specs.Files.{IsFileText}
-use Rattle.file_names.specs.FileNames.{desktop_info_file, has_ending, is_kept_file}
-use Rattle.info_files.specs.InfoFiles.{IsDesktopFile}
-use Rattle.info_files.proofs.InfoLaws.{desktop_only}
-use Rattle.desk_files.specs.DeskFiles.{by_role, file_in, if_marks, is_own_file, role_file, role_of}
-use Rattle.desk_files.specs.declared.file.DeskFile.TheVariants as files
-use Rattle.desk_files.specs.declared.role.Role.{Role}
-use Rattle.desk_files.specs.declared.role.Role.TheVariants.{Rows, Base, Archive}
-use Rattle.desk_files.proofs.OwnLaws.{own_file}
+use Rattle.folder_files.specs.FileNames.{desktop_info_file, has_ending, is_kept_file}
+use Rattle.folder_files.specs.InfoFiles.{IsDesktopFile}
+use Rattle.folder_files.proofs.InfoLaws.{desktop_only}
+use Rattle.desk_store.specs.DeskFiles.{by_role, file_in, if_marks, is_own_file, role_file, role_of}
+use Rattle.desk_store.specs.declared.file.DeskFile.TheVariants as files
+use Rattle.desk_store.specs.declared.role.Role.{Role}
+use Rattle.desk_store.specs.declared.role.Role.TheVariants.{Rows, Base, Archive}
+use Rattle.desk_store.proofs.OwnLaws.{own_file}
 use Rattle.desk_store.proofs.OrderLaws.{bytes_same}
 
 -- ---- endings

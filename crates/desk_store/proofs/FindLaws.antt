@@ -11,17 +11,17 @@ use Rattle.hs_folders.specs.FileMaps.{FileMap}
 use Rattle.pdb_values.specs.Databases.{DatabaseValue}
 use Rattle.pdb_values.specs.declared.user.Marks.{Marks}
 use Rattle.pdb_files.specs.declared.bad_kind.BadKind.TheVariants as kinds
-use Rattle.file_names.specs.FileNames.{desktop_info_file, journal_file}
+use Rattle.folder_files.specs.FileNames.{desktop_info_file, journal_file}
 use Rattle.desk_journal.specs.Overlays.{bad_of}
 use Rattle.desk_journal.specs.declared.bad_journal.BadJournal.{BadJournal}
 use Rattle.palm_device.specs.Devices.{database_of}
-use Rattle.desk_files.specs.DeskFiles.{file_in, role_file}
-use Rattle.desk_files.specs.declared.fault.BadDeskFile.{BadDeskFile}
-use Rattle.desk_files.specs.declared.file.DeskFile.{DeskFile}
-use Rattle.desk_files.specs.declared.file.DeskFile.TheVariants as files
-use Rattle.desk_files.specs.declared.role.Role.{Role}
-use Rattle.desk_files.specs.declared.role.Role.TheVariants.{Rows, Base, Archive}
-use Rattle.desk_files.proofs.OwnLaws.{database_is_own, journal_is_bad, marks_in_info, same_file}
+use Rattle.desk_store.specs.DeskFiles.{file_in, role_file}
+use Rattle.desk_store.specs.declared.file_fault.BadDeskFile.{BadDeskFile}
+use Rattle.desk_store.specs.declared.file.DeskFile.{DeskFile}
+use Rattle.desk_store.specs.declared.file.DeskFile.TheVariants as files
+use Rattle.desk_store.specs.declared.role.Role.{Role}
+use Rattle.desk_store.specs.declared.role.Role.TheVariants.{Rows, Base, Archive}
+use Rattle.desk_store.proofs.OwnLaws.{database_is_own, journal_is_bad, marks_in_info, same_file}
 use Rattle.desk_store.specs.Finds.{Adds, AddsAny, FindsAll, RefusesAmong, RefusesAt, first_bad, is_among}
 use Rattle.desk_store.specs.Shelves.{bad_at, database_at, file_at, if_bad, if_database, if_marks, marks_in, shelf_of, with_database}
 use Rattle.desk_store.specs.declared.found.Found.{Found}

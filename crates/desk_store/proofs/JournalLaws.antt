@@ -9,18 +9,18 @@ use Rattle.std.proofs.lemmas.List.{append_assoc, length-append}
 use Rattle.std.proofs.lemmas.Str.{IsUtf8-had, is_utf8-from_IsUtf8}
 use Rattle.pdb_values.specs.Databases.{DatabaseValue}
 use Rattle.pdb_files.specs.Files.{canonical}
-use Rattle.info_files.specs.InfoFiles.{IsDesktopFile, desktop_text}
+use Rattle.folder_files.specs.InfoFiles.{IsDesktopFile, desktop_text}
 use Rattle.pdb_values.specs.declared.user.Marks.{Marks}
 use Rattle.palm_device.specs.Devices.{comes_before}
 use Rattle.palm_device.specs.Soundness.{NamesRise}
-use Rattle.file_names.specs.FileNames.{desktop_info_file, is_kept_file}
+use Rattle.folder_files.specs.FileNames.{desktop_info_file, is_kept_file}
 use Rattle.desk_journal.specs.Entries.{AreEntries, EntryValue, IsJournal, entry_values, is_named}
 use Rattle.desk_journal.specs.declared.entry.Entry.{Entry}
 use Rattle.desk_journal.proofs.OverlayLaws.{last_of, same_name, same_name-is, same_name-other}
-use Rattle.desk_files.specs.DeskFiles.{file_in, role_file}
-use Rattle.desk_files.specs.declared.role.Role.{Role}
-use Rattle.desk_files.specs.declared.role.Role.TheVariants.{Rows, Base, Archive}
-use Rattle.desk_files.proofs.OwnLaws.{same_file}
+use Rattle.desk_store.specs.DeskFiles.{file_in, role_file}
+use Rattle.desk_store.specs.declared.role.Role.{Role}
+use Rattle.desk_store.specs.declared.role.Role.TheVariants.{Rows, Base, Archive}
+use Rattle.desk_store.proofs.OwnLaws.{same_file}
 use Rattle.desk_store.specs.Changes.{IsDbChange, IsDbWritten, IsDeskChange, archive_entries, change_entries, changed, changed_to, database_entry, db_entries, marks_entry}
 use Rattle.desk_store.specs.Shelves.{if_bad}
 use Rattle.desk_store.specs.declared.change.DbChange.{DbChange}

@@ -1,3 +1,4 @@
+pub mod OwnLaws
 pub mod FindLaws
 pub mod LoopLaws
 pub mod OpenLaws

@@ -6,7 +6,7 @@ use Rattle.std.proofs.Math.Seq.{split_at}
 use Rattle.std.proofs.lemmas.List.{length-append, length-map, map_push, take-map, take_all, take_more}
 use Rattle.std.proofs.lemmas.List.Elements.{filter-append}
 use Rattle.hs_folders.specs.FileMaps.{FileMap}
-use Rattle.file_names.specs.FileNames.{has_ending}
+use Rattle.folder_files.specs.FileNames.{has_ending}
 use Rattle.desk_store.specs.Finds.{AddsAny, FindsAll, RefusesAmong, RefusesAt, first_bad, rows_count}
 use Rattle.desk_store.specs.Shelves.{bad_at, file_at}
 use Rattle.desk_store.specs.declared.found.Found.{Found}

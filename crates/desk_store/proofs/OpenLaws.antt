@@ -10,14 +10,14 @@ use Rattle.pdb_files.specs.Reading.{database_in}
 use Rattle.pdb_files.specs.declared.bad_kind.BadKind.{BadKind}
 use Rattle.pdb_files.specs.declared.bad_kind.BadKind.TheVariants as kinds
 use Rattle.palm_device.specs.Devices.{database_of}
-use Rattle.file_names.specs.FileNames.{has_ending, journal_file, rows_file}
-use Rattle.desk_files.specs.DeskFiles.{broken_rule, by_role, file_in, if_own, is_own_file, role_of}
-use Rattle.desk_files.specs.declared.fault.BadDeskFile.{BadDeskFile}
-use Rattle.desk_files.specs.declared.file.DeskFile.{DeskFile}
-use Rattle.desk_files.specs.declared.file.DeskFile.TheVariants as files
-use Rattle.desk_files.proofs.OwnLaws.{database_is_own}
-use Rattle.desk_files.specs.declared.role.Role.{Role}
-use Rattle.desk_files.specs.declared.role.Role.TheVariants.{Rows}
+use Rattle.folder_files.specs.FileNames.{has_ending, journal_file, rows_file}
+use Rattle.desk_store.specs.DeskFiles.{broken_rule, by_role, file_in, if_own, is_own_file, role_of}
+use Rattle.desk_store.specs.declared.file_fault.BadDeskFile.{BadDeskFile}
+use Rattle.desk_store.specs.declared.file.DeskFile.{DeskFile}
+use Rattle.desk_store.specs.declared.file.DeskFile.TheVariants as files
+use Rattle.desk_store.proofs.OwnLaws.{database_is_own}
+use Rattle.desk_store.specs.declared.role.Role.{Role}
+use Rattle.desk_store.specs.declared.role.Role.TheVariants.{Rows}
 use Rattle.desk_journal.specs.Overlays.{HasNoJournal, bad_of, finished, overlay}
 use Rattle.desk_journal.specs.declared.bad_journal.BadJournal.{BadJournal}
 use Rattle.desk_store.specs.Desks.{AreRowsOf, IsDesk, IsDeskOf, Shows}

@@ -8,8 +8,8 @@ use Rattle.palm_device.specs.Devices.{database_of, is_named, place_for, place_of
 use Rattle.palm_device.specs.Soundness.{NamesRise}
 use Rattle.palm_device.proofs.EntryLaws.{first_here, first_later, position_found}
 use Rattle.palm_device.proofs.NameLaws.{NamesRise-new, NamesRise-set, database_of-new_other, database_of-set_other, none_named}
-use Rattle.desk_files.specs.declared.role.Role.{Role}
-use Rattle.desk_files.specs.declared.role.Role.TheVariants.{Rows, Base, Archive}
+use Rattle.desk_store.specs.declared.role.Role.{Role}
+use Rattle.desk_store.specs.declared.role.Role.TheVariants.{Rows, Base, Archive}
 use Rattle.desk_store.specs.Shelves.{AreOrdered, ShelvesValue, put_at, shelf_of, with_database, with_put}
 
 -- ---- names

@@ -20,12 +20,12 @@ use Rattle.pdb_files.specs.Entries.{record_data, record_entries, record_entry}
 use Rattle.pdb_files.specs.Files.{IsFileText, app_begin, blocks_of, canonical, data_begin, data_of, entries_text, entry_count, file_text, has_resources, sort_begin}
 use Rattle.pdb_files.specs.Headers.{header_text, zeros_behind}
 use Rattle.pdb_files.proofs.WriteLaws.{length-zeros_behind}
-use Rattle.info_files.specs.InfoFiles.{IsDesktopFile, desktop_forms, desktop_values}
-use Rattle.info_files.specs.Hexadecimal.{bytes_text}
-use Rattle.info_files.specs.Lines.{AreLines, Date, Form, Kind, Name, Number, Password, Positive, Says, Title, Value, Values}
-use Rattle.desk_files.specs.DeskFiles.{role_file}
-use Rattle.desk_files.specs.declared.role.Role.{Role}
-use Rattle.desk_files.specs.declared.role.Role.TheVariants.{Rows, Base, Archive}
+use Rattle.folder_files.specs.InfoFiles.{IsDesktopFile, desktop_forms, desktop_values}
+use Rattle.folder_files.specs.Hexadecimal.{bytes_text}
+use Rattle.folder_files.specs.Lines.{AreLines, Date, Form, Kind, Name, Number, Password, Positive, Says, Title, Value, Values}
+use Rattle.desk_store.specs.DeskFiles.{role_file}
+use Rattle.desk_store.specs.declared.role.Role.{Role}
+use Rattle.desk_store.specs.declared.role.Role.TheVariants.{Rows, Base, Archive}
 
 -- ---- names
 

@@ -6,12 +6,12 @@ use Rattle.pdb_values.specs.declared.user.Marks.{Marks}
 use Rattle.pdb_values.specs.Heads.{holds_resources}
 use Rattle.pdb_files.specs.Files.{IsFileText, canonical}
 use Rattle.palm_device.specs.Soundness.{NamesRise}
-use Rattle.info_files.specs.InfoFiles.{desktop_text}
-use Rattle.file_names.specs.FileNames.{desktop_info_file}
+use Rattle.folder_files.specs.InfoFiles.{desktop_text}
+use Rattle.folder_files.specs.FileNames.{desktop_info_file}
 use Rattle.desk_journal.specs.Entries.{EntryValue}
-use Rattle.desk_files.specs.DeskFiles.{role_file}
-use Rattle.desk_files.specs.declared.role.Role.{Role}
-use Rattle.desk_files.specs.declared.role.Role.TheVariants.{Rows, Base, Archive}
+use Rattle.desk_store.specs.DeskFiles.{role_file}
+use Rattle.desk_store.specs.declared.role.Role.{Role}
+use Rattle.desk_store.specs.declared.role.Role.TheVariants.{Rows, Base, Archive}
 use Rattle.desk_store.specs.Shelves.{ShelvesValue, with_database}
 use Rattle.desk_store.specs.declared.change.DbChange.{DbChange}
 use Rattle.desk_store.specs.declared.change.DeskChange.{DeskChange}

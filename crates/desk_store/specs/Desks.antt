@@ -6,8 +6,8 @@ use Rattle.hs_folders.specs.FileMaps.{FileMap}
 use Rattle.pdb_values.specs.Databases.{DatabaseValue}
 use Rattle.pdb_values.specs.declared.user.Marks.{Marks}
 use Rattle.palm_device.specs.Devices.{database_of}
-use Rattle.file_names.specs.FileNames.{has_ending, rows_file}
-use Rattle.desk_files.specs.declared.role.Role.{Role}
+use Rattle.folder_files.specs.FileNames.{has_ending, rows_file}
+use Rattle.desk_store.specs.declared.role.Role.{Role}
 use Rattle.desk_journal.specs.Overlays.{HasNoJournal}
 use Rattle.desk_store.specs.Finds.{first_bad, rows_count}
 use Rattle.desk_store.specs.Shelves.{AreOrdered, ShelvesValue, bad_at, database_at, first_marks, marks_in, shelf_of}

@@ -5,12 +5,12 @@ use Rattle.std.specs.Option.{option_map, option_or}
 use Rattle.std.specs.declared.alloc.Global.{Global}
 use Rattle.hs_folders.specs.FileMaps.{FileMap}
 use Rattle.palm_device.specs.Devices.{database_of}
-use Rattle.file_names.specs.FileNames.{desktop_info_file, has_ending}
-use Rattle.desk_files.specs.DeskFiles.{role_file}
-use Rattle.desk_files.specs.declared.fault.BadDeskFile.{BadDeskFile}
-use Rattle.desk_files.specs.declared.file.DeskFile.{DeskFile}
-use Rattle.desk_files.specs.declared.file.DeskFile.TheVariants as files
-use Rattle.desk_files.specs.declared.role.Role.{Role}
+use Rattle.folder_files.specs.FileNames.{desktop_info_file, has_ending}
+use Rattle.desk_store.specs.DeskFiles.{role_file}
+use Rattle.desk_store.specs.declared.file_fault.BadDeskFile.{BadDeskFile}
+use Rattle.desk_store.specs.declared.file.DeskFile.{DeskFile}
+use Rattle.desk_store.specs.declared.file.DeskFile.TheVariants as files
+use Rattle.desk_store.specs.declared.role.Role.{Role}
 use Rattle.desk_store.specs.Shelves.{bad_at, database_at, marks_in, shelf_of, with_database}
 use Rattle.desk_store.specs.declared.fault.DeskOpenFault.{DeskOpenFault}
 use Rattle.desk_store.specs.declared.fault.DeskOpenFault.TheVariants.{DeskFault, TooMany, BadFile, NoMemory}

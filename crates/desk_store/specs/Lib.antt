@@ -1,4 +1,5 @@
 pub mod Changes
+pub mod DeskFiles
 pub mod Desks
 pub mod Finds
 pub mod Shelves

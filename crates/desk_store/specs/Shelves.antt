@@ -7,13 +7,13 @@ use Rattle.pdb_values.specs.Databases.{DatabaseValue}
 use Rattle.pdb_values.specs.declared.user.Marks.{Marks}
 use Rattle.palm_device.specs.Devices.{place_of, with_new}
 use Rattle.palm_device.specs.Soundness.{NamesRise}
-use Rattle.file_names.specs.FileNames.{desktop_info_file}
-use Rattle.desk_files.specs.DeskFiles.{file_in, role_file}
-use Rattle.desk_files.specs.declared.fault.BadDeskFile.{BadDeskFile}
-use Rattle.desk_files.specs.declared.file.DeskFile.{DeskFile}
-use Rattle.desk_files.specs.declared.file.DeskFile.TheVariants as files
-use Rattle.desk_files.specs.declared.role.Role.{Role}
-use Rattle.desk_files.specs.declared.role.Role.TheVariants.{Rows, Base, Archive}
+use Rattle.folder_files.specs.FileNames.{desktop_info_file}
+use Rattle.desk_store.specs.DeskFiles.{file_in, role_file}
+use Rattle.desk_store.specs.declared.file_fault.BadDeskFile.{BadDeskFile}
+use Rattle.desk_store.specs.declared.file.DeskFile.{DeskFile}
+use Rattle.desk_store.specs.declared.file.DeskFile.TheVariants as files
+use Rattle.desk_store.specs.declared.role.Role.{Role}
+use Rattle.desk_store.specs.declared.role.Role.TheVariants.{Rows, Base, Archive}
 
 -- ---- files
 

@@ -3,7 +3,7 @@ ghost use Rattle.std.specs.Prelude.{◌≡◌, OnOk};
 ghost use Rattle.desk_store.specs.Changes.{with_archive, with_change, with_changes};
 
 use crate::shelves::Shelves;
-use desk_files::Role;
+use crate::role::Role;
 use pdb_values::{Database, Marks};
 use std::alloc::AllocError;
 

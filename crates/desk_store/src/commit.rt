@@ -4,7 +4,7 @@ ghost use Rattle.std.specs.List.{AllByRecursion};
 ghost use Rattle.std.specs.Option.{option_map};
 ghost use Rattle.hs_folders.specs.Causes.{Rose};
 ghost use Rattle.hs_folders.specs.Moments.{EachMomentSince};
-ghost use Rattle.info_files.specs.InfoFiles.{IsDesktopFile, desktop_text};
+ghost use Rattle.folder_files.specs.InfoFiles.{IsDesktopFile, desktop_text};
 ghost use Rattle.desk_journal.specs.Overlays.{HasNoJournal, StandsAs, put_all};
 ghost use Rattle.desk_store.specs.Changes as changes;
 ghost use Rattle.desk_store.specs.Changes.{IsDbWritten, IsDeskChange, with_changes};

@@ -3,15 +3,15 @@ ghost use Rattle.std.specs.Prelude.{◌≡◌, ◌≢◌, ◌++◌, ◌∷◌, [
 ghost use Rattle.std.specs.List.{AllByRecursion};
 ghost use Rattle.pdb_files.specs.Files.{IsFileText, canonical};
 ghost use Rattle.desk_journal.specs.Entries.{entry_value, entry_values};
-ghost use Rattle.info_files.specs.InfoFiles.{IsDesktopFile, desktop_text};
+ghost use Rattle.folder_files.specs.InfoFiles.{IsDesktopFile, desktop_text};
 ghost use Rattle.desk_store.specs.Changes as changes;
 ghost use Rattle.desk_store.specs.Changes.{IsDbWritten, database_entry, db_entries};
 
 use crate::change::{DbChange, DeskChange};
-use desk_files::Role;
+use crate::role::Role;
 use desk_journal::Entry;
-use file_names::DESKTOP_INFO;
-use info_files::write_desktop_info;
+use folder_files::DESKTOP_INFO;
+use folder_files::write_desktop_info;
 use pdb_files::write_database;
 use pdb_values::{Database, Marks};
 use std::alloc::{AllocError, Global};

@@ -1,12 +1,14 @@
 // What was found in the files of a folder.
 ghost use Rattle.std.specs.Prelude.{◌≡◌, IfErr, OnOk};
-ghost use Rattle.desk_files.specs.DeskFiles.{file_in};
+ghost use Rattle.desk_store.specs.DeskFiles.{file_in};
 ghost use Rattle.desk_store.specs.Finds.{Adds, Refuses};
 ghost use Rattle.desk_store.specs.Shelves.{AreOrdered, if_bad};
 
 use crate::fault::DeskOpenFault;
 use crate::shelves::Shelves;
-use desk_files::{DeskFile, DeskFileFault, read_desk_file};
+use crate::file::DeskFile;
+use crate::file_fault::DeskFileFault;
+use crate::reader::read_desk_file;
 use pdb_values::Marks;
 use std::alloc::Global;
 

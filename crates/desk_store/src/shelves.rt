@@ -4,7 +4,7 @@ ghost use Rattle.palm_device.specs.Devices.{database_of};
 ghost use Rattle.desk_store.specs.Shelves.{AreOrdered, shelf_of, with_database, with_put};
 ghost use Rattle.std.specs.Option.{option_copied};
 
-use desk_files::Role;
+use crate::role::Role;
 use palm_device::{insert, place_of};
 use pdb_values::{Database, DbName};
 use std::alloc::{AllocError, Global};

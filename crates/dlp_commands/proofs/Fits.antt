@@ -7,7 +7,7 @@ use Rattle.pdb_values.specs.CivilTimes.{civil_of}
 use Rattle.pdb_values.specs.PalmDates.{wire_date, wire_of}
 use Rattle.pdb_values.specs.declared.civil.CivilTime.{CivilTime}
 use Rattle.pdb_values.specs.declared.head.DbHead.{DbHead}
-use Rattle.dlp_layouts.specs.Cells.{HasNoZero}
+use Rattle.dlp_args.specs.Cells.{HasNoZero}
 use Rattle.dlp_args.specs.Arguments.{Tiny, Short, header, arg_text}
 use Rattle.dlp_replies.specs.EntryLists.{entry_text}
 use Rattle.dlp_replies.specs.Frames.{named}

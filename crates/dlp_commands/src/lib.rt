@@ -6,7 +6,7 @@
 //! source is pilot-link's `pi-dlp.h` and `dlp.c`.
 //!
 //! What every program that is a device shares is here too: a request as a `Command`, what a `Reading` finds in a database, the
-//! `Edit` that a `Writing` plans, and how replies and errors are written. `tables` has examples of all functions for tests.
+//! `Edit` that a `Writing` plans, and how replies and errors are written.
 #![tactic(auto)]
 
 mod block;
@@ -21,7 +21,6 @@ mod record;
 mod refusal;
 mod reply;
 mod resource;
-pub mod tables;
 mod user;
 mod writing;
 

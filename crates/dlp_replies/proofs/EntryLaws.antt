@@ -4,7 +4,7 @@ use Rattle.std.specs.List.{slice_get}
 use Rattle.std.proofs.lemmas.Option.{slice_get_past}
 use Rattle.pdb_values.specs.declared.head.DbHead.{DbHead}
 use Rattle.pdb_values.specs.Names.{name_fault}
-use Rattle.dlp_layouts.specs.Reading.{◌>>=◌}
+use Rattle.dlp_args.specs.CellReading.{◌>>=◌}
 use Rattle.dlp_replies.specs.Checks.{Checks, first_bad, is_date}
 use Rattle.dlp_replies.specs.EntryLists.{Row}
 use Rattle.dlp_replies.specs.EntryReading.{entry_at, rows_in, rows_or_none, row_name, row_checks, rows_checks, item_of}

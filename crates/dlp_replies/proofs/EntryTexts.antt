@@ -4,10 +4,10 @@ use Rattle.std.specs.Int.{w8, from_be_bytes}
 use Rattle.std.proofs.lemmas.Bool.{eqb-true, ltb-false, le-ltb}
 use Rattle.std.proofs.lemmas.List.{length-append, length-take, nil_from_length, take_at, drop_at, take-append-drop}
 use Rattle.dlp_args.proofs.NumberLaws.{IsBytes, IsBytes-drop, IsBytes-take}
-use Rattle.dlp_layouts.specs.Cells.{Half, Word, Pad, Run, Text}
-use Rattle.dlp_layouts.specs.Fields.{fields_in, AreFields}
-use Rattle.dlp_layouts.specs.Reading.{number_at, some_at}
-use Rattle.dlp_layouts.proofs.CellLaws.{bind_some, some_is, fields_take, fields_again}
+use Rattle.dlp_args.specs.Cells.{Half, Word, Pad, Run, Text}
+use Rattle.dlp_args.specs.Fields.{fields_in, AreFields}
+use Rattle.dlp_args.specs.CellReading.{number_at, some_at}
+use Rattle.dlp_args.proofs.CellLaws.{bind_some, some_is, fields_take, fields_again}
 use Rattle.dlp_replies.specs.EntryLists.{entry, Row}
 use Rattle.dlp_replies.specs.EntryReading.{entry_at, rows_in, AreRows}
 use Rattle.dlp_replies.proofs.ListLaws.{kept}

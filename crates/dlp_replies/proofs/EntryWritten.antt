@@ -9,9 +9,9 @@ use Rattle.pdb_values.specs.Names.{IsName, name_fault}
 use Rattle.pdb_values.specs.CivilTimes.{civil_of}
 use Rattle.pdb_values.specs.PalmDates.{wire_date, wire_of}
 use Rattle.pdb_values.proofs.DateLaws.{read_wire_of_wire_date}
-use Rattle.dlp_layouts.specs.Cells.{first_zero, HasNoZero}
-use Rattle.dlp_layouts.specs.Fields.{FieldsFit}
-use Rattle.dlp_layouts.proofs.CellLaws.{fields_written}
+use Rattle.dlp_args.specs.Cells.{first_zero, HasNoZero}
+use Rattle.dlp_args.specs.Fields.{FieldsFit}
+use Rattle.dlp_args.proofs.CellLaws.{fields_written}
 use Rattle.dlp_replies.specs.Checks.{first_bad}
 use Rattle.dlp_replies.specs.EntryLists.{entry, row_of, entry_text, entries_text, IsEntry}
 use Rattle.dlp_replies.specs.EntryReading.{entry_at, rows_in, row_checks, rows_checks, item_of}

@@ -7,8 +7,8 @@ use Rattle.std.proofs.lemmas.List.{length-append}
 use Rattle.std.proofs.lemmas.Nat.{from_be_bytes-to_be_bytes_4}
 use Rattle.std.proofs.lemmas.Option.{slice_get_past}
 use Rattle.dlp_args.proofs.NumberLaws.{IsBytes, IsBytes-drop, IsBytes-take, wide32}
-use Rattle.dlp_layouts.specs.Reading.{number_at}
-use Rattle.dlp_layouts.proofs.CellLaws.{some_is}
+use Rattle.dlp_args.specs.CellReading.{number_at}
+use Rattle.dlp_args.proofs.CellLaws.{some_is}
 use Rattle.dlp_replies.specs.Checks.{first_bad}
 use Rattle.dlp_replies.specs.IdLists.{IsId, ids_text, words, ids_checks}
 use Rattle.dlp_replies.proofs.ListLaws.{at_place, past_place, test_passes}

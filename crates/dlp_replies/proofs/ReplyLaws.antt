@@ -10,10 +10,10 @@ use Rattle.dlp_args.specs.Views.{Gives}
 use Rattle.dlp_args.specs.declared.fault.ArgFault.{ArgFault}
 use Rattle.dlp_args.proofs.NumberLaws.{IsBytes, IsBytes-drop, IsBytes-rest, chosen, ok_is, wide16}
 use Rattle.dlp_args.proofs.ArgumentLaws.{arguments_take, arguments_again}
-use Rattle.dlp_layouts.specs.Functions.{function_of}
-use Rattle.dlp_layouts.specs.Cells.{Kind}
-use Rattle.dlp_layouts.specs.Fields.{Fields, fields_in}
-use Rattle.dlp_layouts.proofs.CellLaws.{bind_some, fields_take, fields_again}
+use Rattle.dlp_args.specs.Functions.{function_of}
+use Rattle.dlp_args.specs.Cells.{Kind}
+use Rattle.dlp_args.specs.Fields.{Fields, fields_in}
+use Rattle.dlp_args.proofs.CellLaws.{bind_some, fields_take, fields_again}
 use Rattle.dlp_replies.specs.declared.fault.ReplyFault.{ReplyFault}
 use Rattle.dlp_replies.specs.declared.reply.Reply.{Reply}
 use Rattle.dlp_replies.specs.Faults.{lifted, argued, sized, valued}

@@ -6,11 +6,11 @@ use Rattle.pdb_values.specs.PalmDates.{read_wire, wire_date}
 use Rattle.pdb_values.proofs.DateLaws.{read_wire_of_wire_date}
 use Rattle.dlp_args.specs.Arguments.{header, written_form, arg_text}
 use Rattle.dlp_args.proofs.ArgumentLaws.{written_text}
-use Rattle.dlp_layouts.specs.Functions.{function_of}
-use Rattle.dlp_layouts.specs.Cells.{Kind, Text, HasNoZero}
-use Rattle.dlp_layouts.specs.Reading.{whole, text_in}
-use Rattle.dlp_layouts.specs.Fields.{Fields, fields_in, fields_text, FieldsFit, ends_well}
-use Rattle.dlp_layouts.proofs.CellLaws.{bind_some, map_some, some_is, fields_again, fields_written}
+use Rattle.dlp_args.specs.Functions.{function_of}
+use Rattle.dlp_args.specs.Cells.{Kind, Text, HasNoZero}
+use Rattle.dlp_args.specs.CellReading.{whole, text_in}
+use Rattle.dlp_args.specs.Fields.{Fields, fields_in, fields_text, FieldsFit, ends_well}
+use Rattle.dlp_args.proofs.CellLaws.{bind_some, map_some, some_is, fields_again, fields_written}
 use Rattle.dlp_replies.specs.EntryLists.{entries_text}
 use Rattle.dlp_replies.specs.EntryReading.{rows_of, rows_or_none, rows_checks, item_of}
 use Rattle.dlp_replies.specs.IdLists.{ids_text, words, ids_checks}

@@ -1,8 +1,8 @@
 -- The values in replies, and their tests (pilot-link, `dlp.c`).
 use Rattle.std.specs.Prelude.{ℕ, Bool, ◌&&◌, List, [], ◌∷◌, length, Option, Some, None, is_some, nat_le, if◌then◌else◌}
 use Rattle.pdb_values.specs.PalmDates.{read_wire}
-use Rattle.dlp_layouts.specs.Fields.{Fields}
-use Rattle.dlp_layouts.specs.Reading.{text_in}
+use Rattle.dlp_args.specs.Fields.{Fields}
+use Rattle.dlp_args.specs.CellReading.{text_in}
 use Rattle.dlp_replies.specs.Layouts.{user_info, record_reply, id_alone}
 
 -- tests of values in their order: each with the place of the value's first byte in the argument, and whether it is one

@@ -4,8 +4,8 @@ use Rattle.std.specs.Int.{w8}
 use Rattle.pdb_values.specs.declared.head.DbHead.{DbHead}
 use Rattle.pdb_values.specs.Names.{name_fault}
 use Rattle.pdb_values.specs.PalmDates.{read_wire}
-use Rattle.dlp_layouts.specs.Fields.{Fields, fields_in, AreFields}
-use Rattle.dlp_layouts.specs.Reading.{◌>>=◌, number_at, some_at}
+use Rattle.dlp_args.specs.Fields.{Fields, fields_in, AreFields}
+use Rattle.dlp_args.specs.CellReading.{◌>>=◌, number_at, some_at}
 use Rattle.dlp_replies.specs.Checks.{Checks, is_date, date_or_zero}
 use Rattle.dlp_replies.specs.EntryLists.{entry, Row}
 use Rattle.dlp_replies.specs.Layouts.{db_list}

@@ -4,8 +4,8 @@ use Rattle.std.specs.List.{AllByRecursion}
 use Rattle.std.specs.Int.{w16, to_be_bytes}
 use Rattle.pdb_values.specs.PalmDates.{wire_date}
 use Rattle.dlp_args.specs.Arguments.{arg_text}
-use Rattle.dlp_layouts.specs.Cells.{Kind, HasNoZero}
-use Rattle.dlp_layouts.specs.Fields.{Fields, fields_text, FieldsFit}
+use Rattle.dlp_args.specs.Cells.{Kind, HasNoZero}
+use Rattle.dlp_args.specs.Fields.{Fields, fields_text, FieldsFit}
 use Rattle.dlp_replies.specs.EntryLists.{entries_text, IsEntry}
 use Rattle.dlp_replies.specs.IdLists.{ids_text, IsId}
 use Rattle.dlp_replies.specs.Layouts.{user_info, db_list, handle_alone, block, record_reply, id_alone, resource_reply, count_alone, id_list}

@@ -1,6 +1,6 @@
 -- The layouts of replies (pilot-link, `dlp.c`).
 use Rattle.std.specs.Prelude.{List, [], ◌∷◌}
-use Rattle.dlp_layouts.specs.Cells.{Kind, Byte, Half, Word, Run, Rest, Counted, Whole, Names}
+use Rattle.dlp_args.specs.Cells.{Kind, Byte, Half, Word, Run, Rest, Counted, Whole, Names}
 
 -- user, viewer and PC; the dates of the last good and the last session; name and password behind their lengths
 abbrev pub user_info : List Kind

@@ -2,7 +2,7 @@
 use Rattle.std.specs.Prelude.{◌≡◌, ◌≤◌, ℕ, zero, suc, List, [], ◌∷◌, length, Option, Some, None, is_none, if◌then◌else◌}
 use Rattle.std.specs.List.{AllByRecursion}
 use Rattle.pdb_values.specs.declared.head.DbHead.{DbHead}
-use Rattle.dlp_layouts.specs.Reading.{◌>>=◌}
+use Rattle.dlp_args.specs.CellReading.{◌>>=◌}
 use Rattle.dlp_replies.specs.declared.entries.LentEntries.{LentEntries}
 use Rattle.dlp_replies.specs.declared.entries.LentEntries.TheVariants as entries
 use Rattle.dlp_replies.specs.declared.ids.LentIds.{LentIds}

@@ -3,9 +3,9 @@ use Rattle.std.specs.Prelude.{ℕ, ◌+◌, ◌-◌, List, [], ◌∷◌, length
 use Rattle.std.specs.Int.{w16, from_be_bytes}
 use Rattle.dlp_args.specs.Arguments.{Argument}
 use Rattle.dlp_args.specs.Reading.{◌>>=◌, arguments_at}
-use Rattle.dlp_layouts.specs.Functions.{function_of}
-use Rattle.dlp_layouts.specs.Cells.{Kind}
-use Rattle.dlp_layouts.specs.Fields.{Fields, fields_in}
+use Rattle.dlp_args.specs.Functions.{function_of}
+use Rattle.dlp_args.specs.Cells.{Kind}
+use Rattle.dlp_args.specs.Fields.{Fields, fields_in}
 use Rattle.dlp_replies.specs.declared.fault.ReplyFault.{ReplyFault}
 use Rattle.dlp_replies.specs.declared.fault.ReplyFault.TheVariants as fault
 use Rattle.dlp_replies.specs.Faults.{lifted, argued, sized, valued}

@@ -2,9 +2,9 @@
 use Rattle.std.specs.Prelude.{◌≡◌, ◌<◌, ◌^◌, ◌⊎◌, ℕ, List, [], ◌∷◌, None, Bool, true, false}
 use Rattle.std.specs.Int.{w16, to_be_bytes}
 use Rattle.dlp_args.specs.Arguments.{Form, ArgText}
-use Rattle.dlp_layouts.specs.Functions.{function_of}
-use Rattle.dlp_layouts.specs.Cells.{Kind}
-use Rattle.dlp_layouts.specs.Fields.{Fields, AreFields}
+use Rattle.dlp_args.specs.Functions.{function_of}
+use Rattle.dlp_args.specs.Cells.{Kind}
+use Rattle.dlp_args.specs.Fields.{Fields, AreFields}
 use Rattle.dlp_replies.specs.Checks.{Checks, first_bad}
 use Rattle.dlp_replies.specs.ReplyReading.{reply_byte}
 use Rattle.dlp_replies.specs.ReplyValues.{ReplyValue, Refused}

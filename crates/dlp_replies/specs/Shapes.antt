@@ -1,10 +1,10 @@
 -- The reply of each function: no argument, or one with its layout, its values and what they say (pilot-link, `pi-dlp.h`).
 use Rattle.std.specs.Prelude.{◌*◌, ◌==◌, Bool, true, List, [], map, length, Option, Some, None, is_some}
 use Rattle.pdb_values.specs.PalmDates.{read_wire}
-use Rattle.dlp_layouts.specs.declared.function.Function.{Function}
-use Rattle.dlp_layouts.specs.declared.function.Function.TheVariants as function
-use Rattle.dlp_layouts.specs.Cells.{Kind}
-use Rattle.dlp_layouts.specs.Fields.{Fields}
+use Rattle.dlp_args.specs.declared.function.Function.{Function}
+use Rattle.dlp_args.specs.declared.function.Function.TheVariants as function
+use Rattle.dlp_args.specs.Cells.{Kind}
+use Rattle.dlp_args.specs.Fields.{Fields}
 use Rattle.dlp_replies.specs.Checks.{Checks, user_sizes, user_checks, record_checks, id_checks, user_name, text_or_none, date_or_zero}
 use Rattle.dlp_replies.specs.EntryReading.{rows_of, rows_or_none, rows_checks, item_of}
 use Rattle.dlp_replies.specs.IdLists.{words, ids_checks}

@@ -1,5 +1,5 @@
 -- What contracts see of a reply that is lent.
-use Rattle.dlp_layouts.specs.Fields.{Fields}
+use Rattle.dlp_args.specs.Fields.{Fields}
 use Rattle.dlp_replies.specs.EntryLists.{Row}
 use Rattle.dlp_replies.specs.Layouts.{record_reply}
 use Rattle.dlp_replies.specs.declared.entry.EntryCells.{EntryCells}

@@ -2,7 +2,7 @@
 use Rattle.std.specs.Prelude.{◌≡◌, ◌<◌, ◌≤◌, ℕ, length}
 use Rattle.std.specs.List.{AllByRecursion}
 use Rattle.pdb_values.specs.declared.head.DbHead.{DbHead}
-use Rattle.dlp_layouts.specs.Cells.{HasNoZero}
+use Rattle.dlp_args.specs.Cells.{HasNoZero}
 use Rattle.dlp_replies.specs.Frames.{reply_text}
 use Rattle.dlp_replies.specs.ReplyValues.{ReplyValue, Refused, ReadUserInfo, ReadDbList, ReadAppBlock, ReadSortBlock, ReadNextModifiedRec, ReadRecord, ReadResource}
 

@@ -4,14 +4,14 @@ ghost use Rattle.std.specs.Option.{option_map};
 ghost use Rattle.pdb_values.specs.Names.{name_fault};
 ghost use Rattle.pdb_values.specs.PalmDates.{read_wire};
 ghost use Rattle.dlp_args.specs.Views.{Gives};
-ghost use Rattle.dlp_layouts.specs.Fields.{fields_in};
+ghost use Rattle.dlp_args.specs.Fields.{fields_in};
 ghost use Rattle.dlp_replies.specs.Checks.{date_or_zero, first_bad, is_date};
 ghost use Rattle.dlp_replies.specs.EntryLists.{entry};
 ghost use Rattle.dlp_replies.specs.EntryReading.{entry_at, item_of, row_checks};
 ghost use Rattle.dlp_replies.specs.Faults.{passed};
 ghost use Rattle.dlp_replies.specs.Views.{entry_row};
 
-use dlp_layouts::{take_4, take_8, take_u8, take_u16, take_u32, text_of};
+use dlp_args::{take_4, take_8, take_u8, take_u16, take_u32, text_of};
 use pdb_values::{DbHead, DbName, FourCc, PalmDate};
 
 // The cells of an entry, with its name lent.
@@ -31,7 +31,7 @@ pub(crate) struct EntryCells<'a> {
 }
 
 // The entry at the front of bytes and the bytes behind it, or None where there is none.
-#[tactic(auto, unfolding(crate::specs::EntryReading::entry_at, dlp_layouts::specs::Reading::number_at, dlp_layouts::specs::Reading::some_at))]
+#[tactic(auto, unfolding(crate::specs::EntryReading::entry_at, dlp_args::specs::CellReading::number_at, dlp_args::specs::CellReading::some_at))]
 pub(crate) fn take_entry(bytes: &[u8]) -> Option<(EntryCells<'_>, &[u8])>
     ensures entry { option_map (λ found. (entry_row found.0, found.1.now)) result ≡ entry_at bytes.now }
     ensures small { IfSome result (λ found. found.0.size < 256) }

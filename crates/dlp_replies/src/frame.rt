@@ -5,7 +5,7 @@ ghost use Rattle.dlp_replies.specs.Frames.{With, frame_text};
 ghost use Rattle.dlp_replies.specs.Layouts as layouts;
 
 use dlp_args::Message;
-use dlp_layouts::{append, append_header};
+use dlp_args::{append, append_header};
 use pdb_values::{Category, RecordId};
 
 // Replaces the message by a reply of one argument, whose bytes are given in three parts.

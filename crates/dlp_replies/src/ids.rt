@@ -4,7 +4,7 @@ ghost use Rattle.std.specs.List.{AllByRecursion};
 ghost use Rattle.dlp_replies.specs.Checks.{first_bad};
 ghost use Rattle.dlp_replies.specs.IdLists.{IsId, ids_checks, words};
 
-use dlp_layouts::take_u32;
+use dlp_args::take_u32;
 use pdb_values::RecordId;
 use std::marker::Model;
 

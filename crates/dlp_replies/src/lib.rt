@@ -33,6 +33,3 @@ pub use laws::{lists_are_exact, reply_round_trip};
 pub use reader::read_reply;
 pub use reply::Reply;
 pub use writer::write_reply;
-
-#[cfg(test)]
-mod tests;

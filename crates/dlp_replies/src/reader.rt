@@ -14,7 +14,7 @@ use crate::fault::ReplyFault;
 use crate::reply::Reply;
 use crate::{database, lists, record, resource, user};
 use dlp_args::{Args, read_args};
-use dlp_layouts::Function;
+use dlp_args::Function;
 
 /// Reads a reply to a function, which is all of the bytes. It takes no memory.
 ///

@@ -11,7 +11,7 @@ use crate::argument::only_content;
 use crate::fault::ReplyFault;
 use crate::reply::Reply;
 use dlp_args::Args;
-use dlp_layouts::{Function, rest_of, take_4, take_u16};
+use dlp_args::{Function, rest_of, take_4, take_u16};
 use pdb_values::FourCc;
 
 // A resource.

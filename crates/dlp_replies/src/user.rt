@@ -15,7 +15,7 @@ use crate::argument::only_content;
 use crate::fault::ReplyFault;
 use crate::reply::Reply;
 use dlp_args::Args;
-use dlp_layouts::{Function, names_of, take_8, take_u32, text_of};
+use dlp_args::{Function, names_of, take_8, take_u32, text_of};
 use pdb_values::PalmDate;
 
 // Where the name stands in the argument, behind its length and the password's.

@@ -11,7 +11,7 @@ use crate::reader::reply_byte;
 use crate::reply::Reply;
 use crate::user_frame::put_user_info;
 use dlp_args::Message;
-use dlp_layouts::append;
+use dlp_args::append;
 
 /// Replaces the message by the reply. Its fields keep the bounds of its layout and the code of a refusal is not 0, so that
 /// it fits. It takes no memory.

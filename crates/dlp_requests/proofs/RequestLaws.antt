@@ -10,13 +10,13 @@ use Rattle.dlp_args.specs.Views.{Gives}
 use Rattle.dlp_args.specs.declared.fault.ArgFault.{ArgFault}
 use Rattle.dlp_args.proofs.NumberLaws.{IsBytes, IsBytes-drop, IsBytes-take, IsBytes-rest, chosen, ok_is}
 use Rattle.dlp_args.proofs.ArgumentLaws.{arguments_take, arguments_again, written_text}
-use Rattle.dlp_layouts.specs.declared.function.Function.{Function}
-use Rattle.dlp_layouts.specs.declared.function.Function.TheVariants as function
-use Rattle.dlp_layouts.specs.Functions.{function_of, number_of}
-use Rattle.dlp_layouts.specs.Cells.{Kind}
-use Rattle.dlp_layouts.specs.Fields.{Fields, fields_in, fields_text, ends_well}
-use Rattle.dlp_layouts.proofs.CellLaws.{map_some, fields_take, fields_again, fields_written}
-use Rattle.dlp_layouts.proofs.FunctionLaws.{number_is}
+use Rattle.dlp_args.specs.declared.function.Function.{Function}
+use Rattle.dlp_args.specs.declared.function.Function.TheVariants as function
+use Rattle.dlp_args.specs.Functions.{function_of, number_of}
+use Rattle.dlp_args.specs.Cells.{Kind}
+use Rattle.dlp_args.specs.Fields.{Fields, fields_in, fields_text, ends_well}
+use Rattle.dlp_args.proofs.CellLaws.{map_some, fields_take, fields_again, fields_written}
+use Rattle.dlp_args.proofs.FunctionLaws.{number_is}
 use Rattle.dlp_requests.specs.declared.fault.RequestFault.{RequestFault}
 use Rattle.dlp_requests.specs.declared.request.Request.{Request}
 use Rattle.dlp_requests.specs.Faults.{lifted, sized}

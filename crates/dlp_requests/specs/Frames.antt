@@ -1,8 +1,8 @@
 -- The bytes of a request with one layout (pilot-link, `dlp.c`: function, number of arguments, arguments).
 use Rattle.std.specs.Prelude.{◌≡◌, ℕ, List, [], ◌∷◌}
 use Rattle.dlp_args.specs.Arguments.{Form, ArgText, arg_text}
-use Rattle.dlp_layouts.specs.Cells.{Kind}
-use Rattle.dlp_layouts.specs.Fields.{Fields, AreFields, fields_text, FieldsFit}
+use Rattle.dlp_args.specs.Cells.{Kind}
+use Rattle.dlp_args.specs.Fields.{Fields, AreFields, fields_text, FieldsFit}
 
 -- a function without an argument, or with one argument of this id and layout
 pub data Layout : Type 0 where

@@ -1,6 +1,6 @@
 -- The layouts of requests: what the data of an argument is made of (pilot-link, `dlp.c`).
 use Rattle.std.specs.Prelude.{List, [], ◌∷◌}
-use Rattle.dlp_layouts.specs.Cells.{Kind, Byte, Half, Word, Pad, Run, Text, MaybeText, Rest, Counted}
+use Rattle.dlp_args.specs.Cells.{Kind, Byte, Half, Word, Pad, Run, Text, MaybeText, Rest, Counted}
 
 -- user, viewer and PC; a date of eight bytes; change bits; the length of the name; the name, where one follows
 abbrev pub write_user_info : List Kind

@@ -3,11 +3,11 @@ use Rattle.std.specs.Prelude.{ℕ, List, [], ◌∷◌, Option, Some, None, Resu
 use Rattle.std.specs.Option.{option_map}
 use Rattle.dlp_args.specs.Arguments.{Argument}
 use Rattle.dlp_args.specs.Reading.{◌>>=◌, arguments_at}
-use Rattle.dlp_layouts.specs.declared.function.Function.{Function}
-use Rattle.dlp_layouts.specs.declared.function.Function.TheVariants as function
-use Rattle.dlp_layouts.specs.Functions.{function_of}
-use Rattle.dlp_layouts.specs.Cells.{Kind}
-use Rattle.dlp_layouts.specs.Fields.{Fields, fields_in}
+use Rattle.dlp_args.specs.declared.function.Function.{Function}
+use Rattle.dlp_args.specs.declared.function.Function.TheVariants as function
+use Rattle.dlp_args.specs.Functions.{function_of}
+use Rattle.dlp_args.specs.Cells.{Kind}
+use Rattle.dlp_args.specs.Fields.{Fields, fields_in}
 use Rattle.dlp_requests.specs.declared.fault.RequestFault.{RequestFault}
 use Rattle.dlp_requests.specs.declared.fault.RequestFault.TheVariants as fault
 use Rattle.dlp_requests.specs.Faults.{lifted, sized}

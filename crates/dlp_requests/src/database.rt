@@ -1,13 +1,13 @@
 // What the argument of a request about databases, their blocks and their handles holds.
 ghost use Rattle.std.specs.Prelude.{◌≡◌};
 ghost use Rattle.std.specs.Option.{option_map};
-ghost use Rattle.dlp_layouts.specs.Fields.{fields_in};
+ghost use Rattle.dlp_args.specs.Fields.{fields_in};
 ghost use Rattle.dlp_requests.specs.Layouts as layouts;
 ghost use Rattle.dlp_requests.specs.RequestValues as values;
 ghost use Rattle.dlp_requests.specs.Views.{request_value};
 
 use crate::request::Request;
-use dlp_layouts::{counted_of, end_of, take_4, take_u8, take_u16, text_of};
+use dlp_args::{counted_of, end_of, take_4, take_u8, take_u16, text_of};
 use pdb_values::FourCc;
 
 pub(crate) fn read_db_list(content: &[u8]) -> Option<Request<'_>>

@@ -21,6 +21,3 @@ pub use laws::request_round_trip;
 pub use reader::read_request;
 pub use request::Request;
 pub use writer::write_request;
-
-#[cfg(test)]
-mod tests;

@@ -13,7 +13,7 @@ use crate::fault::RequestFault;
 use crate::request::Request;
 use crate::{database, record, resource, session};
 use dlp_args::{Args, read_args};
-use dlp_layouts::Function;
+use dlp_args::Function;
 
 /// Reads a request, which is all of the bytes. It takes no memory.
 ///

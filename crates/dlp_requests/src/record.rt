@@ -1,13 +1,13 @@
 // What the argument of a request about records holds.
 ghost use Rattle.std.specs.Prelude.{◌≡◌};
 ghost use Rattle.std.specs.Option.{option_map};
-ghost use Rattle.dlp_layouts.specs.Fields.{fields_in};
+ghost use Rattle.dlp_args.specs.Fields.{fields_in};
 ghost use Rattle.dlp_requests.specs.Layouts as layouts;
 ghost use Rattle.dlp_requests.specs.RequestValues as values;
 ghost use Rattle.dlp_requests.specs.Views.{request_value};
 
 use crate::request::Request;
-use dlp_layouts::{end_of, rest_of, take_u8, take_u16, take_u32};
+use dlp_args::{end_of, rest_of, take_u8, take_u16, take_u32};
 
 pub(crate) fn read_next_modified_rec(content: &[u8]) -> Option<Request<'_>>
     ensures { option_map request_value result ≡ option_map (λ v. values.ReadNextModifiedRec v.0) (fields_in layouts.handle_alone content.now) }

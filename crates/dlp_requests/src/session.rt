@@ -1,13 +1,13 @@
 // What the argument of a request about the user and the session holds.
 ghost use Rattle.std.specs.Prelude.{◌≡◌};
 ghost use Rattle.std.specs.Option.{option_map};
-ghost use Rattle.dlp_layouts.specs.Fields.{fields_in};
+ghost use Rattle.dlp_args.specs.Fields.{fields_in};
 ghost use Rattle.dlp_requests.specs.Layouts as layouts;
 ghost use Rattle.dlp_requests.specs.RequestValues as values;
 ghost use Rattle.dlp_requests.specs.Views.{request_value};
 
 use crate::request::Request;
-use dlp_layouts::{end_of, maybe_text_of, take_8, take_u8, take_u16, take_u32, text_of};
+use dlp_args::{end_of, maybe_text_of, take_8, take_u8, take_u16, take_u32, text_of};
 
 pub(crate) fn write_user_info(content: &[u8]) -> Option<Request<'_>>
     ensures { option_map request_value result ≡ option_map (λ v. values.WriteUserInfo v.0 v.1.0 v.1.1.0 v.1.1.1.0 v.1.1.1.1.0 v.1.1.1.1.1.0 v.1.1.1.1.1.1.0) (fields_in layouts.write_user_info content.now) }

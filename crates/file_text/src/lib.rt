@@ -13,6 +13,3 @@ mod listing;
 
 pub use count::check_text;
 pub use listing::show_text;
-
-#[cfg(test)]
-mod tests;

@@ -21,8 +21,8 @@ use Rattle.palm_device.proofs.NameLaws.{NamesRise-set}
 use Rattle.palm_device.specs.Devices.{comes_before, database_of, is_named, place_of}
 use Rattle.palm_device.specs.Entries.{without_entry}
 use Rattle.palm_device.specs.Soundness.{NamesRise}
-use Rattle.info_files.specs.InfoFiles.{IsDeviceFile}
-use Rattle.file_names.specs.FileNames.{database_file, device_info_file, has_ending}
+use Rattle.folder_files.specs.InfoFiles.{IsDeviceFile}
+use Rattle.folder_files.specs.FileNames.{database_file, device_info_file, has_ending}
 use Rattle.handheld_files.specs.Handhelds.{HasFile, IsHeld, IsUserOf, StandFor, is_database_file}
 use Rattle.handheld_files.specs.Openings.{Stands}
 use Rattle.handheld_files.specs.Settled.{are_settled, as_opened}

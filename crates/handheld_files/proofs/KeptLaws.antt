@@ -13,7 +13,7 @@ use Rattle.pdb_values.specs.declared.user.UserInfo.{UserInfo}
 use Rattle.pdb_values.specs.declared.head.DbHead.{DbHead}
 use Rattle.palm_device.specs.Devices.{database_of}
 use Rattle.palm_device.specs.Soundness.{NamesRise}
-use Rattle.info_files.specs.InfoFiles.{IsDeviceFile}
+use Rattle.folder_files.specs.InfoFiles.{IsDeviceFile}
 use Rattle.handheld_files.specs.Adding.{AddsDatabase}
 use Rattle.handheld_files.specs.Handhelds.{StandFor, is_database_file, no_user}
 use Rattle.handheld_files.specs.Openings.{HoldsAll, IsFirstBad, Shows, among, database_count}

@@ -12,8 +12,8 @@ use Rattle.pdb_values.specs.Databases.{DatabaseValue}
 use Rattle.pdb_values.specs.declared.user.UserInfo.{UserInfo}
 use Rattle.pdb_values.specs.declared.head.DbHead.{DbHead}
 use Rattle.palm_device.specs.Devices.{database_of, with_new}
-use Rattle.info_files.specs.InfoFiles.{IsDeviceFile}
-use Rattle.file_names.specs.FileNames.{database_file, device_info_file, has_ending, is_handheld_file}
+use Rattle.folder_files.specs.InfoFiles.{IsDeviceFile}
+use Rattle.folder_files.specs.FileNames.{database_file, device_info_file, has_ending, is_handheld_file}
 use Rattle.handheld_files.specs.Adding.{AddsDatabase, AddsFile}
 use Rattle.handheld_files.specs.Handhelds.{Files, HasFile, IsHeld, IsUserOf, StandFor, is_database_file, no_user}
 use Rattle.handheld_files.specs.Openings.{among}

@@ -8,8 +8,8 @@ use Rattle.pdb_files.specs.declared.bad_kind.BadKind.{BadKind}
 use Rattle.pdb_files.specs.declared.bad_kind.BadKind.TheVariants.{FileName, Info, Twice}
 use Rattle.pdb_files.specs.declared.fault.FileFault.{FileFault}
 use Rattle.palm_device.specs.Devices.{database_of}
-use Rattle.info_files.specs.InfoFiles.{device_in}
-use Rattle.file_names.specs.FileNames.{database_file}
+use Rattle.folder_files.specs.InfoFiles.{device_in}
+use Rattle.folder_files.specs.FileNames.{database_file}
 use Rattle.handheld_files.specs.Handhelds.{IsFileOf, is_database_file}
 
 -- the bytes break a rule of the format

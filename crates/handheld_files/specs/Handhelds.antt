@@ -5,8 +5,8 @@ use Rattle.pdb_values.specs.declared.user.UserInfo.{UserInfo}
 use Rattle.pdb_files.specs.Files.{IsFileText}
 use Rattle.palm_device.specs.Devices.{database_of}
 use Rattle.palm_device.specs.Soundness.{NamesRise}
-use Rattle.info_files.specs.InfoFiles.{IsDeviceFile}
-use Rattle.file_names.specs.FileNames.{has_ending, database_file, device_info_file}
+use Rattle.folder_files.specs.InfoFiles.{IsDeviceFile}
+use Rattle.folder_files.specs.FileNames.{has_ending, database_file, device_info_file}
 use Rattle.handheld_files.specs.Settled.{as_opened}
 
 -- files by their names, as far as they are looked at

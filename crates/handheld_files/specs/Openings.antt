@@ -9,7 +9,7 @@ use Rattle.pdb_values.specs.declared.user.UserInfo.{UserInfo}
 use Rattle.pdb_files.specs.declared.bad_kind.BadKind.{BadKind}
 use Rattle.palm_device.specs.Devices.{most_databases}
 use Rattle.palm_device.specs.Soundness.{NamesRise}
-use Rattle.file_names.specs.FileNames.{is_handheld_file}
+use Rattle.folder_files.specs.FileNames.{is_handheld_file}
 use Rattle.handheld_files.specs.BadFiles.{FirstFails}
 use Rattle.handheld_files.specs.Handhelds.{Files, StandFor, is_database_file}
 use Rattle.handheld_files.specs.Settled.{are_settled}

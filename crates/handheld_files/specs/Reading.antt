@@ -5,7 +5,7 @@ use Rattle.std.specs.declared.alloc.Global.{Global}
 use Rattle.hs_folders.specs.FileMaps.{FileMap}
 use Rattle.pdb_values.specs.Databases.{DatabaseValue}
 use Rattle.pdb_values.specs.declared.user.UserInfo.{UserInfo}
-use Rattle.file_names.specs.FileNames.{is_handheld_file}
+use Rattle.folder_files.specs.FileNames.{is_handheld_file}
 use Rattle.handheld_files.specs.Adding.{AddsFile}
 use Rattle.handheld_files.specs.BadFiles.{FirstFails}
 use Rattle.handheld_files.specs.Openings.{IsFirstBad}

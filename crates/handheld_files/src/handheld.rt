@@ -1,14 +1,14 @@
 //! The databases and the user of a handheld, as they are read file by file.
 ghost use Rattle.std.specs.Prelude.{◌≡◌, ◌≢◌, [], IfErr, IfOk, OnErr, OnOk, OnSome, IfNone, IsErrOf, None, string_bytes, true, false, is_some};
 ghost use Rattle.palm_device.specs.Devices.{database_of};
-ghost use Rattle.file_names.specs.FileNames as file_names;
+ghost use Rattle.folder_files.specs.FileNames as file_names;
 ghost use Rattle.handheld_files.specs.Adding.{AddsDatabase, AddsFile, FileShows, IsBadFile, IsBrokenFile, StoredShows};
 ghost use Rattle.handheld_files.specs.Handhelds.{IsFileOf, is_database_file as is_name_of_database, no_user};
 
 use crate::fault::OpenFault;
 use crate::settling::settle;
-use file_names::database_file;
-use info_files::read_device_info;
+use folder_files::database_file;
+use folder_files::read_device_info;
 use palm_device::{insert, place_of};
 use pdb_files::{BadKind, FileFault, read_database};
 use pdb_values::{Database, PalmDate, Password, UserInfo, UserName};

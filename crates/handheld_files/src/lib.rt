@@ -14,6 +14,3 @@ pub use fault::OpenFault;
 pub use handheld::Handheld;
 pub use reading::read_folder;
 pub use settling::settle;
-
-#[cfg(test)]
-mod tests;

@@ -7,7 +7,7 @@ ghost use Rattle.handheld_files.specs.Reading.{ReadsFile, RefusesOne};
 
 use crate::fault::{OpenFault, open_fault};
 use crate::handheld::{Handheld, add_file, empty_handheld, is_database_file};
-use file_names::is_handheld_file;
+use folder_files::is_handheld_file;
 use hs_folders::{Folder, FolderFault};
 use std::alloc::Global;
 

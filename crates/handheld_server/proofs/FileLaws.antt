@@ -7,7 +7,7 @@ use Rattle.hs_folders.specs.FileMaps.{FileMap}
 use Rattle.pdb_values.specs.Databases.{DatabaseValue}
 use Rattle.pdb_files.specs.Files.{canonical}
 use Rattle.palm_device.specs.Devices.{database_of, with_new}
-use Rattle.file_names.specs.FileNames.{database_file}
+use Rattle.folder_files.specs.FileNames.{database_file}
 use Rattle.handheld_files.proofs.ChangeLaws.{named_so}
 use Rattle.handheld_files.proofs.OrderLaws.{database_of-with_new, own_bytes}
 use Rattle.handheld_store.proofs.ReplacedLaws.{database_of-replaced}

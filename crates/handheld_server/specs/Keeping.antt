@@ -8,8 +8,8 @@ use Rattle.hs_folders.specs.Moments.{EachMomentSince, IsBeforeOrAfter, Moments}
 use Rattle.pdb_values.specs.Databases.{DatabaseValue}
 use Rattle.pdb_files.specs.Files.{canonical}
 use Rattle.palm_device.specs.Devices.{database_of}
-use Rattle.info_files.specs.InfoFiles.{device_text}
-use Rattle.file_names.specs.FileNames.{database_file, device_info_file}
+use Rattle.folder_files.specs.InfoFiles.{device_text}
+use Rattle.folder_files.specs.FileNames.{database_file, device_info_file}
 use Rattle.handheld_files.specs.Openings.{Stands}
 use Rattle.handheld_server.specs.declared.fault.ServeFault.{ServeFault}
 use Rattle.handheld_server.specs.declared.fault.ServeFault.TheVariants.{Keeper}

@@ -15,6 +15,3 @@ mod written;
 
 pub use fault::ServeFault;
 pub use server::Server;
-
-#[cfg(test)]
-mod tests;

@@ -9,7 +9,7 @@ use Rattle.pdb_values.specs.declared.user.UserInfo.{UserInfo}
 use Rattle.pdb_files.specs.Files.{IsFileText}
 use Rattle.palm_device.specs.Devices.{database_of, with_new}
 use Rattle.palm_device.specs.Entries.{without_entry}
-use Rattle.file_names.specs.FileNames.{database_file}
+use Rattle.folder_files.specs.FileNames.{database_file}
 use Rattle.handheld_files.specs.Openings.{AreKept, Stands}
 use Rattle.handheld_files.specs.Settled.{are_settled}
 use Rattle.handheld_files.proofs.ChangeLaws.{all_without, rise_without, stands_put}

@@ -9,7 +9,7 @@ ghost use Rattle.pdb_files.specs.Files.{IsFileText, canonical};
 ghost use Rattle.palm_device.specs.Blocks.{empty_database};
 ghost use Rattle.palm_device.specs.Devices as devices;
 ghost use Rattle.palm_device.specs.Entries.{without_entry};
-ghost use Rattle.file_names.specs.FileNames as file_names;
+ghost use Rattle.folder_files.specs.FileNames as file_names;
 ghost use Rattle.handheld_files.specs.Openings.{AreKept, Stands};
 ghost use Rattle.handheld_store.specs.Refusals.{stops};
 

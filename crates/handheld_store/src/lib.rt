@@ -25,6 +25,3 @@ pub use handheld_files::OpenFault;
 pub use lent::{LentRecord, RecordMut};
 pub use open_base::{Loan, OpenBase};
 pub use store::Store;
-
-#[cfg(test)]
-mod tests;

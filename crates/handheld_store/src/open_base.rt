@@ -12,7 +12,7 @@ ghost use Rattle.pdb_files.specs.Files.{canonical};
 ghost use Rattle.palm_device.specs.Devices as devices;
 ghost use Rattle.palm_device.specs.Records as records;
 ghost use Rattle.palm_device.specs.Records.{IsFree, place_of_id as place_of_this_id, with_records};
-ghost use Rattle.file_names.specs.FileNames as file_names;
+ghost use Rattle.folder_files.specs.FileNames as file_names;
 ghost use Rattle.handheld_files.specs.Openings.{Stands};
 ghost use Rattle.handheld_files.specs.Settled.{are_settled};
 ghost use Rattle.handheld_store.specs.Lents.{Becomes};

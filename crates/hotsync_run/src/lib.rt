@@ -25,6 +25,3 @@ pub use answer::Answer;
 pub use command::hotsync;
 pub use report::{DbReport, Did, Report, SessionEnd};
 pub use status::{FileSide, Status};
-
-#[cfg(test)]
-mod tests;

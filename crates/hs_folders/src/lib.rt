@@ -37,6 +37,3 @@ pub use mem_source::MemSource;
 pub use sink::Sink;
 pub use source::Source;
 pub use stdout_sink::StdoutSink;
-
-#[cfg(test)]
-mod tests;

@@ -27,6 +27,3 @@ pub use laws::{
 pub use piece::{Key, Piece};
 pub use receiver::{Receiver, Taken};
 pub use sender::{MAX_TRIES, Sender, TriesSpent};
-
-#[cfg(test)]
-mod tests;

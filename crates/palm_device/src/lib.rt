@@ -26,6 +26,3 @@ pub use record::{
     put_record, reset_flags,
 };
 pub use resource::{clear_resources, place_of_resource, purge_resource, put_resource};
-
-#[cfg(test)]
-mod tests;

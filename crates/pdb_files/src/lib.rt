@@ -22,6 +22,3 @@ pub use fault::FileFault;
 pub use laws::{one_database, round_trip, rules_are_the_grammar};
 pub use reader::read_database;
 pub use writer::write_database;
-
-#[cfg(test)]
-mod tests;

@@ -35,6 +35,3 @@ pub use record::{Kind, Record};
 pub use record_id::RecordId;
 pub use resource::Resource;
 pub use user::{Marks, Password, UserInfo, UserName};
-
-#[cfg(test)]
-mod tests;

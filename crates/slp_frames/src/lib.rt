@@ -27,6 +27,3 @@ pub use packet::{
 pub use reader::SlpReader;
 pub use stream::{PacketSink, read_pieces};
 pub use tally::Tally;
-
-#[cfg(test)]
-mod tests;

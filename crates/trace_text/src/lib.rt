@@ -10,6 +10,3 @@ mod packets;
 
 pub use packet::show_packet;
 pub use packets::show_packets;
-
-#[cfg(test)]
-mod tests;

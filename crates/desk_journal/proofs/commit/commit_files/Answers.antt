@@ -4,7 +4,7 @@ use Rattle.std.specs.FinMap as finmap
 use Rattle.std.specs.Option.{option_map}
 use Rattle.hs_folders.specs.FileMaps.{FileMap}
 use Rattle.hs_folders.proofs.MomentLaws.{moments_go_on, moments_weaken, one_moment}
-use Rattle.file_names.specs.FileNames.{journal_file}
+use Rattle.folder_files.specs.FileNames.{journal_file}
 use Rattle.desk_journal.specs.Entries.{entry_values, journal_text}
 use Rattle.desk_journal.specs.Overlays.{StandsAs, overlay, put_all}
 use Rattle.desk_journal.proofs.OverlayLaws.{Journals, commit_done, commit_stands, on_err_of, written_there}

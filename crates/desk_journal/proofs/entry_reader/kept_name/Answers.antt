@@ -1,6 +1,6 @@
 -- UTF-8 is tested first, and then the ending.
 use Rattle.std.proofs.Common.{◌≡◌, ◌∙◌, ℕ, List, true, Some, sym, ap, subst}
-use Rattle.file_names.specs.FileNames.{is_kept_file}
+use Rattle.folder_files.specs.FileNames.{is_kept_file}
 use Rattle.desk_journal.proofs.ReadLaws.{kept_not, kept_when}
 use Rattle.desk_journal.proofs.entry_reader.kept_name.Goals as goal
 

@@ -5,7 +5,7 @@ use Rattle.std.specs.FinMap as finmap
 use Rattle.std.specs.Option.{option_map}
 use Rattle.hs_folders.specs.FileMaps.{FileMap}
 use Rattle.hs_folders.proofs.MomentLaws.{moments_go_on, moments_weaken}
-use Rattle.file_names.specs.FileNames.{journal_file}
+use Rattle.folder_files.specs.FileNames.{journal_file}
 use Rattle.desk_journal.specs.Entries.{entry_values}
 use Rattle.desk_journal.specs.Overlays.{StandsAs}
 use Rattle.desk_journal.proofs.OverlayLaws.{told_overlaid, told_removed, told_there}

@@ -1,7 +1,7 @@
 -- One name more is counted.
 use Rattle.std.proofs.Common.{◌+◌, ◌∙◌, ℕ, sym, ap, arith, cond}
 use Rattle.std.specs.Prelude.{codes, string_bytes}
-use Rattle.file_names.specs.FileNames.{has_ending}
+use Rattle.folder_files.specs.FileNames.{has_ending}
 use Rattle.desk_store.specs.Finds.{rows_count}
 use Rattle.desk_store.proofs.LoopLaws.{all_taken, rows_more}
 use Rattle.desk_store.proofs.desk.count_rows.Goals as goal

@@ -1,6 +1,6 @@
 -- The text that is written is a file of the marks.
 use Rattle.std.proofs.Common.{subst}
-use Rattle.info_files.specs.InfoFiles.{IsDesktopFile}
+use Rattle.folder_files.specs.InfoFiles.{IsDesktopFile}
 use Rattle.desk_store.proofs.entries.marks_entry.Goals as goal
 
 pub returns-clause-written : goal.returns-clause-written

@@ -1,6 +1,6 @@
 use Rattle.std.proofs.Common.{◌≡◌, ◌∙◌, ◌*◌, ◌≤◌, drop, sym, ap, rules}
 use Rattle.std.specs.Int.{w32}
-use Rattle.dlp_layouts.specs.Reading.{number_at}
+use Rattle.dlp_args.specs.CellReading.{number_at}
 use Rattle.dlp_replies.specs.IdLists.{IsId, words}
 use Rattle.dlp_replies.proofs.ListLaws.{all_at, some_iff}
 use Rattle.dlp_replies.proofs.IdLaws.{word_at, word_none}

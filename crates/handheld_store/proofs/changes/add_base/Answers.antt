@@ -3,7 +3,7 @@ use Rattle.std.specs.FinMap as finmap
 use Rattle.std.specs.Option.{option_map}
 use Rattle.hs_folders.specs.FileMaps.{FileMap}
 use Rattle.pdb_files.specs.Files.{IsFileText}
-use Rattle.file_names.specs.FileNames.{database_file}
+use Rattle.folder_files.specs.FileNames.{database_file}
 use Rattle.handheld_files.specs.Openings.{Stands}
 use Rattle.handheld_store.proofs.ListedLaws.{stands_new}
 use Rattle.handheld_store.proofs.changes.add_base.Goals as goal

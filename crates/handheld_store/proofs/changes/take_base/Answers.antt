@@ -4,7 +4,7 @@ use Rattle.std.specs.FinMap as finmap
 use Rattle.std.specs.Option.{option_map}
 use Rattle.hs_folders.specs.FileMaps.{FileMap}
 use Rattle.pdb_values.specs.Databases.{DatabaseValue}
-use Rattle.file_names.specs.FileNames.{database_file}
+use Rattle.folder_files.specs.FileNames.{database_file}
 use Rattle.handheld_files.specs.Openings.{Stands}
 use Rattle.handheld_files.proofs.ChangeLaws.{stands_gone}
 use Rattle.handheld_store.proofs.LendLaws.{one_lent}

@@ -2,8 +2,8 @@ use Rattle.std.proofs.Common.{◌≡◌, ◌∙◌, subst, sym, List, ℕ}
 use Rattle.std.specs.FinMap as finmap
 use Rattle.std.specs.Option.{option_map}
 use Rattle.hs_folders.specs.FileMaps.{FileMap}
-use Rattle.info_files.specs.InfoFiles.{IsDeviceFile}
-use Rattle.file_names.specs.FileNames.{device_info_file}
+use Rattle.folder_files.specs.InfoFiles.{IsDeviceFile}
+use Rattle.folder_files.specs.FileNames.{device_info_file}
 use Rattle.handheld_files.proofs.ChangeLaws.{stands_user}
 use Rattle.handheld_store.proofs.files.write_user.Goals as goal
 

@@ -1,6 +1,6 @@
 -- The names of the role stay in order.
 use Rattle.std.proofs.Common.{rules}
-use Rattle.desk_files.specs.declared.role.Role.TheVariants.{Rows, Base, Archive}
+use Rattle.desk_store.specs.declared.role.Role.TheVariants.{Rows, Base, Archive}
 use Rattle.desk_store.proofs.OrderLaws.{ordered_then}
 use Rattle.desk_store.proofs.shelves.Shelves.put.Goals as goal
 

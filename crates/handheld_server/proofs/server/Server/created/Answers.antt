@@ -5,7 +5,7 @@ use Rattle.hs_folders.specs.FileMaps.{FileMap}
 use Rattle.pdb_files.specs.Files.{canonical}
 use Rattle.palm_device.specs.Blocks.{empty_database}
 use Rattle.palm_device.specs.Devices.{database_of, with_new}
-use Rattle.file_names.specs.FileNames.{database_file}
+use Rattle.folder_files.specs.FileNames.{database_file}
 use Rattle.handheld_store.specs.Refusals.{create_fault}
 use Rattle.handheld_server.proofs.FileLaws.{none_made, own_new}
 use Rattle.handheld_server.proofs.server.Server.created.Goals as goal

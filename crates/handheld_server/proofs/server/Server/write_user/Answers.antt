@@ -3,8 +3,8 @@ use Rattle.std.specs.FinMap as finmap
 use Rattle.std.specs.Option.{option_map}
 use Rattle.hs_folders.specs.FileMaps.{FileMap}
 use Rattle.pdb_values.specs.declared.user.UserInfo.{UserInfo}
-use Rattle.info_files.specs.InfoFiles.{device_text}
-use Rattle.file_names.specs.FileNames.{device_info_file}
+use Rattle.folder_files.specs.InfoFiles.{device_text}
+use Rattle.folder_files.specs.FileNames.{device_info_file}
 use Rattle.handheld_server.proofs.server.Server.write_user.Goals as goal
 use Rattle.handheld_server.proofs.server.Server.write_user.Goals.{in-Ok-set_user, in-Err-set_user}
 

@@ -1,0 +1,115 @@
+// Reading one file of a desktop.
+ghost use Rattle.std.specs.Prelude.{◌≡◌, IfOk, Some};
+ghost use Rattle.pdb_files.specs.Reading.{database_in};
+ghost use Rattle.folder_files.specs.InfoFiles.{desktop_in};
+ghost use Rattle.desk_journal.specs.Overlays.{bad_of};
+ghost use Rattle.desk_store.specs.DeskFiles.{Reads, broken_rule, file_in, if_journal, if_marks, if_own, is_own_file as stands_in_its_file, other_in};
+
+use crate::file_fault::{BadDeskFile, DeskFileFault};
+use crate::file::DeskFile;
+use crate::role::Role;
+use desk_journal::{JournalFault, read_journal};
+use folder_files::{DESKTOP_INFO, JOURNAL};
+use folder_files::read_desktop_info;
+use pdb_files::{BadKind, read_database};
+use pdb_values::Database;
+use std::alloc::{AllocError, Global};
+
+/// Reads the file of this name, which is all of the bytes.
+///
+/// The tests on a database stand in this order: the rules of its format; it has records, and the file bears the name that
+/// it asks for.
+#[tactic(auto, unfolding(crate::specs::DeskFiles::file_in))]
+pub fn read_desk_file(alloc: Global, name: &str, bytes: &[u8]) -> Result<DeskFile, DeskFileFault>
+    ensures { Reads result (file_in name.now bytes.now) }
+{
+    match Role::of_file(name) {
+        Some(role) => read_own_database(alloc, role, name, bytes),
+        None => read_other(alloc, name, bytes),
+    }
+}
+
+// The database of a file that bears its name.
+fn read_own_database(
+    alloc: Global,
+    role: Role,
+    name: &str,
+    bytes: &[u8],
+) -> Result<DeskFile, DeskFileFault>
+    ensures { Reads result (if_own role name.now (database_in bytes.now) (broken_rule bytes.now)) }
+{
+    let database = match read_database(alloc, bytes) {
+        Ok(database) => database,
+        Err(fault) => {
+            return Err(match fault.bad_file() {
+                Some((kind, place)) => DeskFileFault::Bad(BadDeskFile { kind, place }),
+                None => DeskFileFault::NoMemory,
+            });
+        }
+    };
+    let own = is_own_file(alloc, role, name, &database)?;
+    if !own {
+        return Err(DeskFileFault::Bad(BadDeskFile {
+            kind: BadKind::FileName,
+            place: 0,
+        }));
+    }
+    Ok(DeskFile::Database(role, database))
+}
+
+// Whether a database has records, and the file bears the name that it asks for.
+fn is_own_file(
+    alloc: Global,
+    role: Role,
+    name: &str,
+    database: &Database,
+) -> Result<bool, AllocError>
+    ensures { IfOk result (λ own. own ≡ stands_in_its_file role name.now database.now) }
+{
+    let head = database.head();
+    if head.holds_resources() {
+        return Ok(false);
+    }
+    let file = role.file(alloc, &head.name)?;
+    Ok(name == file.as_str())
+}
+
+// A file that is no database.
+fn read_other(alloc: Global, name: &str, bytes: &[u8]) -> Result<DeskFile, DeskFileFault>
+    ensures { Reads result (other_in name.now bytes.now) }
+{
+    if name == DESKTOP_INFO {
+        return read_marks(bytes);
+    }
+    if name == JOURNAL {
+        return read_pending(alloc, bytes);
+    }
+    Ok(DeskFile::Other)
+}
+
+// The marks of the information file.
+fn read_marks(bytes: &[u8]) -> Result<DeskFile, DeskFileFault>
+    ensures { Reads result (if_marks (desktop_in bytes.now)) }
+{
+    match read_desktop_info(bytes) {
+        Ok(marks) => Ok(DeskFile::Marks(marks)),
+        Err(bad) => Err(DeskFileFault::Bad(BadDeskFile {
+            kind: BadKind::Info,
+            place: bad.place,
+        })),
+    }
+}
+
+// A journal, which is tested alone.
+fn read_pending(alloc: Global, bytes: &[u8]) -> Result<DeskFile, DeskFileFault>
+    ensures { Reads result (if_journal (bad_of (Some bytes.now))) }
+{
+    match read_journal(alloc, bytes) {
+        Ok(_) => Ok(DeskFile::Other),
+        Err(JournalFault::Bad(bad)) => Err(DeskFileFault::Bad(BadDeskFile {
+            kind: BadKind::Journal,
+            place: bad.place,
+        })),
+        Err(JournalFault::NoMemory) => Err(DeskFileFault::NoMemory),
+    }
+}

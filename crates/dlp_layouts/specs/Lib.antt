@@ -1,4 +1,0 @@
-pub mod Cells
-pub mod Fields
-pub mod Functions
-pub mod Reading

@@ -1,0 +1,6 @@
+pub mod FileNames
+pub mod Hexadecimal
+pub mod InfoFiles
+pub mod Lines
+pub mod Reading
+pub mod Views

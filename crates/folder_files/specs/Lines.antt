@@ -1,0 +1,64 @@
+-- The lines of an information file: a key, what stands behind it, and a line feed.
+use Rattle.std.specs.Prelude.{◌≡◌, ◌<◌, ◌^◌, ℕ, List, [], ◌∷◌, ◌++◌, Some}
+use Rattle.std.specs.Int.{w32, to_be_bytes}
+use Rattle.hex.specs.Hex.{IsBytes, encode_lower}
+use Rattle.pdb_values.specs.PalmDates.{wire_date}
+use Rattle.pdb_values.specs.Users.{password_of, user_name_of}
+use Rattle.folder_files.specs.Hexadecimal.{IsWireDate, bytes_text}
+
+-- What stands behind a key: nothing; a number of 32 bits; one above 0; a date; the name of a user; a password.
+pub data Kind : Type 0 where
+  Title : Kind
+  Number : Kind
+  Positive : Kind
+  Date : Kind
+  Name : Kind
+  Password : Kind
+
+-- the form of a line
+pub record Form : Type 0 where
+  pub key : List ℕ
+  pub kind : Kind
+
+-- what is said there; a date in seconds
+abbrev pub Value : Kind → Type 0
+Value Title = Unit {0}
+Value Number = ℕ
+Value Positive = ℕ
+Value Date = ℕ
+Value Name = List ℕ
+Value Password = List ℕ
+
+-- the text says this
+abbrev pub Says : (kind : Kind) → Value kind → List ℕ → Type 0
+Says Title value text = text ≡ []
+Says Number number text = (text ≡ encode_lower (to_be_bytes w32 number)) × (number < 2 ^ 32)
+Says Positive number text = (text ≡ encode_lower (to_be_bytes w32 number)) × (number < 2 ^ 32) × (0 < number)
+Says Date seconds text = (bytes : List ℕ) × (text ≡ encode_lower bytes) × IsWireDate seconds bytes
+Says Name name text = (text ≡ bytes_text name) × IsBytes name × (user_name_of name ≡ Some name)
+Says Password password text = (text ≡ bytes_text password) × IsBytes password × (password_of password ≡ Some password)
+
+-- the text that is written; of the two texts of a date of 0 seconds it is that of zeros
+abbrev pub text_of : (kind : Kind) → Value kind → List ℕ
+text_of Title value = []
+text_of Number number = encode_lower (to_be_bytes w32 number)
+text_of Positive number = encode_lower (to_be_bytes w32 number)
+text_of Date seconds = encode_lower (wire_date seconds)
+text_of Name name = bytes_text name
+text_of Password password = bytes_text password
+
+-- what lines of these forms say
+abbrev pub Values : List Form → Type 0
+Values [] = Unit {0}
+Values (form ∷ forms) = Value form.kind × Values forms
+
+-- the bytes are lines of these forms that say this
+abbrev pub AreLines : (forms : List Form) → Values forms → List ℕ → Type 0
+AreLines [] values bytes = bytes ≡ []
+AreLines (form ∷ forms) values bytes =
+    (text rest : List ℕ) × (bytes ≡ form.key ++ (text ++ 10 ∷ rest)) × Says form.kind values.0 text × AreLines forms values.1 rest
+
+-- the lines that are written
+abbrev pub lines_text : (forms : List Form) → Values forms → List ℕ
+lines_text [] values = []
+lines_text (form ∷ forms) values = form.key ++ (text_of form.kind values.0 ++ 10 ∷ lines_text forms values.1)

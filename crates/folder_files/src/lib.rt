@@ -1,0 +1,40 @@
+//! The files in a handheld's folder and in a desktop's: their names, and the information files of both ends.
+//!
+//! A database of records stands in `STEM.pdb`, one of resources in `STEM.prc`, where STEM is the stem of its name: letters,
+//! digits, `_` and `-` stand for themselves, each other byte is `%` with two upper-case hexadecimal digits. A desktop keeps
+//! the base rows of a database in `STEM.base` and its archive in `STEM.arc`. The endings `.pdb` and `.prc` are those of the
+//! Palm File Format Specification; the other names are this program's own.
+//!
+//! `device.inf` is what a handheld knows of its user, `desktop.inf` what a desktop knows of the handheld that it
+//! synchronized with. Both are text in lines, each with a key and ended by a line feed. Numbers stand in eight hexadecimal
+//! digits of lower case, dates in the sixteen of their eight bytes on the wire, whose last byte is zero, and names and
+//! passwords in the two digits of each of their bytes, or as `-` where there are none. The files are this program's own; the
+//! values are those of pilot-link's `pi-dlp.h`, as `pdb_values` has them.
+//!
+//! ```text
+//! hotsync-device 1            hotsync-desktop 1
+//! user 0000002a               pc 00000001
+//! viewer 00000000             user 0000002a
+//! pc 00000001                 last 07d10909012e2800
+//! good 07d10909012e2800       name 4a616e65
+//! last 07d10909012e2800
+//! name 4a616e65
+//! password -
+//! ```
+#![tactic(auto)]
+
+mod bad_line;
+mod database;
+mod desktop;
+mod device;
+mod folder;
+mod line;
+mod unread;
+mod value;
+mod word;
+
+pub use bad_line::BadLine;
+pub use database::{archive_file, base_file, database_file, rows_file};
+pub use desktop::{read_desktop_info, write_desktop_info};
+pub use device::{read_device_info, write_device_info};
+pub use folder::{DESKTOP_INFO, DEVICE_INFO, JOURNAL, is_handheld_file, is_kept_file};

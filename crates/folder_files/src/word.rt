@@ -1,0 +1,51 @@
+// The words that are written behind keys.
+ghost use Rattle.std.specs.Prelude.{◌≡◌, ◌<◌, ◌^◌, IfOk, string_bytes};
+ghost use Rattle.hex.specs.Hex.{IsBytes};
+ghost use Rattle.folder_files.specs.Hexadecimal.{bytes_text};
+ghost use Rattle.folder_files.specs.Lines.{Date, Name as UserText, Number, Password as SecretText, Says, text_of};
+
+use pdb_values::{PalmDate, Password, UserName};
+use std::alloc::{AllocError, Global};
+
+// A number in eight digits.
+pub(crate) fn number_word(alloc: Global, number: u32) -> Result<String, AllocError>
+    ensures word { IfOk result (λ word. string_bytes word ≡ text_of Number number) }
+    ensures says { Says Number number (text_of Number number) }
+{
+    hex::encode(alloc, number.to_be_bytes())
+}
+
+// A date in sixteen digits.
+pub(crate) fn date_word(alloc: Global, date: PalmDate) -> Result<String, AllocError>
+    ensures word { IfOk result (λ word. string_bytes word ≡ text_of Date date) }
+    ensures says { Says Date date (text_of Date date) }
+{
+    hex::encode(alloc, date.to_wire())
+}
+
+// The name of a user in two digits for each byte, or `-`.
+pub(crate) fn name_word(alloc: Global, name: &UserName) -> Result<String, AllocError>
+    ensures word { IfOk result (λ word. string_bytes word ≡ text_of UserText name.now) }
+    ensures says { Says UserText name.now (text_of UserText name.now) }
+{
+    bytes_word(alloc, name.as_bytes())
+}
+
+// A password in the same way.
+pub(crate) fn password_word(alloc: Global, password: &Password) -> Result<String, AllocError>
+    ensures word { IfOk result (λ word. string_bytes word ≡ text_of SecretText password.now) }
+    ensures says { Says SecretText password.now (text_of SecretText password.now) }
+{
+    bytes_word(alloc, password.as_bytes())
+}
+
+// Bytes in two digits each, or `-` for none.
+fn bytes_word(alloc: Global, bytes: &[u8]) -> Result<String, AllocError>
+    ensures word { IfOk result (λ word. string_bytes word ≡ bytes_text bytes.now) }
+    ensures in_range { IsBytes bytes.now }
+{
+    match bytes {
+        [] => String::from_str(alloc, "-"),
+        [_, ..] => hex::encode(alloc, bytes),
+    }
+}

@@ -1,5 +1,0 @@
-pub mod Hexadecimal
-pub mod InfoFiles
-pub mod Lines
-pub mod Reading
-pub mod Views

@@ -1,2 +1,0 @@
-pub mod MemLinks
-pub mod Views
