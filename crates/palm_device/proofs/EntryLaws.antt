@@ -5,55 +5,8 @@ use Rattle.std.specs.List.{position_or_len, list_all}
 use Rattle.std.specs.Option.{option_map}
 use Rattle.std.proofs.lemmas.Bool.{ltb-true, ltb-false}
 use Rattle.std.proofs.lemmas.List.Sums.{prefix_len-le-length}
+pub use Rattle.pdb_values.proofs.PlaceLaws.{first_here, first_later, past_later, place_found, place_past, position_found, position_none, position_within}
 use Rattle.palm_device.specs.Entries.{put_entry, without_entry, set_some, change_at}
-
--- ---- places
-
-found_by : (first len k : ℕ) (b : Bool) → nat_lt first len ≡ b → cond b (Some first) None ≡ Some k → (first ≡ k) × (k < len)
-found_by first len k true below is =
-    let same : first ≡ k = cc in
-    let lt : first < len = ltb-true _ _ below in
-    (same, omega arith)
-found_by first len k false below is = absurd cc
-
--- the place that a search found is the first that passes, and lies within
-pub position_found : {X : Type 0} (test : X → Bool) (xs : List X) (k : ℕ) → position test xs ≡ Some k → (position_or_len test xs ≡ k) × (k < length xs)
-position_found test xs k found = found_by (position_or_len test xs) (length xs) k (nat_lt (position_or_len test xs) (length xs)) refl found
-
-none_by : (first len : ℕ) (b : Bool) → nat_lt first len ≡ b → cond b (Some first) None ≡ None → len ≤ first
-none_by first len true below is = absurd cc
-none_by first len false below is = ltb-false _ _ below
-
-pub position_none : {X : Type 0} (test : X → Bool) (xs : List X) → position test xs ≡ None → length xs ≤ position_or_len test xs
-position_none test xs none = none_by (position_or_len test xs) (length xs) (nat_lt (position_or_len test xs) (length xs)) refl none
-
-some_within : {X : Type 0} (xs : List X) (k : ℕ) → k < length xs → slice_get xs k ≡ None → ⊥
-some_within [] k within none = omega arith
-some_within (x ∷ xs) zero within none = cc
-some_within (x ∷ xs) (suc k) within none = some_within xs k (omega arith) none
-
--- there is an entry at the place that a search found
-pub position_within : {X : Type 0} (test : X → Bool) (xs : List X) (k : ℕ) → position test xs ≡ Some k → slice_get xs k ≡ None → ⊥
-position_within test xs k found none = some_within xs k (position_found test xs k found).1 none
-
--- the first place that passes, or the length
-pub place_found : {X : Type 0} (test : X → Bool) (xs : List X) (k : ℕ) → position test xs ≡ Some k → position_or_len test xs ≡ k
-place_found test xs k found = (position_found test xs k found).0
-
-pub place_past : {X : Type 0} (test : X → Bool) (xs : List X) → position test xs ≡ None → position_or_len test xs ≡ length xs
-place_past test xs none = let most : position_or_len test xs ≤ length xs = prefix_len-le-length _ xs in let least = position_none test xs none in omega arith
-
-pub first_here : (b : Bool) (n : ℕ) → cond (not b) (1 + n) 0 ≡ 0 → b ≡ true
-first_here true n is = refl
-first_here false n is = absurd (omega arith)
-
-pub first_later : (b : Bool) (n k : ℕ) → cond (not b) (1 + n) 0 ≡ suc k → (b ≡ false) × (n ≡ k)
-first_later true n k is = absurd (omega arith)
-first_later false n k is = (refl, omega arith)
-
-pub past_later : (b : Bool) (n len : ℕ) → suc len ≤ cond (not b) (1 + n) 0 → (b ≡ false) × (len ≤ n)
-past_later true n len is = absurd (omega arith)
-past_later false n len is = (refl, omega arith)
 
 -- ---- a changed entry, and a new one
 

@@ -1,9 +1,10 @@
 -- What every device keeps: names in order, ids that differ, and eight handles.
 use Rattle.std.specs.Prelude.{◌≡◌, ◌<◌, ◌≤◌, ℕ, true, false, List, [], ◌∷◌, length, map}
-use Rattle.std.specs.List.{AllByRecursion, list_all}
+use Rattle.std.specs.List.{AllByRecursion}
 use Rattle.pdb_values.specs.Databases.{DatabaseValue}
 use Rattle.pdb_values.specs.declared.record.Record.{Record}
-use Rattle.palm_device.specs.Devices.{Device, comes_before, most_databases}
+pub use Rattle.pdb_values.specs.NamedDatabases.{NamesRise}
+use Rattle.palm_device.specs.Devices.{Device, most_databases}
 use Rattle.palm_device.specs.FreshIds.{is_among}
 
 -- the ids of records in their order
@@ -14,11 +15,6 @@ ids_of records = map (λ item. item.id) records
 abbrev pub AreIds : List ℕ → Type 0
 AreIds [] = Unit {0}
 AreIds (id ∷ ids) = (0 < id) × (is_among id ids ≡ false) × AreIds ids
-
--- each name stands before all later ones in byte order, so that no two are equal
-abbrev pub NamesRise : List DatabaseValue → Type 0
-NamesRise [] = Unit {0}
-NamesRise (database ∷ databases) = (list_all (λ later. comes_before database.head.name later.head.name) databases ≡ true) × NamesRise databases
 
 -- databases in byte order of their names, which differ, at most 200; within each the records have ids that differ; eight handles
 pub record IsDevice (device : Device) : Type 0 where

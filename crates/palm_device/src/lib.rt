@@ -7,7 +7,6 @@
 #![tactic(auto)]
 
 mod block;
-mod databases;
 mod handles;
 mod head;
 mod kept;
@@ -16,11 +15,11 @@ mod record;
 mod resource;
 
 pub use block::{entry_count, put_app, put_sort};
-pub use databases::{insert, place_for, place_of};
 pub use handles::Handles;
 pub use head::{has_bit, new_head};
 pub use kept::Kept;
 pub use opened::Opened;
+pub use pdb_values::{insert_database as insert, place_of};
 pub use record::{
     clear_records, keep_records, move_category, next_changed, place_of_id, purge_record,
     put_record, reset_flags,

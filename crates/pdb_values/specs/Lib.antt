@@ -4,6 +4,7 @@ pub mod Contents
 pub mod Databases
 pub mod Heads
 pub mod Lending
+pub mod NamedDatabases
 pub mod Names
 pub mod PalmDates
 pub mod Records
