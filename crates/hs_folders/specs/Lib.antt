@@ -3,6 +3,7 @@ pub mod Calls
 pub mod Causes
 pub mod Changes
 pub mod FileMaps
+pub mod FileNames
 pub mod FileTrees
 pub mod MemFolders
 pub mod MemSinks

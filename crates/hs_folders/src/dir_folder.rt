@@ -1,31 +1,31 @@
 // A folder of the file system. It tells nothing.
-ghost use Rattle.std.specs.Prelude.{◌≡◌, ◌≢◌, ◌≤◌, None, All, IfOk, IsErrOf, IsSorted, string_bytes, vec_len};
-ghost use Rattle.std.specs.String.{string_cmp};
+ghost use Rattle.std.specs.Prelude.{◌≡◌, ◌++◌, ◌∷◌, ◌↔◌, [], IfErr, IfOk, IfSome, IsErrOf, IsOk, IsSome, None, OnErr, OnOk};
+ghost use Rattle.std.specs.FinMap as finmap;
+ghost use Rattle.std.specs.Option.{option_map};
 ghost use Rattle.hs_folders.specs.Causes.{HasCause};
+ghost use Rattle.hs_folders.specs.FileNames.{IsFileName};
 
 use crate::faults::FolderFault;
+use crate::file_name::is_file_name;
 use crate::folder::Folder;
+use crate::system_files::{list_names, open_folder, read_file, remove_file, write_file};
 use std::alloc::Global;
-use std::fs::{File, OpenFile};
-use std::io::{ErrorKind, Write};
-use std::path::Path;
+use std::io;
+use std::io::ErrorKind;
 use std::rt::Files;
-use std::{fs, io};
-
-// The file that a replacement is written to before it takes the old one's name.
-const TEMPORARY: &str = "hotsync.tmp";
-
-// More bytes or names than these are refused.
-const LIMIT: usize = 4_294_967_295;
 
 // The folder in which the program runs.
 const WORKING: &str = ".";
 
 /// A folder of the file system. It tells neither its files nor a path.
 ///
-/// A replacement is written to the file `hotsync.tmp`, which then takes the old file's name. Its
-/// list leaves out that name and each name that is not UTF-8. A file of more than 4,294,967,295
-/// bytes, and a folder of more names, is a fault.
+/// A name that leads elsewhere is a fault, and the system is not asked: the empty one, `.`, `..`,
+/// and each with a slash or a zero byte. So is a name under which a pipe, a device or a folder
+/// stands, where it is to be read.
+///
+/// A replacement is written to the file `hotsync.tmp`, made new, which then takes the old file's
+/// name. Its list leaves out that name and each name that is not UTF-8. A file of more than
+/// 4,294,967,295 bytes, and a folder of more names, is a fault.
 #[derive(Drop)]
 pub struct DirFolder<'r, R: Files> {
     rt: &'r R,
@@ -54,6 +54,20 @@ impl<'r, R: Files> DirFolder<'r, R> {
         self.path.as_ref().map_or(WORKING, String::as_str)
     }
 
+    // Refuses a name that leads out of the folder, as a fault.
+    fn checked(&mut self, name: &str) -> Result<(), FolderFault>
+        ensures file_name { IsOk result ↔ IsFileName name.now }
+        ensures fault { IfErr result (λ fault. fault ≡ FolderFault.Failed) }
+        ensures cause { HasCause
+            self.old.faults self.new.faults (IsErrOf result FolderFault.Failed) }
+    {
+        if is_file_name(name) {
+            return Ok(());
+        }
+        self.faults = self.faults.saturating_add(1);
+        Err(FolderFault::Failed)
+    }
+
     // Counts a refusal of the system.
     fn counted<T: Drop>(&mut self, outcome: io::Result<T>) -> Result<T, FolderFault>
         ensures never_missing { ¬ IsErrOf result FolderFault.Missing }
@@ -69,67 +83,6 @@ impl<'r, R: Files> DirFolder<'r, R> {
             }
         }
     }
-}
-
-// The names in byte order, without that of the temporary file.
-fn list_names<R: Files>(rt: &R, alloc: Global, folder: &str) -> io::Result<Vec<String>>
-    ensures sorted { IfOk result (λ names. IsSorted string_cmp names.items) }
-    ensures no_temporary { IfOk result (λ names. All (λ name.
-        string_bytes name ≢ TEMPORARY.now) names.items) }
-    ensures few { IfOk result (λ names. vec_len names ≤ LIMIT) }
-{
-    let mut names = Vec::new(alloc);
-    for entry in fs::read_dir(&(rt, alloc), folder)? {
-        match entry {
-            Ok(entry) if entry.file_name() == TEMPORARY => {}
-            Ok(entry) => names.push(String::from_str(alloc, entry.file_name())?)?,
-            Err(error) if error.kind() == ErrorKind::InvalidFilename => {}
-            Err(error) => return Err(error),
-        }
-        if names.len() > LIMIT {
-            return Err(io::Error::from(ErrorKind::FileTooLarge));
-        }
-    }
-    names.sort()?;
-    Ok(names)
-}
-
-fn read_file<R: Files>(rt: &R, alloc: Global, folder: &str, name: &str) -> io::Result<Vec<u8>>
-    ensures small { IfOk result (λ bytes. vec_len bytes ≤ LIMIT) }
-{
-    let path = Path::new(folder).join(alloc, name)?;
-    let bytes = fs::read(&(rt, alloc), path)?;
-    if bytes.len() > LIMIT {
-        return Err(io::Error::from(ErrorKind::FileTooLarge));
-    }
-    Ok(bytes)
-}
-
-// The bytes are on the disk before the file takes its name.
-fn write_file<R: Files>(
-    rt: &R,
-    alloc: Global,
-    folder: &str,
-    name: &str,
-    bytes: &[u8],
-) -> io::Result<()> {
-    let temporary = Path::new(folder).join(alloc, TEMPORARY)?;
-    let path = Path::new(folder).join(alloc, name)?;
-    let mut file = File::create(rt, temporary.as_path())?;
-    file.write_all(bytes)?;
-    file.sync_all()?;
-    fs::rename(rt, temporary, path)
-}
-
-fn remove_file<R: Files>(rt: &R, alloc: Global, folder: &str, name: &str) -> io::Result<()> {
-    let path = Path::new(folder).join(alloc, name)?;
-    fs::remove_file(rt, path)
-}
-
-// A folder is there if its names can be read.
-fn open_folder<R: Files>(rt: &R, alloc: Global, folder: &str) -> io::Result<String> {
-    rt.open_dir(folder)?;
-    Ok(String::from_str(alloc, folder)?)
 }
 
 impl<'r, R: Files> Folder for DirFolder<'r, R> {
@@ -152,19 +105,73 @@ impl<'r, R: Files> Folder for DirFolder<'r, R> {
         self.counted(names)
     }
 
-    fn read(&mut self, alloc: Global, name: &str) -> Result<Vec<u8>, FolderFault> {
+    fn read(&mut self, alloc: Global, name: &str) -> Result<Vec<u8>, FolderFault>
+        ensures bytes { IfOk result (λ bytes. IfSome (⟦<Self as Folder>⟧.contents self.old)
+            (λ held. finmap.get held name.now ≡ Some bytes.items)) }
+        ensures missing { IsErrOf result FolderFault.Missing →
+            IfSome (⟦<Self as Folder>⟧.contents self.old) (λ held.
+            finmap.get held name.now ≡ None) }
+        ensures contents { ⟦<Self as Folder>⟧.contents self.new
+            ≡ ⟦<Self as Folder>⟧.contents self.old }
+        ensures moments { ⟦<Self as Folder>⟧.moments self.new
+            ≡ ⟦<Self as Folder>⟧.moments self.old }
+        ensures paths { ⟦<Self as Folder>⟧.paths self.new ≡ ⟦<Self as Folder>⟧.paths self.old }
+        ensures cause { HasCause (⟦<Self as Folder>⟧.faults self.old)
+            (⟦<Self as Folder>⟧.faults self.new) (IsErrOf result FolderFault.Failed) }
+
+        ensures elsewhere { ¬ IsFileName name.now → IsErrOf result FolderFault.Failed }
+    {
+        self.checked(name)?;
         match read_file(self.rt, alloc, self.folder(), name) {
             Err(error) if error.kind() == ErrorKind::NotFound => Err(FolderFault::Missing),
             bytes => self.counted(bytes),
         }
     }
 
-    fn replace(&mut self, name: &str, bytes: &[u8]) -> Result<(), FolderFault> {
+    fn replace(&mut self, name: &str, bytes: &[u8]) -> Result<(), FolderFault>
+        ensures replaced { OnOk result (⟦<Self as Folder>⟧.contents self.new ≡ option_map (λ held.
+            finmap.insert held name.now bytes.now) (⟦<Self as Folder>⟧.contents self.old)) }
+        ensures moment { OnOk result (
+            ⟦<Self as Folder>⟧.moments self.new ≡ option_map (λ moments. moments
+            ++ ⟦<Self as Folder>⟧.contents self.new ∷ []) (⟦<Self as Folder>⟧.moments self.old)) }
+        ensures contents_stay { OnErr result (
+            ⟦<Self as Folder>⟧.contents self.new ≡ ⟦<Self as Folder>⟧.contents self.old) }
+        ensures moments_stay { OnErr result (
+            ⟦<Self as Folder>⟧.moments self.new ≡ ⟦<Self as Folder>⟧.moments self.old) }
+        ensures paths { ⟦<Self as Folder>⟧.paths self.new ≡ ⟦<Self as Folder>⟧.paths self.old }
+        ensures never_missing { ¬ IsErrOf result FolderFault.Missing }
+        ensures cause { HasCause (⟦<Self as Folder>⟧.faults self.old)
+            (⟦<Self as Folder>⟧.faults self.new) (IsErrOf result FolderFault.Failed) }
+
+        ensures elsewhere { ¬ IsFileName name.now → IsErrOf result FolderFault.Failed }
+    {
+        self.checked(name)?;
         let written = write_file(self.rt, self.alloc, self.folder(), name, bytes);
         self.counted(written)
     }
 
-    fn remove(&mut self, name: &str) -> Result<(), FolderFault> {
+    fn remove(&mut self, name: &str) -> Result<(), FolderFault>
+        ensures removed { OnOk result (⟦<Self as Folder>⟧.contents self.new ≡ option_map (λ held.
+            finmap.remove held name.now) (⟦<Self as Folder>⟧.contents self.old)) }
+        ensures found { OnOk result (IfSome (⟦<Self as Folder>⟧.contents self.old) (λ held.
+            IsSome (finmap.get held name.now))) }
+        ensures moment { OnOk result (
+            ⟦<Self as Folder>⟧.moments self.new ≡ option_map (λ moments. moments
+            ++ ⟦<Self as Folder>⟧.contents self.new ∷ []) (⟦<Self as Folder>⟧.moments self.old)) }
+        ensures missing { IsErrOf result FolderFault.Missing →
+            IfSome (⟦<Self as Folder>⟧.contents self.old) (λ held.
+            finmap.get held name.now ≡ None) }
+        ensures contents_stay { OnErr result (
+            ⟦<Self as Folder>⟧.contents self.new ≡ ⟦<Self as Folder>⟧.contents self.old) }
+        ensures moments_stay { OnErr result (
+            ⟦<Self as Folder>⟧.moments self.new ≡ ⟦<Self as Folder>⟧.moments self.old) }
+        ensures paths { ⟦<Self as Folder>⟧.paths self.new ≡ ⟦<Self as Folder>⟧.paths self.old }
+        ensures cause { HasCause (⟦<Self as Folder>⟧.faults self.old)
+            (⟦<Self as Folder>⟧.faults self.new) (IsErrOf result FolderFault.Failed) }
+
+        ensures elsewhere { ¬ IsFileName name.now → IsErrOf result FolderFault.Failed }
+    {
+        self.checked(name)?;
         match remove_file(self.rt, self.alloc, self.folder(), name) {
             Err(error) if error.kind() == ErrorKind::NotFound => Err(FolderFault::Missing),
             removed => self.counted(removed),

@@ -7,7 +7,7 @@ ghost use Rattle.hs_folders.specs.declared.faults.SourceFault.TheVariants.{NoMem
 use std::alloc::{AllocError, AllocFailed};
 
 /// Why a folder did not do what it was asked.
-#[derive(Clone, Copy, Debug, PartialEq, Eq)]
+#[derive(Clone, Copy)]
 pub enum FolderFault {
     /// The folder failed, and counted the fault.
     Failed,
@@ -18,7 +18,7 @@ pub enum FolderFault {
 }
 
 /// Why a source gave no bytes.
-#[derive(Clone, Copy, Debug, PartialEq, Eq)]
+#[derive(Clone, Copy)]
 pub enum SourceFault {
     /// The source failed, and counted the fault.
     Failed,
@@ -27,7 +27,7 @@ pub enum SourceFault {
 }
 
 /// Why a sink did not take all bytes.
-#[derive(Clone, Copy, Debug, PartialEq, Eq)]
+#[derive(Clone, Copy)]
 pub enum SinkFault {
     /// The sink failed, and counted the fault.
     Failed,

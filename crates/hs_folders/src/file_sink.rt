@@ -4,12 +4,13 @@ ghost use Rattle.hs_folders.specs.Causes.{HasCause};
 
 use crate::faults::SinkFault;
 use crate::sink::Sink;
+use crate::system_files::create_file;
+use std::io;
 use std::io::{ErrorKind, Write};
 use std::rt::Files;
-use std::{fs, io};
 
 /// A file of the file system, made new when it is opened. It tells neither what it took nor a path.
-/// Writing before a file was opened is a fault.
+/// A pipe, a device or a folder in its place is a fault, and so is writing before a file was opened.
 #[derive(Drop)]
 pub struct FileSink<'r, R: Files> {
     rt: &'r R,
@@ -59,7 +60,7 @@ impl<'r, R: Files> Sink for FileSink<'r, R> {
     ghost faults = { λ sink. sink.faults };
 
     fn open(&mut self, path: &str) -> Result<(), SinkFault> {
-        match fs::create(self.rt, path) {
+        match create_file(self.rt, path) {
             Ok(file) => {
                 self.file = Some(file);
                 Ok(())

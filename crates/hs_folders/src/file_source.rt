@@ -4,12 +4,13 @@ ghost use Rattle.hs_folders.specs.Causes.{HasCause};
 
 use crate::faults::SourceFault;
 use crate::source::Source;
+use crate::system_files::open_file;
+use std::io;
 use std::io::{ErrorKind, Read};
 use std::rt::Files;
-use std::{fs, io};
 
 /// A file of the file system, read from its beginning. It tells neither its bytes nor a path.
-/// Reading before a file was opened is a fault.
+/// A pipe, a device or a folder in its place is a fault, and so is reading before a file was opened.
 #[derive(Drop)]
 pub struct FileSource<'r, R: Files> {
     rt: &'r R,
@@ -60,7 +61,7 @@ impl<'r, R: Files> Source for FileSource<'r, R> {
     ghost faults = { λ source. source.faults };
 
     fn open(&mut self, path: &str) -> Result<(), SourceFault> {
-        match fs::open(self.rt, path) {
+        match open_file(self.rt, path) {
             Ok(file) => {
                 self.file = Some(file);
                 Ok(())

@@ -15,6 +15,7 @@ mod calls;
 mod changes;
 mod dir_folder;
 mod faults;
+mod file_name;
 mod file_sink;
 mod file_source;
 mod file_tree;
@@ -25,6 +26,7 @@ mod mem_source;
 mod sink;
 mod source;
 mod stdout_sink;
+mod system_files;
 
 pub use dir_folder::DirFolder;
 pub use faults::{FolderFault, SinkFault, SourceFault};
