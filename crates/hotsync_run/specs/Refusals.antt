@@ -20,6 +20,12 @@ IsHandheldRefusal OutWrite = ⊥
 IsHandheldRefusal NoMemory = ⊤
 IsHandheldRefusal NotYet = ⊤
 
+-- one that blames the handheld, whose folder is opened, listed and judged before the desktop is touched
+abbrev pub BlamesHandheld : Status → Type 0
+BlamesHandheld (BadFile _ _ _ _) = ⊤
+BlamesHandheld HandheldFolder = ⊤
+BlamesHandheld _ = ⊥
+
 -- one of those that the desktop's folder gives cause for
 abbrev pub IsDesktopRefusal : Status → Type 0
 IsDesktopRefusal Done = ⊥
@@ -46,6 +52,11 @@ IsRunRefusal OutWrite = ⊥
 IsRunRefusal NoMemory = ⊤
 IsRunRefusal NotYet = ⊤
 
+-- the handheld's one database is carried
+pub record HasCarried (held : FileMap) : Type 0 where
+  pub database : DatabaseValue
+  pub carried : IsCarriedIn held database
+
 -- the handheld's one database is carried, and the desktop is not empty, where it tells what it holds
 pub record IsOccupied (held : FileMap) (desktop : Option FileMap) : Type 0 where
   pub database : DatabaseValue
@@ -56,13 +67,14 @@ pub record IsOccupied (held : FileMap) (desktop : Option FileMap) : Type 0 where
 abbrev pub IsMore : FileMap → Option FileMap → Type 0
 IsMore held desktop = HandheldShows NotYet held ⊎ IsOccupied held desktop
 
--- what the two folders show of the cause of each refusal, where they tell what they hold
+-- what the two folders show of the cause of each refusal, where they tell what they hold: the desktop is blamed once the
+-- handheld's one database was read and is carried
 abbrev pub RunShows : Option FileMap → Option FileMap → Status → Type 0
 RunShows handheld desktop Done = ⊥
 RunShows handheld desktop Usage = ⊥
 RunShows handheld desktop (BadFile side file kind place) = IfSome handheld (HandheldShows (BadFile side file kind place))
 RunShows handheld desktop HandheldFolder = ⊤
-RunShows handheld desktop DesktopFolder = ⊤
+RunShows handheld desktop DesktopFolder = IfSome handheld HasCarried
 RunShows handheld desktop SourceRead = ⊥
 RunShows handheld desktop TooLong = ⊥
 RunShows handheld desktop OutWrite = ⊥

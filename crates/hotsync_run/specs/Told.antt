@@ -21,3 +21,15 @@ pub record SourceTold : Type 0 where
   pub left : Option (List ℕ)
   pub paths : Option (List (List ℕ))
   pub faults : ℕ
+
+-- what these tell of a folder, by the members of its trait
+abbrev pub folder_told : {F : Type 0} → (F → Option FileMap) → (F → Moments) → (F → Option (List (List ℕ))) → (F → ℕ) → F → FolderTold
+folder_told contents moments paths faults folder = record { contents = contents folder; moments = moments folder; paths = paths folder; faults = faults folder }
+
+-- likewise of a sink
+abbrev pub sink_told : {T : Type 0} → (T → Option (List ℕ)) → (T → Option (List (List ℕ))) → (T → ℕ) → T → SinkTold
+sink_told taken paths faults sink = record { taken = taken sink; paths = paths sink; faults = faults sink }
+
+-- likewise of a source
+abbrev pub source_told : {S : Type 0} → (S → Option (List ℕ)) → (S → Option (List (List ℕ))) → (S → ℕ) → S → SourceTold
+source_told left paths faults source = record { left = left source; paths = paths source; faults = faults source }

@@ -1,6 +1,8 @@
 // The top call.
 ghost use Rattle.std.specs.Prelude.{◌≡◌, map, string_bytes};
 ghost use Rattle.hotsync_run.specs.Calls.{IsCall, IsLookAt, IsSync};
+ghost use Rattle.hotsync_run.specs.Refusals.{BlamesHandheld};
+ghost use Rattle.hotsync_run.specs.Told.{folder_told, sink_told, source_told};
 ghost use Rattle.hotsync_run.specs.Words.{task_of};
 
 use crate::answer::Answer;
@@ -28,18 +30,21 @@ pub fn hotsync<H: Folder, D: Folder, S: Source, T: Sink, O: Sink>(
 ) -> Answer<H, D>
     ensures run { IsCall (task_of (map string_bytes words.now))
         (record {
-          palm = record { contents = H.contents device; moments = H.moments device; paths = H.paths device; faults = H.faults device };
-          desk = record { contents = D.contents desk; moments = D.moments desk; paths = D.paths desk; faults = D.faults desk };
-          source = record { left = S.left source.old; paths = S.paths source.old; faults = S.faults source.old };
-          out = record { taken = O.taken out.old; paths = O.paths out.old; faults = O.faults out.old };
+          palm = folder_told H.contents H.moments H.paths H.faults device;
+          desk = folder_told D.contents D.moments D.paths D.faults desk;
+          source = source_told S.left S.paths S.faults source.old;
+          out = sink_told O.taken O.paths O.faults out.old;
         })
         (record {
-          palm = record { contents = H.contents result.device; moments = H.moments result.device; paths = H.paths result.device; faults = H.faults result.device };
-          desk = record { contents = D.contents result.desk; moments = D.moments result.desk; paths = D.paths result.desk; faults = D.faults result.desk };
-          source = record { left = S.left source.new; paths = S.paths source.new; faults = S.faults source.new };
-          out = record { taken = O.taken out.new; paths = O.paths out.new; faults = O.faults out.new };
+          palm = folder_told H.contents H.moments H.paths H.faults result.device;
+          desk = folder_told D.contents D.moments D.paths D.faults result.desk;
+          source = source_told S.left S.paths S.faults source.new;
+          out = sink_told O.taken O.paths O.faults out.new;
         })
         result.status result.report.databases.items }
+
+    // The handheld is judged first: a status that blames it leaves the desktop untouched.
+    ensures handheld_first { BlamesHandheld result.status → result.desk ≡ desk }
 
     // Nothing goes over a line yet.
     ensures end { result.report.end ≡ SessionEnd.NotStarted }

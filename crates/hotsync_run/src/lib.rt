@@ -14,6 +14,7 @@ mod handheld;
 mod look;
 mod packets;
 mod printing;
+mod program;
 mod report;
 mod rows;
 mod run;
@@ -23,5 +24,6 @@ mod words;
 
 pub use answer::Answer;
 pub use command::hotsync;
+pub use program::{Ended, run_on_system, run_program};
 pub use report::{DbReport, Did, Report, SessionEnd};
 pub use status::{FileSide, Status};

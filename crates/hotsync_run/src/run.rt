@@ -5,8 +5,9 @@ ghost use Rattle.hs_folders.specs.Moments.{EachMomentSince, IsBeforeOrAfter};
 ghost use Rattle.pdb_values.specs.Heads.{holds_resources};
 ghost use Rattle.hotsync_run.specs.Copies.{IsCopied, IsCopyOf, report_of};
 ghost use Rattle.hotsync_run.specs.Opening.{Opens, OpensAtMost};
-ghost use Rattle.hotsync_run.specs.Refusals.{IsDesktopRefusal, IsRunRefusal, RunShows};
+ghost use Rattle.hotsync_run.specs.Refusals.{BlamesHandheld, IsDesktopRefusal, IsRunRefusal, RunShows};
 ghost use Rattle.hotsync_run.specs.Runs.{IsRun};
+ghost use Rattle.hotsync_run.specs.Told.{folder_told, sink_told};
 ghost use Rattle.hotsync_run.specs.WordViews.{run_view};
 
 use crate::answer::Answer;
@@ -31,13 +32,14 @@ pub fn run_folders<H: Folder, D: Folder, O: Sink>(
     out: &mut O,
 ) -> Answer<H, D>
     ensures run { IsRun (run_view words.now)
-        (record { contents = H.contents device; moments = H.moments device; paths = H.paths device; faults = H.faults device })
-        (record { contents = H.contents result.device; moments = H.moments result.device; paths = H.paths result.device; faults = H.faults result.device })
-        (record { contents = D.contents desk; moments = D.moments desk; paths = D.paths desk; faults = D.faults desk })
-        (record { contents = D.contents result.desk; moments = D.moments result.desk; paths = D.paths result.desk; faults = D.faults result.desk })
-        (record { taken = O.taken out.old; paths = O.paths out.old; faults = O.faults out.old })
-        (record { taken = O.taken out.new; paths = O.paths out.new; faults = O.faults out.new })
+        (folder_told H.contents H.moments H.paths H.faults device)
+        (folder_told H.contents H.moments H.paths H.faults result.device)
+        (folder_told D.contents D.moments D.paths D.faults desk)
+        (folder_told D.contents D.moments D.paths D.faults result.desk)
+        (sink_told O.taken O.paths O.faults out.old)
+        (sink_told O.taken O.paths O.faults out.new)
         result.status result.report.databases.items }
+    ensures handheld_first { BlamesHandheld result.status → result.desk ≡ desk }
     ensures end { result.report.end ≡ SessionEnd.NotStarted }
 {
     let mut device = device;
@@ -69,6 +71,7 @@ fn run_copy<H: Folder, D: Folder>(
     ensures handheld_failed { IsErrOf result Status.HandheldFolder → Rose (H.faults device.old) (H.faults device.new) }
     ensures desktop_failed { IsErrOf result Status.DesktopFolder → Rose (D.faults desk.old) (D.faults desk.new) }
     ensures refusal { IfErr result IsRunRefusal }
+    ensures handheld_first { IfErr result (λ refusal. BlamesHandheld refusal → desk.new ≡ desk.old) }
 
     // The handheld stays as it was. The desktop stays too where the run was refused.
     ensures handheld_stays { H.contents device.new ≡ H.contents device.old }
