@@ -7,7 +7,7 @@ use Rattle.std.proofs.lemmas.Bool.{eqb-true, eq-eqb, ne_eqb, ltb-true, ltb-false
 use Rattle.std.proofs.lemmas.List.{append-nil, nil_from_length, take_at, drop_at, take-append-drop, length-append, length-take}
 use Rattle.dlp_args.proofs.NumberLaws.{IsBytes, IsBytes-drop, IsBytes-take, IsWide, wide16, wide32, front_bytes}
 use Rattle.dlp_args.specs.Cells.{Kind, Byte, Half, Word, Pad, Run, Text, MaybeText, Rest, Counted, Whole, Names, Cell, first_zero, HasNoZero, cell_text, CellFits, IsTextCell, IsMaybeTextCell, IsCell}
-use Rattle.dlp_args.specs.CellReading.{◌>>=◌, at_most_65500, number_at, some_at, text_in, maybe_text_in, counted_in, names_in, whole, cell_at}
+use Rattle.dlp_args.specs.CellReading.{◌>>=◌, at_most_65500, number_at, some_at, text_in, short_text_in, maybe_text_in, counted_in, names_in, whole, cell_at}
 use Rattle.dlp_args.specs.Fields.{Fields, fields_in, fields_text, FieldsFit, AreFields, ends_well}
 
 -- ---- steps that did not fail
@@ -112,18 +112,31 @@ not_empty : (b : ℕ) (bytes text : List ℕ) → IsTextCell text [] → (let no
 not_empty b bytes [] is = let e = is.0 in absurd cc
 not_empty b bytes (t ∷ text) is = let e = is.0 in absurd cc
 
-maybe_text_takes : (bytes : List ℕ) (text : Option (List ℕ)) → maybe_text_in bytes ≡ Some text → IsMaybeTextCell text bytes
-unfolding maybe_text_in
-maybe_text_takes [] text e = subst (λ (t : Option (List ℕ)). IsMaybeTextCell t []) (some_is None text e) refl
-maybe_text_takes (b ∷ bytes) text e =
-    let found = map_some (text_in (b ∷ bytes)) _ text e in
-    subst (λ (t : Option (List ℕ)). IsMaybeTextCell t (b ∷ bytes)) found.2 (text_takes (b ∷ bytes) found.0 found.1)
+short_text_takes : (limit : ℕ) (bytes text : List ℕ) → short_text_in limit bytes ≡ Some text → IsTextCell text bytes × (length text ≤ limit)
+unfolding short_text_in
+short_text_takes limit bytes text e =
+    let found = bind_some (text_in bytes) _ text e in
+    let bound = guard_some (ltb limit (length found.0)) _ text found.2 in
+    let is : found.0 ≡ text = some_is _ _ bound.1 in
+    let short : length found.0 ≤ limit = ltb-false _ _ bound.0 in
+    subst (λ (t : List ℕ). IsTextCell t bytes × (length t ≤ limit)) is (text_takes bytes found.0 found.1, short)
 
-maybe_text_again : (text : Option (List ℕ)) (bytes : List ℕ) → IsMaybeTextCell text bytes → maybe_text_in bytes ≡ Some text
+pub short_text_again : (limit : ℕ) (text bytes : List ℕ) → IsTextCell text bytes → length text ≤ limit → short_text_in limit bytes ≡ Some text
+unfolding short_text_in
+short_text_again limit text bytes is short = let bound : ltb limit (length text) ≡ false = le-ltb _ _ short in rw (text_again text bytes is, bound) refl
+
+maybe_text_takes : (limit : ℕ) (bytes : List ℕ) (text : Option (List ℕ)) → maybe_text_in limit bytes ≡ Some text → IsMaybeTextCell limit text bytes
 unfolding maybe_text_in
-maybe_text_again None bytes is = ap maybe_text_in is
-maybe_text_again (Some text) [] is = let no = ap length is.0 in absurd (omega (arith, length-append text (0 ∷ [])))
-maybe_text_again (Some text) (b ∷ bytes) is = rw (text_again text (b ∷ bytes) is) refl
+maybe_text_takes limit [] text e = subst (λ (t : Option (List ℕ)). IsMaybeTextCell limit t []) (some_is None text e) refl
+maybe_text_takes limit (b ∷ bytes) text e =
+    let found = map_some (short_text_in limit (b ∷ bytes)) _ text e in
+    subst (λ (t : Option (List ℕ)). IsMaybeTextCell limit t (b ∷ bytes)) found.2 (short_text_takes limit (b ∷ bytes) found.0 found.1)
+
+maybe_text_again : (limit : ℕ) (text : Option (List ℕ)) (bytes : List ℕ) → IsMaybeTextCell limit text bytes → maybe_text_in limit bytes ≡ Some text
+unfolding maybe_text_in
+maybe_text_again limit None bytes is = ap (maybe_text_in limit) is
+maybe_text_again limit (Some text) [] is = let no = ap length is.0.0 in absurd (omega (arith, length-append text (0 ∷ [])))
+maybe_text_again limit (Some text) (b ∷ bytes) is = rw (short_text_again limit text (b ∷ bytes) is.0 is.1) refl
 
 -- ---- bytes up to the end
 
@@ -211,7 +224,7 @@ cell_takes (Run n) bytes x fits e =
     let long : n ≤ length bytes = ltb-false _ _ g.0 in
     subst (Taken (Run n) bytes) (some_is _ x g.1) (take n bytes, sym (take-append-drop n bytes), (refl, omega (arith, length-take n bytes)), IsBytes-drop n bytes fits)
 cell_takes Text bytes x fits e = ended Text bytes (text_in bytes) x (λ y found. (text_takes bytes y found, refl)) e
-cell_takes MaybeText bytes x fits e = ended MaybeText bytes (maybe_text_in bytes) x (λ y found. (maybe_text_takes bytes y found, refl)) e
+cell_takes (MaybeText limit) bytes x fits e = ended (MaybeText limit) bytes (maybe_text_in limit bytes) x (λ y found. (maybe_text_takes limit bytes y found, refl)) e
 cell_takes Rest bytes x fits e = ended Rest bytes (at_most_65500 bytes) x (λ y found. let t = most_takes bytes y found in (t.0, t.1, refl)) e
 cell_takes Counted bytes x fits e = ended Counted bytes (counted_in bytes) x (λ y found. let t = counted_takes bytes y fits found in (t.0, t.1, refl)) e
 cell_takes Whole bytes x fits e = ended Whole bytes (Some bytes) x (λ y found. (some_is bytes y found, refl)) e
@@ -233,7 +246,7 @@ cell_again (Run n) run text rest is =
     let g : ltb (length (text ++ rest)) n ≡ false = le-ltb _ _ (omega (arith, length-append text rest)) in
     rw (g, take_at text rest n len, drop_at text rest n len, is.0) refl
 cell_again Text t text rest is = rw (at_end text rest is.1, text_again t text is.0, is.1) refl
-cell_again MaybeText t text rest is = rw (at_end text rest is.1, maybe_text_again t text is.0, is.1) refl
+cell_again (MaybeText limit) t text rest is = rw (at_end text rest is.1, maybe_text_again limit t text is.0, is.1) refl
 cell_again Rest some text rest is = rw (at_end text rest is.2, is.0, most_again some is.1, is.2) refl
 cell_again Counted some text rest is = rw (at_end text rest is.2, is.0, counted_again some is.1, is.2) refl
 cell_again Whole some text rest is = rw (at_end text rest is.1, is.0, is.1) refl
@@ -266,8 +279,8 @@ last_written Word n fits = (refl, fits)
 last_written Pad pad fits = refl
 last_written (Run n) run fits = (refl, fits)
 last_written Text text fits = ((refl, fits), refl)
-last_written MaybeText None fits = (refl, refl)
-last_written MaybeText (Some text) fits = ((refl, fits), refl)
+last_written (MaybeText limit) None fits = (refl, refl)
+last_written (MaybeText limit) (Some text) fits = (((refl, fits.0), fits.1), refl)
 last_written Rest some fits = (refl, fits, refl)
 last_written Counted some fits = (refl, fits, refl)
 last_written Whole some fits = (refl, refl)
@@ -280,7 +293,7 @@ cell_written Word l ks n rest ends fits = ((refl, fits), ends)
 cell_written Pad l ks pad rest ends fits = (refl, ends)
 cell_written (Run n) l ks run rest ends fits = ((refl, fits), ends)
 cell_written Text l ks text rest ends fits = absurd cc
-cell_written MaybeText l ks text rest ends fits = absurd cc
+cell_written (MaybeText limit) l ks text rest ends fits = absurd cc
 cell_written Rest l ks some rest ends fits = absurd cc
 cell_written Counted l ks some rest ends fits = absurd cc
 cell_written Whole l ks some rest ends fits = absurd cc

@@ -26,10 +26,14 @@ some_at n bytes = if nat_lt (length bytes) n then None else Some (take n bytes, 
 unfoldable pub text_in : List ℕ → Option (List ℕ)
 text_in bytes = position (λ byte. byte == 0) bytes >>= λ end. if end + 1 == length bytes then Some (take end bytes) else None
 
+-- such a text of at most so many bytes
+unfoldable pub short_text_in : ℕ → List ℕ → Option (List ℕ)
+short_text_in limit bytes = text_in bytes >>= λ text. if nat_lt limit (length text) then None else Some text
+
 -- such a text, or no byte
-unfoldable pub maybe_text_in : List ℕ → Option (Option (List ℕ))
-maybe_text_in [] = Some None
-maybe_text_in (byte ∷ bytes) = option_map (λ text. Some text) (text_in (byte ∷ bytes))
+unfoldable pub maybe_text_in : ℕ → List ℕ → Option (Option (List ℕ))
+maybe_text_in limit [] = Some None
+maybe_text_in limit (byte ∷ bytes) = option_map (λ text. Some text) (short_text_in limit (byte ∷ bytes))
 
 -- a number of two bytes, and then exactly so many bytes
 unfoldable pub counted_in : List ℕ → Option (List ℕ)
@@ -57,7 +61,7 @@ cell_at Word bytes = number_at w32 bytes
 cell_at Pad bytes = option_map (λ n. (tt, n.1)) (number_at w8 bytes)
 cell_at (Run n) bytes = some_at n bytes
 cell_at Text bytes = whole (text_in bytes)
-cell_at MaybeText bytes = whole (maybe_text_in bytes)
+cell_at (MaybeText limit) bytes = whole (maybe_text_in limit bytes)
 cell_at Rest bytes = whole (at_most_65500 bytes)
 cell_at Counted bytes = whole (counted_in bytes)
 cell_at Whole bytes = whole (Some bytes)

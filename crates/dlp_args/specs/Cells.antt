@@ -4,7 +4,7 @@ use Rattle.std.specs.List.{position_or_len}
 use Rattle.std.specs.Int.{w16, w32, to_be_bytes}
 
 -- A number of one, two or four bytes; a byte that isn't looked at; so many bytes. And what stands up to the end: a text
--- with one zero, at its end; such a text or nothing; at most 65,500 bytes; their number and then at most 65,500 bytes;
+-- with one zero, at its end; such a text of at most so many bytes, or nothing; at most 65,500 bytes; their number and then at most 65,500 bytes;
 -- any bytes; the lengths of two runs of bytes and then both.
 pub data Kind : Type 0 where
   Byte : Kind
@@ -13,7 +13,7 @@ pub data Kind : Type 0 where
   Pad : Kind
   Run : ℕ → Kind
   Text : Kind
-  MaybeText : Kind
+  MaybeText : ℕ → Kind
   Rest : Kind
   Counted : Kind
   Whole : Kind
@@ -27,7 +27,7 @@ Cell Word = ℕ
 Cell Pad = Unit {0}
 Cell (Run n) = List ℕ
 Cell Text = List ℕ
-Cell MaybeText = Option (List ℕ)
+Cell (MaybeText limit) = Option (List ℕ)
 Cell Rest = List ℕ
 Cell Counted = List ℕ
 Cell Whole = List ℕ
@@ -45,10 +45,10 @@ HasNoZero bytes = first_zero bytes ≡ length bytes
 abbrev pub IsTextCell : List ℕ → List ℕ → Type 0
 IsTextCell text bytes = (bytes ≡ text ++ 0 ∷ []) × HasNoZero text
 
--- a text and its zero, or no byte
-abbrev pub IsMaybeTextCell : Option (List ℕ) → List ℕ → Type 0
-IsMaybeTextCell None bytes = bytes ≡ []
-IsMaybeTextCell (Some text) bytes = IsTextCell text bytes
+-- a text of at most so many bytes and its zero, or no byte
+abbrev pub IsMaybeTextCell : ℕ → Option (List ℕ) → List ℕ → Type 0
+IsMaybeTextCell limit None bytes = bytes ≡ []
+IsMaybeTextCell limit (Some text) bytes = IsTextCell text bytes × (length text ≤ limit)
 
 -- the bytes are a text of the cell, and the rest may follow
 abbrev pub IsCell : (k : Kind) → Cell k → List ℕ → List ℕ → Type 0
@@ -58,7 +58,7 @@ IsCell Word n bytes rest = (bytes ≡ to_be_bytes w32 n) × (n < 2 ^ 32)
 IsCell Pad pad bytes rest = length bytes ≡ 1
 IsCell (Run n) run bytes rest = (bytes ≡ run) × (length run ≡ n)
 IsCell Text text bytes rest = IsTextCell text bytes × (rest ≡ [])
-IsCell MaybeText text bytes rest = IsMaybeTextCell text bytes × (rest ≡ [])
+IsCell (MaybeText limit) text bytes rest = IsMaybeTextCell limit text bytes × (rest ≡ [])
 IsCell Rest some bytes rest = (bytes ≡ some) × (length some ≤ 65500) × (rest ≡ [])
 IsCell Counted some bytes rest = (bytes ≡ to_be_bytes w16 (length some) ++ some) × (length some ≤ 65500) × (rest ≡ [])
 IsCell Whole some bytes rest = (bytes ≡ some) × (rest ≡ [])
@@ -72,8 +72,8 @@ cell_text Word n = to_be_bytes w32 n
 cell_text Pad pad = 0 ∷ []
 cell_text (Run n) run = run
 cell_text Text text = text ++ 0 ∷ []
-cell_text MaybeText None = []
-cell_text MaybeText (Some text) = text ++ 0 ∷ []
+cell_text (MaybeText limit) None = []
+cell_text (MaybeText limit) (Some text) = text ++ 0 ∷ []
 cell_text Rest some = some
 cell_text Counted some = to_be_bytes w16 (length some) ++ some
 cell_text Whole some = some
@@ -87,7 +87,7 @@ CellFits Word n = n < 2 ^ 32
 CellFits Pad pad = Unit {0}
 CellFits (Run n) run = length run ≡ n
 CellFits Text text = HasNoZero text
-CellFits MaybeText text = IfSome text HasNoZero
+CellFits (MaybeText limit) text = IfSome text (λ text. HasNoZero text × (length text ≤ limit))
 CellFits Rest some = length some ≤ 65500
 CellFits Counted some = length some ≤ 65500
 CellFits Whole some = Unit {0}

@@ -35,7 +35,7 @@ abbrev pub ends_well : List Kind → Bool
 ends_well [] = true
 ends_well (k ∷ []) = true
 ends_well (Text ∷ l ∷ ks) = false
-ends_well (MaybeText ∷ l ∷ ks) = false
+ends_well (MaybeText limit ∷ l ∷ ks) = false
 ends_well (Rest ∷ l ∷ ks) = false
 ends_well (Counted ∷ l ∷ ks) = false
 ends_well (Whole ∷ l ∷ ks) = false

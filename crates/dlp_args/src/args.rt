@@ -6,14 +6,14 @@ use crate::argument::find_argument;
 use std::marker::Model;
 
 /// An argument: its id, from 0x20 to 0x3F, and its bytes, lent from the message.
-#[derive(Clone, Copy, Debug)]
+#[derive(Clone, Copy)]
 pub struct Arg<'a> {
     pub id: u8,
     pub bytes: &'a [u8],
 }
 
 /// The arguments of a message, in order, lent from it.
-#[derive(Debug, Drop)]
+#[derive(Drop)]
 pub struct Args<'a> {
     count: u8,
     bytes: &'a [u8],
@@ -52,7 +52,7 @@ impl<'a> Args<'a> {
 }
 
 /// Goes over arguments in order.
-#[derive(Debug, Drop)]
+#[derive(Drop)]
 pub struct ArgIter<'a> {
     count: u8,
     bytes: &'a [u8],

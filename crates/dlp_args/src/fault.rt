@@ -1,7 +1,7 @@
 // Why bytes are no arguments.
 
 /// The first rule that the bytes of arguments break. A place is an offset from the first byte of the message.
-#[derive(Clone, Copy, Debug, PartialEq, Eq)]
+#[derive(Clone, Copy)]
 pub enum ArgFault {
     /// The argument that begins here passes the end, or these bytes stand after the last argument.
     Wrapper(usize),

@@ -3,7 +3,7 @@ ghost use Rattle.std.specs.Prelude.{◌≡◌};
 ghost use Rattle.dlp_args.specs.Functions.{function_of, number_of};
 
 /// What a request asks for, one byte on the wire. ReadRecord and ReadResource have two forms of request each.
-#[derive(Clone, Copy, Debug)]
+#[derive(Clone, Copy)]
 pub enum Function {
     ReadUserInfo,
     WriteUserInfo,

@@ -33,5 +33,5 @@ pub use number::{take_4, take_8, take_u8, take_u16, take_u32};
 pub use one_argument::{append, append_header, begin, put};
 pub use reader::read_args;
 pub use tail::{counted_of, end_of, rest_of};
-pub use text::{maybe_text_of, names_of, text_of};
+pub use text::{maybe_text_of, names_of, short_text_of, text_of};
 pub use writer::write_arg;

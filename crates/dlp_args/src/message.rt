@@ -5,7 +5,7 @@ use std::alloc::{AllocError, Global};
 use std::marker::Model;
 
 /// A message: at most 65,535 bytes. Memory for as many is taken when it is made, and none afterwards.
-#[derive(Debug, Drop)]
+#[derive(Drop)]
 pub struct Message {
     bytes: Vec<u8>,
 }

@@ -7,7 +7,7 @@ use std::marker::Model;
 
 /// The bytes of a message, at most 65,535, kept for as long as they are wanted. Contracts see its room beside the
 /// bytes: how many bytes it can be filled with and take no memory, 65,535 or 0.
-#[derive(Debug, Drop)]
+#[derive(Drop)]
 pub struct MessageText {
     bytes: Vec<u8>,
     room: usize,

@@ -5,7 +5,7 @@ ghost use Rattle.std.specs.Option.{option_map};
 ghost use Rattle.dlp_args.specs.CellReading.{number_at, some_at};
 
 /// A byte and the bytes behind it, or None where there is none.
-#[tactic(auto, unfolding(crate::specs::Reading::number_at))]
+#[tactic(auto, unfolding(crate::specs::CellReading::number_at))]
 pub fn take_u8(bytes: &[u8]) -> Option<(u8, &[u8])>
     ensures { option_map (λ found. (found.0, found.1.now)) result ≡ number_at w8 bytes.now }
 {
@@ -16,7 +16,7 @@ pub fn take_u8(bytes: &[u8]) -> Option<(u8, &[u8])>
 }
 
 /// A number of two bytes and the bytes behind it, or None where there are fewer.
-#[tactic(auto, unfolding(crate::specs::Reading::number_at))]
+#[tactic(auto, unfolding(crate::specs::CellReading::number_at))]
 pub fn take_u16(bytes: &[u8]) -> Option<(u16, &[u8])>
     ensures { option_map (λ found. (found.0, found.1.now)) result ≡ number_at w16 bytes.now }
 {
@@ -28,7 +28,7 @@ pub fn take_u16(bytes: &[u8]) -> Option<(u16, &[u8])>
 }
 
 /// A number of four bytes and the bytes behind it, or None where there are fewer.
-#[tactic(auto, unfolding(crate::specs::Reading::number_at))]
+#[tactic(auto, unfolding(crate::specs::CellReading::number_at))]
 pub fn take_u32(bytes: &[u8]) -> Option<(u32, &[u8])>
     ensures { option_map (λ found. (found.0, found.1.now)) result ≡ number_at w32 bytes.now }
 {
@@ -41,7 +41,7 @@ pub fn take_u32(bytes: &[u8]) -> Option<(u32, &[u8])>
 }
 
 /// Four bytes and the bytes behind them, or None where there are fewer.
-#[tactic(auto, unfolding(crate::specs::Reading::some_at))]
+#[tactic(auto, unfolding(crate::specs::CellReading::some_at))]
 pub fn take_4(bytes: &[u8]) -> Option<([u8; 4], &[u8])>
     ensures { option_map (λ found. (found.0, found.1.now)) result ≡ some_at 4 bytes.now }
 {
@@ -52,7 +52,7 @@ pub fn take_4(bytes: &[u8]) -> Option<([u8; 4], &[u8])>
 }
 
 /// Eight bytes and the bytes behind them, or None where there are fewer.
-#[tactic(auto, unfolding(crate::specs::Reading::some_at))]
+#[tactic(auto, unfolding(crate::specs::CellReading::some_at))]
 pub fn take_8(bytes: &[u8]) -> Option<([u8; 8], &[u8])>
     ensures { option_map (λ found. (found.0, found.1.now)) result ≡ some_at 8 bytes.now }
 {

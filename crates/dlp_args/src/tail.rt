@@ -16,7 +16,7 @@ pub fn rest_of(bytes: &[u8]) -> Option<&[u8]>
 }
 
 /// At most 65,500 bytes behind their number, two bytes, or None where the number is another.
-#[tactic(auto, unfolding(crate::specs::Reading::counted_in))]
+#[tactic(auto, unfolding(crate::specs::CellReading::counted_in))]
 pub fn counted_of(bytes: &[u8]) -> Option<&[u8]>
     ensures { option_map (λ rest. rest.now) result ≡ counted_in bytes.now }
 {

@@ -1,7 +1,7 @@
 // Texts that end with a zero, and names by their lengths.
 ghost use Rattle.std.specs.Prelude.{◌≡◌, ◌==◌, ◌<◌, length, position, IfSome};
 ghost use Rattle.std.specs.Option.{option_map};
-ghost use Rattle.dlp_args.specs.CellReading.{text_in, maybe_text_in, names_in};
+ghost use Rattle.dlp_args.specs.CellReading.{text_in, short_text_in, maybe_text_in, names_in};
 
 use crate::number::take_u8;
 
@@ -14,7 +14,7 @@ fn first_zero(bytes: &[u8]) -> Option<usize>
 }
 
 /// The text of bytes with exactly one zero, at their end, or None for other bytes.
-#[tactic(auto, unfolding(crate::specs::Reading::text_in))]
+#[tactic(auto, unfolding(crate::specs::CellReading::text_in))]
 pub fn text_of(bytes: &[u8]) -> Option<&[u8]>
     ensures { option_map (λ text. text.now) result ≡ text_in bytes.now }
 {
@@ -25,19 +25,32 @@ pub fn text_of(bytes: &[u8]) -> Option<&[u8]>
     Some(&bytes[..end])
 }
 
-/// Such a text, or `Some(None)` for no bytes.
-#[tactic(auto, unfolding(crate::specs::Reading::maybe_text_in))]
-pub fn maybe_text_of(bytes: &[u8]) -> Option<Option<&[u8]>>
-    ensures { option_map (λ text. option_map (λ text. text.now) text) result ≡ maybe_text_in bytes.now }
+/// Such a text of at most so many bytes.
+#[tactic(auto, unfolding(crate::specs::CellReading::short_text_in))]
+pub fn short_text_of(limit: usize, bytes: &[u8]) -> Option<&[u8]>
+    ensures { option_map (λ text. text.now) result ≡ short_text_in limit bytes.now }
+{
+    let text = text_of(bytes)?;
+    if limit < text.len() {
+        return None;
+    }
+    Some(text)
+}
+
+/// Such a text of at most so many bytes, or `Some(None)` for no bytes.
+#[tactic(auto, unfolding(crate::specs::CellReading::maybe_text_in))]
+pub fn maybe_text_of(limit: usize, bytes: &[u8]) -> Option<Option<&[u8]>>
+    ensures { option_map (λ text. option_map (λ text. text.now) text) result
+        ≡ maybe_text_in limit bytes.now }
 {
     match bytes {
         [] => Some(None),
-        [_, ..] => Some(Some(text_of(bytes)?)),
+        [_, ..] => Some(Some(short_text_of(limit, bytes)?)),
     }
 }
 
 /// The two runs of bytes behind their lengths, one byte each, or None where they do not end with the bytes.
-#[tactic(auto, unfolding(crate::specs::Reading::names_in, crate::specs::Reading::some_at))]
+#[tactic(auto, unfolding(crate::specs::CellReading::names_in, crate::specs::CellReading::some_at))]
 pub fn names_of(bytes: &[u8]) -> Option<(&[u8], &[u8])>
     ensures names { option_map (λ names. (names.0.now, names.1.now)) result ≡ names_in bytes.now }
     ensures short { IfSome result (λ names. length names.0.now < 256) }

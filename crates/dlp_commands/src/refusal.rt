@@ -30,10 +30,10 @@ pub enum Refusal {
 impl Refusal {
     /// The error that is replied.
     pub fn code(self) -> ErrorCode
-        ensures code { result ≡ code_of self }
-        ensures some { 0 < result }
+        ensures code { result.0 ≡ code_of self }
+        ensures some { 0 < result.0 }
     {
-        ErrorCode::of(match self {
+        ErrorCode(match self {
             Refusal::Parameter => 4,
             Refusal::NotFound => 5,
             Refusal::NoneOpen => 6,

@@ -88,10 +88,10 @@ pub fn put_fault(out: &mut Message, bytes: &[u8], fault: RequestFault)
 
 // The error for bytes that are no request.
 fn fault_code(fault: RequestFault) -> ErrorCode
-    ensures code { result ≡ errors.fault_code fault }
-    ensures some { 0 < result }
+    ensures code { result.0 ≡ errors.fault_code fault }
+    ensures some { 0 < result.0 }
 {
-    ErrorCode::of(match fault {
+    ErrorCode(match fault {
         RequestFault::Illegal(_) => 2,
         RequestFault::Wrapper(_) => 19,
         RequestFault::BadId(_) => 20,

@@ -1,16 +1,15 @@
 -- What is written of a reply is one of its texts.
 use Rattle.std.proofs.Common.{◌≡◌, ℕ, ◌*◌, ◌≤◌, Bool, true, ◌&&◌, eqb, leb, List, [], ◌∷◌, ◌++◌, length, map, is_some, Some, None, refl, sym, ap, ◌∙◌, arith, inl, inr}
 use Rattle.std.proofs.lemmas.Bool.{le-leb, eq-eqb}
-use Rattle.std.proofs.lemmas.List.{append-nil, length-append}
+use Rattle.std.proofs.lemmas.List.{length-append}
 use Rattle.pdb_values.specs.PalmDates.{read_wire, wire_date}
 use Rattle.pdb_values.proofs.DateLaws.{read_wire_of_wire_date}
 use Rattle.dlp_args.specs.Arguments.{header, written_form, arg_text}
 use Rattle.dlp_args.proofs.ArgumentLaws.{written_text}
 use Rattle.dlp_args.specs.Functions.{function_of}
-use Rattle.dlp_args.specs.Cells.{Kind, Text, HasNoZero}
-use Rattle.dlp_args.specs.CellReading.{whole, text_in}
-use Rattle.dlp_args.specs.Fields.{Fields, fields_in, fields_text, FieldsFit, ends_well}
-use Rattle.dlp_args.proofs.CellLaws.{bind_some, map_some, some_is, fields_again, fields_written}
+use Rattle.dlp_args.specs.Cells.{Kind, HasNoZero}
+use Rattle.dlp_args.specs.Fields.{Fields, fields_text, FieldsFit, ends_well}
+use Rattle.dlp_args.proofs.CellLaws.{fields_written, short_text_again}
 use Rattle.dlp_replies.specs.EntryLists.{entries_text}
 use Rattle.dlp_replies.specs.EntryReading.{rows_of, rows_or_none, rows_checks, item_of}
 use Rattle.dlp_replies.specs.IdLists.{ids_text, words, ids_checks}
@@ -53,20 +52,10 @@ user_sized name password found short = rw (found, le-leb (length password) 40 sh
 
 -- ---- a user's name
 
-text_found : (text : List ℕ) → HasNoZero text → text_in (text ++ 0 ∷ []) ≡ Some text
-text_found text none =
-    let bytes = text ++ 0 ∷ [] in
-    let cells : Fields (Text ∷ []) = (text, tt) in
-    let read : fields_in (Text ∷ []) bytes ≡ Some cells = fields_again (Text ∷ []) cells bytes (bytes, [], sym (append-nil bytes), ((refl, none), refl), refl) in
-    let first = bind_some (whole (text_in bytes)) _ cells read in
-    let others = bind_some (fields_in [] first.0.1) _ cells first.2 in
-    let found = map_some (text_in bytes) _ first.0 first.1 in
-    found.1 ∙ ap (λ (t : List ℕ). Some t) (ap (λ (x : List ℕ × List ℕ). x.0) found.2 ∙ ap (λ (x : Fields (Text ∷ [])). x.0) (some_is _ cells others.2))
-
-name_found : (name : List ℕ) → HasNoZero name → user_name (named name) ≡ Some name
+name_found : (name : List ℕ) → HasNoZero name → length name ≤ 40 → user_name (named name) ≡ Some name
 unfolding user_name
-name_found [] none = refl
-name_found (byte ∷ bytes) none = text_found (byte ∷ bytes) none
+name_found [] none short = refl
+name_found (byte ∷ bytes) none short = short_text_again 40 (byte ∷ bytes) ((byte ∷ bytes) ++ 0 ∷ []) (refl, none) short
 
 pub reply_written : (value : ReplyValue) → IsReply value → ReplyText (function_byte (frame value)) value (reply_text value)
 unfolding reply_byte function_of
@@ -74,9 +63,8 @@ reply_written (values.Refused number code) is = inl (code, is.fields.0, is.field
 reply_written (values.ReadUserInfo user viewer pc good last name password) is =
     let g = read_wire_of_wire_date good is.values.0 in
     let l = read_wire_of_wire_date last is.values.1 in
-    let n = name_found name is.values.3 in
-    let short = le-leb (length name) 40 is.values.2 in
-    inr (with_written 0x90 layouts.user_info checks.user_sizes checks.user_checks (λ v. values.ReadUserInfo v.0 v.1.0 v.1.1.0 (date_or_zero (read_wire v.1.1.1.0)) (date_or_zero (read_wire v.1.1.1.1.0)) (text_or_none (user_name v.1.1.1.1.1.0.0)) v.1.1.1.1.1.0.1) (user, (viewer, (pc, (wire_date good, (wire_date last, ((named name, password), tt)))))) _ refl is.fields (user_sized name password n is.values.4) (rw (g, l, n, short) refl) (rw (g, l, n) refl) is.fits)
+    let n = name_found name is.values.3 is.values.2 in
+    inr (with_written 0x90 layouts.user_info checks.user_sizes checks.user_checks (λ v. values.ReadUserInfo v.0 v.1.0 v.1.1.0 (date_or_zero (read_wire v.1.1.1.0)) (date_or_zero (read_wire v.1.1.1.1.0)) (text_or_none (user_name v.1.1.1.1.1.0.0)) v.1.1.1.1.1.0.1) (user, (viewer, (pc, (wire_date good, (wire_date last, ((named name, password), tt)))))) _ refl is.fields (user_sized name password n is.values.4) (rw (g, l) refl) (rw (g, l, n) refl) is.fits)
 reply_written (values.ReadDbList last flags entries) is =
     let rows = rows_written entries is.values in
     inr (with_written 0x96 layouts.db_list (λ v. is_some (rows_of v)) (λ v. rows_checks 4 (rows_or_none (rows_of v))) (λ v. values.ReadDbList v.0 v.1.0 (map item_of (rows_or_none (rows_of v)))) (last, (flags, (length entries, (entries_text entries, tt)))) _ refl is.fields (rw rows refl) (rw rows (rows_pass 4 entries is.values)) (rw rows (ap (values.ReadDbList last flags) (items_again entries is.values))) is.fits)

@@ -2,7 +2,7 @@
 use Rattle.std.specs.Prelude.{ℕ, Bool, ◌&&◌, List, [], ◌∷◌, length, Option, Some, None, is_some, nat_le, if◌then◌else◌}
 use Rattle.pdb_values.specs.PalmDates.{read_wire}
 use Rattle.dlp_args.specs.Fields.{Fields}
-use Rattle.dlp_args.specs.CellReading.{text_in}
+use Rattle.dlp_args.specs.CellReading.{short_text_in}
 use Rattle.dlp_replies.specs.Layouts.{user_info, record_reply, id_alone}
 
 -- tests of values in their order: each with the place of the value's first byte in the argument, and whether it is one
@@ -28,22 +28,22 @@ abbrev pub date_or_zero : Option ℕ → ℕ
 date_or_zero None = 0
 date_or_zero (Some seconds) = seconds
 
--- the name of a user: no byte, or a text with its zero
+-- the name of a user: no byte, or a text of at most 40 bytes with its zero
 unfoldable pub user_name : List ℕ → Option (List ℕ)
 user_name [] = Some []
-user_name (byte ∷ bytes) = text_in (byte ∷ bytes)
+user_name (byte ∷ bytes) = short_text_in 40 (byte ∷ bytes)
 
 abbrev pub text_or_none : Option (List ℕ) → List ℕ
 text_or_none None = []
 text_or_none (Some text) = text
 
--- the name ends with its length, and the password has at most 40 bytes
+-- the name ends with its length, and name and password have at most 40 bytes
 abbrev pub user_sizes : Fields user_info → Bool
 user_sizes v = is_some (user_name v.1.1.1.1.1.0.0) && nat_le (length v.1.1.1.1.1.0.1) 40
 
--- the dates, and the name of at most 40 bytes
+-- the dates
 abbrev pub user_checks : Fields user_info → Checks
-user_checks v = (12, is_date v.1.1.1.0) ∷ (20, is_date v.1.1.1.1.0) ∷ (30, nat_le (length (text_or_none (user_name v.1.1.1.1.1.0.0))) 40) ∷ []
+user_checks v = (12, is_date v.1.1.1.0) ∷ (20, is_date v.1.1.1.1.0) ∷ []
 
 -- the id, the category, and at most 65,500 bytes
 abbrev pub record_checks : Fields record_reply → Checks

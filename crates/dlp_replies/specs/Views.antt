@@ -10,7 +10,7 @@ use Rattle.dlp_replies.specs.ReplyValues.{ReplyValue, Refused, ReadUserInfo, Rea
 
 -- a lent reply is what it says, with the bytes that it lends
 abbrev pub reply_value : Reply → ReplyValue
-reply_value (lent.Refused function code) = Refused function code
+reply_value (lent.Refused function code) = Refused function code.0
 reply_value (lent.ReadUserInfo user viewer pc good last name password) = ReadUserInfo user viewer pc good last name.now password.now
 reply_value (lent.ReadDbList last flags entries) = ReadDbList last flags entries
 reply_value (lent.OpenDb handle) = OpenDb handle

@@ -9,8 +9,7 @@ ghost use Rattle.dlp_replies.specs.Views.{reply_value};
 use crate::argument::only_content;
 use crate::fault::ReplyFault;
 use crate::reply::Reply;
-use dlp_args::Args;
-use dlp_args::{Function, counted_of, end_of, take_u8, take_u16};
+use dlp_args::{Args, Function, counted_of, end_of, take_u8, take_u16};
 
 // The handle of an opened database.
 #[tactic(auto, unfolding(crate::specs::ReplyReading::shaped))]

@@ -10,13 +10,13 @@ use pdb_values::DbHead;
 use std::marker::Model;
 
 /// The indexes and heads of databases, in order, at most 255. The heads have the seed 0.
-#[derive(Debug, Drop)]
+#[derive(Drop)]
 pub struct Entries<'a> {
     lent: LentEntries<'a>,
 }
 
 // Where they lie: in a slice, or as so many entries at the front of bytes.
-#[derive(Clone, Copy, Debug)]
+#[derive(Clone, Copy)]
 enum LentEntries<'a> {
     Items(&'a [(u16, DbHead)]),
     Bytes(u8, &'a [u8]),

@@ -4,8 +4,7 @@ ghost use Rattle.dlp_args.specs.Arguments.{arg_text};
 ghost use Rattle.dlp_replies.specs.Frames.{With, frame_text};
 ghost use Rattle.dlp_replies.specs.Layouts as layouts;
 
-use dlp_args::Message;
-use dlp_args::{append, append_header};
+use dlp_args::{Message, append, append_header};
 use pdb_values::{Category, RecordId};
 
 // Replaces the message by a reply of one argument, whose bytes are given in three parts.

@@ -9,13 +9,13 @@ use pdb_values::RecordId;
 use std::marker::Model;
 
 /// Ids of records, in order.
-#[derive(Debug, Drop)]
+#[derive(Drop)]
 pub struct Ids<'a> {
     lent: LentIds<'a>,
 }
 
 // Where they lie: in a slice, or in each four bytes.
-#[derive(Clone, Copy, Debug)]
+#[derive(Clone, Copy)]
 enum LentIds<'a> {
     Items(&'a [RecordId]),
     Bytes(&'a [u8]),

@@ -7,8 +7,7 @@ ghost use Rattle.dlp_replies.specs.Layouts.{db_list, id_list};
 
 use crate::entries::Entries;
 use crate::ids::Ids;
-use dlp_args::Message;
-use dlp_args::{append, append_header};
+use dlp_args::{Message, append, append_header};
 use pdb_values::DbHead;
 
 // Databases.

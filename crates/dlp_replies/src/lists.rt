@@ -11,8 +11,7 @@ use crate::entry_walk::{are_entries, first_bad_value};
 use crate::fault::ReplyFault;
 use crate::ids::{Ids, first_bad_id};
 use crate::reply::Reply;
-use dlp_args::Args;
-use dlp_args::{Function, take_u8, take_u16};
+use dlp_args::{Args, Function, take_u8, take_u16};
 
 // Databases.
 #[tactic(auto, unfolding(crate::specs::ReplyReading::shaped, crate::specs::ReplyReading::valid_in))]

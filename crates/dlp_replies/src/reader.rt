@@ -13,8 +13,7 @@ use crate::error_code::ErrorCode;
 use crate::fault::ReplyFault;
 use crate::reply::Reply;
 use crate::{database, lists, record, resource, user};
-use dlp_args::{Args, read_args};
-use dlp_args::Function;
+use dlp_args::{Args, Function, read_args};
 
 /// Reads a reply to a function, which is all of the bytes. It takes no memory.
 ///
@@ -48,7 +47,7 @@ fn take_reply(function: u8, bytes: &[u8]) -> Result<Reply<'_>, ReplyFault>
         no_arguments(&args)?;
         return Ok(Reply::Refused {
             function,
-            code: ErrorCode::of(code),
+            code: ErrorCode(code),
         });
     }
     reply_to(Function::of(function), bytes.len(), &args)

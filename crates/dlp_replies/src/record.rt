@@ -10,8 +10,7 @@ ghost use Rattle.dlp_replies.specs.Views.{record_fields, reply_value};
 use crate::argument::only_content;
 use crate::fault::ReplyFault;
 use crate::reply::Reply;
-use dlp_args::Args;
-use dlp_args::{Function, end_of, take_u8, take_u16, take_u32};
+use dlp_args::{Args, Function, end_of, take_u8, take_u16, take_u32};
 use pdb_values::{Category, RecordId};
 
 // The cells of a record reply, with its bytes lent.

@@ -6,7 +6,7 @@ use pdb_values::{Category, FourCc, PalmDate, RecordId};
 
 /// A reply. Its texts and data are lent from the message that it was read from. Texts stand without their zero, and a size
 /// that the data has is no field.
-#[derive(Debug, Drop)]
+#[derive(Drop)]
 pub enum Reply<'a> {
     /// The error of a function, which is not 0.
     Refused {

@@ -10,8 +10,7 @@ ghost use Rattle.dlp_replies.specs.Views.{reply_value};
 use crate::argument::only_content;
 use crate::fault::ReplyFault;
 use crate::reply::Reply;
-use dlp_args::Args;
-use dlp_args::{Function, rest_of, take_4, take_u16};
+use dlp_args::{Args, Function, rest_of, take_4, take_u16};
 use pdb_values::FourCc;
 
 // A resource.

@@ -14,12 +14,8 @@ ghost use Rattle.dlp_replies.specs.Views.{reply_value};
 use crate::argument::only_content;
 use crate::fault::ReplyFault;
 use crate::reply::Reply;
-use dlp_args::Args;
-use dlp_args::{Function, names_of, take_8, take_u32, text_of};
+use dlp_args::{Args, Function, names_of, short_text_of, take_8, take_u32};
 use pdb_values::PalmDate;
-
-// Where the name stands in the argument, behind its length and the password's.
-const NAME_PLACE: usize = 30;
 
 // What the handheld knows of its user.
 #[tactic(auto, unfolding(crate::specs::ReplyReading::shaped))]
@@ -50,9 +46,6 @@ fn user_info_reply(place: usize, content: &[u8]) -> Result<Reply<'_>, ReplyFault
     }
     let good = date_of(good, place + 12)?;
     let last = date_of(last, place + 20)?;
-    if name.len() > 40 {
-        return Err(ReplyFault::Value(place + NAME_PLACE));
-    }
     Ok(Reply::ReadUserInfo {
         user,
         viewer,
@@ -64,14 +57,14 @@ fn user_info_reply(place: usize, content: &[u8]) -> Result<Reply<'_>, ReplyFault
     })
 }
 
-// A name with its zero, or no byte.
+// A name of at most 40 bytes with its zero, or no byte.
 #[tactic(auto, unfolding(crate::specs::Checks::user_name))]
 fn user_name_of(bytes: &[u8]) -> Option<&[u8]>
     ensures { option_map (λ name. name.now) result ≡ checks.user_name bytes.now }
 {
     match bytes {
         [] => Some(bytes),
-        [_, ..] => text_of(bytes),
+        [_, ..] => short_text_of(40, bytes),
     }
 }
 

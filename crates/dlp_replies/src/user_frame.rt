@@ -5,8 +5,7 @@ ghost use Rattle.dlp_replies.specs.ReplyValues as values;
 ghost use Rattle.dlp_replies.specs.UserTexts.{user_back, user_front};
 ghost use Rattle.dlp_replies.specs.Writables.{IsWritable};
 
-use dlp_args::Message;
-use dlp_args::{append, append_header};
+use dlp_args::{Message, append, append_header};
 use pdb_values::PalmDate;
 
 #[tactic(auto, using(std::proofs::Common::append_assoc))]

@@ -10,8 +10,7 @@ use crate::list_frame::{put_db_list, put_id_list};
 use crate::reader::reply_byte;
 use crate::reply::Reply;
 use crate::user_frame::put_user_info;
-use dlp_args::Message;
-use dlp_args::append;
+use dlp_args::{Message, append};
 
 /// Replaces the message by the reply. Its fields keep the bounds of its layout and the code of a refusal is not 0, so that
 /// it fits. It takes no memory.
@@ -85,9 +84,9 @@ pub fn write_reply(reply: &Reply<'_>, out: &mut Message)
 
 // An error of a function.
 fn put_refusal(out: &mut Message, function: u8, code: ErrorCode)
-    ensures { out.new ≡ frame_text (Refusal function code) }
+    ensures { out.new ≡ frame_text (Refusal function code.0) }
 {
-    let code = code.number().to_be_bytes();
+    let code = code.0.to_be_bytes();
     out.clear();
     append(out, &[reply_byte(function), 0, code[0], code[1]]);
 }

@@ -2,9 +2,9 @@
 use Rattle.std.specs.Prelude.{List, [], ◌∷◌}
 use Rattle.dlp_args.specs.Cells.{Kind, Byte, Half, Word, Pad, Run, Text, MaybeText, Rest, Counted}
 
--- user, viewer and PC; a date of eight bytes; change bits; the length of the name; the name, where one follows
+-- user, viewer and PC; a date of eight bytes; change bits; the length of the name; the name of at most 40 bytes, where one follows
 abbrev pub write_user_info : List Kind
-write_user_info = Word ∷ Word ∷ Word ∷ Run 8 ∷ Byte ∷ Byte ∷ MaybeText ∷ []
+write_user_info = Word ∷ Word ∷ Word ∷ Run 8 ∷ Byte ∷ Byte ∷ MaybeText 40 ∷ []
 
 -- flags, card, and the index of the first database
 abbrev pub read_db_list : List Kind

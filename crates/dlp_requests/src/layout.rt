@@ -4,8 +4,7 @@ ghost use Rattle.std.specs.Option.{option_map};
 ghost use Rattle.dlp_requests.specs.Layouts as layouts;
 ghost use Rattle.dlp_requests.specs.Frames.{One, layout_text, LayoutFits};
 
-use dlp_args::Message;
-use dlp_args::{append, begin, put};
+use dlp_args::{Message, append, begin, put};
 
 // User, viewer and PC; a date of eight bytes; change bits; the length of the name; the name, where one follows.
 #[tactic(auto, using(std::proofs::Common::append_assoc))]

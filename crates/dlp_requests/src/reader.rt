@@ -12,8 +12,7 @@ ghost use Rattle.dlp_requests.specs.Views.{request_value};
 use crate::fault::RequestFault;
 use crate::request::Request;
 use crate::{database, record, resource, session};
-use dlp_args::{Args, read_args};
-use dlp_args::Function;
+use dlp_args::{Args, Function, read_args};
 
 /// Reads a request, which is all of the bytes. It takes no memory.
 ///

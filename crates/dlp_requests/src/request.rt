@@ -3,7 +3,7 @@ use pdb_values::FourCc;
 
 /// A request. Its texts and data are lent from the message that it was read from. Texts stand without their zero; a size
 /// that the data has is no field; a byte that no one looks at is none either, and is written 0.
-#[derive(Clone, Copy, Debug)]
+#[derive(Clone, Copy)]
 pub enum Request<'a> {
     /// What the handheld knows of its user.
     ReadUserInfo,

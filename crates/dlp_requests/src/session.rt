@@ -18,7 +18,7 @@ pub(crate) fn write_user_info(content: &[u8]) -> Option<Request<'_>>
     let (date, rest) = take_8(rest)?;
     let (bits, rest) = take_u8(rest)?;
     let (name_len, rest) = take_u8(rest)?;
-    let name = maybe_text_of(rest)?;
+    let name = maybe_text_of(40, rest)?;
     Some(Request::WriteUserInfo {
         user,
         viewer,

@@ -5,8 +5,7 @@ ghost use Rattle.dlp_requests.specs.Views.{request_value};
 
 use crate::layout::*;
 use crate::request::Request;
-use dlp_args::Message;
-use dlp_args::append;
+use dlp_args::{Message, append};
 
 /// Replaces the message by the request. Its fields keep the bounds of its layout, so that it fits. It takes no memory.
 pub fn write_request(request: &Request<'_>, out: &mut Message)
