@@ -1,35 +1,17 @@
--- Fresh ids as loops find them, one record after the other.
-use Rattle.std.proofs.Common.{◌≡◌, ℕ, zero, suc, ◌+◌, ◌<◌, ◌≤◌, Bool, true, false, cond, not, ◌&&◌, ◌||◌, ◌==◌, List, [], ◌∷◌, ◌++◌, map, take, drop, length, refl, ap, sym, ◌∙◌, arith, add-one, append_assoc, length-append, Some, None, slice_get, get_or}
-use Rattle.std.specs.Prelude.{if◌then◌else◌}
+-- Fresh ids as a loop finds them, one record after the other.
+use Rattle.std.proofs.Common.{◌≡◌, ℕ, zero, suc, ◌+◌, ◌<◌, ◌≤◌, Bool, true, false, cond, not, ◌&&◌, ◌||◌, ◌==◌, List, [], ◌∷◌, ◌++◌, map, take, drop, length, refl, ap, sym, subst, ◌∙◌, arith, add-one, append_assoc, length-append, Some, None, slice_get, get_or}
+use Rattle.std.specs.Prelude.{nat_le, nat_lt}
+use Rattle.std.specs.BTreeSet.{BTreeSet, contains}
 use Rattle.std.specs.Option.{option_map}
+use Rattle.std.specs.Ordering.{nat_cmp}
+use Rattle.std.proofs.lemmas.Bool.{eqb-true}
+use Rattle.std.proofs.lemmas.Bool.Decides.{nat_tests}
 use Rattle.std.proofs.lemmas.List.{append-nil}
-use Rattle.std.proofs.lemmas.List.Folds.{list_any-append}
 use Rattle.palm_device.specs.Entries.{change_at, set_some}
 use Rattle.palm_device.specs.FreshIds.{is_among, is_kept, kept_behind, least_from, least_id, given_behind, fresh_ids, with_ids}
 use Rattle.pdb_values.specs.declared.record.Record.{Record}
+use Rattle.handheld_files.proofs.SettledLaws.{least_free}
 use Rattle.handheld_files.specs.Settled.{idle, settled}
-
--- the same ids are among both
-pub record SameIds (xs ys : List ℕ) : Type 0 where
-  pub same : (id : ℕ) → is_among id xs ≡ is_among id ys
-
-turned : (a b : Bool) → (a || b) ≡ (b || (a || false))
-turned true true = refl
-turned true false = refl
-turned false true = refl
-turned false false = refl
-
--- one more id, in front or behind
-pub same_more : (xs ys : List ℕ) (x : ℕ) → SameIds xs ys → SameIds (x ∷ xs) (ys ++ x ∷ [])
-same_more xs ys x s = record { same = λ id. ap (λ b. (x == id) || b) (s.same id) ∙ turned (x == id) (is_among id ys) ∙ sym (list_any-append (λ other. other == id) ys (x ∷ [])) }
-
-kept_same : (xs ys : List ℕ) (id : ℕ) → SameIds xs ys → is_kept xs id ≡ is_kept ys id
-kept_same xs ys id s = ap (λ b. not (id == 0) && not b) (s.same id)
-
-least_same : (more first : ℕ) (xs ys : List ℕ) → SameIds xs ys → least_from more first xs ≡ least_from more first ys
-unfolding least_from
-least_same zero first xs ys s = refl
-least_same (suc more) first xs ys s = rw (s.same first, least_same more (suc first) xs ys s) refl
 
 -- what follows the next entry of a list
 pub drop_next : {X : Type 0} (xs : List X) (k : ℕ) (x : X) → slice_get xs k ≡ Some x → drop k xs ≡ x ∷ drop (suc k) xs
@@ -49,154 +31,210 @@ drop_all [] (suc k) past = refl
 drop_all (y ∷ ys) zero past = absurd (omega arith)
 drop_all (y ∷ ys) (suc k) past = drop_all ys k (omega arith)
 
--- ---- the ids that are kept
+-- ---- numbers among others
 
--- the kept ids of the first so many are found
-pub record KeepsOn (ids kept : List ℕ) (place : ℕ) : Type 0 where
-  pub earlier : List ℕ
-  pub same : SameIds earlier (take place ids)
-  pub rest : kept_behind [] ids ≡ kept ++ kept_behind earlier (drop place ids)
-  pub few : length kept ≤ place
+apart : (a b : ℕ) → a < b → (a == b) ≡ false
+apart a b below = grind (arith, nat_tests)
 
-pub keeps_none : (ids : List ℕ) → KeepsOn ids [] 0
-keeps_none ids = record { earlier = []; same = record { same = λ id. refl }; rest = refl; few = omega arith }
+or_right : (a b : Bool) → b ≡ true → (a || b) ≡ true
+or_right true b h = refl
+or_right false b h = h
 
-same_next : (ids earlier : List ℕ) (place id : ℕ) → SameIds earlier (take place ids) → slice_get ids place ≡ Some id → SameIds (id ∷ earlier) (take (suc place) ids)
-same_next ids earlier place id s here = rw (take_next ids place id here) (same_more earlier (take place ids) id s)
+clash : (b : Bool) → b ≡ true → b ≡ false → ⊥
+clash true h k = absurd cc
+clash false h k = absurd cc
 
-kept_cons : (earlier ids : List ℕ) (id : ℕ) → kept_behind earlier (id ∷ ids) ≡ cond (is_kept earlier id) (id ∷ kept_behind (id ∷ earlier) ids) (kept_behind (id ∷ earlier) ids)
-unfolding kept_behind
-kept_cons earlier ids id = refl
+among_own : (id : ℕ) (ids : List ℕ) → is_among id (id ∷ ids) ≡ true
+among_own id ids = let own : (id == id) ≡ true = grind (arith, nat_tests) in ap (λ b. b || is_among id ids) own
 
-pub keeps_next : (ids kept now : List ℕ) (place id : ℕ) → KeepsOn ids kept place → slice_get ids place ≡ Some id → now ≡ (if is_kept (take place ids) id then kept ++ id ∷ [] else kept) → KeepsOn ids now (place + 1)
-keeps_next ids kept now place id on here now-is = rw (now-is, add-one) (by (is_kept (take place ids) id) refl)
+kept_here : (id : ℕ) (earlier : List ℕ) → 1 ≤ id → is_among id earlier ≡ false → is_kept earlier id ≡ true
+kept_here id earlier some none = let some_id : (id == 0) ≡ false = grind (arith, nat_tests) in rw (some_id, none) refl
+
+kept_by : (id x : ℕ) (ids earlier later : List ℕ) (b : Bool) → (id == x) ≡ b → 1 ≤ x → is_among x earlier ≡ false → ((id == x) ≡ false → is_among x later ≡ is_among x ids)
+    → is_among x (cond (is_kept earlier id) (id ∷ later) later) ≡ ((id == x) || is_among x ids)
+kept_by id x ids earlier later true e some none rest =
+    let kept : is_kept earlier x ≡ true = kept_here x earlier some none in
+    let same : id ≡ x = eqb-true id x e in
+    subst (λ n. is_among x (cond (is_kept earlier n) (n ∷ later) later) ≡ ((n == x) || is_among x ids)) (sym same) (rw kept (ap (λ b. b || is_among x later) (own x) ∙ sym (ap (λ b. b || is_among x ids) (own x))))
   where
-    by : (b : Bool) → is_kept (take place ids) id ≡ b → KeepsOn ids (cond b (kept ++ id ∷ []) kept) (suc place)
-    by true is =
-        let tested : is_kept on.earlier id ≡ true = kept_same on.earlier (take place ids) id on.same ∙ is in
-        record {
-          earlier = id ∷ on.earlier;
-          same = same_next ids on.earlier place id on.same here;
-          rest = on.rest ∙ rw (drop_next ids place id here, kept_cons, tested, append_assoc) refl;
-          few = let l = length-append kept (id ∷ []) in let more = on.few in omega arith;
-        }
-    by false is =
-        let tested : is_kept on.earlier id ≡ false = kept_same on.earlier (take place ids) id on.same ∙ is in
-        record {
-          earlier = id ∷ on.earlier;
-          same = same_next ids on.earlier place id on.same here;
-          rest = on.rest ∙ rw (drop_next ids place id here, kept_cons, tested) refl;
-          few = let more = on.few in omega arith;
-        }
+    own : (n : ℕ) → (n == n) ≡ true
+    own n = grind (arith, nat_tests)
+kept_by id x ids earlier later false e some none rest =
+    elim (is_kept earlier id) as (λ b. is_among x (cond b (id ∷ later) later) ≡ ((id == x) || is_among x ids)) [ true ↦ ap (λ b. (id == x) || b) (rest e) | false ↦ rest e ∙ sym (ap (λ b. b || is_among x ids) e) ]
 
-kept_nil : (earlier : List ℕ) → kept_behind earlier [] ≡ []
+-- an id but 0 is kept somewhere, unless it came before
+pub among-kept_behind : (ids earlier : List ℕ) (x : ℕ) → 1 ≤ x → is_among x earlier ≡ false → is_among x (kept_behind earlier ids) ≡ is_among x ids
 unfolding kept_behind
-kept_nil earlier = refl
-
-pub keeps_all : (ids kept : List ℕ) (place : ℕ) → KeepsOn ids kept place → length ids ≤ place → kept ≡ kept_behind [] ids
-keeps_all ids kept place on past = sym (on.rest ∙ rw (drop_all ids place past, kept_nil, append-nil) refl)
+among-kept_behind [] earlier x some none = refl
+among-kept_behind (id ∷ ids) earlier x some none =
+    kept_by id x ids earlier (kept_behind (id ∷ earlier) ids) (id == x) refl some none (λ differ. among-kept_behind ids (id ∷ earlier) x some (ap (λ b. b || is_among x earlier) differ ∙ none))
 
 -- ---- the least id
 
--- no id below this number is free
-pub record LooksOn (taken : List ℕ) (first : ℕ) : Type 0 where
-  pub more : ℕ
-  pub sum : first + more ≡ length taken + 1
-  pub rest : least_from more first taken ≡ least_id taken
+below_by : (taken : List ℕ) (first k later : ℕ) (b : Bool) → is_among first taken ≡ b → first ≤ k → k < cond b later first → ((first == k) ≡ false → k < later → is_among k taken ≡ true) → is_among k taken ≡ true
+below_by taken first k later true here low below rest = at (first == k) refl
+  where
+    at : (c : Bool) → (first == k) ≡ c → is_among k taken ≡ true
+    at true same = subst (λ n. is_among n taken ≡ true) (eqb-true first k same) here
+    at false differ = rest differ below
+below_by taken first k later false here low below rest = absurd (omega arith)
 
-pub looks_none : (taken : List ℕ) → LooksOn taken 1
-looks_none taken = record { more = length taken; sum = omega arith; rest = refl }
+above_it : (first k : ℕ) → first ≤ k → (first == k) ≡ false → suc first ≤ k
+above_it first k low differ = grind (arith, nat_tests)
 
-least_next : (taken : List ℕ) (more first : ℕ) → least_from (suc more) first taken ≡ cond (is_among first taken) (least_from more (suc first) taken) first
+-- all below the least id are taken
+among_below : (taken : List ℕ) (more first k : ℕ) → first ≤ k → k < least_from more first taken → is_among k taken ≡ true
 unfolding least_from
-least_next taken more first = refl
+among_below taken zero first k low high = absurd (omega arith)
+among_below taken (suc more) first k low high =
+    below_by taken first k (least_from more (suc first) taken) (is_among first taken) refl low high (λ differ below. among_below taken more (suc first) k (above_it first k low differ) below)
 
-least_now : (taken : List ℕ) (first : ℕ) → least_from zero first taken ≡ first
+least_high : (taken : List ℕ) (more first : ℕ) → least_from more first taken ≤ first + more
 unfolding least_from
-least_now taken first = refl
+least_high taken zero first = omega arith
+least_high taken (suc more) first = let later = least_high taken more (suc first) in elim (is_among first taken) as (λ b. cond b (least_from more (suc first) taken) first ≤ first + suc more) [ true ↦ omega arith | false ↦ omega arith ]
 
-pub looks_past : (taken : List ℕ) (first : ℕ) → LooksOn taken first → first ≤ length taken → is_among first taken ≡ true → LooksOn taken (first + 1)
-looks_past taken first on within is = rw add-one (by on.more on.sum on.rest)
-  where
-    by : (more : ℕ) → first + more ≡ length taken + 1 → least_from more first taken ≡ least_id taken → LooksOn taken (suc first)
-    by zero sum rest = absurd (omega arith)
-    by (suc more) sum rest = record { more = more; sum = omega arith; rest = sym (least_next taken more first ∙ rw is refl) ∙ rest }
+least_low : (taken : List ℕ) (more first : ℕ) → first ≤ least_from more first taken
+unfolding least_from
+least_low taken zero first = omega arith
+least_low taken (suc more) first = let later = least_low taken more (suc first) in elim (is_among first taken) as (λ b. first ≤ cond b (least_from more (suc first) taken) first) [ true ↦ omega arith | false ↦ omega arith ]
 
-pub looks_found : (taken : List ℕ) (first : ℕ) → LooksOn taken first → is_among first taken ≡ false → first ≡ least_id taken
-looks_found taken first on is = by on.more on.rest
+-- where all from 1 to a number are taken, the least id is not below it
+least_from_here : (taken : List ℕ) (next : ℕ) → ((x : ℕ) → 1 ≤ x → x < next → is_among x taken ≡ true) → next ≤ least_id taken
+least_from_here taken next below = by (nat_le next (least_id taken)) refl
   where
-    by : (more : ℕ) → least_from more first taken ≡ least_id taken → first ≡ least_id taken
-    by zero rest = sym (least_now taken first) ∙ rest
-    by (suc more) rest = sym (least_next taken more first ∙ rw is refl) ∙ rest
+    by : (b : Bool) → nat_le next (least_id taken) ≡ b → next ≤ least_id taken
+    by true e = grind (arith, nat_tests)
+    by false e =
+        let before : least_id taken < next = grind (arith, nat_tests) in
+        absurd (clash (is_among (least_id taken) taken) (below (least_id taken) (least_low taken (length taken) 1) before) (least_free taken))
 
-pub looks_end : (taken : List ℕ) (first : ℕ) → LooksOn taken first → length taken < first → first ≡ least_id taken
-looks_end taken first on past = by on.more on.sum on.rest
+-- the least id is the one that is free while all before it are taken
+least_is : (taken : List ℕ) (n : ℕ) → 1 ≤ n → ((x : ℕ) → 1 ≤ x → x < n → is_among x taken ≡ true) → is_among n taken ≡ false → n ≡ least_id taken
+least_is taken n some below free =
+    let low : n ≤ least_id taken = least_from_here taken n below in
+    by (nat_lt n (least_id taken)) refl low
   where
-    by : (more : ℕ) → first + more ≡ length taken + 1 → least_from more first taken ≡ least_id taken → first ≡ least_id taken
-    by zero sum rest = sym (least_now taken first) ∙ rest
-    by (suc more) sum rest = absurd (omega arith)
+    by : (b : Bool) → nat_lt n (least_id taken) ≡ b → n ≤ least_id taken → n ≡ least_id taken
+    by true e low =
+        let before : n < least_id taken = grind (arith, nat_tests) in
+        absurd (clash (is_among n taken) (among_below taken (length taken) 1 n some before) free)
+    by false e low = grind (arith, nat_tests)
 
 -- ---- the ids that are given
 
--- the first so many ids are given
-pub record GivesOn (ids taken fresh : List ℕ) (place : ℕ) : Type 0 where
+-- The first so many ids are given. Of the numbers that are taken by then, those from `next` on are ids of their own.
+pub record GivesOn (ids fresh : List ℕ) (numbers seen : BTreeSet ℕ) (next place : ℕ) : Type 0 where
   pub earlier : List ℕ
   pub held : List ℕ
-  pub same : SameIds earlier (take place ids)
-  pub same_held : SameIds held taken
-  pub as_many : length held ≡ length taken
+  pub seen_so : (x : ℕ) → contains nat_cmp seen x ≡ is_among x earlier
+  pub some : 1 ≤ next
+  pub below : (x : ℕ) → 1 ≤ x → x < next → is_among x held ≡ true
+  pub above : (x : ℕ) → next ≤ x → is_among x held ≡ contains nat_cmp numbers x
   pub rest : fresh_ids ids ≡ fresh ++ given_behind earlier held (drop place ids)
-  pub few : length taken ≤ length ids + place
+  pub few : length held ≤ length ids + place
   pub given : length fresh ≡ place
 
-pub gives_none : (ids taken : List ℕ) → taken ≡ kept_behind [] ids → length taken ≤ length ids → GivesOn ids taken [] 0
-gives_none ids taken is few = record { earlier = []; held = taken; same = record { same = λ id. refl }; same_held = record { same = λ id. refl }; as_many = refl; rest = rw is refl; few = omega arith; given = refl }
+length-kept_behind : (ids earlier : List ℕ) → length (kept_behind earlier ids) ≤ length ids
+unfolding kept_behind
+length-kept_behind [] earlier = omega arith
+length-kept_behind (id ∷ ids) earlier = let rest = length-kept_behind ids (id ∷ earlier) in elim (is_kept earlier id) as (λ b. length (cond b (id ∷ kept_behind (id ∷ earlier) ids) (kept_behind (id ∷ earlier) ids)) ≤ length (id ∷ ids)) [ true ↦ omega arith | false ↦ omega arith ]
+
+pub gives_none : (ids : List ℕ) (numbers seen : BTreeSet ℕ) → ((x : ℕ) → contains nat_cmp numbers x ≡ is_among x ids) → ((x : ℕ) → contains nat_cmp seen x ≡ false) → GivesOn ids [] numbers seen 1 0
+gives_none ids numbers seen are none = record {
+  earlier = [];
+  held = kept_behind [] ids;
+  seen_so = none;
+  some = omega arith;
+  below = λ x some less. absurd (omega arith);
+  above = λ x some. among-kept_behind ids [] x some refl ∙ sym (are x);
+  rest = refl;
+  few = (let few = length-kept_behind ids [] in omega arith);
+  given = refl;
+}
 
 given_cons : (earlier held ids : List ℕ) (id : ℕ) → given_behind earlier held (id ∷ ids) ≡ cond (is_kept earlier id) (id ∷ given_behind (id ∷ earlier) held ids) (least_id held ∷ given_behind (id ∷ earlier) (least_id held ∷ held) ids)
 unfolding given_behind
 given_cons earlier held ids id = refl
 
-least_alike : (xs ys : List ℕ) → SameIds xs ys → length xs ≡ length ys → least_id xs ≡ least_id ys
-least_alike xs ys s many = ap (λ n. least_from n 1 xs) many ∙ least_same (length ys) 1 xs ys s
+kept_so : (earlier : List ℕ) (id : ℕ) (found : Bool) → found ≡ is_among id earlier → (not (id == 0) && not found) ≡ is_kept earlier id
+kept_so earlier id found is = ap (λ b. not (id == 0) && not b) is
 
-pub gives_next : (ids taken fresh taken' fresh' : List ℕ) (place id next : ℕ) → GivesOn ids taken fresh place → slice_get ids place ≡ Some id
-    → next ≡ (if is_kept (take place ids) id then id else least_id taken) → taken' ≡ (if is_kept (take place ids) id then taken else taken ++ least_id taken ∷ []) → fresh' ≡ fresh ++ next ∷ []
-    → GivesOn ids taken' fresh' (place + 1)
-gives_next ids taken fresh taken' fresh' place id next on here next-is taken-is fresh-is = rw (fresh-is, next-is, taken-is, add-one) (by (is_kept (take place ids) id) refl)
+-- an id that is kept
+pub gives_own : (ids fresh : List ℕ) (numbers seen seen' : BTreeSet ℕ) (next place id : ℕ) → GivesOn ids fresh numbers seen next place → slice_get ids place ≡ Some id
+    → (not (id == 0) && not (contains nat_cmp seen id)) ≡ true → ((x : ℕ) → contains nat_cmp seen' x ≡ ((id == x) || contains nat_cmp seen x)) → GivesOn ids (fresh ++ id ∷ []) numbers seen' next (place + 1)
+gives_own ids fresh numbers seen seen' next place id on here own more =
+    let kept : is_kept on.earlier id ≡ true = sym (kept_so on.earlier id (contains nat_cmp seen id) (on.seen_so id)) ∙ own in
+    record {
+      earlier = id ∷ on.earlier;
+      held = on.held;
+      seen_so = λ x. more x ∙ ap (λ b. (id == x) || b) (on.seen_so x);
+      some = on.some;
+      below = on.below;
+      above = on.above;
+      rest = on.rest ∙ rw (add-one, drop_next ids place id here, given_cons, kept, append_assoc) refl;
+      few = (let few = on.few in omega arith);
+      given = (let many = on.given in let l = length-append fresh (id ∷ []) in omega arith);
+    }
+
+-- the first number that is free is the least id
+first_is_least : (ids fresh : List ℕ) (numbers seen : BTreeSet ℕ) (next place free : ℕ) → (on : GivesOn ids fresh numbers seen next place) → next ≤ free → contains nat_cmp numbers free ≡ false
+    → ((k : ℕ) → next ≤ k → k < free → contains nat_cmp numbers k ≡ true) → free ≡ least_id on.held
+first_is_least ids fresh numbers seen next place free on from none all =
+    least_is on.held free (let some = on.some in omega arith) below (on.above free from ∙ none)
   where
-    by : (b : Bool) → is_kept (take place ids) id ≡ b → GivesOn ids (cond b taken (taken ++ least_id taken ∷ [])) (fresh ++ (cond b id (least_id taken)) ∷ []) (suc place)
-    by true is =
-        let tested : is_kept on.earlier id ≡ true = kept_same on.earlier (take place ids) id on.same ∙ is in
-        record {
-          earlier = id ∷ on.earlier;
-          held = on.held;
-          same = same_next ids on.earlier place id on.same here;
-          same_held = on.same_held;
-          as_many = on.as_many;
-          rest = on.rest ∙ rw (drop_next ids place id here, given_cons, tested, append_assoc) refl;
-          few = let more = on.few in omega arith;
-          given = let many = on.given in let l = length-append fresh (id ∷ []) in omega arith;
-        }
-    by false is =
-        let tested : is_kept on.earlier id ≡ false = kept_same on.earlier (take place ids) id on.same ∙ is in
-        let least : least_id on.held ≡ least_id taken = least_alike on.held taken on.same_held on.as_many in
-        record {
-          earlier = id ∷ on.earlier;
-          held = least_id taken ∷ on.held;
-          same = same_next ids on.earlier place id on.same here;
-          same_held = same_more on.held taken (least_id taken) on.same_held;
-          as_many = let l = length-append taken (least_id taken ∷ []) in let many = on.as_many in omega arith;
-          rest = on.rest ∙ rw (drop_next ids place id here, given_cons, tested, least, append_assoc) refl;
-          few = let l = length-append taken (least_id taken ∷ []) in let more = on.few in omega arith;
-          given = let many = on.given in let l = length-append fresh (least_id taken ∷ []) in omega arith;
-        }
+    below : (x : ℕ) → 1 ≤ x → x < free → is_among x on.held ≡ true
+    below x some less = by (nat_lt x next) refl
+      where
+        by : (b : Bool) → nat_lt x next ≡ b → is_among x on.held ≡ true
+        by true e = on.below x some (grind (arith, nat_tests))
+        by false e = let past : next ≤ x = grind (arith, nat_tests) in on.above x past ∙ all x past less
+
+-- some number is free
+pub some_is_free : (ids fresh : List ℕ) (numbers seen : BTreeSet ℕ) (next place : ℕ) → GivesOn ids fresh numbers seen next place → length ids ≤ 65535 → place ≤ length ids
+    → (k : ℕ) × ((next ≤ k) × (k ≤ 16777215) × (contains nat_cmp numbers k ≡ false))
+some_is_free ids fresh numbers seen next place on few within =
+    let from : next ≤ least_id on.held = least_from_here on.held next on.below in
+    let high : least_id on.held ≤ 1 + length on.held = least_high on.held (length on.held) 1 in
+    let many = on.few in
+    (least_id on.held, (from, omega arith, sym (on.above (least_id on.held) from) ∙ least_free on.held))
+
+-- an id that gives way to the least one
+pub gives_least : (ids fresh : List ℕ) (numbers seen seen' : BTreeSet ℕ) (next place id free : ℕ) → GivesOn ids fresh numbers seen next place → slice_get ids place ≡ Some id
+    → (not (id == 0) && not (contains nat_cmp seen id)) ≡ false → ((x : ℕ) → contains nat_cmp seen' x ≡ ((id == x) || contains nat_cmp seen x))
+    → next ≤ free → contains nat_cmp numbers free ≡ false → ((k : ℕ) → next ≤ k → k < free → contains nat_cmp numbers k ≡ true) → GivesOn ids (fresh ++ free ∷ []) numbers seen' (free + 1) (place + 1)
+gives_least ids fresh numbers seen seen' next place id free on here other more from none all =
+    let kept : is_kept on.earlier id ≡ false = sym (kept_so on.earlier id (contains nat_cmp seen id) (on.seen_so id)) ∙ other in
+    let least : free ≡ least_id on.held = first_is_least ids fresh numbers seen next place free on from none all in
+    record {
+      earlier = id ∷ on.earlier;
+      held = free ∷ on.held;
+      seen_so = λ x. more x ∙ ap (λ b. (id == x) || b) (on.seen_so x);
+      some = omega arith;
+      below = below;
+      above = λ x past. (let differ : (free == x) ≡ false = apart free x (omega arith) in rw differ (on.above x (omega arith)));
+      rest = on.rest ∙ rw (add-one, drop_next ids place id here, given_cons, kept, sym least, append_assoc) refl;
+      few = (let few = on.few in omega arith);
+      given = (let many = on.given in let l = length-append fresh (free ∷ []) in omega arith);
+    }
+  where
+    below : (x : ℕ) → 1 ≤ x → x < free + 1 → is_among x (free ∷ on.held) ≡ true
+    below x some less = by (nat_lt x next) refl (free == x) refl
+      where
+        by : (b : Bool) → nat_lt x next ≡ b → (c : Bool) → (free == x) ≡ c → is_among x (free ∷ on.held) ≡ true
+        by b e true same = ap (λ c. c || is_among x on.held) same
+        by true e false differ = or_right (free == x) (is_among x on.held) (on.below x some (grind (arith, nat_tests)))
+        by false e false differ =
+            let past : next ≤ x = grind (arith, nat_tests) in
+            let before : x < free = grind (arith, nat_tests) in
+            or_right (free == x) (is_among x on.held) (on.above x past ∙ all x past before)
 
 given_nil : (earlier held : List ℕ) → given_behind earlier held [] ≡ []
 unfolding given_behind
 given_nil earlier held = refl
 
-pub gives_all : (ids taken fresh : List ℕ) (place : ℕ) → GivesOn ids taken fresh place → length ids ≤ place → fresh ≡ fresh_ids ids
-gives_all ids taken fresh place on past = sym (on.rest ∙ rw (drop_all ids place past, given_nil, append-nil) refl)
+pub gives_all : (ids fresh : List ℕ) (numbers seen : BTreeSet ℕ) (next place : ℕ) → GivesOn ids fresh numbers seen next place → length ids ≤ place → fresh ≡ fresh_ids ids
+gives_all ids fresh numbers seen next place on past = sym (on.rest ∙ rw (drop_all ids place past, given_nil, append-nil) refl)
 
 -- ---- the records
 

@@ -1,6 +1,7 @@
 -- What is known while a folder's files are read one after the other.
 use Rattle.std.proofs.Common.{◌≡◌, ℕ, suc, ◌+◌, ◌<◌, ◌≤◌, Bool, true, false, cond, List, [], ◌∷◌, ◌++◌, map, take, drop, length, refl, ap, sym, ◌∙◌, subst, inl, inr, arith, add-one, zero, get_or}
-use Rattle.std.specs.Prelude.{All, Option, Some, None, IfErr, IfOk, IfSome, IsErrOf, MatchBool, Err, Ok, Result, String, count_by, string_bytes}
+use Rattle.std.specs.List.{AllByRecursion}
+use Rattle.std.specs.Prelude.{Option, Some, None, IfErr, IfOk, IfSome, IsErrOf, MatchBool, Err, Ok, Result, String, count_by, string_bytes}
 use Rattle.std.specs.FinMap as finmap
 use Rattle.std.specs.declared.alloc.Global.{Global}
 use Rattle.std.proofs.Math.Seq.{split_at}
@@ -8,11 +9,12 @@ use Rattle.std.proofs.lemmas.List.{map-append}
 use Rattle.std.proofs.lemmas.List.Sums.{sum_by-append}
 use Rattle.hs_folders.specs.Causes.{HasCause, Rose}
 use Rattle.hs_folders.specs.FileMaps.{FileMap}
+use Rattle.hs_folders.specs.Moments.{Moments, OnlyRead}
 use Rattle.pdb_values.specs.Databases.{DatabaseValue}
 use Rattle.pdb_values.specs.declared.user.UserInfo.{UserInfo}
 use Rattle.pdb_values.specs.declared.head.DbHead.{DbHead}
-use Rattle.palm_device.specs.Devices.{database_of}
-use Rattle.palm_device.specs.Soundness.{NamesRise}
+use Rattle.pdb_values.specs.NamedDatabases.{NamesRise, database_of}
+use Rattle.pdb_values.proofs.NamedLaws.{AllByRecursion-with_new, NamesRise-with_new, length-with_new}
 use Rattle.folder_files.specs.InfoFiles.{IsDeviceFile}
 use Rattle.handheld_files.specs.Adding.{AddsDatabase}
 use Rattle.handheld_files.specs.Handhelds.{StandFor, is_database_file, no_user}
@@ -22,7 +24,6 @@ use Rattle.handheld_files.specs.Settled.{are_settled, as_opened}
 use Rattle.handheld_files.specs.declared.fault.OpenFault.{OpenFault}
 use Rattle.handheld_files.specs.declared.handheld.Handheld.{Handheld}
 use Rattle.handheld_files.specs.declared.fault.OpenFault.TheVariants.{Keeper, TooMany, BadFile, NoMemory}
-use Rattle.handheld_files.proofs.OrderLaws.{all_with_new, length-with_new, rise_with_new}
 use Rattle.handheld_files.proofs.SettledLaws.{settled_as_opened}
 use Rattle.handheld_files.proofs.StandLaws.{as_opened-head, stand_added, stand_all, stand_missing, stand_none, stand_unread}
 
@@ -30,10 +31,10 @@ use Rattle.handheld_files.proofs.StandLaws.{as_opened-head, stand_added, stand_a
 pub record KeptSoFar (names : List (List ℕ)) (databases : List DatabaseValue) : Type 0 where
   pub order : NamesRise databases
   pub few : length databases ≤ count_by is_database_file names
-  pub settled : All (λ database. are_settled database.records ≡ true) databases
+  pub settled : AllByRecursion (λ database. are_settled database.records ≡ true) databases
 
 pub kept_none : (databases : List DatabaseValue) → databases ≡ [] → KeptSoFar [] databases
-kept_none databases is = subst (KeptSoFar []) (sym is) (record { order = tt; few = omega arith; settled = λ k d within. absurd (omega arith) })
+kept_none databases is = subst (KeptSoFar []) (sym is) (record { order = tt; few = omega arith; settled = tt })
 
 count_by-more : (test : List ℕ → Bool) (names : List (List ℕ)) (name : List ℕ) → count_by test (names ++ name ∷ []) ≡ count_by test names + count_by test (name ∷ [])
 count_by-more test names name = sum_by-append (λ n. cond (test n) 1 0) names (name ∷ [])
@@ -53,9 +54,9 @@ kept_database names name bytes old new is adds kept =
     let many = length-with_new opened old in
     let few = kept.few in
     subst (KeptSoFar (names ++ name ∷ [])) (sym adds.made) (record {
-      order = rise_with_new opened old kept.order none;
+      order = NamesRise-with_new opened old none kept.order;
       few = omega arith;
-      settled = all_with_new (λ database. are_settled database.records ≡ true) opened old (settled_as_opened adds.stored) kept.settled;
+      settled = AllByRecursion-with_new (λ database. are_settled database.records ≡ true) opened old (settled_as_opened adds.stored) kept.settled;
     })
 
 -- one more file
@@ -139,6 +140,18 @@ pub shows_all : (told : Option FileMap) (names : List (List ℕ)) (answer : Resu
     → IfErr answer (λ fault. IfSome told (RefusesOne names fault)) → IfErr answer (λ fault. IfSome told (Shows fault))
 shows_all told names (Ok handheld) listed few refuses = tt
 shows_all told names (Err fault) listed few refuses = shows_one told names fault listed few refuses
+
+-- ---- readings
+
+-- one reading after another
+pub OnlyRead-trans : {F : Type 0} (contents : F → Option FileMap) (moments : F → Moments) (paths : F → Option (List (List ℕ))) (faults : F → ℕ) (old mid new : F)
+    → OnlyRead contents moments paths faults old mid → OnlyRead contents moments paths faults mid new → OnlyRead contents moments paths faults old new
+OnlyRead-trans contents moments paths faults old mid new first then = record {
+  same_contents = then.same_contents ∙ first.same_contents;
+  same_moments = then.same_moments ∙ first.same_moments;
+  same_paths = then.same_paths ∙ first.same_paths;
+  later = (let a = first.later in let b = then.later in omega arith);
+}
 
 -- ---- causes
 

@@ -1,6 +1,5 @@
 pub mod ChangeLaws
 pub mod FreshLaws
 pub mod KeptLaws
-pub mod OrderLaws
 pub mod SettledLaws
 pub mod StandLaws

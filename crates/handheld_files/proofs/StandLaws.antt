@@ -11,14 +11,14 @@ use Rattle.hs_folders.specs.FileMaps.{FileMap}
 use Rattle.pdb_values.specs.Databases.{DatabaseValue}
 use Rattle.pdb_values.specs.declared.user.UserInfo.{UserInfo}
 use Rattle.pdb_values.specs.declared.head.DbHead.{DbHead}
-use Rattle.palm_device.specs.Devices.{database_of, with_new}
+use Rattle.pdb_values.specs.NamedDatabases.{database_of, with_new}
 use Rattle.folder_files.specs.InfoFiles.{IsDeviceFile}
 use Rattle.folder_files.specs.FileNames.{database_file, device_info_file, has_ending, is_handheld_file}
 use Rattle.handheld_files.specs.Adding.{AddsDatabase, AddsFile}
 use Rattle.handheld_files.specs.Handhelds.{Files, HasFile, IsHeld, IsUserOf, StandFor, is_database_file, no_user}
 use Rattle.handheld_files.specs.Openings.{among}
 use Rattle.handheld_files.specs.Settled.{as_opened}
-use Rattle.handheld_files.proofs.OrderLaws.{database_of-with_new, own_bytes, rise_with_new, same_bytes}
+use Rattle.pdb_values.proofs.NamedLaws.{NamesRise-with_new, bytes_eq-is, bytes_eq-own, database_of-with_new}
 
 -- opening keeps the head
 pub as_opened-head : (stored : DatabaseValue) → (as_opened stored).head ≡ stored.head
@@ -41,7 +41,7 @@ database_is_read name is = or_more (has_ending (codes ".pdb") name) (has_ending 
 
 -- a file that a handheld reads and that is none of a database is its information file
 pub other_is_info : (name : List ℕ) → is_handheld_file name ≡ true → is_database_file name ≡ false → name ≡ device_info_file
-other_is_info name is not = same_bytes name device_info_file (or_split (has_ending (codes ".pdb") name) (has_ending (codes ".prc") name) (bytes_eq name device_info_file) is not)
+other_is_info name is not = bytes_eq-is name device_info_file (or_split (has_ending (codes ".pdb") name) (has_ending (codes ".prc") name) (bytes_eq name device_info_file) is not)
 
 info_is_none : is_database_file device_info_file ≡ false
 info_is_none = refl
@@ -83,7 +83,7 @@ among-other : (before : List (List ℕ)) (name : List ℕ) (held : FileMap) (q :
 among-other before name held q other = among-next before name held q ∙ rw other refl
 
 among-this : (before : List (List ℕ)) (name : List ℕ) (held : FileMap) → among (before ++ name ∷ []) held name ≡ finmap.get held name
-among-this before name held = among-next before name held name ∙ rw (own_bytes name) refl
+among-this before name held = among-next before name held name ∙ rw (bytes_eq-own name) refl
 
 -- ---- a file that is passed over
 
@@ -94,12 +94,12 @@ none_stays a false found none = refl
 
 pub stand_missing : (held : FileMap) (before : List (List ℕ)) (name : List ℕ) (databases : List DatabaseValue) (user : UserInfo) → finmap.get held name ≡ None → StandFor (among before held) databases user → StandFor (among (before ++ name ∷ []) held) databases user
 stand_missing held before name databases user none stands =
-    stand_same (among before held) (among (before ++ name ∷ []) held) databases user (λ q. none_stays (list_any (bytes_eq q) before) (bytes_eq q name) (finmap.get held q) (λ e. ap (finmap.get held) (same_bytes q name e) ∙ none) ∙ sym (among-next before name held q)) stands
+    stand_same (among before held) (among (before ++ name ∷ []) held) databases user (λ q. none_stays (list_any (bytes_eq q) before) (bytes_eq q name) (finmap.get held q) (λ e. ap (finmap.get held) (bytes_eq-is q name e) ∙ none) ∙ sym (among-next before name held q)) stands
 
 -- names of which one passes a test and the other doesn't
 pub differs : (q name : List ℕ) (test : List ℕ → Bool) (a b : Bool) → test q ≡ a → test name ≡ b → (a ≡ b → ⊥) → bytes_eq q name ≡ false
 differs q name test a b qa nb unlike = elim (bytes_eq q name) as (λ e. bytes_eq q name ≡ e → e ≡ false) [
-  | true ↦ λ e. absurd (unlike (sym qa ∙ ap test (same_bytes q name e) ∙ nb))
+  | true ↦ λ e. absurd (unlike (sym qa ∙ ap test (bytes_eq-is q name e) ∙ nb))
   | false ↦ λ e. refl
 ] refl
 
@@ -133,9 +133,9 @@ stand_info held before bytes databases user user' there file stands =
 
 held_still : (name : List ℕ) (new old : DatabaseValue) (databases : List DatabaseValue) → database_of new.head.name databases ≡ None → database_of name databases ≡ Some old → database_of name (with_new new databases) ≡ Some old
 held_still name new old databases none found =
-    database_of-with_new name new databases (λ e. ap (λ n. database_of n databases) (sym (same_bytes new.head.name name e)) ∙ none)
+    database_of-with_new name new databases none
     ∙ elim (bytes_eq new.head.name name) as (λ b. bytes_eq new.head.name name ≡ b → cond b (Some new) (database_of name databases) ≡ Some old) [
-      | true ↦ λ e. absurd (let no : ◌≡◌ {A = Option DatabaseValue} None (Some old) = sym none ∙ ap (λ n. database_of n databases) (same_bytes new.head.name name e) ∙ found in cc)
+      | true ↦ λ e. absurd (let no : ◌≡◌ {A = Option DatabaseValue} None (Some old) = sym none ∙ ap (λ n. database_of n databases) (bytes_eq-is new.head.name name e) ∙ found in cc)
       | false ↦ λ e. found
     ] refl
 
@@ -145,14 +145,13 @@ stand_database held before name bytes old new user there is adds stands =
     let opened : DatabaseValue = as_opened adds.stored in
     let head : opened.head ≡ adds.stored.head = as_opened-head adds.stored in
     let none : database_of opened.head.name old ≡ None = ap (λ (h : DbHead). database_of h.name old) head ∙ adds.is_new in
-    let alone : (q : List ℕ) → bytes_eq opened.head.name q ≡ true → database_of q old ≡ None = λ q e. ap (λ n. database_of n old) (sym (same_bytes opened.head.name q e)) ∙ none in
-    let this : database_of adds.stored.head.name (with_new opened old) ≡ Some opened = ap (λ (h : DbHead). database_of h.name (with_new opened old)) (sym head) ∙ database_of-with_new opened.head.name opened old (alone opened.head.name) ∙ rw (own_bytes opened.head.name) refl in
+    let this : database_of adds.stored.head.name (with_new opened old) ≡ Some opened = ap (λ (h : DbHead). database_of h.name (with_new opened old)) (sym head) ∙ database_of-with_new opened.head.name opened old none ∙ rw (bytes_eq-own opened.head.name) refl in
     let file_there : among (before ++ name ∷ []) held (database_file adds.stored.head) ≡ Some bytes = ap (among (before ++ name ∷ []) held) (sym adds.file.named) ∙ among-this before name held ∙ there in
     let no_info : bytes_eq device_info_file name ≡ false = differs device_info_file name is_database_file false true info_is_none is (λ h. absurd cc) in
     subst (λ databases. StandFor (among (before ++ name ∷ []) held) databases user) (sym adds.made) (record {
-      order = rise_with_new opened old stands.order none;
+      order = NamesRise-with_new opened old none stands.order;
       each_file = λ q found_bytes q_is found. elim (bytes_eq q name) as (λ b. bytes_eq q name ≡ b → IsHeld (with_new opened old) q found_bytes) [
-        | true ↦ λ e. (let here : q ≡ name = same_bytes q name e in
+        | true ↦ λ e. (let here : q ≡ name = bytes_eq-is q name e in
             let same : found_bytes ≡ bytes = (let both : ◌≡◌ {A = Option (List ℕ)} (Some found_bytes) (Some bytes) = sym found ∙ ap (among (before ++ name ∷ []) held) here ∙ among-this before name held ∙ there in cc) in
             subst (λ n. IsHeld (with_new opened old) n found_bytes) (sym here) (subst (λ b. IsHeld (with_new opened old) name b) (sym same) (record { stored = adds.stored; file = adds.file; held = this })))
         | false ↦ λ e. (let was = stands.each_file q found_bytes q_is (sym (among-other before name held q e) ∙ found) in
@@ -161,7 +160,7 @@ stand_database held before name bytes old new user there is adds stands =
       each_database = λ q database found. elim (bytes_eq opened.head.name q) as (λ b. cond b (Some opened) (database_of q old) ≡ Some database → HasFile (among (before ++ name ∷ []) held) database) [
         | true ↦ λ e. (let same : opened ≡ database = cc in subst (λ d. HasFile (among (before ++ name ∷ []) held) d) same (record { stored = adds.stored; bytes = bytes; text = adds.file.text; there = file_there; is = refl }))
         | false ↦ λ e. has_more before name held database (stands.each_database q database e)
-      ] (sym (database_of-with_new q opened old (alone q)) ∙ found);
+      ] (sym (database_of-with_new q opened old none) ∙ found);
       owner = subst (λ found. IsUserOf found user) (sym (among-other before name held device_info_file no_info)) stands.owner;
     })
 

@@ -6,7 +6,7 @@ use Rattle.pdb_values.specs.declared.user.UserInfo.{UserInfo}
 use Rattle.pdb_files.specs.BadKinds.{bad_file}
 use Rattle.pdb_files.specs.declared.bad_kind.BadKind.{BadKind}
 use Rattle.pdb_files.specs.declared.fault.FileFault.{FileFault}
-use Rattle.palm_device.specs.Devices.{database_of, with_new}
+use Rattle.pdb_values.specs.NamedDatabases.{database_of, with_new}
 use Rattle.folder_files.specs.InfoFiles.{IsDeviceFile}
 use Rattle.handheld_files.specs.BadFiles.{FirstFails, StoredFails}
 use Rattle.handheld_files.specs.Handhelds.{IsFileOf, is_database_file}

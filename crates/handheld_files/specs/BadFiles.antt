@@ -7,7 +7,7 @@ use Rattle.pdb_files.specs.Files.{IsFileText}
 use Rattle.pdb_files.specs.declared.bad_kind.BadKind.{BadKind}
 use Rattle.pdb_files.specs.declared.bad_kind.BadKind.TheVariants.{FileName, Info, Twice}
 use Rattle.pdb_files.specs.declared.fault.FileFault.{FileFault}
-use Rattle.palm_device.specs.Devices.{database_of}
+use Rattle.pdb_values.specs.NamedDatabases.{database_of}
 use Rattle.folder_files.specs.InfoFiles.{device_in}
 use Rattle.folder_files.specs.FileNames.{database_file}
 use Rattle.handheld_files.specs.Handhelds.{IsFileOf, is_database_file}

@@ -3,8 +3,7 @@ use Rattle.std.specs.Prelude.{◌≡◌, ℕ, Bool, true, ◌||◌, List, [], co
 use Rattle.pdb_values.specs.Databases.{DatabaseValue}
 use Rattle.pdb_values.specs.declared.user.UserInfo.{UserInfo}
 use Rattle.pdb_files.specs.Files.{IsFileText}
-use Rattle.palm_device.specs.Devices.{database_of}
-use Rattle.palm_device.specs.Soundness.{NamesRise}
+use Rattle.pdb_values.specs.NamedDatabases.{NamesRise, database_of}
 use Rattle.folder_files.specs.InfoFiles.{IsDeviceFile}
 use Rattle.folder_files.specs.FileNames.{has_ending, database_file, device_info_file}
 use Rattle.handheld_files.specs.Settled.{as_opened}

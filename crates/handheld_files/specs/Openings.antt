@@ -1,20 +1,28 @@
 -- What opening a handheld's folder finds in it.
-use Rattle.std.specs.Prelude.{◌≡◌, ◌<◌, ◌≤◌, ⊤, ℕ, true, if◌then◌else◌, List, ◌∷◌, ◌++◌, count_by, length, All, IfSome, Option, Some, None, string_bytes, bytes_eq}
+use Rattle.std.specs.Prelude.{◌≡◌, ◌<◌, ◌≤◌, ⊤, ℕ, true, if◌then◌else◌, List, ◌∷◌, ◌++◌, count_by, length, IfSome, Option, Some, None, string_bytes, bytes_eq}
 use Rattle.std.specs.FinMap as finmap
-use Rattle.std.specs.List.{list_any}
+use Rattle.std.specs.List.{AllByRecursion, list_any}
 use Rattle.std.specs.declared.alloc.Global.{Global}
 use Rattle.hs_folders.specs.FileMaps.{FileMap}
+use Rattle.hs_folders.specs.declared.faults.FolderFault.{FolderFault}
+use Rattle.hs_folders.specs.declared.faults.FolderFault.TheVariants as folder
 use Rattle.pdb_values.specs.Databases.{DatabaseValue}
 use Rattle.pdb_values.specs.declared.user.UserInfo.{UserInfo}
 use Rattle.pdb_files.specs.declared.bad_kind.BadKind.{BadKind}
 use Rattle.palm_device.specs.Devices.{most_databases}
-use Rattle.palm_device.specs.Soundness.{NamesRise}
+use Rattle.pdb_values.specs.NamedDatabases.{NamesRise}
 use Rattle.folder_files.specs.FileNames.{is_handheld_file}
 use Rattle.handheld_files.specs.BadFiles.{FirstFails}
 use Rattle.handheld_files.specs.Handhelds.{Files, StandFor, is_database_file}
 use Rattle.handheld_files.specs.Settled.{are_settled}
 use Rattle.handheld_files.specs.declared.fault.OpenFault.{OpenFault}
 use Rattle.handheld_files.specs.declared.fault.OpenFault.TheVariants.{Keeper, TooMany, BadFile, NoMemory}
+
+-- a folder that failed is what its opening tells; only a file that is read can be missing, and that refuses nothing
+abbrev pub open_fault : FolderFault → OpenFault
+open_fault folder.Failed = Keeper
+open_fault folder.Missing = NoMemory
+open_fault folder.NoMemory = NoMemory
 
 -- the folder's files of these names, and no others
 abbrev pub among : List (List ℕ) → FileMap → Files
@@ -53,7 +61,7 @@ pub record HoldsAll (held : FileMap) (databases : List DatabaseValue) (user : Us
 pub record AreKept (databases : List DatabaseValue) : Type 0 where
   pub order : NamesRise databases
   pub few : length databases ≤ most_databases
-  pub settled : All (λ database. are_settled database.records ≡ true) databases
+  pub settled : AllByRecursion (λ database. are_settled database.records ≡ true) databases
 
 -- what a folder holds, where it is told, stands for these databases and this user
 abbrev pub Stands : Option FileMap → List DatabaseValue → UserInfo → Type 0

@@ -1,5 +1,6 @@
-//! Why a handheld's folder was not opened.
-ghost use Rattle.std.specs.Prelude.{◌≡◌, ◌≢◌};
+// Why a handheld's folder was not opened.
+ghost use Rattle.std.specs.Prelude.{◌≡◌};
+ghost use Rattle.handheld_files.specs.Openings.{open_fault};
 ghost use Rattle.handheld_files.specs.declared.fault.OpenFault.TheVariants.{NoMemory};
 
 use hs_folders::FolderFault;
@@ -7,7 +8,7 @@ use pdb_files::BadKind;
 use std::alloc::{AllocError, AllocFailed};
 
 /// Why a handheld's folder was not opened.
-#[derive(Debug, Drop)]
+#[derive(Drop)]
 pub enum OpenFault {
     /// The folder failed.
     Keeper,
@@ -26,6 +27,18 @@ pub enum OpenFault {
     NoMemory,
 }
 
+impl From<FolderFault> for OpenFault {
+    ghost from_gives = { λ refused fault. fault ≡ open_fault refused };
+
+    fn from(refused: FolderFault) -> OpenFault {
+        match refused {
+            FolderFault::Failed => OpenFault::Keeper,
+            FolderFault::Missing => OpenFault::NoMemory,
+            FolderFault::NoMemory => OpenFault::NoMemory,
+        }
+    }
+}
+
 impl From<AllocError> for OpenFault {
     ghost from_gives = { λ _ fault. fault ≡ NoMemory };
 
@@ -39,19 +52,5 @@ impl<T: Drop> From<AllocFailed<T>> for OpenFault {
 
     fn from(_refused: AllocFailed<T>) -> OpenFault {
         OpenFault::NoMemory
-    }
-}
-
-// What a fault of the folder makes of its opening.
-pub fn open_fault(fault: FolderFault) -> OpenFault
-    requires { fault ≢ FolderFault.Missing }
-    ensures keeper { result ≡ OpenFault.Keeper → fault ≡ FolderFault.Failed }
-    ensures failed { fault ≡ FolderFault.Failed → result ≡ OpenFault.Keeper }
-    ensures memory { result ≢ OpenFault.Keeper → result ≡ OpenFault.NoMemory }
-{
-    match fault {
-        FolderFault::Failed => OpenFault::Keeper,
-        FolderFault::Missing => unreachable!(),
-        FolderFault::NoMemory => OpenFault::NoMemory,
     }
 }

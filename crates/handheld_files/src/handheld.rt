@@ -1,21 +1,19 @@
-//! The databases and the user of a handheld, as they are read file by file.
+// The databases and the user of a handheld, as they are read file by file.
 ghost use Rattle.std.specs.Prelude.{◌≡◌, ◌≢◌, [], IfErr, IfOk, OnErr, OnOk, OnSome, IfNone, IsErrOf, None, string_bytes, true, false, is_some};
-ghost use Rattle.palm_device.specs.Devices.{database_of};
+ghost use Rattle.pdb_values.specs.NamedDatabases as named;
 ghost use Rattle.folder_files.specs.FileNames as file_names;
 ghost use Rattle.handheld_files.specs.Adding.{AddsDatabase, AddsFile, FileShows, IsBadFile, IsBrokenFile, StoredShows};
 ghost use Rattle.handheld_files.specs.Handhelds.{IsFileOf, is_database_file as is_name_of_database, no_user};
 
 use crate::fault::OpenFault;
 use crate::settling::settle;
-use folder_files::database_file;
-use folder_files::read_device_info;
-use palm_device::{insert, place_of};
+use folder_files::{database_file, read_device_info};
 use pdb_files::{BadKind, FileFault, read_database};
-use pdb_values::{Database, PalmDate, Password, UserInfo, UserName};
+use pdb_values::{Database, PalmDate, Password, UserInfo, UserName, database_of, insert_database};
 use std::alloc::{AllocError, Global};
 
 /// What a handheld's folder stands for.
-#[derive(Debug, Drop)]
+#[derive(Drop)]
 pub struct Handheld {
     /// The databases in byte order of their names.
     pub databases: Vec<Database>,
@@ -57,7 +55,8 @@ pub fn add_file(
     bytes: &[u8],
     handheld: &mut Handheld,
 ) -> Result<(), OpenFault>
-    ensures added { OnOk result (AddsFile handheld.old.databases.items handheld.old.user name.now bytes.now handheld.new.databases.items handheld.new.user) }
+    ensures added { OnOk result (AddsFile handheld.old.databases.items handheld.old.user
+        name.now bytes.now handheld.new.databases.items handheld.new.user) }
     ensures shown { IfErr result (FileShows handheld.old.databases.items name.now bytes.now) }
 {
     if is_database_file(name) {
@@ -81,7 +80,8 @@ fn add_database(
     databases: &mut Vec<Database>,
 ) -> Result<(), OpenFault>
     requires { is_name_of_database name.now ≡ true }
-    ensures added { OnOk result (AddsDatabase databases.old.items name.now bytes.now databases.new.items) }
+    ensures added { OnOk result (
+        AddsDatabase databases.old.items name.now bytes.now databases.new.items) }
     ensures shown { IfErr result (FileShows databases.old.items name.now bytes.now) }
 {
     let mut database = named_database(alloc, name, bytes)?;
@@ -89,15 +89,15 @@ fn add_database(
         return Err(bad_file(alloc, name, BadKind::Twice, 0));
     }
     settle(alloc, &mut database)?;
-    insert(databases, database)?;
+    insert_database(databases, database)?;
     Ok(())
 }
 
 // Whether one of the databases has the name of this one.
 fn has_database(databases: &[Database], database: &Database) -> bool
-    ensures { result ≡ is_some (database_of database.now.head.name databases.now) }
+    ensures { result ≡ is_some (named.database_of database.now.head.name databases.now) }
 {
-    place_of(databases, database.head().name.as_bytes()).is_some()
+    database_of(databases, database.head().name.as_bytes()).is_some()
 }
 
 // The database of a file that bears its name.

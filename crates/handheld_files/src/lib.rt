@@ -6,6 +6,7 @@
 #![tactic(auto)]
 
 mod fault;
+mod fresh;
 mod handheld;
 mod reading;
 mod settling;

@@ -1,11 +1,12 @@
-//! Reading a handheld's folder, file by file in the order of their names.
+// Reading a handheld's folder, file by file in the order of their names.
 ghost use Rattle.std.specs.Prelude.{◌≡◌, ◌≢◌, ◌+◌, ◌≤◌, ◌<◌, count_by, IfErr, IfOk, IfSome, IsErrOf, OnErr, OnOk, length, map, string_bytes, take};
 ghost use Rattle.hs_folders.specs.Causes.{HasCause};
+ghost use Rattle.hs_folders.specs.Moments.{OnlyRead};
 ghost use Rattle.handheld_files.specs.Handhelds.{StandFor, is_database_file as is_name_of_database};
 ghost use Rattle.handheld_files.specs.Openings.{AreKept, HoldsAll, Shows, among};
 ghost use Rattle.handheld_files.specs.Reading.{ReadsFile, RefusesOne};
 
-use crate::fault::{OpenFault, open_fault};
+use crate::fault::OpenFault;
 use crate::handheld::{Handheld, add_file, empty_handheld, is_database_file};
 use folder_files::is_handheld_file;
 use hs_folders::{Folder, FolderFault};
@@ -14,22 +15,19 @@ use std::alloc::Global;
 // How many databases a handheld can have.
 const MOST_DATABASES: usize = 200;
 
-/// Reads all databases and the user of a folder that was opened before. The refusals in their order: the folder fails to
-/// be listed, it has files of too many databases, a file fails to be read or is bad.
+/// Reads all databases and the user of a folder that was opened before. The refusals in their
+/// order: the folder fails to be listed, it has files of too many databases, a file fails to be read
+/// or is bad.
 pub fn read_folder<F: Folder>(alloc: Global, folder: &mut F) -> Result<Handheld, OpenFault>
-    ensures held { IfOk result (λ handheld. IfSome (F.contents folder.old) (λ held. HoldsAll held handheld.databases.items handheld.user)) }
+    ensures held { IfOk result (λ handheld. IfSome (F.contents folder.old) (λ held.
+        HoldsAll held handheld.databases.items handheld.user)) }
     ensures kept { IfOk result (λ handheld. AreKept handheld.databases.items) }
     ensures shown { IfErr result (λ fault. IfSome (F.contents folder.old) (Shows fault)) }
-    ensures cause { HasCause (F.faults folder.old) (F.faults folder.new) (IsErrOf result OpenFault.Keeper) }
-
-    ensures contents { F.contents folder.new ≡ F.contents folder.old }
-    ensures moments { F.moments folder.new ≡ F.moments folder.old }
-    ensures paths { F.paths folder.new ≡ F.paths folder.old }
+    ensures cause { HasCause (F.faults folder.old) (F.faults folder.new)
+        (IsErrOf result OpenFault.Keeper) }
+    ensures only_read { OnlyRead F.contents F.moments F.paths F.faults folder.old folder.new }
 {
-    let names = match folder.list(alloc) {
-        Ok(names) => names,
-        Err(fault) => return Err(open_fault(fault)),
-    };
+    let names = folder.list(alloc)?;
     if count_databases(&names) > MOST_DATABASES {
         return Err(OpenFault::TooMany);
     }
@@ -53,14 +51,14 @@ fn read_files<F: Folder>(
     names: &[String],
 ) -> Result<Handheld, OpenFault>
     requires few { count_by is_name_of_database (map string_bytes names.now) ≤ 200 }
-    ensures stand { IfOk result (λ handheld. IfSome (F.contents folder.old) (λ held. StandFor (among (map string_bytes names.now) held) handheld.databases.items handheld.user)) }
+    ensures stand { IfOk result (λ handheld. IfSome (F.contents folder.old) (λ held.
+        StandFor (among (map string_bytes names.now) held) handheld.databases.items handheld.user)) }
     ensures kept { IfOk result (λ handheld. AreKept handheld.databases.items) }
-    ensures refused { IfErr result (λ fault. IfSome (F.contents folder.old) (RefusesOne (map string_bytes names.now) fault)) }
-    ensures cause { HasCause (F.faults folder.old) (F.faults folder.new) (IsErrOf result OpenFault.Keeper) }
-
-    ensures contents { F.contents folder.new ≡ F.contents folder.old }
-    ensures moments { F.moments folder.new ≡ F.moments folder.old }
-    ensures paths { F.paths folder.new ≡ F.paths folder.old }
+    ensures refused { IfErr result (λ fault. IfSome (F.contents folder.old)
+        (RefusesOne (map string_bytes names.now) fault)) }
+    ensures cause { HasCause (F.faults folder.old) (F.faults folder.new)
+        (IsErrOf result OpenFault.Keeper) }
+    ensures only_read { OnlyRead F.contents F.moments F.paths F.faults folder.old folder.new }
 {
     let mut handheld = empty_handheld(alloc);
     for name in names {
@@ -79,12 +77,11 @@ fn read_file<F: Folder>(
     name: &str,
     handheld: &mut Handheld,
 ) -> Result<(), OpenFault>
-    ensures read { ReadsFile (F.contents folder.old) name.now handheld.old.databases.items handheld.old.user handheld.new.databases.items handheld.new.user result }
-    ensures cause { HasCause (F.faults folder.old) (F.faults folder.new) (IsErrOf result OpenFault.Keeper) }
-
-    ensures contents { F.contents folder.new ≡ F.contents folder.old }
-    ensures moments { F.moments folder.new ≡ F.moments folder.old }
-    ensures paths { F.paths folder.new ≡ F.paths folder.old }
+    ensures read { ReadsFile (F.contents folder.old) name.now handheld.old.databases.items
+        handheld.old.user handheld.new.databases.items handheld.new.user result }
+    ensures cause { HasCause (F.faults folder.old) (F.faults folder.new)
+        (IsErrOf result OpenFault.Keeper) }
+    ensures only_read { OnlyRead F.contents F.moments F.paths F.faults folder.old folder.new }
 {
     if !is_handheld_file(name) {
         return Ok(());
@@ -92,7 +89,7 @@ fn read_file<F: Folder>(
     let bytes = match folder.read(alloc, name) {
         Ok(bytes) => bytes,
         Err(FolderFault::Missing) => return Ok(()),
-        Err(fault) => return Err(open_fault(fault)),
+        Err(fault) => return Err(OpenFault::from(fault)),
     };
     add_file(alloc, name, &bytes, handheld)
 }

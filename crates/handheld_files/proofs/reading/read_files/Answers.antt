@@ -6,16 +6,14 @@ use Rattle.handheld_files.specs.Openings.{among}
 use Rattle.handheld_files.specs.Reading.{ReadsOn, RefusesFile}
 use Rattle.handheld_files.specs.declared.fault.OpenFault.TheVariants.{Keeper}
 use Rattle.handheld_files.proofs.FreshLaws.{take_all}
-use Rattle.handheld_files.proofs.KeptLaws.{KeptSoFar, cause_on, kept_none, kept_on, names_around, names_next, ok_is_no_fault, refused_on, stands_begin, stands_on}
+use Rattle.handheld_files.proofs.KeptLaws.{KeptSoFar, OnlyRead-trans, cause_on, kept_none, kept_on, names_around, names_next, ok_is_no_fault, refused_on, stands_begin, stands_on}
 use Rattle.handheld_files.proofs.reading.read_files.Goals as goal
 
 pub loop-name-init : goal.loop-name-init
 loop-name-init g c = record {
   kept = kept_none c.empty_handheld-handheld.result.databases.items c.empty_handheld-handheld.ensures.databases;
   stands = stands_begin (g.F.Folder.contents c.args.folder.now) c.empty_handheld-handheld.result.databases.items c.empty_handheld-handheld.result.user c.empty_handheld-handheld.ensures.databases c.empty_handheld-handheld.ensures.user;
-  contents = refl;
-  moments = refl;
-  paths = refl;
+  only_read = record { same_contents = refl; same_moments = refl; same_paths = refl; later = omega arith };
   faults = refl;
 }
 
@@ -29,14 +27,12 @@ loop-name-preserved g c =
     let new = c.read_file.new.handheld in
     let next = names_next c.args.names.now c.loop-name.name-index item c.loop-name-test.true c.name-item.is in
     let reads : ReadsOn told name old.databases.items old.user new.databases.items new.user =
-    subst (λ t. ReadsOn t name old.databases.items old.user new.databases.items new.user) c.loop-name.invariant.contents
+    subst (λ t. ReadsOn t name old.databases.items old.user new.databases.items new.user) c.loop-name.invariant.only_read.same_contents
     (subst (λ n. ReadsOn (g.F.Folder.contents c.loop-name.folder) n old.databases.items old.user new.databases.items new.user) c.as_str.ensures.value c.in-Ok.ensures.read) in
     record {
       kept = subst (λ ns. KeptSoFar ns new.databases.items) (sym next) (kept_on told before name old.databases.items new.databases.items old.user new.user c.loop-name.invariant.kept reads);
       stands = subst (λ ns. IfSome told (λ held. StandFor (among ns held) new.databases.items new.user)) (sym next) (stands_on told before name old.databases.items new.databases.items old.user new.user c.loop-name.invariant.stands reads);
-      contents = c.read_file.ensures.contents ∙ c.loop-name.invariant.contents;
-      moments = c.read_file.ensures.moments ∙ c.loop-name.invariant.moments;
-      paths = c.read_file.ensures.paths ∙ c.loop-name.invariant.paths;
+      only_read = OnlyRead-trans g.F.Folder.contents g.F.Folder.moments g.F.Folder.paths g.F.Folder.faults c.args.folder.now c.loop-name.folder c.read_file.new.folder c.loop-name.invariant.only_read c.read_file.ensures.only_read;
       faults = c.in-Ok.ensures.cause.still (ok_is_no_fault c.in-Ok.field-0 Keeper) ∙ c.loop-name.invariant.faults;
     }
 
@@ -49,7 +45,7 @@ returns-in-Err-clause-refused g c =
     let names = c.args.names.now in
     let old = c.loop-name.handheld in
     let refuses : RefusesFile told name old.databases.items c.in-Err.fault =
-    subst (λ t. RefusesFile t name old.databases.items c.in-Err.fault) c.loop-name.invariant.contents
+    subst (λ t. RefusesFile t name old.databases.items c.in-Err.fault) c.loop-name.invariant.only_read.same_contents
     (subst (λ n. RefusesFile (g.F.Folder.contents c.loop-name.folder) n old.databases.items c.in-Err.fault) c.as_str.ensures.value c.in-Err.ensures.read) in
     refused_on told (map (string_bytes {Z = Global}) names) (map (string_bytes {Z = Global}) (take i names)) (map (string_bytes {Z = Global}) (drop (suc i) names)) name old.databases.items old.user c.in-Err.fault c.loop-name.invariant.stands refuses
     (names_around names i item c.loop-name-test.true c.name-item.is)
