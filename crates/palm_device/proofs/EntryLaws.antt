@@ -1,10 +1,8 @@
 -- The first entry that passes a test, by its place.
 use Rattle.std.proofs.Common.{◌≡◌, ℕ, zero, suc, ◌+◌, ◌<◌, ◌≤◌, Bool, true, false, cond, List, [], ◌∷◌, ◌++◌, map, take, drop, length, refl, ap, ◌∙◌, arith, add-one, Some, None, slice_get, slice_set}
-use Rattle.std.specs.Prelude.{position, remove, not, nat_lt, filter, ◌&&◌}
+use Rattle.std.specs.Prelude.{position, remove, filter, ◌&&◌}
 use Rattle.std.specs.List.{position_or_len, list_all}
 use Rattle.std.specs.Option.{option_map}
-use Rattle.std.proofs.lemmas.Bool.{ltb-true, ltb-false}
-use Rattle.std.proofs.lemmas.List.Sums.{prefix_len-le-length}
 pub use Rattle.pdb_values.proofs.PlaceLaws.{first_here, first_later, past_later, place_found, place_past, position_found, position_none, position_within}
 use Rattle.palm_device.specs.Entries.{put_entry, without_entry, set_some, change_at}
 

@@ -4,3 +4,4 @@ pub mod KeepingLaws
 pub mod NameLaws
 pub mod RecordLaws
 pub mod ResourceLaws
+pub mod TellingLaws

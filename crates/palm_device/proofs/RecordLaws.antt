@@ -1,14 +1,24 @@
 -- A record that is put, by its place.
-use Rattle.std.proofs.Common.{◌≡◌, ℕ, List, [], ◌∷◌, ◌++◌, Some, None, slice_get, slice_set}
+use Rattle.std.proofs.Common.{◌≡◌, ℕ, List, [], ◌∷◌, ◌++◌, Option, Some, None, slice_get, slice_set, refl}
 use Rattle.std.specs.Prelude.{remove}
+use Rattle.std.specs.Option.{option_map}
 use Rattle.pdb_values.specs.Contents.{ContentValue}
 use Rattle.pdb_values.specs.declared.record.Record.{Record}
+use Rattle.palm_device.specs.Entries.{change_at, set_some}
 use Rattle.palm_device.specs.Records.{has_id, place_of_id, rewritten, new_record, put_record, without_record}
-use Rattle.palm_device.proofs.EntryLaws.{put_entry_at, put_entry_new, without_entry_at, without_entry_none}
+use Rattle.palm_device.proofs.EntryLaws.{position_within, put_entry_at, put_entry_new, without_entry_at, without_entry_none}
 
 -- in its place
 pub put_record_at : (id : ℕ) (content : ContentValue) (records : List Record) (place : ℕ) (item : Record) → place_of_id id records ≡ Some place → slice_get records place ≡ Some item → put_record id content records ≡ slice_set records place (rewritten content item)
 put_record_at id content records place item found here = put_entry_at (has_id id) (rewritten content) (new_record id content) records place item found here
+
+-- the same as a change at its place
+pub put_record_placed : (id : ℕ) (content : ContentValue) (records : List Record) (place : ℕ) → place_of_id id records ≡ Some place → put_record id content records ≡ change_at (rewritten content) place records
+put_record_placed id content records place found = by (slice_get records place) refl
+  where
+    by : (o : Option Record) → slice_get records place ≡ o → put_record id content records ≡ set_some place records (option_map (rewritten content) o)
+    by None none = absurd (position_within (has_id id) records place found none)
+    by (Some item) here = put_record_at id content records place item found here
 
 -- a new last one
 pub put_record_new : (id : ℕ) (content : ContentValue) (records : List Record) → place_of_id id records ≡ None → put_record id content records ≡ records ++ new_record id content ∷ []

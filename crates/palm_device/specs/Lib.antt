@@ -1,5 +1,6 @@
 pub mod Blocks
 pub mod Devices
+pub mod Edits
 pub mod Entries
 pub mod FreshIds
 pub mod Handles

@@ -1,5 +1,5 @@
 -- Records of a database by id and category, and what becomes of them (pilot-link, `pi-dlp.h`).
-use Rattle.std.specs.Prelude.{◌≡◌, ℕ, ◌+◌, ◌≤◌, ◌<◌, Bool, true, false, not, ◌||◌, List, map, filter, drop, position, find, Option, None, ◌==◌, if◌then◌else◌}
+use Rattle.std.specs.Prelude.{◌≡◌, ℕ, ◌+◌, ◌≤◌, ◌<◌, Bool, true, false, not, ◌||◌, ◌&&◌, List, map, filter, drop, position, find, Option, None, is_none, ◌==◌, if◌then◌else◌}
 use Rattle.std.specs.Option.{option_map}
 use Rattle.pdb_values.specs.Contents.{ContentValue}
 use Rattle.pdb_values.specs.Databases.{DatabaseValue}
@@ -37,6 +37,14 @@ is_changed item = item.deleted || item.dirty
 abbrev pub next_changed : ℕ → List Record → Option ℕ
 next_changed index records = option_map (λ place. index + place) (position is_changed (drop index records))
 
+-- an id asks for a new record where it is 0 or no record has it
+abbrev pub is_new : ℕ → List Record → Bool
+is_new id records = (id == 0) || is_none (place_of_id id records)
+
+-- a new record of id 0 gets a free id
+abbrev pub given_id : ℕ → ℕ → ℕ
+given_id free id = if id == 0 then free else id
+
 -- a record with another content is live and dirty
 abbrev pub rewritten : ContentValue → Record → Record
 rewritten content item = record item { deleted = false; dirty = true; content = content }
@@ -72,6 +80,10 @@ reset_flags records = map clean records
 -- a record of the first category goes to the second and becomes dirty
 abbrev pub moved : ℕ → ℕ → Record → Record
 moved from to item = if is_in from item then record item { dirty = true; content = record item.content { category = to } } else item
+
+-- a record stays as it is where one category goes to another
+abbrev pub stays_in : ℕ → ℕ → Record → Bool
+stays_in from to item = not (is_in from item) || (item.dirty && (from == to))
 
 -- every record of the first category goes to the second
 abbrev pub move_category : ℕ → ℕ → List Record → List Record

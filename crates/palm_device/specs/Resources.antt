@@ -1,5 +1,5 @@
 -- Resources of a database by type and id, and what becomes of them (pilot-link, `pi-dlp.h`).
-use Rattle.std.specs.Prelude.{ℕ, Bool, ◌&&◌, ◌==◌, List, position, Option}
+use Rattle.std.specs.Prelude.{ℕ, Bool, ◌&&◌, ◌||◌, ◌==◌, List, length, nat_lt, is_some, position, Option}
 use Rattle.std.specs.Str.{bytes_eq}
 use Rattle.pdb_values.specs.Databases.{DatabaseValue}
 use Rattle.pdb_values.specs.Resources.{with_bytes}
@@ -13,6 +13,10 @@ is_resource kind id resource = bytes_eq resource.kind.0 kind && (resource.id == 
 -- where the first resource of a type and id stands
 abbrev pub place_of_resource : List ℕ → ℕ → List Resource → Option ℕ
 place_of_resource kind id resources = position (is_resource kind id) resources
+
+-- a resource of this type and id is there, or one more fits
+abbrev pub has_room : List ℕ → ℕ → List Resource → Bool
+has_room kind id resources = is_some (place_of_resource kind id resources) || nat_lt (length resources) 65535
 
 -- a new resource
 abbrev pub new_resource : List ℕ → ℕ → List ℕ → Resource

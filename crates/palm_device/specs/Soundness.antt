@@ -1,7 +1,6 @@
 -- What every device keeps: names in order, ids that differ, and eight handles.
-use Rattle.std.specs.Prelude.{◌≡◌, ◌<◌, ◌≤◌, ℕ, true, false, List, [], ◌∷◌, length, map}
+use Rattle.std.specs.Prelude.{◌≡◌, ◌<◌, ◌≤◌, ℕ, false, List, [], ◌∷◌, length, map}
 use Rattle.std.specs.List.{AllByRecursion}
-use Rattle.pdb_values.specs.Databases.{DatabaseValue}
 use Rattle.pdb_values.specs.declared.record.Record.{Record}
 pub use Rattle.pdb_values.specs.NamedDatabases.{NamesRise}
 use Rattle.palm_device.specs.Devices.{Device, most_databases}

@@ -7,6 +7,7 @@
 #![tactic(auto)]
 
 mod block;
+mod edit;
 mod handles;
 mod head;
 mod kept;
@@ -14,14 +15,15 @@ mod opened;
 mod record;
 mod resource;
 
-pub use block::{entry_count, put_app, put_sort};
+pub use block::{entry_count, put_app, put_sort, set_app, set_sort};
+pub use edit::{Edit, apply};
 pub use handles::Handles;
 pub use head::{has_bit, new_head};
 pub use kept::Kept;
 pub use opened::Opened;
 pub use pdb_values::{insert_database as insert, place_of};
 pub use record::{
-    clear_records, keep_records, move_category, next_changed, place_of_id, purge_record,
-    put_record, reset_flags,
+    clear_records, given_id, keep_records, move_category, next_changed, place_of_id, purge_record,
+    put_record, reset_flags, set_record,
 };
 pub use resource::{clear_resources, place_of_resource, purge_resource, put_resource};

@@ -1,7 +1,7 @@
 use Rattle.std.proofs.Common.{◌-◌, length}
 use Rattle.palm_device.specs.Kept.{is_kept}
 use Rattle.palm_device.proofs.KeepingLaws.{IsKeeping}
-use Rattle.palm_device.proofs.record.keep_records.Given as goal
+use Rattle.palm_device.proofs.record.take_others_out.Given as goal
 
 abbrev pub invariant-loop-place : goal.invariant-loop-place
 invariant-loop-place l = IsKeeping (is_kept l.kept) l.fn.database l.database l.place

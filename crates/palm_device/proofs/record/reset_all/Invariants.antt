@@ -1,6 +1,6 @@
 use Rattle.std.proofs.Common.{◌≡◌, ◌++◌, map, take, drop, length}
 use Rattle.palm_device.specs.Records.{with_records, clean}
-use Rattle.palm_device.proofs.record.reset_flags.Given as goal
+use Rattle.palm_device.proofs.record.reset_all.Given as goal
 
 abbrev pub invariant-loop-place : goal.invariant-loop-place
 invariant-loop-place l = record {

@@ -1,6 +1,6 @@
 use Rattle.std.proofs.Common.{◌≡◌, length}
 use Rattle.palm_device.specs.Records.{with_records}
-use Rattle.palm_device.proofs.record.clear_records.Given as goal
+use Rattle.palm_device.proofs.record.take_all_out.Given as goal
 
 abbrev pub invariant-loop-database : goal.invariant-loop-database
 invariant-loop-database l = l.database ≡ with_records l.database.records l.fn.database

@@ -3,7 +3,7 @@ use Rattle.std.proofs.lemmas.Grind.{common_steps}
 use Rattle.std.proofs.lemmas.Option.{slice_get_read}
 use Rattle.palm_device.specs.Kept.{is_kept}
 use Rattle.palm_device.proofs.KeepingLaws.{keeping_out, keeping_end}
-use Rattle.palm_device.proofs.record.keep_records.Goals as goal
+use Rattle.palm_device.proofs.record.take_others_out.Goals as goal
 
 pub loop-place-preserved : goal.loop-place-preserved
 loop-place-preserved c =
