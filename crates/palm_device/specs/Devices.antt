@@ -1,5 +1,6 @@
 -- A handheld as a HotSync sees it: databases, a user, and the handles of open databases (pilot-link, `pi-dlp.h`).
 use Rattle.std.specs.Prelude.{ℕ, List, slice_set, Option}
+pub use Rattle.pdb_values.specs.Bounds.{most_databases}
 use Rattle.pdb_values.specs.Databases.{DatabaseValue}
 pub use Rattle.pdb_values.specs.NamedDatabases.{comes_before, database_of, is_named, place_for, place_of, with_new}
 use Rattle.pdb_values.specs.declared.user.UserInfo.{UserInfo}
@@ -10,10 +11,6 @@ pub record Device : Type 0 where
   pub databases : List DatabaseValue
   pub user : UserInfo
   pub handles : List (Option Opened)
-
--- the most databases that a device has
-abbrev pub most_databases : ℕ
-most_databases = 200
 
 -- another value of the database at a place; all else stays
 abbrev pub with_database : Device → ℕ → DatabaseValue → Device

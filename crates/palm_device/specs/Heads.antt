@@ -1,14 +1,7 @@
 -- The attributes of a database that a handheld looks at (Palm File Format Specification, header of a database).
-use Rattle.std.specs.Prelude.{ℕ, Bool, not, List, ◌==◌, bit_and}
+use Rattle.std.specs.Prelude.{ℕ, List, bit_and}
 use Rattle.pdb_values.specs.declared.head.DbHead.{DbHead}
-
--- a number has this bit
-abbrev pub has_bit : ℕ → ℕ → Bool
-has_bit bit number = not (bit_and number bit == 0)
-
--- bit 0x0002: the database is read-only
-abbrev pub is_read_only : ℕ → Bool
-is_read_only attributes = has_bit 0x0002 attributes
+pub use Rattle.pdb_values.specs.Heads.{has_bit, is_read_only}
 
 -- the head of a database that is made now: no dates, no changes, no seed, and not marked as open (0x8000)
 abbrev pub new_head : List ℕ → List ℕ → List ℕ → ℕ → ℕ → DbHead

@@ -276,3 +276,7 @@ civil_of-is seconds h = (civil_of-both seconds h).0
 -- and has that number
 pub seconds_of-civil_of : (seconds : ℕ) → seconds < 2 ^ 32 → seconds_of (civil_of seconds) ≡ seconds
 seconds_of-civil_of seconds h = (civil_of-both seconds h).1
+
+-- the library's number of the first day
+pub epoch_day-1904 : (d : Date) → d.year ≡ pos 1904 → d.month ≡ 1 → d.day ≡ 1 → epoch_day d +ℤ pos 4_371_587 ≡ pos 4_347_480
+epoch_day-1904 d year month day = rw (year, month, day) (omega (arith, signed_arith, day_count-1904, days_from_civil-day_count (pos 1904) 1 1))

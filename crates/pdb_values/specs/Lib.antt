@@ -1,4 +1,5 @@
 pub mod Blocks
+pub mod Bounds
 pub mod CivilTimes
 pub mod Contents
 pub mod Databases

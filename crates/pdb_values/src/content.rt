@@ -14,7 +14,7 @@ pub struct Content {
 }
 
 /// More bytes than a record or a block may have, handed back.
-#[derive(Debug, Drop)]
+#[derive(Drop)]
 pub struct TooLarge(pub Vec<u8>);
 
 impl Model for Content {
@@ -94,29 +94,4 @@ impl Content {
     {
         self.category = category;
     }
-}
-
-impl PartialEq for Content {
-    ghost use Rattle.std.specs.Ordering.{on};
-    ghost use Rattle.std.specs.Ordering.{eq_of_both};
-    ghost use Rattle.std.specs.Prelude.{nat_eq};
-    ghost use Rattle.std.specs.Bool.{beq};
-    ghost use Rattle.std.specs.Cmp.Lexicographic.{pointwise};
-    ghost use Rattle.std.specs.Cmp.Rules.{comparing};
-    ghost use Rattle.std.proofs.Common.{rules};
-
-    ghost eq = { eq_of_both (on (λ content. content.category) nat_eq) (eq_of_both (on (λ content. content.secret) beq) (on (λ content. content.bytes) (pointwise nat_eq))) };
-
-    ghost laws = { Prim.search (comparing, rules) };
-
-    fn eq(&self, other: &Content) -> bool {
-        self.same(other)
-    }
-}
-
-impl Eq for Content {
-    ghost use Rattle.std.specs.Cmp.Rules.{comparing};
-    ghost use Rattle.std.proofs.Common.{rules};
-
-    ghost laws = { Prim.search (comparing, rules) };
 }

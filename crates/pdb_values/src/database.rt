@@ -14,7 +14,7 @@ use std::alloc::Global;
 use std::marker::Model;
 
 /// Why an entry was not pushed. Each hands it back.
-#[derive(Debug, Drop)]
+#[derive(Drop)]
 pub enum PushFault<T> {
     /// It has more than 65,500 bytes.
     TooLarge(T),
@@ -63,6 +63,9 @@ impl Database {
     ghost use Rattle.pdb_values.specs.Databases.{IsDatabase, IsShortResource};
     ghost use Rattle.pdb_values.specs.Lending.{LendsRecord};
     ghost use Rattle.pdb_values.specs.Resources.{with_bytes_at};
+
+    /// How many databases a handheld can have.
+    pub const MOST: usize = 200;
 
     /// How many entries a database can have.
     pub const GREATEST_COUNT: usize = 65_535;

@@ -8,11 +8,11 @@ use crate::date_text::{civil_in, is_text_of};
 use std::marker::Model;
 
 /// Bytes or a text that are no date.
-#[derive(Clone, Copy, Debug, PartialEq, Eq)]
+#[derive(Clone, Copy)]
 pub struct BadDate;
 
 /// A date and time, in seconds since 1904-01-01T00:00:00. 0 seconds stand for no date.
-#[derive(Clone, Copy, Debug, PartialEq, Eq, PartialOrd, Ord, Hash)]
+#[derive(Clone, Copy, Debug, PartialEq, Eq)]
 pub struct PalmDate {
     seconds: u32,
 }

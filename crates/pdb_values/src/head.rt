@@ -1,6 +1,6 @@
 // Heads of databases.
 ghost use Rattle.std.specs.Prelude.{◌≡◌};
-ghost use Rattle.pdb_values.specs.Heads.{holds_resources};
+ghost use Rattle.pdb_values.specs.Heads.{holds_resources, is_read_only, is_stream};
 
 use crate::date::PalmDate;
 use crate::four_cc::FourCc;
@@ -35,11 +35,31 @@ impl DbHead {
     /// The attribute of a database that holds resources.
     pub const RESOURCES: u16 = 0x0001;
 
+    /// The attribute of a database that is not to be changed.
+    pub const READ_ONLY: u16 = 0x0002;
+
+    /// The attribute of a database that is a stream of bytes.
+    pub const STREAM: u16 = 0x0080;
+
     /// Whether the database holds resources, and not records.
     pub fn holds_resources(&self) -> bool
         ensures { result ≡ holds_resources self.now.attributes }
     {
         self.attributes & Self::RESOURCES == Self::RESOURCES
+    }
+
+    /// Whether the database is not to be changed.
+    pub fn is_read_only(&self) -> bool
+        ensures { result ≡ is_read_only self.now.attributes }
+    {
+        self.attributes & Self::READ_ONLY != 0
+    }
+
+    /// Whether the database is a stream of bytes.
+    pub fn is_stream(&self) -> bool
+        ensures { result ≡ is_stream self.now.attributes }
+    {
+        self.attributes & Self::STREAM != 0
     }
 
     /// The same head once more. It takes no memory.

@@ -6,7 +6,7 @@ use crate::content::Content;
 use crate::record_id::RecordId;
 
 /// What a record stands for.
-#[derive(Clone, Copy, Debug, PartialEq, Eq)]
+#[derive(Clone, Copy, PartialEq, Eq)]
 pub enum Kind {
     /// It is there for the user.
     Live,
@@ -17,7 +17,7 @@ pub enum Kind {
 }
 
 /// One record of a database.
-#[derive(Debug, Drop, PartialEq, Eq)]
+#[derive(Debug, Drop)]
 pub struct Record {
     /// The number that names it over its life.
     pub id: RecordId,
