@@ -1,7 +1,7 @@
 // A change of several files, whole at every moment.
-ghost use Rattle.std.specs.Prelude.{◌≡◌, ◌≤◌, ◌⊎◌, IfSome, IsErrOf, OnErr, OnOk};
+ghost use Rattle.std.specs.Prelude.{◌≡◌, ◌⊎◌, IfSome, IsErrOf, OnErr, OnOk};
 ghost use Rattle.std.specs.Option.{option_map};
-ghost use Rattle.hs_folders.specs.Causes.{Rose};
+ghost use Rattle.hs_folders.specs.Causes.{HasCause};
 ghost use Rattle.hs_folders.specs.Moments.{EachMomentSince};
 ghost use Rattle.desk_journal.specs.Entries.{IsJournal, entry_values};
 ghost use Rattle.desk_journal.specs.Overlays.{HasNoJournal, StandsAs, put_all};
@@ -31,10 +31,9 @@ pub fn commit_files<F: Folder>(
     // From the first moment of the call on, at which the journal is there, it stands for the whole change.
     ensures each_moment { EachMomentSince (StandsAs (option_map (put_all (entry_values entries.now)) (F.contents folder.old))) (F.moments folder.old) (F.moments folder.new) }
 
-    ensures failed { IsErrOf result FolderFault.Failed → Rose (F.faults folder.old) (F.faults folder.new) }
+    ensures cause { HasCause (F.faults folder.old) (F.faults folder.new) (IsErrOf result FolderFault.Failed) }
     ensures never_missing { ¬ IsErrOf result FolderFault.Missing }
     ensures paths { F.paths folder.new ≡ F.paths folder.old }
-    ensures count { F.faults folder.old ≤ F.faults folder.new }
 {
     let journal = match write_journal(alloc, entries) {
         Ok(journal) => journal,

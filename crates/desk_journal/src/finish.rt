@@ -1,8 +1,8 @@
 // Finishing the journal of an earlier change.
-ghost use Rattle.std.specs.Prelude.{◌≡◌, ◌≤◌, IfOk, IfSome, IsErrOf, None, Ok, OnOk};
+ghost use Rattle.std.specs.Prelude.{◌≡◌, IfOk, IfSome, IsErrOf, None, Ok, OnOk};
 ghost use Rattle.std.specs.FinMap as finmap;
 ghost use Rattle.std.specs.Option.{option_map};
-ghost use Rattle.hs_folders.specs.Causes.{Rose};
+ghost use Rattle.hs_folders.specs.Causes.{HasCause};
 ghost use Rattle.hs_folders.specs.Moments.{EachMomentSince};
 ghost use Rattle.folder_files.specs.FileNames.{journal_file};
 ghost use Rattle.desk_journal.specs.Overlays.{HasNoJournal, StandsAs, bad_of, finished};
@@ -30,10 +30,9 @@ pub fn finish_journal<F: Folder>(
     ensures stands { StandsAs (F.contents folder.old) (F.contents folder.new) }
     ensures each_moment { EachMomentSince (StandsAs (F.contents folder.old)) (F.moments folder.old) (F.moments folder.new) }
 
-    ensures failed { IsErrOf result FolderFault.Failed → Rose (F.faults folder.old) (F.faults folder.new) }
+    ensures cause { HasCause (F.faults folder.old) (F.faults folder.new) (IsErrOf result FolderFault.Failed) }
     ensures never_missing { ¬ IsErrOf result FolderFault.Missing }
     ensures paths { F.paths folder.new ≡ F.paths folder.old }
-    ensures count { F.faults folder.old ≤ F.faults folder.new }
 {
     let bytes = match folder.read(alloc, JOURNAL) {
         Ok(bytes) => bytes,

@@ -1,8 +1,8 @@
 // Steps of a change in a folder.
-ghost use Rattle.std.specs.Prelude.{◌≡◌, ◌≤◌, Some, IfSome, IsErrOf, IsSome, OnErr, OnOk};
+ghost use Rattle.std.specs.Prelude.{◌≡◌, Some, IfSome, IsErrOf, IsSome, OnErr, OnOk};
 ghost use Rattle.std.specs.FinMap as finmap;
 ghost use Rattle.std.specs.Option.{option_map};
-ghost use Rattle.hs_folders.specs.Causes.{Rose};
+ghost use Rattle.hs_folders.specs.Causes.{HasCause};
 ghost use Rattle.hs_folders.specs.Moments.{EachMomentSince};
 ghost use Rattle.folder_files.specs.FileNames.{journal_file};
 ghost use Rattle.desk_journal.specs.Entries.{IsJournal, entry_values, journal_text};
@@ -19,10 +19,9 @@ pub(crate) fn carry_out<F: Folder>(folder: &mut F, entries: &[Entry]) -> Result<
     ensures done { OnOk result (F.contents folder.new ≡ option_map overlay (F.contents folder.old)) }
     ensures stands { StandsAs (F.contents folder.old) (F.contents folder.new) }
     ensures each_moment { EachMomentSince (StandsAs (F.contents folder.old)) (F.moments folder.old) (F.moments folder.new) }
-    ensures failed { IsErrOf result FolderFault.Failed → Rose (F.faults folder.old) (F.faults folder.new) }
+    ensures cause { HasCause (F.faults folder.old) (F.faults folder.new) (IsErrOf result FolderFault.Failed) }
     ensures never_missing { ¬ IsErrOf result FolderFault.Missing }
     ensures paths { F.paths folder.new ≡ F.paths folder.old }
-    ensures count { F.faults folder.old ≤ F.faults folder.new }
 {
     replace_all(folder, entries)?;
     remove_journal(folder)?;
@@ -36,10 +35,9 @@ fn replace_all<F: Folder>(folder: &mut F, entries: &[Entry]) -> Result<(), Folde
     ensures done { OnOk result (F.contents folder.new ≡ option_map (put_all (entry_values entries.now)) (F.contents folder.old)) }
     ensures stands { StandsAs (F.contents folder.old) (F.contents folder.new) }
     ensures each_moment { EachMomentSince (StandsAs (F.contents folder.old)) (F.moments folder.old) (F.moments folder.new) }
-    ensures failed { IsErrOf result FolderFault.Failed → Rose (F.faults folder.old) (F.faults folder.new) }
+    ensures cause { HasCause (F.faults folder.old) (F.faults folder.new) (IsErrOf result FolderFault.Failed) }
     ensures never_missing { ¬ IsErrOf result FolderFault.Missing }
     ensures paths { F.paths folder.new ≡ F.paths folder.old }
-    ensures count { F.faults folder.old ≤ F.faults folder.new }
 {
     for entry in entries {
         folder.replace(entry.name.as_str(), &entry.bytes)?;
@@ -53,10 +51,9 @@ fn remove_journal<F: Folder>(folder: &mut F) -> Result<(), FolderFault>
     ensures removed { OnOk result (F.contents folder.new ≡ option_map (λ held. finmap.remove held journal_file) (F.contents folder.old)) }
     ensures contents { OnErr result (F.contents folder.new ≡ F.contents folder.old) }
     ensures each_moment { EachMomentSince (λ told. told ≡ F.contents folder.new) (F.moments folder.old) (F.moments folder.new) }
-    ensures failed { IsErrOf result FolderFault.Failed → Rose (F.faults folder.old) (F.faults folder.new) }
+    ensures cause { HasCause (F.faults folder.old) (F.faults folder.new) (IsErrOf result FolderFault.Failed) }
     ensures never_missing { ¬ IsErrOf result FolderFault.Missing }
     ensures paths { F.paths folder.new ≡ F.paths folder.old }
-    ensures count { F.faults folder.old ≤ F.faults folder.new }
 {
     match folder.remove(JOURNAL) {
         Ok(()) => Ok(()),

@@ -43,3 +43,9 @@ Shows held TooMany = 200 < rows_count (finmap.keys held)
 Shows held (BadFile name kind place) =
     (rows_count (finmap.keys held) ≤ 200) × (first_bad held (finmap.keys held) ≡ Some (string_bytes {Z = Global} name, record { kind = kind; place = place }))
 Shows held NoMemory = ⊤
+
+-- a refusal that judges the files
+abbrev pub IsJudged : DeskOpenFault → Type 0
+IsJudged TooMany = ⊤
+IsJudged (BadFile _ _ _) = ⊤
+IsJudged _ = ⊥

@@ -2,8 +2,8 @@
 ghost use Rattle.std.specs.Prelude.{◌≡◌, OnOk};
 ghost use Rattle.desk_store.specs.Changes.{with_archive, with_change, with_changes};
 
-use crate::shelves::Shelves;
 use crate::role::Role;
+use crate::shelves::Shelves;
 use pdb_values::{Database, Marks};
 use std::alloc::AllocError;
 

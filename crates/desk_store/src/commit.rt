@@ -1,8 +1,8 @@
 // Carrying out a change.
-ghost use Rattle.std.specs.Prelude.{◌≡◌, ◌≢◌, ◌≤◌, ◌⊎◌, IfOk, IfSome, IsErrOf, OnErr, OnOk};
+ghost use Rattle.std.specs.Prelude.{◌≡◌, ◌≤◌, ◌⊎◌, IfOk, IfSome, IsErrOf, OnErr, OnOk};
 ghost use Rattle.std.specs.List.{AllByRecursion};
 ghost use Rattle.std.specs.Option.{option_map};
-ghost use Rattle.hs_folders.specs.Causes.{Rose};
+ghost use Rattle.hs_folders.specs.Causes.{HasCause};
 ghost use Rattle.hs_folders.specs.Moments.{EachMomentSince};
 ghost use Rattle.folder_files.specs.InfoFiles.{IsDesktopFile, desktop_text};
 ghost use Rattle.desk_journal.specs.Overlays.{HasNoJournal, StandsAs, put_all};
@@ -14,7 +14,7 @@ use crate::entries::change_entries;
 use crate::fault::CommitFault;
 use crate::shelves::Shelves;
 use desk_journal::commit_files;
-use hs_folders::{Folder, FolderFault};
+use hs_folders::Folder;
 use pdb_values::Marks;
 use std::alloc::Global;
 
@@ -37,27 +37,12 @@ pub(crate) fn write_change<F: Folder>(
     ensures refused { OnErr result (StandsAs (F.contents folder.old) (F.contents folder.new)
         ⊎ StandsAs (option_map (put_all (changes.change_entries change)) (F.contents folder.old)) (F.contents folder.new)) }
     ensures each_moment { EachMomentSince (StandsAs (option_map (put_all (changes.change_entries change)) (F.contents folder.old))) (F.moments folder.old) (F.moments folder.new) }
-    ensures failed { IsErrOf result CommitFault.DeskFault → Rose (F.faults folder.old) (F.faults folder.new) }
+    ensures cause { HasCause (F.faults folder.old) (F.faults folder.new) (IsErrOf result CommitFault.DeskFault) }
     ensures paths { F.paths folder.new ≡ F.paths folder.old }
-    ensures count { F.faults folder.old ≤ F.faults folder.new }
 {
     let entries = change_entries(alloc, &change)?;
     let DeskChange { marks, databases } = change;
     put_changes(shelves, databases)?;
-    match commit_files(alloc, folder, &entries) {
-        Ok(()) => Ok(marks),
-        Err(fault) => Err(commit_fault(fault)),
-    }
-}
-
-// What a refusal of the folder makes of a change.
-fn commit_fault(fault: FolderFault) -> CommitFault
-    requires { fault ≢ FolderFault.Missing }
-    ensures { result ≡ CommitFault.DeskFault → fault ≡ FolderFault.Failed }
-{
-    match fault {
-        FolderFault::Failed => CommitFault::DeskFault,
-        FolderFault::Missing => unreachable!(),
-        FolderFault::NoMemory => CommitFault::NoMemory,
-    }
+    commit_files(alloc, folder, &entries)?;
+    Ok(marks)
 }

@@ -1,16 +1,16 @@
 // A desktop's folder, opened.
-ghost use Rattle.std.specs.Prelude.{◌≡◌, ◌≢◌, ◌+◌, ◌<◌, ◌≤◌, ◌^◌, ◌⊎◌, ℕ, List, IfErr, IfOk, IfSome, IsErrOf, OnErr, codes, if◌then◌else◌, length, map, slice_get, string_bytes, unwrap_or};
+ghost use Rattle.std.specs.Prelude.{◌≡◌, ◌+◌, ◌<◌, ◌≤◌, ◌^◌, ◌⊎◌, ℕ, List, IfErr, IfOk, IfSome, IsErrAnd, IsErrOf, OnErr, codes, if◌then◌else◌, length, map, slice_get, string_bytes, unwrap_or};
 ghost use Rattle.std.specs.FinMap as finmap;
 ghost use Rattle.std.specs.Option.{option_copied, option_map, option_or};
 ghost use Rattle.folder_files.specs.FileNames.{has_ending};
-ghost use Rattle.hs_folders.specs.Causes.{Rose};
+ghost use Rattle.hs_folders.specs.Causes.{HasCause};
 ghost use Rattle.hs_folders.specs.Moments.{EachMomentSince};
 ghost use Rattle.palm_device.specs.Devices.{database_of};
 ghost use Rattle.palm_device.specs.Soundness.{NamesRise};
 ghost use Rattle.desk_store.specs.declared.role.Role.{Role};
 ghost use Rattle.desk_journal.specs.Overlays.{HasNoJournal, StandsAs, finished, put_all};
 ghost use Rattle.desk_store.specs.Changes.{IsDeskChange, change_entries, changed};
-ghost use Rattle.desk_store.specs.Desks.{AreRowsOf, IsDesk, IsReadable, Shows};
+ghost use Rattle.desk_store.specs.Desks.{AreRowsOf, IsDesk, IsJudged, IsReadable, Shows};
 ghost use Rattle.desk_store.specs.Finds.{FindsAll, rows_count};
 ghost use Rattle.desk_store.specs.Shelves.{AreOrdered, first_marks, shelf_of};
 ghost use Rattle.desk_store.specs.Views.{folder_in, shelves_of};
@@ -20,10 +20,10 @@ use crate::commit::write_change;
 use crate::fault::{CommitFault, DeskOpenFault};
 use crate::found::Found;
 use crate::reading::read_files;
-use crate::shelves::Shelves;
 use crate::role::Role;
+use crate::shelves::Shelves;
 use desk_journal::finish_journal;
-use hs_folders::{Folder, FolderFault};
+use hs_folders::Folder;
 use pdb_values::{Database, DbName, Marks, PalmDate, UserName};
 use std::alloc::Global;
 use std::marker::Model;
@@ -69,13 +69,15 @@ impl<F: Folder> Desk<F> {
         // Which answer comes.
         ensures readable { IfOk result (λ desk. IfSome (F.contents desk.folder) IsReadable) }
         ensures shown { IfErr result (λ refusal. IfSome (F.contents folder) (λ held. Shows (finished held) refusal.0)) }
-        ensures failed { IfErr result (λ refusal. refusal.0 ≡ DeskOpenFault.DeskFault → Rose (F.faults folder) (F.faults refusal.1)) }
+        ensures cause { HasCause (F.faults folder) (F.faults (folder_in result)) (IsErrAnd result (λ refusal. refusal.0 ≡ DeskOpenFault.DeskFault)) }
+
+        // What is judged is the folder once the journal is finished: it holds these files then, and no journal but a bad one.
+        ensures judged { IfErr result (λ refusal. IsJudged refusal.0 → F.contents refusal.1 ≡ option_map finished (F.contents folder)) }
 
         // What the folder stands for stays, at each moment and whatever the answer.
         ensures stands { StandsAs (F.contents folder) (F.contents (folder_in result)) }
         ensures each_moment { EachMomentSince (StandsAs (F.contents folder)) (F.moments folder) (F.moments (folder_in result)) }
         ensures paths { F.paths (folder_in result) ≡ F.paths folder }
-        ensures count { F.faults folder ≤ F.faults (folder_in result) }
     {
         let mut folder = folder;
         match open_files(alloc, &mut folder) {
@@ -114,9 +116,8 @@ impl<F: Folder> Desk<F> {
             ⊎ StandsAs (option_map (put_all (change_entries change)) (F.contents self.folder)) (F.contents (folder_in result))) }
         // From the first moment of the call on it stands for the whole change.
         ensures each_moment { EachMomentSince (StandsAs (option_map (put_all (change_entries change)) (F.contents self.folder))) (F.moments self.folder) (F.moments (folder_in result)) }
-        ensures failed { IfErr result (λ refusal. refusal.0 ≡ CommitFault.DeskFault → Rose (F.faults self.folder) (F.faults refusal.1)) }
+        ensures cause { HasCause (F.faults self.folder) (F.faults (folder_in result)) (IsErrAnd result (λ refusal. refusal.0 ≡ CommitFault.DeskFault)) }
         ensures paths { F.paths (folder_in result) ≡ F.paths self.folder }
-        ensures count { F.faults self.folder ≤ F.faults (folder_in result) }
     {
         let Desk {
             alloc,
@@ -203,40 +204,19 @@ fn open_files<F: Folder>(alloc: Global, folder: &mut F) -> Result<Found, DeskOpe
     ensures ordered { IfOk result (λ found. AreOrdered found.shelves) }
     ensures no_journal { IfOk result (λ found. IfSome (F.contents folder.new) HasNoJournal) }
     ensures shown { IfErr result (λ fault. IfSome (F.contents folder.old) (λ held. Shows (finished held) fault)) }
-    ensures failed { IsErrOf result DeskOpenFault.DeskFault → Rose (F.faults folder.old) (F.faults folder.new) }
+    ensures judged { IfErr result (λ fault. IsJudged fault → F.contents folder.new ≡ option_map finished (F.contents folder.old)) }
+    ensures cause { HasCause (F.faults folder.old) (F.faults folder.new) (IsErrOf result DeskOpenFault.DeskFault) }
     ensures stands { StandsAs (F.contents folder.old) (F.contents folder.new) }
     ensures each_moment { EachMomentSince (StandsAs (F.contents folder.old)) (F.moments folder.old) (F.moments folder.new) }
     ensures paths { F.paths folder.new ≡ F.paths folder.old }
-    ensures count { F.faults folder.old ≤ F.faults folder.new }
 {
-    match finish_journal(alloc, folder) {
-        Ok(_) => {}
-        Err(fault) => return Err(folder_fault(fault)),
-    }
-    let names = match folder.list(alloc) {
-        Ok(names) => names,
-        Err(fault) => return Err(folder_fault(fault)),
-    };
+    finish_journal(alloc, folder)?;
+    let names = folder.list(alloc)?;
     if count_rows(&names) > MOST {
         return Err(DeskOpenFault::TooMany);
     }
-    match read_files(alloc, folder, &names) {
-        Ok(found) => Ok(found),
-        Err(fault) => Err(fault),
-    }
-}
-
-// What a refusal of the folder makes of its opening.
-fn folder_fault(fault: FolderFault) -> DeskOpenFault
-    requires { fault ≢ FolderFault.Missing }
-    ensures failed { result ≡ DeskOpenFault.DeskFault → fault ≡ FolderFault.Failed }
-    ensures memory { result ≢ DeskOpenFault.DeskFault → result ≡ DeskOpenFault.NoMemory }
-{
-    match fault {
-        FolderFault::Failed => DeskOpenFault::DeskFault,
-        FolderFault::Missing => unreachable!(),
-        FolderFault::NoMemory => DeskOpenFault::NoMemory,
-    }
+    let found = read_files(alloc, folder, &names)?;
+    Ok(found)
 }
 
 // How many files hold rows.

@@ -10,8 +10,7 @@ ghost use Rattle.desk_store.specs.Changes.{IsDbWritten, database_entry, db_entri
 use crate::change::{DbChange, DeskChange};
 use crate::role::Role;
 use desk_journal::Entry;
-use folder_files::DESKTOP_INFO;
-use folder_files::write_desktop_info;
+use folder_files::{DESKTOP_INFO, write_desktop_info};
 use pdb_files::write_database;
 use pdb_values::{Database, Marks};
 use std::alloc::{AllocError, Global};

@@ -2,7 +2,9 @@
 ghost use Rattle.std.specs.Prelude.{◌≡◌};
 ghost use Rattle.desk_store.specs.declared.fault.CommitFault.TheVariants as commit_faults;
 ghost use Rattle.desk_store.specs.declared.fault.DeskOpenFault.TheVariants.{NoMemory};
+ghost use Rattle.desk_store.specs.Faults.{commit_fault_of, open_fault_of};
 
+use hs_folders::FolderFault;
 use pdb_files::BadKind;
 use std::alloc::{AllocError, AllocFailed};
 
@@ -56,5 +58,27 @@ impl From<AllocError> for CommitFault {
 
     fn from(_: AllocError) -> Self {
         CommitFault::NoMemory
+    }
+}
+
+impl From<FolderFault> for DeskOpenFault {
+    ghost from_gives = { λ fault made. made ≡ open_fault_of fault };
+
+    fn from(fault: FolderFault) -> Self {
+        match fault {
+            FolderFault::Failed => DeskOpenFault::DeskFault,
+            FolderFault::Missing | FolderFault::NoMemory => DeskOpenFault::NoMemory,
+        }
+    }
+}
+
+impl From<FolderFault> for CommitFault {
+    ghost from_gives = { λ fault made. made ≡ commit_fault_of fault };
+
+    fn from(fault: FolderFault) -> Self {
+        match fault {
+            FolderFault::Failed => CommitFault::DeskFault,
+            FolderFault::Missing | FolderFault::NoMemory => CommitFault::NoMemory,
+        }
     }
 }

@@ -5,10 +5,10 @@ ghost use Rattle.desk_store.specs.Finds.{Adds, Refuses};
 ghost use Rattle.desk_store.specs.Shelves.{AreOrdered, if_bad};
 
 use crate::fault::DeskOpenFault;
-use crate::shelves::Shelves;
 use crate::file::DeskFile;
 use crate::file_fault::DeskFileFault;
 use crate::reader::read_desk_file;
+use crate::shelves::Shelves;
 use pdb_values::Marks;
 use std::alloc::Global;
 

@@ -5,12 +5,11 @@ ghost use Rattle.folder_files.specs.InfoFiles.{desktop_in};
 ghost use Rattle.desk_journal.specs.Overlays.{bad_of};
 ghost use Rattle.desk_store.specs.DeskFiles.{Reads, broken_rule, file_in, if_journal, if_marks, if_own, is_own_file as stands_in_its_file, other_in};
 
-use crate::file_fault::{BadDeskFile, DeskFileFault};
 use crate::file::DeskFile;
+use crate::file_fault::{BadDeskFile, DeskFileFault};
 use crate::role::Role;
 use desk_journal::{JournalFault, read_journal};
-use folder_files::{DESKTOP_INFO, JOURNAL};
-use folder_files::read_desktop_info;
+use folder_files::{DESKTOP_INFO, JOURNAL, read_desktop_info};
 use pdb_files::{BadKind, read_database};
 use pdb_values::Database;
 use std::alloc::{AllocError, Global};

@@ -2,7 +2,7 @@
 ghost use Rattle.std.specs.Prelude.{◌≡◌, ◌≤◌, ◌<◌, IfErr, IfOk, IfSome, IsErrOf, OnOk, map, string_bytes};
 ghost use Rattle.std.specs.FinMap as finmap;
 ghost use Rattle.std.specs.Option.{option_map};
-ghost use Rattle.hs_folders.specs.Causes.{Rose};
+ghost use Rattle.hs_folders.specs.Causes.{HasCause};
 ghost use Rattle.desk_store.specs.Shelves.{AreOrdered, bad_at, file_at};
 ghost use Rattle.desk_store.specs.Finds.{AddsAny, FindsAll, RefusesAmong, RefusesAt, first_bad};
 
@@ -21,12 +21,11 @@ pub(crate) fn read_files<F: Folder>(
     ensures found { IfOk result (λ found. IfSome (F.contents folder.old) (λ held. FindsAll held (map string_bytes names.now) found)) }
     ensures ordered { IfOk result (λ found. AreOrdered found.shelves) }
     ensures refused { IfErr result (λ fault. IfSome (F.contents folder.old) (λ held. RefusesAmong (first_bad held (map string_bytes names.now)) fault)) }
-    ensures failed { IsErrOf result DeskOpenFault.DeskFault → Rose (F.faults folder.old) (F.faults folder.new) }
+    ensures cause { HasCause (F.faults folder.old) (F.faults folder.new) (IsErrOf result DeskOpenFault.DeskFault) }
 
     ensures contents { F.contents folder.new ≡ F.contents folder.old }
     ensures moments { F.moments folder.new ≡ F.moments folder.old }
     ensures paths { F.paths folder.new ≡ F.paths folder.old }
-    ensures count { F.faults folder.old ≤ F.faults folder.new }
 {
     let mut found = Found {
         marks: None,
@@ -51,18 +50,16 @@ fn read_file<F: Folder>(
     ensures added { OnOk result (IfSome (F.contents folder.old) (λ held. AddsAny (file_at held name.now) found.old found.new)) }
     ensures ordered { AreOrdered found.old.shelves → OnOk result (AreOrdered found.new.shelves) }
     ensures refused { IfErr result (λ fault. IfSome (F.contents folder.old) (λ held. RefusesAt name.now (bad_at held name.now) fault)) }
-    ensures failed { IsErrOf result DeskOpenFault.DeskFault → Rose (F.faults folder.old) (F.faults folder.new) }
+    ensures cause { HasCause (F.faults folder.old) (F.faults folder.new) (IsErrOf result DeskOpenFault.DeskFault) }
 
     ensures contents { F.contents folder.new ≡ F.contents folder.old }
     ensures moments { F.moments folder.new ≡ F.moments folder.old }
     ensures paths { F.paths folder.new ≡ F.paths folder.old }
-    ensures count { F.faults folder.old ≤ F.faults folder.new }
 {
     let bytes = match folder.read(alloc, name) {
         Ok(bytes) => bytes,
         Err(FolderFault::Missing) => return Ok(()),
-        Err(FolderFault::Failed) => return Err(DeskOpenFault::DeskFault),
-        Err(FolderFault::NoMemory) => return Err(DeskOpenFault::NoMemory),
+        Err(fault) => return Err(DeskOpenFault::from(fault)),
     };
     match add_file(alloc, name, &bytes, found) {
         Ok(()) => Ok(()),

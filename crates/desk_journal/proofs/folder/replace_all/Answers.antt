@@ -1,14 +1,13 @@
 -- Each replacement leaves the folder standing for the same.
-use Rattle.std.proofs.Common.{◌≡◌, ◌+◌, List, take, arith, sym, ap, subst, ◌∙◌}
+use Rattle.std.proofs.Common.{◌≡◌, ◌+◌, List, take, rules, sym, ap, subst, ◌∙◌}
 use Rattle.std.specs.Prelude.{string_bytes}
 use Rattle.std.specs.Option.{option_map}
 use Rattle.std.specs.FinMap as finmap
-use Rattle.std.proofs.lemmas.Result.{err_from_is_err_and}
 use Rattle.hs_folders.specs.FileMaps.{FileMap}
 use Rattle.hs_folders.proofs.MomentLaws.{moments_go_on, no_moment, one_moment}
 use Rattle.desk_journal.specs.Entries.{EntryValue, entry_value, entry_values}
 use Rattle.desk_journal.specs.Overlays.{StandsAs, put_all}
-use Rattle.desk_journal.proofs.OverlayLaws.{put_one_more, rose_since, told_stays, values_more}
+use Rattle.desk_journal.proofs.OverlayLaws.{put_one_more, told_stays, values_more}
 use Rattle.desk_journal.proofs.folder.replace_all.Goals as goal
 
 pub loop-entry-preserved : goal.loop-entry-preserved
@@ -28,7 +27,7 @@ loop-entry-preserved g c =
       moments = moments_go_on (StandsAs before) _ _ _ c.loop-entry.invariant.moments
           (one_moment (StandsAs before) _ _ _ c.in_ok-replace.ensures.moment (subst (StandsAs before) (sym put) (told_stays values (place + 1) before c.requires.form c.requires.written)));
       paths = c.replace.ensures.paths ∙ c.loop-entry.invariant.paths;
-      count = omega (arith, c.loop-entry.invariant.count, c.replace.ensures.cause.later);
+      count = search rules;
     }
 
 pub returns-in_err-replace-clause-stands : goal.returns-in_err-replace-clause-stands
@@ -40,16 +39,8 @@ pub returns-in_err-replace-clause-each_moment : goal.returns-in_err-replace-clau
 returns-in_err-replace-clause-each_moment g c =
     moments_go_on (StandsAs (g.F.Folder.contents c.args.folder.now)) _ _ _ c.loop-entry.invariant.moments (no_moment (StandsAs (g.F.Folder.contents c.args.folder.now)) _ _ c.in_err-replace.ensures.moments_stay)
 
-pub returns-in_err-replace-clause-failed : goal.returns-in_err-replace-clause-failed
-returns-in_err-replace-clause-failed g c =
-    let is = err_from_is_err_and c.from_residual.result c.from_residual.ensures.1 in
-    λ failed. rose_since _ _ _ c.loop-entry.invariant.count (c.replace.ensures.cause.rose (rw c.in_err-replace.was (rw (is.1, is.2) at failed)))
-
 pub returns-in_err-replace-clause-paths : goal.returns-in_err-replace-clause-paths
 returns-in_err-replace-clause-paths g c = c.replace.ensures.paths ∙ c.loop-entry.invariant.paths
-
-pub returns-in_err-replace-clause-count : goal.returns-in_err-replace-clause-count
-returns-in_err-replace-clause-count g c = omega (arith, c.loop-entry.invariant.count, c.replace.ensures.cause.later)
 
 pub returns-clause-stands : goal.returns-clause-stands
 returns-clause-stands g c =

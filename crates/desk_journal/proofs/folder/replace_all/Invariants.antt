@@ -1,4 +1,4 @@
-use Rattle.std.proofs.Common.{◌≡◌, ◌≤◌, take}
+use Rattle.std.proofs.Common.{◌≡◌, take}
 use Rattle.std.specs.Option.{option_map}
 use Rattle.hs_folders.specs.Moments.{EachMomentSince}
 use Rattle.desk_journal.specs.Entries.{entry_values}
@@ -10,5 +10,5 @@ invariant-loop-entry g l = record {
   put : g.F.Folder.contents l.folder ≡ option_map (put_all (take l.entry-index (entry_values l.entries))) (g.F.Folder.contents l.initial.folder);
   moments : EachMomentSince (StandsAs (g.F.Folder.contents l.initial.folder)) (g.F.Folder.moments l.initial.folder) (g.F.Folder.moments l.folder);
   paths : g.F.Folder.paths l.folder ≡ g.F.Folder.paths l.initial.folder;
-  count : g.F.Folder.faults l.initial.folder ≤ g.F.Folder.faults l.folder;
+  count : g.F.Folder.faults l.folder ≡ g.F.Folder.faults l.initial.folder;
 }

@@ -6,9 +6,11 @@ use Rattle.desk_journal.specs.Overlays.{HasNoJournal}
 use Rattle.desk_store.proofs.OpenLaws.{told_clear, told_good}
 use Rattle.desk_store.proofs.desk.open_files.Goals as goal
 
-pub returns-in-Ok-read_files-clause-no_journal : goal.returns-in-Ok-read_files-clause-no_journal
-returns-in-Ok-read_files-clause-no_journal g c =
+pub returns-clause-no_journal : goal.returns-clause-no_journal
+returns-clause-no_journal g c =
     let told = g.F.Folder.contents c.args.folder.now in
-    let here : g.F.Folder.contents c.read_files.new.folder ≡ g.F.Folder.contents c.finish_journal.new.folder = c.read_files.ensures.contents ∙ c.list.ensures.contents in
-    told_clear told (g.F.Folder.contents c.read_files.new.folder) c.in-Ok.field-0 (here ∙ c.in-Ok.ensures.done) c.in-Ok.ensures.bad
-    (λ none. subst (λ (o : Option FileMap). IfSome o HasNoJournal) (sym here) (c.in-Ok.ensures.no_journal (ap Ok none))) (told_good (g.F.Folder.contents c.read_files.new.folder) c.in-Ok-read_files.found (search rules))
+    let read = c.read_files.new.folder in
+    let here : g.F.Folder.contents read ≡ g.F.Folder.contents c.finish_journal.new.folder = c.read_files.ensures.contents ∙ c.list.ensures.contents in
+    told_clear told (g.F.Folder.contents read) c.in_ok-finish_journal.field-0 (here ∙ c.in_ok-finish_journal.ensures.done) c.in_ok-finish_journal.ensures.bad
+    (λ none. subst (λ (o : Option FileMap). IfSome o HasNoJournal) (sym here) (c.in_ok-finish_journal.ensures.no_journal (ap Ok none)))
+    (told_good (g.F.Folder.contents read) c.in_ok-found.found (search rules))

@@ -2,10 +2,11 @@
 use Rattle.std.proofs.Common.{◌≡◌, ◌<◌, ◌∙◌, ℕ, List, length, take, None, arith, refl, rules, sym, ap, subst, Err}
 use Rattle.std.specs.Prelude.{map, string_bytes}
 use Rattle.std.proofs.lemmas.List.{length-map}
-use Rattle.desk_journal.proofs.OverlayLaws.{rose_since}
+use Rattle.hs_folders.proofs.CauseLaws.{cause_on, ok_is_no_fault}
+use Rattle.desk_store.specs.declared.fault.DeskOpenFault.TheVariants.{DeskFault}
 use Rattle.desk_store.specs.Shelves.{ShelvesValue}
 use Rattle.desk_store.specs.declared.found.Found.{Found}
-use Rattle.desk_store.proofs.LoopLaws.{FindsTold, all_taken, err_is, map_more, mapped_at, told_more, told_none, told_refused}
+use Rattle.desk_store.proofs.LoopLaws.{FindsTold, all_taken, map_more, mapped_at, told_more, told_none, told_refused}
 use Rattle.desk_store.proofs.reading.read_files.Goals as goal
 
 pub loop-name-init : goal.loop-name-init
@@ -15,7 +16,7 @@ loop-name-init g c = record {
   contents = refl;
   moments = refl;
   paths = refl;
-  count = omega arith;
+  count = refl;
 }
 
 pub loop-name-preserved : goal.loop-name-preserved
@@ -32,7 +33,7 @@ loop-name-preserved g c =
       contents = c.read_file.ensures.contents ∙ c.loop-name.invariant.contents;
       moments = c.read_file.ensures.moments ∙ c.loop-name.invariant.moments;
       paths = c.read_file.ensures.paths ∙ c.loop-name.invariant.paths;
-      count = omega (arith, c.loop-name.invariant.count, c.read_file.ensures.count);
+      count = c.in-Ok.ensures.cause.still (ok_is_no_fault c.in-Ok.field-0 DeskFault) ∙ c.loop-name.invariant.count;
     }
 
 pub returns-in-Err-clause-refused : goal.returns-in-Err-clause-refused
@@ -45,8 +46,13 @@ returns-in-Err-clause-refused g c =
     let less : place < length names = omega (arith, count, c.loop-name-test.true) in
     told_refused (g.F.Folder.contents c.args.folder.now) names place (string_bytes item) c.loop-name.found c.in-Err.fault less (mapped_at string_bytes c.args.names.now place item c.loop-name-test.true c.name-item.is) c.loop-name.invariant.found refused
 
-pub returns-in-Err-clause-failed : goal.returns-in-Err-clause-failed
-returns-in-Err-clause-failed g c = λ failed. rose_since _ _ _ c.loop-name.invariant.count (c.in-Err.ensures.failed (ap Err (err_is c.in-Err.fault _ failed)))
+pub returns-in-Err-clause-cause : goal.returns-in-Err-clause-cause
+returns-in-Err-clause-cause g c =
+    cause_on (g.F.Folder.faults c.args.folder.now) (g.F.Folder.faults c.loop-name.folder) (g.F.Folder.faults c.read_file.new.folder) c.in-Err.fault DeskFault
+    c.loop-name.invariant.count c.in-Err.ensures.cause
+
+pub returns-clause-cause : goal.returns-clause-cause
+returns-clause-cause g c = record { later = omega (arith, c.loop-name.invariant.count); rose = λ is. absurd (ok_is_no_fault c.loop-name.found DeskFault is); still = λ _. c.loop-name.invariant.count }
 
 pub returns-clause-found : goal.returns-clause-found
 returns-clause-found g c =

@@ -1,4 +1,4 @@
-use Rattle.std.proofs.Common.{◌≡◌, ◌≤◌, take}
+use Rattle.std.proofs.Common.{◌≡◌, take}
 use Rattle.std.specs.Prelude.{map, string_bytes}
 use Rattle.desk_store.specs.Shelves.{AreOrdered}
 use Rattle.desk_store.proofs.LoopLaws.{FindsTold}
@@ -11,5 +11,5 @@ invariant-loop-name g l = record {
   contents : g.F.Folder.contents l.folder ≡ g.F.Folder.contents l.initial.folder;
   moments : g.F.Folder.moments l.folder ≡ g.F.Folder.moments l.initial.folder;
   paths : g.F.Folder.paths l.folder ≡ g.F.Folder.paths l.initial.folder;
-  count : g.F.Folder.faults l.initial.folder ≤ g.F.Folder.faults l.folder;
+  count : g.F.Folder.faults l.folder ≡ g.F.Folder.faults l.initial.folder;
 }
