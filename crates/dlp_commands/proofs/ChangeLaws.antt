@@ -7,7 +7,9 @@ use Rattle.std.proofs.lemmas.List.{length-set}
 use Rattle.pdb_values.specs.Databases.{DatabaseValue}
 use Rattle.pdb_values.specs.Records.{is_live}
 use Rattle.pdb_values.specs.declared.record.Record.{Record}
-use Rattle.dlp_requests.specs.RequestValues as request
+use Rattle.dlp_args.specs.Fields.{Fields}
+use Rattle.dlp_requests.specs.Forms as form
+use Rattle.dlp_requests.specs.Forms.{Form, kinds_of}
 use Rattle.dlp_requests.specs.RequestValues.{RequestValue}
 use Rattle.dlp_replies.specs.ReplyValues as reply
 use Rattle.dlp_replies.specs.ReplyValues.{ReplyValue}
@@ -21,7 +23,7 @@ use Rattle.palm_device.specs.Blocks.{empty_database, entry_count, with_app, with
 use Rattle.palm_device.specs.Soundness.{ids_of, AreIds}
 use Rattle.palm_device.proofs.IdLaws.{AreIds-filter, AreIds-without_record, ids_of-map, AreIds-put}
 use Rattle.dlp_commands.specs.Changes.{is_change}
-use Rattle.dlp_commands.specs.DeviceSteps.{tried, function_number}
+use Rattle.dlp_commands.specs.DeviceSteps.{tried, tried_by, function_number}
 use Rattle.dlp_commands.specs.Errors.{◌>>=◌, check, need}
 use Rattle.dlp_commands.specs.Reached.{reached, writable, reads, writes, with_index, with_next, on_any, on_records, on_resources}
 use Rattle.dlp_commands.specs.Targets.{target, writable_name}
@@ -211,7 +213,7 @@ open_change old value card mode name =
     ok_next (check 7 (not (is_open name old.handles))) _ _ (λ closed is. ok_next (need 8 (free_handle old.handles)) _ _ (λ handle is.
     ok_next (check 15 (not (has_bit 0x40 mode && is_read_only database.head.attributes))) _ _ (λ allowed is. Turned refl (handle_count old handle (Some (just_opened name mode)))))))))
 
-create_change : (old : Device) (creator kind : List ℕ) (card flags version : ℕ) (name : List ℕ) → IfOk (databases.create_db old creator kind card flags version name) (λ done. Change old (request.CreateDb creator kind card flags version name) done.0)
+create_change : (old : Device) (creator kind : List ℕ) (card flags version : ℕ) (name : List ℕ) → IfOk (databases.create_db old creator kind card flags version name) (λ done. Change old (record { form = form.CreateDb; fields = (creator, (kind, (card, (tt, (flags, (version, (name, tt))))))) }) done.0)
 unfolding databases.create_db
 create_change old creator kind card flags version name =
     ok_next (databases.named card name) _ _ (λ right is. ok_next (check 9 (is_none (place_of name old.databases))) _ _ (λ new new_is. ok_next (need 8 (free_handle old.handles)) _ _ (λ handle is.
@@ -222,7 +224,7 @@ close_change : (old : Device) (value : RequestValue) (handle : ℕ) → IfOk (da
 unfolding databases.close_db
 close_change old value handle = ok_next (need 6 (opened_at handle old.handles)) _ _ (λ opened is. Turned refl (handle_count old handle None))
 
-delete_change : (old : Device) (card : ℕ) (name : List ℕ) → IfOk (databases.delete_db old card name) (λ done. Change old (request.DeleteDb card name) done.0)
+delete_change : (old : Device) (card : ℕ) (name : List ℕ) → IfOk (databases.delete_db old card name) (λ done. Change old (record { form = form.DeleteDb; fields = (card, (tt, (name, tt))) }) done.0)
 unfolding databases.delete_db
 delete_change old card name =
     ok_next (databases.named card name) _ _ (λ right is. ok_next (need 5 (place_of name old.databases)) _ _ (λ place place_is. ok_next (check 7 (not (is_open name old.handles))) _ _ (λ closed is.
@@ -233,7 +235,7 @@ unfolding databases.read_db_list
 list_change old value flags card start =
     ok_next (databases.on_card card) _ _ (λ right is. ok_next (check 5 (has_bit 0x80 flags)) _ _ (λ asked is. ok_next (need 5 (slice_get old.databases start)) _ _ (λ database is. unchanged old value)))
 
-marks_change : (old : Device) (user viewer pc : ℕ) (date : List ℕ) (bits name_len : ℕ) (name : Option (List ℕ)) → IfOk (users.write_user_info old user viewer pc date bits name_len name) (λ done. Change old (request.WriteUserInfo user viewer pc date bits name_len name) done.0)
+marks_change : (old : Device) (user viewer pc : ℕ) (date : List ℕ) (bits name_len : ℕ) (name : Option (List ℕ)) → IfOk (users.write_user_info old user viewer pc date bits name_len name) (λ done. Change old (record { form = form.WriteUserInfo; fields = (user, (viewer, (pc, (date, (bits, (name_len, (name, tt))))))) }) done.0)
 unfolding users.write_user_info
 marks_change old user viewer pc date bits name_len name =
     ok_next (users.marked user viewer pc date bits name_len name old.user) _ _ (λ known is. Marked refl refl)
@@ -241,38 +243,45 @@ marks_change old user viewer pc date bits name_len name =
 -- ---- every request
 
 -- the id that a new record gets isn't 0
+abbrev pub GivesBy : ℕ → Device → (f : Form) → Fields (kinds_of f) → Type 0
+GivesBy free old form.WriteRecord (handle, (flags, (id, more))) = (base : Base) → base_at old handle ≡ Some base → 0 < records.given_id free id
+GivesBy free old other fields = Unit {0}
+
 abbrev pub GivesSome : ℕ → Device → RequestValue → Type 0
-GivesSome free old (request.WriteRecord handle flags id attributes category bytes) = (base : Base) → base_at old handle ≡ Some base → 0 < records.given_id free id
-GivesSome free old other = Unit {0}
+GivesSome free old value = GivesBy free old value.form value.fields
+
+changed_by : (free : ℕ) (old : Device) (f : Form) (fields : Fields (kinds_of f)) → GivesBy free old f fields → IfOk (tried_by free old f fields) (λ done. Change old (record { form = f; fields = fields }) done.0)
+unfolding databases.read_app_block databases.read_sort_block databases.write_app_block databases.write_sort_block databases.read_open_db_info records.read_record_by_id records.read_record_by_index records.write_record records.delete_record records.clean_up_database records.reset_sync_flags records.move_category records.read_record_id_list resources.read_resource_by_index resources.read_resource_by_type resources.write_resource resources.delete_resource
+changed_by free old form.ReadUserInfo none some = unchanged old _
+changed_by free old form.WriteUserInfo (user, (viewer, (pc, (date, (bits, (name_len, (name, end))))))) some = marks_change old user viewer pc date bits name_len name
+changed_by free old form.ReadDbList (flags, (card, (start, end))) some = list_change old _ flags card start
+changed_by free old form.OpenDb (card, (mode, (name, end))) some = open_change old _ card mode name
+changed_by free old form.CreateDb (creator, (kind, (card, (pad, (flags, (version, (name, end))))))) some = create_change old creator kind card flags version name
+changed_by free old form.CloseDb (handle, end) some = close_change old _ handle
+changed_by free old form.DeleteDb (card, (pad, (name, end))) some = delete_change old card name
+changed_by free old form.ReadAppBlock (handle, (pad, (offset, (count, end)))) some = reads_change on_any old _ handle _
+changed_by free old form.ReadSortBlock (handle, (pad, (offset, (count, end)))) some = reads_change on_any old _ handle _
+changed_by free old form.WriteAppBlock (handle, (pad, (bytes, end))) some = writes_change on_any old _ handle (λ database. Ok (with_app bytes database, reply.WriteAppBlock)) refl refl (λ base is. record { head = refl; ids = λ ids. ids })
+changed_by free old form.WriteSortBlock (handle, (pad, (bytes, end))) some = writes_change on_any old _ handle (λ database. Ok (with_sort bytes database, reply.WriteSortBlock)) refl refl (λ base is. record { head = refl; ids = λ ids. ids })
+changed_by free old form.ReadNextModifiedRec (handle, end) some = next_change old _ handle
+changed_by free old form.ReadRecordById (handle, (pad, (id, (offset, (count, end))))) some = reads_change on_records old _ handle _
+changed_by free old form.ReadRecordByIndex (handle, (pad, (index, (offset, (count, end))))) some = reads_change on_records old _ handle _
+changed_by free old form.WriteRecord (handle, (flags, (id, (attributes, (category, (bytes, end)))))) some = writes_change on_records old _ handle (records.written_record free id (has_bit 0x10 attributes) category bytes) refl refl (λ base is. written_edits free id (has_bit 0x10 attributes) category bytes base.database (some base is))
+changed_by free old form.DeleteRecord (handle, (flags, (id, end))) some = writes_change on_records old _ handle (deleted_records flags id) refl refl (λ base is. delete_edits flags id base.database)
+changed_by free old form.ReadResourceByIndex (handle, (pad, (index, (offset, (count, end))))) some = reads_change on_resources old _ handle _
+changed_by free old form.ReadResourceByType (handle, (pad, (kind, (id, (offset, (count, end)))))) some = reads_change on_resources old _ handle _
+changed_by free old form.WriteResource (handle, (pad, (kind, (id, (bytes, end))))) some = writes_change on_resources old _ handle (resources.written_resource kind id bytes) refl refl (λ base is. put_edits kind id bytes base.database)
+changed_by free old form.DeleteResource (handle, (flags, (kind, (id, end)))) some = writes_change on_resources old _ handle (deleted_resources flags kind id) refl refl (λ base is. remove_edits flags kind id base.database)
+changed_by free old form.CleanUpDatabase (handle, end) some = writes_change on_records old _ handle (λ database. Ok (with_records (cleaned_up database.records) database, reply.CleanUpDatabase)) refl refl (λ base is. record { head = refl; ids = λ ids. AreIds-filter is_live base.database.records ids })
+changed_by free old form.ResetSyncFlags (handle, end) some = writes_change on_records old _ handle (λ database. Ok (with_records (reset_flags database.records) database, reply.ResetSyncFlags)) refl refl (λ base is. record { head = refl; ids = λ ids. subst AreIds (sym (ids_of-map clean base.database.records (λ item. refl))) ids })
+changed_by free old form.ResetRecordIndex (handle, end) some = reset_change old _ handle
+changed_by free old form.AddSyncLogEntry (text, end) some = unchanged old _
+changed_by free old form.ReadOpenDbInfo (handle, end) some = reads_change on_any old _ handle (λ database. Ok (reply.ReadOpenDbInfo (entry_count database)))
+changed_by free old form.MoveCategory (handle, (from, (to, (pad, end)))) some = writes_change on_records old _ handle (moved_records from to) refl refl (λ base is. move_edits from to base.database)
+changed_by free old form.OpenConduit none some = unchanged old _
+changed_by free old form.EndOfSync (status, end) some = Turned refl (λ count. refl)
+changed_by free old form.ReadRecordIdList (handle, (flags, (start, (maximum, end)))) some = reads_change on_records old _ handle (λ database. Ok (reply.ReadRecordIdList (take (min maximum records.most_ids) (drop start (ids_of database.records)))))
 
 pub tried_change : (free : ℕ) (old : Device) (value : RequestValue) → GivesSome free old value → IfOk (tried free old value) (λ done. Change old value done.0)
-unfolding tried databases.read_app_block databases.read_sort_block databases.write_app_block databases.write_sort_block databases.read_open_db_info records.read_record_by_id records.read_record_by_index records.write_record records.delete_record records.clean_up_database records.reset_sync_flags records.move_category records.read_record_id_list resources.read_resource_by_index resources.read_resource_by_type resources.write_resource resources.delete_resource
-tried_change free old request.ReadUserInfo some = unchanged old request.ReadUserInfo
-tried_change free old (request.WriteUserInfo user viewer pc date bits name_len name) some = marks_change old user viewer pc date bits name_len name
-tried_change free old (request.ReadDbList flags card start) some = list_change old _ flags card start
-tried_change free old (request.OpenDb card mode name) some = open_change old _ card mode name
-tried_change free old (request.CreateDb creator kind card flags version name) some = create_change old creator kind card flags version name
-tried_change free old (request.CloseDb handle) some = close_change old _ handle
-tried_change free old (request.DeleteDb card name) some = delete_change old card name
-tried_change free old (request.ReadAppBlock handle offset count) some = reads_change on_any old _ handle _
-tried_change free old (request.ReadSortBlock handle offset count) some = reads_change on_any old _ handle _
-tried_change free old (request.WriteAppBlock handle bytes) some = writes_change on_any old _ handle (λ database. Ok (with_app bytes database, reply.WriteAppBlock)) refl refl (λ base is. record { head = refl; ids = λ ids. ids })
-tried_change free old (request.WriteSortBlock handle bytes) some = writes_change on_any old _ handle (λ database. Ok (with_sort bytes database, reply.WriteSortBlock)) refl refl (λ base is. record { head = refl; ids = λ ids. ids })
-tried_change free old (request.ReadNextModifiedRec handle) some = next_change old _ handle
-tried_change free old (request.ReadRecordById handle id offset count) some = reads_change on_records old _ handle _
-tried_change free old (request.ReadRecordByIndex handle index offset count) some = reads_change on_records old _ handle _
-tried_change free old (request.WriteRecord handle flags id attributes category bytes) some = writes_change on_records old _ handle (records.written_record free id (has_bit 0x10 attributes) category bytes) refl refl (λ base is. written_edits free id (has_bit 0x10 attributes) category bytes base.database (some base is))
-tried_change free old (request.DeleteRecord handle flags id) some = writes_change on_records old _ handle (deleted_records flags id) refl refl (λ base is. delete_edits flags id base.database)
-tried_change free old (request.ReadResourceByIndex handle index offset count) some = reads_change on_resources old _ handle _
-tried_change free old (request.ReadResourceByType handle kind id offset count) some = reads_change on_resources old _ handle _
-tried_change free old (request.WriteResource handle kind id bytes) some = writes_change on_resources old _ handle (resources.written_resource kind id bytes) refl refl (λ base is. put_edits kind id bytes base.database)
-tried_change free old (request.DeleteResource handle flags kind id) some = writes_change on_resources old _ handle (deleted_resources flags kind id) refl refl (λ base is. remove_edits flags kind id base.database)
-tried_change free old (request.CleanUpDatabase handle) some = writes_change on_records old _ handle (λ database. Ok (with_records (cleaned_up database.records) database, reply.CleanUpDatabase)) refl refl (λ base is. record { head = refl; ids = λ ids. AreIds-filter is_live base.database.records ids })
-tried_change free old (request.ResetSyncFlags handle) some = writes_change on_records old _ handle (λ database. Ok (with_records (reset_flags database.records) database, reply.ResetSyncFlags)) refl refl (λ base is. record { head = refl; ids = λ ids. subst AreIds (sym (ids_of-map clean base.database.records (λ item. refl))) ids })
-tried_change free old (request.ResetRecordIndex handle) some = reset_change old _ handle
-tried_change free old (request.AddSyncLogEntry text) some = unchanged old _
-tried_change free old (request.ReadOpenDbInfo handle) some = reads_change on_any old (request.ReadOpenDbInfo handle) handle (λ database. Ok (reply.ReadOpenDbInfo (entry_count database)))
-tried_change free old (request.MoveCategory handle from to) some = writes_change on_records old _ handle (moved_records from to) refl refl (λ base is. move_edits from to base.database)
-tried_change free old request.OpenConduit some = unchanged old _
-tried_change free old (request.EndOfSync status) some = Turned refl (λ count. refl)
-tried_change free old (request.ReadRecordIdList handle flags start maximum) some = reads_change on_records old (request.ReadRecordIdList handle flags start maximum) handle (λ database. Ok (reply.ReadRecordIdList (take (min maximum records.most_ids) (drop start (ids_of database.records)))))
+unfolding tried
+tried_change free old value some = changed_by free old value.form value.fields some

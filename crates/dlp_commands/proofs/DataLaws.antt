@@ -1,37 +1,43 @@
 -- What a request writes is short.
 use Rattle.std.proofs.Common.{◌≤◌, ℕ, List, length, lit≤}
+use Rattle.dlp_args.specs.Fields.{AreFields, Fields}
+use Rattle.dlp_requests.specs.Forms as form
+use Rattle.dlp_requests.specs.Forms.{Form, kinds_of}
 use Rattle.dlp_requests.specs.RequestTexts.{RequestText}
-use Rattle.dlp_requests.specs.RequestValues.{RequestValue, ReadUserInfo, WriteUserInfo, ReadDbList, OpenDb, CreateDb, CloseDb, DeleteDb, ReadAppBlock, ReadSortBlock, WriteAppBlock, WriteSortBlock, ReadNextModifiedRec, ReadRecordById, ReadRecordByIndex, WriteRecord, DeleteRecord, ReadResourceByIndex, ReadResourceByType, WriteResource, DeleteResource, CleanUpDatabase, ResetSyncFlags, ResetRecordIndex, AddSyncLogEntry, ReadOpenDbInfo, MoveCategory, OpenConduit, EndOfSync, ReadRecordIdList}
-use Rattle.dlp_commands.specs.RequestData.{data_of}
+use Rattle.dlp_requests.specs.RequestValues.{RequestValue}
+use Rattle.dlp_commands.specs.RequestData.{data_by, data_of}
 
 -- at most 65,500 bytes
+data_by_short : (f : Form) (fields : Fields (kinds_of f)) (bytes : List ℕ) → AreFields (kinds_of f) fields bytes → length (data_by f fields) ≤ 65500
+data_by_short form.ReadUserInfo fields bytes text = lit≤ tt
+data_by_short form.WriteUserInfo fields bytes text = lit≤ tt
+data_by_short form.ReadDbList fields bytes text = lit≤ tt
+data_by_short form.OpenDb fields bytes text = lit≤ tt
+data_by_short form.CreateDb fields bytes text = lit≤ tt
+data_by_short form.CloseDb fields bytes text = lit≤ tt
+data_by_short form.DeleteDb fields bytes text = lit≤ tt
+data_by_short form.ReadAppBlock fields bytes text = lit≤ tt
+data_by_short form.WriteAppBlock fields bytes text = text.4.4.3.1
+data_by_short form.ReadSortBlock fields bytes text = lit≤ tt
+data_by_short form.WriteSortBlock fields bytes text = text.4.4.3.1
+data_by_short form.ReadNextModifiedRec fields bytes text = lit≤ tt
+data_by_short form.ReadRecordById fields bytes text = lit≤ tt
+data_by_short form.ReadRecordByIndex fields bytes text = lit≤ tt
+data_by_short form.WriteRecord fields bytes text = text.4.4.4.4.4.3.1
+data_by_short form.DeleteRecord fields bytes text = lit≤ tt
+data_by_short form.ReadResourceByIndex fields bytes text = lit≤ tt
+data_by_short form.ReadResourceByType fields bytes text = lit≤ tt
+data_by_short form.WriteResource fields bytes text = text.4.4.4.4.3.1
+data_by_short form.DeleteResource fields bytes text = lit≤ tt
+data_by_short form.CleanUpDatabase fields bytes text = lit≤ tt
+data_by_short form.ResetSyncFlags fields bytes text = lit≤ tt
+data_by_short form.AddSyncLogEntry fields bytes text = lit≤ tt
+data_by_short form.ReadOpenDbInfo fields bytes text = lit≤ tt
+data_by_short form.MoveCategory fields bytes text = lit≤ tt
+data_by_short form.OpenConduit fields bytes text = lit≤ tt
+data_by_short form.EndOfSync fields bytes text = lit≤ tt
+data_by_short form.ResetRecordIndex fields bytes text = lit≤ tt
+data_by_short form.ReadRecordIdList fields bytes text = lit≤ tt
+
 pub data_short : (value : RequestValue) (bytes : List ℕ) → RequestText value bytes → length (data_of value) ≤ 65500
-data_short (WriteAppBlock handle some) bytes text = text.fields_text.4.4.3.1
-data_short (WriteSortBlock handle some) bytes text = text.fields_text.4.4.3.1
-data_short (WriteRecord handle flags id attributes category some) bytes text = text.fields_text.4.4.4.4.4.3.1
-data_short (WriteResource handle kind id some) bytes text = text.fields_text.4.4.4.4.3.1
-data_short ReadUserInfo bytes text = lit≤ tt
-data_short (WriteUserInfo user viewer pc date bits name_len name) bytes text = lit≤ tt
-data_short (ReadDbList flags card start) bytes text = lit≤ tt
-data_short (OpenDb card mode name) bytes text = lit≤ tt
-data_short (CreateDb creator kind card flags version name) bytes text = lit≤ tt
-data_short (CloseDb handle) bytes text = lit≤ tt
-data_short (DeleteDb card name) bytes text = lit≤ tt
-data_short (ReadAppBlock handle offset count) bytes text = lit≤ tt
-data_short (ReadSortBlock handle offset count) bytes text = lit≤ tt
-data_short (ReadNextModifiedRec handle) bytes text = lit≤ tt
-data_short (ReadRecordById handle id offset count) bytes text = lit≤ tt
-data_short (ReadRecordByIndex handle index offset count) bytes text = lit≤ tt
-data_short (DeleteRecord handle flags id) bytes text = lit≤ tt
-data_short (ReadResourceByIndex handle index offset count) bytes text = lit≤ tt
-data_short (ReadResourceByType handle kind id offset count) bytes text = lit≤ tt
-data_short (DeleteResource handle flags kind id) bytes text = lit≤ tt
-data_short (CleanUpDatabase handle) bytes text = lit≤ tt
-data_short (ResetSyncFlags handle) bytes text = lit≤ tt
-data_short (ResetRecordIndex handle) bytes text = lit≤ tt
-data_short (AddSyncLogEntry content) bytes text = lit≤ tt
-data_short (ReadOpenDbInfo handle) bytes text = lit≤ tt
-data_short (MoveCategory handle from to) bytes text = lit≤ tt
-data_short OpenConduit bytes text = lit≤ tt
-data_short (EndOfSync status) bytes text = lit≤ tt
-data_short (ReadRecordIdList handle flags start maximum) bytes text = lit≤ tt
+data_short value bytes text = data_by_short value.form value.fields text.content text.fields_text

@@ -11,7 +11,9 @@ use Rattle.pdb_values.specs.Databases.{DatabaseValue}
 use Rattle.pdb_values.specs.declared.head.DbHead.{DbHead}
 use Rattle.dlp_requests.specs.declared.fault.RequestFault.{RequestFault}
 use Rattle.dlp_requests.specs.RequestReading.{request_at}
-use Rattle.dlp_requests.specs.RequestValues as request
+use Rattle.dlp_args.specs.Fields.{Fields}
+use Rattle.dlp_requests.specs.Forms as form
+use Rattle.dlp_requests.specs.Forms.{Form, kinds_of}
 use Rattle.dlp_requests.specs.RequestValues.{RequestValue}
 use Rattle.palm_device.specs.Devices.{Device, database_of, is_named, place_of}
 use Rattle.palm_device.specs.Handles.{Base, base_at}
@@ -21,11 +23,11 @@ use Rattle.palm_device.proofs.EntryLaws.{position_found, position_within}
 use Rattle.palm_device.proofs.NameLaws.{NamesRise-set, NamesRise-new, NamesRise-remove, EachHas-set, EachHas-new, EachHas-remove, length-new, length-remove, database_of-set_other, database_of-new_other, database_of-remove_other, none_named}
 use Rattle.dlp_commands.specs.Changes.{is_change}
 use Rattle.dlp_commands.specs.DeviceRuns.{Exchange, Ran}
-use Rattle.dlp_commands.specs.DeviceSteps.{DeviceStep, MayGive, MayGiveTo, function_number, outcome, served, served_by, tried}
+use Rattle.dlp_commands.specs.DeviceSteps.{DeviceStep, MayGive, FormMayGive, MayGiveTo, function_number, outcome, served, served_by, tried}
 use Rattle.dlp_commands.specs.Reached.{Tried}
 use Rattle.dlp_commands.specs.RecordFunctions as records
 use Rattle.dlp_commands.specs.Targets.{is_name, target, target_of}
-use Rattle.dlp_commands.proofs.ChangeLaws.{Change, Turned, Marked, Edited, Made, Removed, GivesSome, tried_change}
+use Rattle.dlp_commands.proofs.ChangeLaws.{Change, Turned, Marked, Edited, Made, Removed, GivesBy, GivesSome, tried_change}
 
 -- ---- runs
 
@@ -57,36 +59,12 @@ may_some : (o : Option Base) (free id : ℕ) → IfSome o (λ base. id ≡ 0 →
 may_some None free id may base is = absurd cc
 may_some (Some found) free id may base is = some_given free id (λ zero. (may zero).some)
 
+gives_by : (old : Device) (free : ℕ) (f : Form) (fields : Fields (kinds_of f)) → FormMayGive old free f fields → GivesBy free old f fields
+gives_by old free form.WriteRecord (handle, (flags, (id, more))) may = may_some (base_at old handle) free id may
+gives_by old free other fields may = tt
+
 gives_some : (old : Device) (free : ℕ) (value : RequestValue) → MayGiveTo old free (Ok value) → GivesSome free old value
-gives_some old free (request.WriteRecord handle flags id attributes category bytes) may = may_some (base_at old handle) free id may
-gives_some old free request.ReadUserInfo may = tt
-gives_some old free (request.WriteUserInfo user viewer pc date bits name_len name) may = tt
-gives_some old free (request.ReadDbList flags card start) may = tt
-gives_some old free (request.OpenDb card mode name) may = tt
-gives_some old free (request.CreateDb creator kind card flags version name) may = tt
-gives_some old free (request.CloseDb handle) may = tt
-gives_some old free (request.DeleteDb card name) may = tt
-gives_some old free (request.ReadAppBlock handle offset count) may = tt
-gives_some old free (request.ReadSortBlock handle offset count) may = tt
-gives_some old free (request.WriteAppBlock handle bytes) may = tt
-gives_some old free (request.WriteSortBlock handle bytes) may = tt
-gives_some old free (request.ReadNextModifiedRec handle) may = tt
-gives_some old free (request.ReadRecordById handle id offset count) may = tt
-gives_some old free (request.ReadRecordByIndex handle index offset count) may = tt
-gives_some old free (request.DeleteRecord handle flags id) may = tt
-gives_some old free (request.ReadResourceByIndex handle index offset count) may = tt
-gives_some old free (request.ReadResourceByType handle kind id offset count) may = tt
-gives_some old free (request.WriteResource handle kind id bytes) may = tt
-gives_some old free (request.DeleteResource handle flags kind id) may = tt
-gives_some old free (request.CleanUpDatabase handle) may = tt
-gives_some old free (request.ResetSyncFlags handle) may = tt
-gives_some old free (request.ResetRecordIndex handle) may = tt
-gives_some old free (request.AddSyncLogEntry text) may = tt
-gives_some old free (request.ReadOpenDbInfo handle) may = tt
-gives_some old free (request.MoveCategory handle from to) may = tt
-gives_some old free request.OpenConduit may = tt
-gives_some old free (request.EndOfSync status) may = tt
-gives_some old free (request.ReadRecordIdList handle flags start maximum) may = tt
+gives_some old free value may = gives_by old free value.form value.fields may
 
 second_is : (p q : List ℕ × Device) → p ≡ q → p.1 ≡ q.1
 second_is p q is = ap (λ (r : List ℕ × Device). r.1) is

@@ -2,7 +2,9 @@
 use Rattle.std.specs.Prelude.{ℕ, Bool, false, List, [], ◌∷◌, Result, Ok, Err, ◌==◌, if◌then◌else◌}
 use Rattle.std.specs.List.{list_any}
 use Rattle.dlp_requests.specs.declared.fault.RequestFault.{RequestFault}
-use Rattle.dlp_requests.specs.RequestValues as request
+use Rattle.dlp_args.specs.Fields.{Fields}
+use Rattle.dlp_requests.specs.Forms as form
+use Rattle.dlp_requests.specs.Forms.{Form, kinds_of}
 use Rattle.dlp_requests.specs.RequestValues.{RequestValue}
 use Rattle.dlp_requests.specs.RequestReading.{request_at}
 use Rattle.dlp_replies.specs.declared.fault.ReplyFault.{ReplyFault}
@@ -31,9 +33,12 @@ given_by (Ok other) = []
 given_by (Err fault) = []
 
 -- a request for a new record of id 0
+abbrev pub asks_by : (f : Form) → Fields (kinds_of f) → Bool
+asks_by form.WriteRecord (handle, (flags, (id, more))) = id == 0
+asks_by other fields = false
+
 abbrev pub asks_id : Result RequestValue RequestFault → Bool
-asks_id (Ok (request.WriteRecord handle flags id attributes category bytes)) = id == 0
-asks_id (Ok other) = false
+asks_id (Ok value) = asks_by value.form value.fields
 asks_id (Err fault) = false
 
 -- the id that an exchange gave to a new record, where it was one of id 0 and accepted

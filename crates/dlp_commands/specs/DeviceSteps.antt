@@ -1,11 +1,11 @@
 -- What one request does to a device: the reply and the device after (pilot-link, `pi-dlp.h`, `dlp.c`).
 use Rattle.std.specs.Prelude.{◌≡◌, ℕ, List, [], ◌∷◌, Result, Ok, Err, IfSome}
 use Rattle.dlp_requests.specs.declared.fault.RequestFault.{RequestFault}
-use Rattle.dlp_requests.specs.RequestValues as request
+use Rattle.dlp_args.specs.Fields.{Fields}
+use Rattle.dlp_requests.specs.Forms as form
+use Rattle.dlp_requests.specs.Forms.{Form, kinds_of, number_of}
 use Rattle.dlp_requests.specs.RequestValues.{RequestValue}
 use Rattle.dlp_requests.specs.RequestReading.{request_at}
-use Rattle.dlp_requests.specs.RequestTexts.{layout}
-use Rattle.dlp_requests.specs.Frames.{Layout, Bare, One}
 use Rattle.dlp_replies.specs.ReplyValues.{Refused}
 use Rattle.dlp_replies.specs.Frames.{reply_text}
 use Rattle.palm_device.specs.Devices.{Device}
@@ -18,46 +18,45 @@ use Rattle.dlp_commands.specs.DatabaseFunctions as databases
 use Rattle.dlp_commands.specs.RecordFunctions as records
 use Rattle.dlp_commands.specs.ResourceFunctions as resources
 
--- what a request does; `free` is the id that a new record gets
-unfoldable pub tried : ℕ → Device → RequestValue → Tried
-tried free device request.ReadUserInfo = users.read_user_info device
-tried free device (request.WriteUserInfo user viewer pc date bits name_len name) = users.write_user_info device user viewer pc date bits name_len name
-tried free device (request.ReadDbList flags card start) = databases.read_db_list device flags card start
-tried free device (request.OpenDb card mode name) = databases.open_db device card mode name
-tried free device (request.CreateDb creator kind card flags version name) = databases.create_db device creator kind card flags version name
-tried free device (request.CloseDb handle) = databases.close_db device handle
-tried free device (request.DeleteDb card name) = databases.delete_db device card name
-tried free device (request.ReadAppBlock handle offset count) = databases.read_app_block device handle offset count
-tried free device (request.ReadSortBlock handle offset count) = databases.read_sort_block device handle offset count
-tried free device (request.WriteAppBlock handle bytes) = databases.write_app_block device handle bytes
-tried free device (request.WriteSortBlock handle bytes) = databases.write_sort_block device handle bytes
-tried free device (request.ReadNextModifiedRec handle) = records.read_next_modified_rec device handle
-tried free device (request.ReadRecordById handle id offset count) = records.read_record_by_id device handle id offset count
-tried free device (request.ReadRecordByIndex handle index offset count) = records.read_record_by_index device handle index offset count
-tried free device (request.WriteRecord handle flags id attributes category bytes) = records.write_record free device handle id attributes category bytes
-tried free device (request.DeleteRecord handle flags id) = records.delete_record device handle flags id
-tried free device (request.ReadResourceByIndex handle index offset count) = resources.read_resource_by_index device handle index offset count
-tried free device (request.ReadResourceByType handle kind id offset count) = resources.read_resource_by_type device handle kind id offset count
-tried free device (request.WriteResource handle kind id bytes) = resources.write_resource device handle kind id bytes
-tried free device (request.DeleteResource handle flags kind id) = resources.delete_resource device handle flags kind id
-tried free device (request.CleanUpDatabase handle) = records.clean_up_database device handle
-tried free device (request.ResetSyncFlags handle) = records.reset_sync_flags device handle
-tried free device (request.ResetRecordIndex handle) = records.reset_record_index device handle
-tried free device (request.AddSyncLogEntry text) = users.add_sync_log_entry device
-tried free device (request.ReadOpenDbInfo handle) = databases.read_open_db_info device handle
-tried free device (request.MoveCategory handle from to) = records.move_category device handle from to
-tried free device request.OpenConduit = users.open_conduit device
-tried free device (request.EndOfSync status) = users.end_of_sync device
-tried free device (request.ReadRecordIdList handle flags start maximum) = records.read_record_id_list device handle start maximum
+-- what a request of a form does; `free` is the id that a new record gets
+abbrev pub tried_by : ℕ → Device → (f : Form) → Fields (kinds_of f) → Tried
+tried_by free device form.ReadUserInfo none = users.read_user_info device
+tried_by free device form.WriteUserInfo (user, (viewer, (pc, (date, (bits, (name_len, (name, end))))))) = users.write_user_info device user viewer pc date bits name_len name
+tried_by free device form.ReadDbList (flags, (card, (start, end))) = databases.read_db_list device flags card start
+tried_by free device form.OpenDb (card, (mode, (name, end))) = databases.open_db device card mode name
+tried_by free device form.CreateDb (creator, (kind, (card, (pad, (flags, (version, (name, end))))))) = databases.create_db device creator kind card flags version name
+tried_by free device form.CloseDb (handle, end) = databases.close_db device handle
+tried_by free device form.DeleteDb (card, (pad, (name, end))) = databases.delete_db device card name
+tried_by free device form.ReadAppBlock (handle, (pad, (offset, (count, end)))) = databases.read_app_block device handle offset count
+tried_by free device form.ReadSortBlock (handle, (pad, (offset, (count, end)))) = databases.read_sort_block device handle offset count
+tried_by free device form.WriteAppBlock (handle, (pad, (bytes, end))) = databases.write_app_block device handle bytes
+tried_by free device form.WriteSortBlock (handle, (pad, (bytes, end))) = databases.write_sort_block device handle bytes
+tried_by free device form.ReadNextModifiedRec (handle, end) = records.read_next_modified_rec device handle
+tried_by free device form.ReadRecordById (handle, (pad, (id, (offset, (count, end))))) = records.read_record_by_id device handle id offset count
+tried_by free device form.ReadRecordByIndex (handle, (pad, (index, (offset, (count, end))))) = records.read_record_by_index device handle index offset count
+tried_by free device form.WriteRecord (handle, (flags, (id, (attributes, (category, (bytes, end)))))) = records.write_record free device handle id attributes category bytes
+tried_by free device form.DeleteRecord (handle, (flags, (id, end))) = records.delete_record device handle flags id
+tried_by free device form.ReadResourceByIndex (handle, (pad, (index, (offset, (count, end))))) = resources.read_resource_by_index device handle index offset count
+tried_by free device form.ReadResourceByType (handle, (pad, (kind, (id, (offset, (count, end)))))) = resources.read_resource_by_type device handle kind id offset count
+tried_by free device form.WriteResource (handle, (pad, (kind, (id, (bytes, end))))) = resources.write_resource device handle kind id bytes
+tried_by free device form.DeleteResource (handle, (flags, (kind, (id, end)))) = resources.delete_resource device handle flags kind id
+tried_by free device form.CleanUpDatabase (handle, end) = records.clean_up_database device handle
+tried_by free device form.ResetSyncFlags (handle, end) = records.reset_sync_flags device handle
+tried_by free device form.ResetRecordIndex (handle, end) = records.reset_record_index device handle
+tried_by free device form.AddSyncLogEntry (text, end) = users.add_sync_log_entry device
+tried_by free device form.ReadOpenDbInfo (handle, end) = databases.read_open_db_info device handle
+tried_by free device form.MoveCategory (handle, (from, (to, (pad, end)))) = records.move_category device handle from to
+tried_by free device form.OpenConduit none = users.open_conduit device
+tried_by free device form.EndOfSync (status, end) = users.end_of_sync device
+tried_by free device form.ReadRecordIdList (handle, (flags, (start, (maximum, end)))) = records.read_record_id_list device handle start maximum
 
--- the function's byte in a layout
-abbrev pub layout_number : Layout → ℕ
-layout_number (Bare number) = number
-layout_number (One number id kinds fields) = number
+-- what a request does
+unfoldable pub tried : ℕ → Device → RequestValue → Tried
+tried free device value = tried_by free device value.form value.fields
 
 -- the function's byte of a request
 abbrev pub function_number : RequestValue → ℕ
-function_number value = layout_number (layout value)
+function_number value = number_of value.form
 
 -- an error changes nothing and is replied
 abbrev pub outcome : Device → ℕ → Tried → List ℕ × Device
@@ -79,9 +78,13 @@ unfoldable pub served : Device → ℕ → List ℕ → List ℕ × Device
 served old free bytes = served_by old free bytes (request_at bytes)
 
 -- the request may give a new record this id: WriteRecord of id 0 asks for a free one
+abbrev pub FormMayGive : Device → ℕ → (f : Form) → Fields (kinds_of f) → Type 0
+FormMayGive old free form.WriteRecord (handle, (flags, (id, more))) = IfSome (base_at old handle) (λ base. id ≡ 0 → IsFree free base.database.records)
+FormMayGive old free other fields = Unit {0}
+
+-- a request that was read may do so; bytes that are none give no id
 abbrev pub MayGiveTo : Device → ℕ → Result RequestValue RequestFault → Type 0
-MayGiveTo old free (Ok (request.WriteRecord handle flags id attributes category bytes)) = IfSome (base_at old handle) (λ base. id ≡ 0 → IsFree free base.database.records)
-MayGiveTo old free (Ok value) = Unit {0}
+MayGiveTo old free (Ok value) = FormMayGive old free value.form value.fields
 MayGiveTo old free (Err fault) = Unit {0}
 
 -- the bytes may give a new record this id

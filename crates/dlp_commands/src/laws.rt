@@ -3,7 +3,7 @@ ghost use Rattle.std.specs.Prelude.{◌≡◌, ◌++◌, ℕ, List, Ok, Err, fal
 ghost use Rattle.dlp_requests.specs.declared.fault.RequestFault.{RequestFault};
 ghost use Rattle.dlp_requests.specs.RequestReading.{request_at};
 ghost use Rattle.dlp_requests.specs.RequestValues.{RequestValue};
-ghost use Rattle.dlp_requests.specs.RequestValues as request;
+ghost use Rattle.dlp_requests.specs.Forms as form;
 ghost use Rattle.dlp_replies.specs.Frames.{reply_text};
 ghost use Rattle.dlp_replies.specs.ReplyValues.{Refused};
 ghost use Rattle.palm_device.specs.Devices.{Device, database_of};
@@ -51,5 +51,5 @@ pub fn soundness_stays()
 
 /// After EndOfSync nothing is open.
 pub fn end_of_sync_closes_all()
-    ensures { (old new : Device) (bytes reply : List ℕ) (status : ℕ) → request_at bytes ≡ Ok (request.EndOfSync status) → DeviceStep old bytes reply new → new.handles ≡ no_handles }
+    ensures { (old new : Device) (bytes reply : List ℕ) (status : ℕ) → request_at bytes ≡ Ok (record { form = form.EndOfSync; fields = (status, tt) }) → DeviceStep old bytes reply new → new.handles ≡ no_handles }
 {}

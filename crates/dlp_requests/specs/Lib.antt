@@ -1,6 +1,5 @@
 pub mod Faults
-pub mod Frames
-pub mod Layouts
+pub mod Forms
 pub mod RequestReading
 pub mod RequestTexts
 pub mod RequestValues

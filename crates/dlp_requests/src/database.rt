@@ -1,17 +1,17 @@
 // What the argument of a request about databases, their blocks and their handles holds.
 ghost use Rattle.std.specs.Prelude.{◌≡◌};
-ghost use Rattle.std.specs.Option.{option_map};
-ghost use Rattle.dlp_args.specs.Fields.{fields_in};
-ghost use Rattle.dlp_requests.specs.Layouts as layouts;
-ghost use Rattle.dlp_requests.specs.RequestValues as values;
-ghost use Rattle.dlp_requests.specs.Views.{request_value};
+ghost use Rattle.dlp_requests.specs.Forms as form;
+ghost use Rattle.dlp_requests.specs.RequestTexts.{IsRequest, request_text};
+ghost use Rattle.dlp_requests.specs.Views.{Reads, request_value};
 
 use crate::request::Request;
-use dlp_args::{counted_of, end_of, take_4, take_u8, take_u16, text_of};
+use dlp_args::{
+    Message, append, begin, counted_of, end_of, put, take_4, take_u8, take_u16, text_of,
+};
 use pdb_values::FourCc;
 
 pub(crate) fn read_db_list(content: &[u8]) -> Option<Request<'_>>
-    ensures { option_map request_value result ≡ option_map (λ v. values.ReadDbList v.0 v.1.0 v.1.1.0) (fields_in layouts.read_db_list content.now) }
+    ensures { Reads form.ReadDbList content.now result }
 {
     let (flags, rest) = take_u8(content)?;
     let (card, rest) = take_u8(rest)?;
@@ -20,8 +20,24 @@ pub(crate) fn read_db_list(content: &[u8]) -> Option<Request<'_>>
     Some(Request::ReadDbList { flags, card, start })
 }
 
+#[tactic(auto, unfolding(crate::specs::RequestTexts::request_text, crate::specs::RequestTexts::IsRequest))]
+pub(crate) fn put_read_db_list(out: &mut Message, flags: u8, card: u8, start: u16)
+    requires { IsRequest (request_value (Request.ReadDbList flags card start)) }
+    ensures { out.new ≡ request_text (request_value (Request.ReadDbList flags card start)) }
+{
+    let start = start.to_be_bytes();
+    put(
+        out,
+        0x16,
+        0x20,
+        &[flags, card, start[0], start[1]],
+        &[],
+        &[],
+    );
+}
+
 pub(crate) fn open_db(content: &[u8]) -> Option<Request<'_>>
-    ensures { option_map request_value result ≡ option_map (λ v. values.OpenDb v.0 v.1.0 v.1.1.0) (fields_in layouts.open_db content.now) }
+    ensures { Reads form.OpenDb content.now result }
 {
     let (card, rest) = take_u8(content)?;
     let (mode, rest) = take_u8(rest)?;
@@ -29,8 +45,16 @@ pub(crate) fn open_db(content: &[u8]) -> Option<Request<'_>>
     Some(Request::OpenDb { card, mode, name })
 }
 
+#[tactic(auto, unfolding(crate::specs::RequestTexts::request_text, crate::specs::RequestTexts::IsRequest))]
+pub(crate) fn put_open_db(out: &mut Message, card: u8, mode: u8, name: &[u8])
+    requires { IsRequest (request_value (Request.OpenDb card mode name)) }
+    ensures { out.new ≡ request_text (request_value (Request.OpenDb card mode name.entry)) }
+{
+    put(out, 0x17, 0x20, &[card, mode], name, &[0]);
+}
+
 pub(crate) fn create_db(content: &[u8]) -> Option<Request<'_>>
-    ensures { option_map request_value result ≡ option_map (λ v. values.CreateDb v.0 v.1.0 v.1.1.0 v.1.1.1.1.0 v.1.1.1.1.1.0 v.1.1.1.1.1.1.0) (fields_in layouts.create_db content.now) }
+    ensures { Reads form.CreateDb content.now result }
 {
     let (creator, rest) = take_4(content)?;
     let (kind, rest) = take_4(rest)?;
@@ -49,16 +73,47 @@ pub(crate) fn create_db(content: &[u8]) -> Option<Request<'_>>
     })
 }
 
+#[tactic(auto, unfolding(crate::specs::RequestTexts::request_text, crate::specs::RequestTexts::IsRequest), using(std::proofs::Common::append_assoc))]
+pub(crate) fn put_create_db(
+    out: &mut Message,
+    creator: FourCc,
+    kind: FourCc,
+    card: u8,
+    flags: u16,
+    version: u16,
+    name: &[u8],
+)
+    requires { IsRequest (request_value (Request.CreateDb creator kind card flags version name)) }
+    ensures { out.new ≡ request_text (request_value (Request.CreateDb creator kind card flags version name.entry)) }
+{
+    let flags = flags.to_be_bytes();
+    let version = version.to_be_bytes();
+    begin(out, 0x18, 0x20, 15 + name.len());
+    append(out, &creator.0);
+    append(out, &kind.0);
+    append(out, &[card, 0, flags[0], flags[1], version[0], version[1]]);
+    append(out, name);
+    append(out, &[0]);
+}
+
 pub(crate) fn close_db(content: &[u8]) -> Option<Request<'_>>
-    ensures { option_map request_value result ≡ option_map (λ v. values.CloseDb v.0) (fields_in layouts.handle_alone content.now) }
+    ensures { Reads form.CloseDb content.now result }
 {
     let (handle, rest) = take_u8(content)?;
     end_of(rest)?;
     Some(Request::CloseDb { handle })
 }
 
+#[tactic(auto, unfolding(crate::specs::RequestTexts::request_text, crate::specs::RequestTexts::IsRequest))]
+pub(crate) fn put_close_db(out: &mut Message, handle: u8)
+    requires { IsRequest (request_value (Request.CloseDb handle)) }
+    ensures { out.new ≡ request_text (request_value (Request.CloseDb handle)) }
+{
+    put(out, 0x19, 0x20, &[handle], &[], &[]);
+}
+
 pub(crate) fn delete_db(content: &[u8]) -> Option<Request<'_>>
-    ensures { option_map request_value result ≡ option_map (λ v. values.DeleteDb v.0 v.1.1.0) (fields_in layouts.delete_db content.now) }
+    ensures { Reads form.DeleteDb content.now result }
 {
     let (card, rest) = take_u8(content)?;
     let (_, rest) = take_u8(rest)?;
@@ -66,8 +121,16 @@ pub(crate) fn delete_db(content: &[u8]) -> Option<Request<'_>>
     Some(Request::DeleteDb { card, name })
 }
 
+#[tactic(auto, unfolding(crate::specs::RequestTexts::request_text, crate::specs::RequestTexts::IsRequest))]
+pub(crate) fn put_delete_db(out: &mut Message, card: u8, name: &[u8])
+    requires { IsRequest (request_value (Request.DeleteDb card name)) }
+    ensures { out.new ≡ request_text (request_value (Request.DeleteDb card name.entry)) }
+{
+    put(out, 0x1A, 0x20, &[card, 0], name, &[0]);
+}
+
 pub(crate) fn read_app_block(content: &[u8]) -> Option<Request<'_>>
-    ensures { option_map request_value result ≡ option_map (λ v. values.ReadAppBlock v.0 v.1.1.0 v.1.1.1.0) (fields_in layouts.read_block content.now) }
+    ensures { Reads form.ReadAppBlock content.now result }
 {
     let (handle, rest) = take_u8(content)?;
     let (_, rest) = take_u8(rest)?;
@@ -81,8 +144,25 @@ pub(crate) fn read_app_block(content: &[u8]) -> Option<Request<'_>>
     })
 }
 
+#[tactic(auto, unfolding(crate::specs::RequestTexts::request_text, crate::specs::RequestTexts::IsRequest))]
+pub(crate) fn put_read_app_block(out: &mut Message, handle: u8, offset: u16, length: u16)
+    requires { IsRequest (request_value (Request.ReadAppBlock handle offset length)) }
+    ensures { out.new ≡ request_text (request_value (Request.ReadAppBlock handle offset length)) }
+{
+    let offset = offset.to_be_bytes();
+    let length = length.to_be_bytes();
+    put(
+        out,
+        0x1B,
+        0x20,
+        &[handle, 0, offset[0], offset[1], length[0], length[1]],
+        &[],
+        &[],
+    );
+}
+
 pub(crate) fn read_sort_block(content: &[u8]) -> Option<Request<'_>>
-    ensures { option_map request_value result ≡ option_map (λ v. values.ReadSortBlock v.0 v.1.1.0 v.1.1.1.0) (fields_in layouts.read_block content.now) }
+    ensures { Reads form.ReadSortBlock content.now result }
 {
     let (handle, rest) = take_u8(content)?;
     let (_, rest) = take_u8(rest)?;
@@ -96,8 +176,25 @@ pub(crate) fn read_sort_block(content: &[u8]) -> Option<Request<'_>>
     })
 }
 
+#[tactic(auto, unfolding(crate::specs::RequestTexts::request_text, crate::specs::RequestTexts::IsRequest))]
+pub(crate) fn put_read_sort_block(out: &mut Message, handle: u8, offset: u16, length: u16)
+    requires { IsRequest (request_value (Request.ReadSortBlock handle offset length)) }
+    ensures { out.new ≡ request_text (request_value (Request.ReadSortBlock handle offset length)) }
+{
+    let offset = offset.to_be_bytes();
+    let length = length.to_be_bytes();
+    put(
+        out,
+        0x1D,
+        0x20,
+        &[handle, 0, offset[0], offset[1], length[0], length[1]],
+        &[],
+        &[],
+    );
+}
+
 pub(crate) fn write_app_block(content: &[u8]) -> Option<Request<'_>>
-    ensures { option_map request_value result ≡ option_map (λ v. values.WriteAppBlock v.0 v.1.1.0) (fields_in layouts.write_block content.now) }
+    ensures { Reads form.WriteAppBlock content.now result }
 {
     let (handle, rest) = take_u8(content)?;
     let (_, rest) = take_u8(rest)?;
@@ -105,8 +202,17 @@ pub(crate) fn write_app_block(content: &[u8]) -> Option<Request<'_>>
     Some(Request::WriteAppBlock { handle, bytes })
 }
 
+#[tactic(auto, unfolding(crate::specs::RequestTexts::request_text, crate::specs::RequestTexts::IsRequest))]
+pub(crate) fn put_write_app_block(out: &mut Message, handle: u8, bytes: &[u8])
+    requires { IsRequest (request_value (Request.WriteAppBlock handle bytes)) }
+    ensures { out.new ≡ request_text (request_value (Request.WriteAppBlock handle bytes.entry)) }
+{
+    let size = (bytes.len() as u16).to_be_bytes();
+    put(out, 0x1C, 0x20, &[handle, 0, size[0], size[1]], bytes, &[]);
+}
+
 pub(crate) fn write_sort_block(content: &[u8]) -> Option<Request<'_>>
-    ensures { option_map request_value result ≡ option_map (λ v. values.WriteSortBlock v.0 v.1.1.0) (fields_in layouts.write_block content.now) }
+    ensures { Reads form.WriteSortBlock content.now result }
 {
     let (handle, rest) = take_u8(content)?;
     let (_, rest) = take_u8(rest)?;
@@ -114,10 +220,27 @@ pub(crate) fn write_sort_block(content: &[u8]) -> Option<Request<'_>>
     Some(Request::WriteSortBlock { handle, bytes })
 }
 
+#[tactic(auto, unfolding(crate::specs::RequestTexts::request_text, crate::specs::RequestTexts::IsRequest))]
+pub(crate) fn put_write_sort_block(out: &mut Message, handle: u8, bytes: &[u8])
+    requires { IsRequest (request_value (Request.WriteSortBlock handle bytes)) }
+    ensures { out.new ≡ request_text (request_value (Request.WriteSortBlock handle bytes.entry)) }
+{
+    let size = (bytes.len() as u16).to_be_bytes();
+    put(out, 0x1E, 0x20, &[handle, 0, size[0], size[1]], bytes, &[]);
+}
+
 pub(crate) fn read_open_db_info(content: &[u8]) -> Option<Request<'_>>
-    ensures { option_map request_value result ≡ option_map (λ v. values.ReadOpenDbInfo v.0) (fields_in layouts.handle_alone content.now) }
+    ensures { Reads form.ReadOpenDbInfo content.now result }
 {
     let (handle, rest) = take_u8(content)?;
     end_of(rest)?;
     Some(Request::ReadOpenDbInfo { handle })
+}
+
+#[tactic(auto, unfolding(crate::specs::RequestTexts::request_text, crate::specs::RequestTexts::IsRequest))]
+pub(crate) fn put_read_open_db_info(out: &mut Message, handle: u8)
+    requires { IsRequest (request_value (Request.ReadOpenDbInfo handle)) }
+    ensures { out.new ≡ request_text (request_value (Request.ReadOpenDbInfo handle)) }
+{
+    put(out, 0x2B, 0x20, &[handle], &[], &[]);
 }

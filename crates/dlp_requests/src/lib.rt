@@ -8,7 +8,6 @@
 mod database;
 mod fault;
 mod laws;
-mod layout;
 mod reader;
 mod record;
 mod request;

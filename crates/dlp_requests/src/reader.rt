@@ -1,8 +1,9 @@
 // Reading requests.
-ghost use Rattle.std.specs.Prelude.{◌≡◌, List, ℕ, Result, Ok, IfOk};
+ghost use Rattle.std.specs.Prelude.{◌≡◌, List, [], ℕ, Result, Ok, Some, None, IfOk};
 ghost use Rattle.std.specs.Option.{option_map};
 ghost use Rattle.dlp_args.specs.Views.{Gives};
 ghost use Rattle.dlp_requests.specs.Faults as faults;
+ghost use Rattle.dlp_requests.specs.Forms as form;
 ghost use Rattle.dlp_requests.specs.RequestReading as reading;
 ghost use Rattle.dlp_requests.specs.RequestReading.{request_at};
 ghost use Rattle.dlp_requests.specs.RequestTexts.{RequestText};
@@ -53,7 +54,10 @@ fn request_of<'a>(function: Function, args: &Args<'a>) -> Result<Request<'a>, Re
     ensures { Gives request_value result (reading.request_of function args.now) }
 {
     match function {
-        Function::ReadUserInfo => none(args, Request::ReadUserInfo),
+        Function::ReadUserInfo => {
+            none(args)?;
+            Ok(Request::ReadUserInfo)
+        }
         Function::WriteUserInfo => sized(session::write_user_info(only(args, 0x20)?)),
         Function::ReadDbList => sized(database::read_db_list(only(args, 0x20)?)),
         Function::OpenDb => sized(database::open_db(only(args, 0x20)?)),
@@ -77,7 +81,10 @@ fn request_of<'a>(function: Function, args: &Args<'a>) -> Result<Request<'a>, Re
         Function::AddSyncLogEntry => sized(session::add_sync_log_entry(only(args, 0x20)?)),
         Function::ReadOpenDbInfo => sized(database::read_open_db_info(only(args, 0x20)?)),
         Function::MoveCategory => sized(record::move_category(only(args, 0x20)?)),
-        Function::OpenConduit => none(args, Request::OpenConduit),
+        Function::OpenConduit => {
+            none(args)?;
+            Ok(Request::OpenConduit)
+        }
         Function::EndOfSync => sized(session::end_of_sync(only(args, 0x20)?)),
         Function::ReadRecordIdList => sized(record::read_record_id_list(only(args, 0x20)?)),
     }
@@ -85,7 +92,7 @@ fn request_of<'a>(function: Function, args: &Args<'a>) -> Result<Request<'a>, Re
 
 // ReadRecord by id (argument 0x20) or by index (0x21).
 fn read_record<'a>(args: &Args<'a>) -> Result<Request<'a>, RequestFault>
-    ensures { Gives request_value result (reading.record_argument (reading.first_id args.now) args.now) }
+    ensures { Gives request_value result (reading.by_id_21 form.ReadRecordByIndex form.ReadRecordById (reading.first_id args.now) args.now) }
 {
     let Some(first) = args.iter().next() else {
         return Err(RequestFault::Argument);
@@ -99,7 +106,7 @@ fn read_record<'a>(args: &Args<'a>) -> Result<Request<'a>, RequestFault>
 
 // ReadResource by index (argument 0x20) or by type and id (0x21).
 fn read_resource<'a>(args: &Args<'a>) -> Result<Request<'a>, RequestFault>
-    ensures { Gives request_value result (reading.resource_argument (reading.first_id args.now) args.now) }
+    ensures { Gives request_value result (reading.by_id_21 form.ReadResourceByType form.ReadResourceByIndex (reading.first_id args.now) args.now) }
 {
     let Some(first) = args.iter().next() else {
         return Err(RequestFault::Argument);
@@ -113,7 +120,7 @@ fn read_resource<'a>(args: &Args<'a>) -> Result<Request<'a>, RequestFault>
 
 // What the one argument has, which bears this id.
 fn only<'a>(args: &Args<'a>, id: u8) -> Result<&'a [u8], RequestFault>
-    ensures { Gives (λ content. content.now) result (reading.only_argument id args.now) }
+    ensures { Gives (λ content. content.now) result (reading.argument_bytes (Some id) args.now) }
 {
     let mut iter = args.iter();
     match (iter.next(), iter.next()) {
@@ -128,11 +135,12 @@ fn sized(request: Option<Request<'_>>) -> Result<Request<'_>, RequestFault>
     request.ok_or(RequestFault::Size)
 }
 
-fn none<'a>(args: &Args<'a>, request: Request<'a>) -> Result<Request<'a>, RequestFault>
-    ensures { Gives request_value result (reading.no_argument (request_value request.entry) args.now) }
+// There is no argument.
+fn none(args: &Args<'_>) -> Result<(), RequestFault>
+    ensures { Gives (λ done. []) result (reading.argument_bytes None args.now) }
 {
     match args.iter().next() {
-        None => Ok(request),
+        None => Ok(()),
         Some(_) => Err(RequestFault::Argument),
     }
 }

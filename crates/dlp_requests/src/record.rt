@@ -1,24 +1,30 @@
 // What the argument of a request about records holds.
 ghost use Rattle.std.specs.Prelude.{◌≡◌};
-ghost use Rattle.std.specs.Option.{option_map};
-ghost use Rattle.dlp_args.specs.Fields.{fields_in};
-ghost use Rattle.dlp_requests.specs.Layouts as layouts;
-ghost use Rattle.dlp_requests.specs.RequestValues as values;
-ghost use Rattle.dlp_requests.specs.Views.{request_value};
+ghost use Rattle.dlp_requests.specs.Forms as form;
+ghost use Rattle.dlp_requests.specs.RequestTexts.{IsRequest, request_text};
+ghost use Rattle.dlp_requests.specs.Views.{Reads, request_value};
 
 use crate::request::Request;
-use dlp_args::{end_of, rest_of, take_u8, take_u16, take_u32};
+use dlp_args::{Message, end_of, put, rest_of, take_u8, take_u16, take_u32};
 
 pub(crate) fn read_next_modified_rec(content: &[u8]) -> Option<Request<'_>>
-    ensures { option_map request_value result ≡ option_map (λ v. values.ReadNextModifiedRec v.0) (fields_in layouts.handle_alone content.now) }
+    ensures { Reads form.ReadNextModifiedRec content.now result }
 {
     let (handle, rest) = take_u8(content)?;
     end_of(rest)?;
     Some(Request::ReadNextModifiedRec { handle })
 }
 
+#[tactic(auto, unfolding(crate::specs::RequestTexts::request_text, crate::specs::RequestTexts::IsRequest))]
+pub(crate) fn put_read_next_modified_rec(out: &mut Message, handle: u8)
+    requires { IsRequest (request_value (Request.ReadNextModifiedRec handle)) }
+    ensures { out.new ≡ request_text (request_value (Request.ReadNextModifiedRec handle)) }
+{
+    put(out, 0x1F, 0x20, &[handle], &[], &[]);
+}
+
 pub(crate) fn read_record_by_id(content: &[u8]) -> Option<Request<'_>>
-    ensures { option_map request_value result ≡ option_map (λ v. values.ReadRecordById v.0 v.1.1.0 v.1.1.1.0 v.1.1.1.1.0) (fields_in layouts.read_record_by_id content.now) }
+    ensures { Reads form.ReadRecordById content.now result }
 {
     let (handle, rest) = take_u8(content)?;
     let (_, rest) = take_u8(rest)?;
@@ -34,8 +40,34 @@ pub(crate) fn read_record_by_id(content: &[u8]) -> Option<Request<'_>>
     })
 }
 
+#[tactic(auto, unfolding(crate::specs::RequestTexts::request_text, crate::specs::RequestTexts::IsRequest))]
+pub(crate) fn put_read_record_by_id(
+    out: &mut Message,
+    handle: u8,
+    id: u32,
+    offset: u16,
+    length: u16,
+)
+    requires { IsRequest (request_value (Request.ReadRecordById handle id offset length)) }
+    ensures { out.new ≡ request_text (request_value (Request.ReadRecordById handle id offset length)) }
+{
+    let id = id.to_be_bytes();
+    let offset = offset.to_be_bytes();
+    let length = length.to_be_bytes();
+    put(
+        out,
+        0x20,
+        0x20,
+        &[
+            handle, 0, id[0], id[1], id[2], id[3], offset[0], offset[1], length[0], length[1],
+        ],
+        &[],
+        &[],
+    );
+}
+
 pub(crate) fn read_record_by_index(content: &[u8]) -> Option<Request<'_>>
-    ensures { option_map request_value result ≡ option_map (λ v. values.ReadRecordByIndex v.0 v.1.1.0 v.1.1.1.0 v.1.1.1.1.0) (fields_in layouts.read_by_index content.now) }
+    ensures { Reads form.ReadRecordByIndex content.now result }
 {
     let (handle, rest) = take_u8(content)?;
     let (_, rest) = take_u8(rest)?;
@@ -51,8 +83,34 @@ pub(crate) fn read_record_by_index(content: &[u8]) -> Option<Request<'_>>
     })
 }
 
+#[tactic(auto, unfolding(crate::specs::RequestTexts::request_text, crate::specs::RequestTexts::IsRequest))]
+pub(crate) fn put_read_record_by_index(
+    out: &mut Message,
+    handle: u8,
+    index: u16,
+    offset: u16,
+    length: u16,
+)
+    requires { IsRequest (request_value (Request.ReadRecordByIndex handle index offset length)) }
+    ensures { out.new ≡ request_text (request_value (Request.ReadRecordByIndex handle index offset length)) }
+{
+    let index = index.to_be_bytes();
+    let offset = offset.to_be_bytes();
+    let length = length.to_be_bytes();
+    put(
+        out,
+        0x20,
+        0x21,
+        &[
+            handle, 0, index[0], index[1], offset[0], offset[1], length[0], length[1],
+        ],
+        &[],
+        &[],
+    );
+}
+
 pub(crate) fn write_record(content: &[u8]) -> Option<Request<'_>>
-    ensures { option_map request_value result ≡ option_map (λ v. values.WriteRecord v.0 v.1.0 v.1.1.0 v.1.1.1.0 v.1.1.1.1.0 v.1.1.1.1.1.0) (fields_in layouts.write_record content.now) }
+    ensures { Reads form.WriteRecord content.now result }
 {
     let (handle, rest) = take_u8(content)?;
     let (flags, rest) = take_u8(rest)?;
@@ -70,8 +128,34 @@ pub(crate) fn write_record(content: &[u8]) -> Option<Request<'_>>
     })
 }
 
+#[tactic(auto, unfolding(crate::specs::RequestTexts::request_text, crate::specs::RequestTexts::IsRequest))]
+pub(crate) fn put_write_record(
+    out: &mut Message,
+    handle: u8,
+    flags: u8,
+    id: u32,
+    attributes: u8,
+    category: u8,
+    bytes: &[u8],
+)
+    requires { IsRequest (request_value (Request.WriteRecord handle flags id attributes category bytes)) }
+    ensures { out.new ≡ request_text (request_value (Request.WriteRecord handle flags id attributes category bytes.entry)) }
+{
+    let id = id.to_be_bytes();
+    put(
+        out,
+        0x21,
+        0x20,
+        &[
+            handle, flags, id[0], id[1], id[2], id[3], attributes, category,
+        ],
+        bytes,
+        &[],
+    );
+}
+
 pub(crate) fn delete_record(content: &[u8]) -> Option<Request<'_>>
-    ensures { option_map request_value result ≡ option_map (λ v. values.DeleteRecord v.0 v.1.0 v.1.1.0) (fields_in layouts.delete_record content.now) }
+    ensures { Reads form.DeleteRecord content.now result }
 {
     let (handle, rest) = take_u8(content)?;
     let (flags, rest) = take_u8(rest)?;
@@ -80,32 +164,72 @@ pub(crate) fn delete_record(content: &[u8]) -> Option<Request<'_>>
     Some(Request::DeleteRecord { handle, flags, id })
 }
 
+#[tactic(auto, unfolding(crate::specs::RequestTexts::request_text, crate::specs::RequestTexts::IsRequest))]
+pub(crate) fn put_delete_record(out: &mut Message, handle: u8, flags: u8, id: u32)
+    requires { IsRequest (request_value (Request.DeleteRecord handle flags id)) }
+    ensures { out.new ≡ request_text (request_value (Request.DeleteRecord handle flags id)) }
+{
+    let id = id.to_be_bytes();
+    put(
+        out,
+        0x22,
+        0x20,
+        &[handle, flags, id[0], id[1], id[2], id[3]],
+        &[],
+        &[],
+    );
+}
+
 pub(crate) fn clean_up_database(content: &[u8]) -> Option<Request<'_>>
-    ensures { option_map request_value result ≡ option_map (λ v. values.CleanUpDatabase v.0) (fields_in layouts.handle_alone content.now) }
+    ensures { Reads form.CleanUpDatabase content.now result }
 {
     let (handle, rest) = take_u8(content)?;
     end_of(rest)?;
     Some(Request::CleanUpDatabase { handle })
 }
 
+#[tactic(auto, unfolding(crate::specs::RequestTexts::request_text, crate::specs::RequestTexts::IsRequest))]
+pub(crate) fn put_clean_up_database(out: &mut Message, handle: u8)
+    requires { IsRequest (request_value (Request.CleanUpDatabase handle)) }
+    ensures { out.new ≡ request_text (request_value (Request.CleanUpDatabase handle)) }
+{
+    put(out, 0x26, 0x20, &[handle], &[], &[]);
+}
+
 pub(crate) fn reset_sync_flags(content: &[u8]) -> Option<Request<'_>>
-    ensures { option_map request_value result ≡ option_map (λ v. values.ResetSyncFlags v.0) (fields_in layouts.handle_alone content.now) }
+    ensures { Reads form.ResetSyncFlags content.now result }
 {
     let (handle, rest) = take_u8(content)?;
     end_of(rest)?;
     Some(Request::ResetSyncFlags { handle })
 }
 
+#[tactic(auto, unfolding(crate::specs::RequestTexts::request_text, crate::specs::RequestTexts::IsRequest))]
+pub(crate) fn put_reset_sync_flags(out: &mut Message, handle: u8)
+    requires { IsRequest (request_value (Request.ResetSyncFlags handle)) }
+    ensures { out.new ≡ request_text (request_value (Request.ResetSyncFlags handle)) }
+{
+    put(out, 0x27, 0x20, &[handle], &[], &[]);
+}
+
 pub(crate) fn reset_record_index(content: &[u8]) -> Option<Request<'_>>
-    ensures { option_map request_value result ≡ option_map (λ v. values.ResetRecordIndex v.0) (fields_in layouts.handle_alone content.now) }
+    ensures { Reads form.ResetRecordIndex content.now result }
 {
     let (handle, rest) = take_u8(content)?;
     end_of(rest)?;
     Some(Request::ResetRecordIndex { handle })
 }
 
+#[tactic(auto, unfolding(crate::specs::RequestTexts::request_text, crate::specs::RequestTexts::IsRequest))]
+pub(crate) fn put_reset_record_index(out: &mut Message, handle: u8)
+    requires { IsRequest (request_value (Request.ResetRecordIndex handle)) }
+    ensures { out.new ≡ request_text (request_value (Request.ResetRecordIndex handle)) }
+{
+    put(out, 0x30, 0x20, &[handle], &[], &[]);
+}
+
 pub(crate) fn move_category(content: &[u8]) -> Option<Request<'_>>
-    ensures { option_map request_value result ≡ option_map (λ v. values.MoveCategory v.0 v.1.0 v.1.1.0) (fields_in layouts.move_category content.now) }
+    ensures { Reads form.MoveCategory content.now result }
 {
     let (handle, rest) = take_u8(content)?;
     let (from, rest) = take_u8(rest)?;
@@ -115,8 +239,16 @@ pub(crate) fn move_category(content: &[u8]) -> Option<Request<'_>>
     Some(Request::MoveCategory { handle, from, to })
 }
 
+#[tactic(auto, unfolding(crate::specs::RequestTexts::request_text, crate::specs::RequestTexts::IsRequest))]
+pub(crate) fn put_move_category(out: &mut Message, handle: u8, from: u8, to: u8)
+    requires { IsRequest (request_value (Request.MoveCategory handle from to)) }
+    ensures { out.new ≡ request_text (request_value (Request.MoveCategory handle from to)) }
+{
+    put(out, 0x2C, 0x20, &[handle, from, to, 0], &[], &[]);
+}
+
 pub(crate) fn read_record_id_list(content: &[u8]) -> Option<Request<'_>>
-    ensures { option_map request_value result ≡ option_map (λ v. values.ReadRecordIdList v.0 v.1.0 v.1.1.0 v.1.1.1.0) (fields_in layouts.read_record_id_list content.now) }
+    ensures { Reads form.ReadRecordIdList content.now result }
 {
     let (handle, rest) = take_u8(content)?;
     let (flags, rest) = take_u8(rest)?;
@@ -129,4 +261,27 @@ pub(crate) fn read_record_id_list(content: &[u8]) -> Option<Request<'_>>
         start,
         maximum,
     })
+}
+
+#[tactic(auto, unfolding(crate::specs::RequestTexts::request_text, crate::specs::RequestTexts::IsRequest))]
+pub(crate) fn put_read_record_id_list(
+    out: &mut Message,
+    handle: u8,
+    flags: u8,
+    start: u16,
+    maximum: u16,
+)
+    requires { IsRequest (request_value (Request.ReadRecordIdList handle flags start maximum)) }
+    ensures { out.new ≡ request_text (request_value (Request.ReadRecordIdList handle flags start maximum)) }
+{
+    let start = start.to_be_bytes();
+    let maximum = maximum.to_be_bytes();
+    put(
+        out,
+        0x31,
+        0x20,
+        &[handle, flags, start[0], start[1], maximum[0], maximum[1]],
+        &[],
+        &[],
+    );
 }

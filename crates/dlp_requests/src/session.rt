@@ -1,16 +1,17 @@
 // What the argument of a request about the user and the session holds.
 ghost use Rattle.std.specs.Prelude.{◌≡◌};
-ghost use Rattle.std.specs.Option.{option_map};
-ghost use Rattle.dlp_args.specs.Fields.{fields_in};
-ghost use Rattle.dlp_requests.specs.Layouts as layouts;
-ghost use Rattle.dlp_requests.specs.RequestValues as values;
-ghost use Rattle.dlp_requests.specs.Views.{request_value};
+ghost use Rattle.dlp_requests.specs.Forms as form;
+ghost use Rattle.dlp_requests.specs.RequestTexts.{IsRequest, request_text};
+ghost use Rattle.dlp_requests.specs.Views.{Reads, request_value};
 
 use crate::request::Request;
-use dlp_args::{end_of, maybe_text_of, take_8, take_u8, take_u16, take_u32, text_of};
+use dlp_args::{
+    Message, append, begin, end_of, maybe_text_of, put, take_8, take_u8, take_u16, take_u32,
+    text_of,
+};
 
 pub(crate) fn write_user_info(content: &[u8]) -> Option<Request<'_>>
-    ensures { option_map request_value result ≡ option_map (λ v. values.WriteUserInfo v.0 v.1.0 v.1.1.0 v.1.1.1.0 v.1.1.1.1.0 v.1.1.1.1.1.0 v.1.1.1.1.1.1.0) (fields_in layouts.write_user_info content.now) }
+    ensures { Reads form.WriteUserInfo content.now result }
 {
     let (user, rest) = take_u32(content)?;
     let (viewer, rest) = take_u32(rest)?;
@@ -30,17 +31,64 @@ pub(crate) fn write_user_info(content: &[u8]) -> Option<Request<'_>>
     })
 }
 
+#[tactic(auto, unfolding(crate::specs::RequestTexts::request_text, crate::specs::RequestTexts::IsRequest), using(std::proofs::Common::append_assoc))]
+pub(crate) fn put_write_user_info(
+    out: &mut Message,
+    user: u32,
+    viewer: u32,
+    pc: u32,
+    date: [u8; 8],
+    bits: u8,
+    name_len: u8,
+    name: Option<&[u8]>,
+)
+    requires { IsRequest (request_value (Request.WriteUserInfo user viewer pc date bits name_len name)) }
+    ensures { out.new ≡ request_text (request_value (Request.WriteUserInfo user viewer pc date bits name_len name.entry)) }
+{
+    let size = match name {
+        None => 0,
+        Some(name) => 1 + name.len(),
+    };
+    begin(out, 0x11, 0x20, 22 + size);
+    append(out, &user.to_be_bytes());
+    append(out, &viewer.to_be_bytes());
+    append(out, &pc.to_be_bytes());
+    append(out, &date);
+    append(out, &[bits, name_len]);
+    if let Some(name) = name {
+        append(out, name);
+        append(out, &[0]);
+    }
+}
+
 pub(crate) fn add_sync_log_entry(content: &[u8]) -> Option<Request<'_>>
-    ensures { option_map request_value result ≡ option_map (λ v. values.AddSyncLogEntry v.0) (fields_in layouts.text_alone content.now) }
+    ensures { Reads form.AddSyncLogEntry content.now result }
 {
     let text = text_of(content)?;
     Some(Request::AddSyncLogEntry { text })
 }
 
+#[tactic(auto, unfolding(crate::specs::RequestTexts::request_text, crate::specs::RequestTexts::IsRequest))]
+pub(crate) fn put_add_sync_log_entry(out: &mut Message, text: &[u8])
+    requires { IsRequest (request_value (Request.AddSyncLogEntry text)) }
+    ensures { out.new ≡ request_text (request_value (Request.AddSyncLogEntry text.entry)) }
+{
+    put(out, 0x2A, 0x20, &[], text, &[0]);
+}
+
 pub(crate) fn end_of_sync(content: &[u8]) -> Option<Request<'_>>
-    ensures { option_map request_value result ≡ option_map (λ v. values.EndOfSync v.0) (fields_in layouts.status_alone content.now) }
+    ensures { Reads form.EndOfSync content.now result }
 {
     let (status, rest) = take_u16(content)?;
     end_of(rest)?;
     Some(Request::EndOfSync { status })
+}
+
+#[tactic(auto, unfolding(crate::specs::RequestTexts::request_text, crate::specs::RequestTexts::IsRequest))]
+pub(crate) fn put_end_of_sync(out: &mut Message, status: u16)
+    requires { IsRequest (request_value (Request.EndOfSync status)) }
+    ensures { out.new ≡ request_text (request_value (Request.EndOfSync status)) }
+{
+    let status = status.to_be_bytes();
+    put(out, 0x2F, 0x20, &[status[0], status[1]], &[], &[]);
 }

@@ -1,10 +1,10 @@
 // Writing requests.
-ghost use Rattle.std.specs.Prelude.{◌≡◌, ◌∷◌, []};
+ghost use Rattle.std.specs.Prelude.{◌≡◌};
 ghost use Rattle.dlp_requests.specs.RequestTexts.{IsRequest, request_text};
 ghost use Rattle.dlp_requests.specs.Views.{request_value};
 
-use crate::layout::*;
 use crate::request::Request;
+use crate::{database, record, resource, session};
 use dlp_args::{Message, append};
 
 /// Replaces the message by the request. Its fields keep the bounds of its layout, so that it fits. It takes no memory.
@@ -13,7 +13,7 @@ pub fn write_request(request: &Request<'_>, out: &mut Message)
     ensures { out.new ≡ request_text (request_value request.now) }
 {
     match *request {
-        Request::ReadUserInfo => put_bare(out, 0x10),
+        Request::ReadUserInfo => put_read_user_info(out),
         Request::WriteUserInfo {
             user,
             viewer,
@@ -22,9 +22,11 @@ pub fn write_request(request: &Request<'_>, out: &mut Message)
             bits,
             name_len,
             name,
-        } => put_write_user_info(out, user, viewer, pc, &date, bits, name_len, name),
-        Request::ReadDbList { flags, card, start } => put_read_db_list(out, flags, card, start),
-        Request::OpenDb { card, mode, name } => put_open_db(out, card, mode, name),
+        } => session::put_write_user_info(out, user, viewer, pc, date, bits, name_len, name),
+        Request::ReadDbList { flags, card, start } => database::put_read_db_list(
+            out, flags, card, start,
+        ),
+        Request::OpenDb { card, mode, name } => database::put_open_db(out, card, mode, name),
         Request::CreateDb {
             creator,
             kind,
@@ -32,34 +34,38 @@ pub fn write_request(request: &Request<'_>, out: &mut Message)
             flags,
             version,
             name,
-        } => put_create_db(out, &creator.0, &kind.0, card, flags, version, name),
-        Request::CloseDb { handle } => put_handle_alone(out, 0x19, handle),
-        Request::DeleteDb { card, name } => put_delete_db(out, card, name),
+        } => database::put_create_db(out, creator, kind, card, flags, version, name),
+        Request::CloseDb { handle } => database::put_close_db(out, handle),
+        Request::DeleteDb { card, name } => database::put_delete_db(out, card, name),
         Request::ReadAppBlock {
             handle,
             offset,
             length,
-        } => put_read_block(out, 0x1B, handle, offset, length),
+        } => database::put_read_app_block(out, handle, offset, length),
+        Request::WriteAppBlock { handle, bytes } => database::put_write_app_block(
+            out, handle, bytes,
+        ),
         Request::ReadSortBlock {
             handle,
             offset,
             length,
-        } => put_read_block(out, 0x1D, handle, offset, length),
-        Request::WriteAppBlock { handle, bytes } => put_write_block(out, 0x1C, handle, bytes),
-        Request::WriteSortBlock { handle, bytes } => put_write_block(out, 0x1E, handle, bytes),
-        Request::ReadNextModifiedRec { handle } => put_handle_alone(out, 0x1F, handle),
+        } => database::put_read_sort_block(out, handle, offset, length),
+        Request::WriteSortBlock { handle, bytes } => database::put_write_sort_block(
+            out, handle, bytes,
+        ),
+        Request::ReadNextModifiedRec { handle } => record::put_read_next_modified_rec(out, handle),
         Request::ReadRecordById {
             handle,
             id,
             offset,
             length,
-        } => put_read_record_by_id(out, handle, id, offset, length),
+        } => record::put_read_record_by_id(out, handle, id, offset, length),
         Request::ReadRecordByIndex {
             handle,
             index,
             offset,
             length,
-        } => put_read_by_index(out, 0x20, 0x21, handle, index, offset, length),
+        } => record::put_read_record_by_index(out, handle, index, offset, length),
         Request::WriteRecord {
             handle,
             flags,
@@ -67,54 +73,66 @@ pub fn write_request(request: &Request<'_>, out: &mut Message)
             attributes,
             category,
             bytes,
-        } => put_write_record(out, handle, flags, id, attributes, category, bytes),
-        Request::DeleteRecord { handle, flags, id } => put_delete_record(out, handle, flags, id),
+        } => record::put_write_record(out, handle, flags, id, attributes, category, bytes),
+        Request::DeleteRecord { handle, flags, id } => record::put_delete_record(
+            out, handle, flags, id,
+        ),
         Request::ReadResourceByIndex {
             handle,
             index,
             offset,
             length,
-        } => put_read_by_index(out, 0x23, 0x20, handle, index, offset, length),
+        } => resource::put_read_resource_by_index(out, handle, index, offset, length),
         Request::ReadResourceByType {
             handle,
             kind,
             id,
             offset,
             length,
-        } => put_read_resource_by_type(out, handle, &kind.0, id, offset, length),
+        } => resource::put_read_resource_by_type(out, handle, kind, id, offset, length),
         Request::WriteResource {
             handle,
             kind,
             id,
             bytes,
-        } => put_write_resource(out, handle, &kind.0, id, bytes),
+        } => resource::put_write_resource(out, handle, kind, id, bytes),
         Request::DeleteResource {
             handle,
             flags,
             kind,
             id,
-        } => put_delete_resource(out, handle, flags, &kind.0, id),
-        Request::CleanUpDatabase { handle } => put_handle_alone(out, 0x26, handle),
-        Request::ResetSyncFlags { handle } => put_handle_alone(out, 0x27, handle),
-        Request::ResetRecordIndex { handle } => put_handle_alone(out, 0x30, handle),
-        Request::AddSyncLogEntry { text } => put_text_alone(out, text),
-        Request::ReadOpenDbInfo { handle } => put_handle_alone(out, 0x2B, handle),
-        Request::MoveCategory { handle, from, to } => put_move_category(out, handle, from, to),
-        Request::OpenConduit => put_bare(out, 0x2E),
-        Request::EndOfSync { status } => put_status_alone(out, status),
+        } => resource::put_delete_resource(out, handle, flags, kind, id),
+        Request::CleanUpDatabase { handle } => record::put_clean_up_database(out, handle),
+        Request::ResetSyncFlags { handle } => record::put_reset_sync_flags(out, handle),
+        Request::AddSyncLogEntry { text } => session::put_add_sync_log_entry(out, text),
+        Request::ReadOpenDbInfo { handle } => database::put_read_open_db_info(out, handle),
+        Request::MoveCategory { handle, from, to } => record::put_move_category(
+            out, handle, from, to,
+        ),
+        Request::OpenConduit => put_open_conduit(out),
+        Request::EndOfSync { status } => session::put_end_of_sync(out, status),
+        Request::ResetRecordIndex { handle } => record::put_reset_record_index(out, handle),
         Request::ReadRecordIdList {
             handle,
             flags,
             start,
             maximum,
-        } => put_read_record_id_list(out, handle, flags, start, maximum),
+        } => record::put_read_record_id_list(out, handle, flags, start, maximum),
     }
 }
 
-// A function without an argument.
-fn put_bare(out: &mut Message, number: u8)
-    ensures { out.new ≡ number ∷ 0 ∷ [] }
+#[tactic(auto, unfolding(crate::specs::RequestTexts::request_text))]
+fn put_read_user_info(out: &mut Message)
+    ensures { out.new ≡ request_text (request_value Request.ReadUserInfo) }
 {
     out.clear();
-    append(out, &[number, 0]);
+    append(out, &[0x10, 0]);
+}
+
+#[tactic(auto, unfolding(crate::specs::RequestTexts::request_text))]
+fn put_open_conduit(out: &mut Message)
+    ensures { out.new ≡ request_text (request_value Request.OpenConduit) }
+{
+    out.clear();
+    append(out, &[0x2E, 0]);
 }

@@ -1,11 +1,10 @@
 -- Which requests change nothing.
 use Rattle.std.proofs.Common.{◌≡◌, ◌∙◌, ℕ, true, false, List, refl, ap, sym}
-use Rattle.dlp_requests.specs.Frames.{Bare, IsLayout, Layout, One}
-use Rattle.dlp_requests.specs.RequestTexts.{RequestText, layout}
+use Rattle.dlp_requests.specs.RequestTexts.{RequestText}
 use Rattle.dlp_requests.specs.RequestValues.{RequestValue}
 use Rattle.dlp_commands.specs.Changes.{changes, is_change}
 use Rattle.dlp_commands.specs.Commands.{change_number, command_number}
-use Rattle.dlp_commands.specs.DeviceSteps.{first_byte, function_number, layout_number}
+use Rattle.dlp_commands.specs.DeviceSteps.{first_byte, function_number}
 use Rattle.dlp_commands.specs.Writings.{write_number}
 use Rattle.dlp_commands.specs.declared.command.Change.{Change}
 use Rattle.dlp_commands.specs.declared.command.Change.TheVariants as change
@@ -38,11 +37,7 @@ quiet_by (command.Change asked) is = let changing : is_change (change_number ask
 
 -- the first byte of a request is that of its function
 pub first_of : (value : RequestValue) (bytes : List ℕ) → RequestText value bytes → first_byte bytes ≡ function_number value
-first_of value bytes text = first_by (layout value) bytes text
-  where
-    first_by : (l : Layout) (bytes : List ℕ) → IsLayout l bytes → first_byte bytes ≡ layout_number l
-    first_by (Bare number) bytes is = ap first_byte is
-    first_by (One number id kinds fields) bytes is = ap first_byte is.is
+first_of value bytes text = ap first_byte text.is
 
 -- a request of another function is a quiet command
 pub quiet_bytes : (bytes : List ℕ) (number : ℕ) (asked : Command) → first_byte bytes ≡ number → command_number asked ≡ number → changes bytes ≡ false → is_quiet asked ≡ true
