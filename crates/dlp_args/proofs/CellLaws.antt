@@ -52,13 +52,17 @@ wide8 = record {
   below = λ bytes fits. omega (arith, fits 0);
 }
 
-pub number_takes : (w : Width) (limit : ℕ) (wide : IsWide w limit) (bytes : List ℕ) (n : ℕ) (rest : List ℕ) → IsBytes bytes → number_at w bytes ≡ Some (n, rest) → (bytes ≡ to_be_bytes w n ++ rest) × (n < limit) × IsBytes rest
+pub number_takes : (w : Width) (limit : ℕ) (wide : IsWide w limit) (bytes : List ℕ) (n : ℕ) (rest : List ℕ) → IsBytes bytes
+    → number_at w bytes ≡ Some (n, rest) → (bytes ≡ to_be_bytes w n ++ rest) × (n < limit) × IsBytes rest
 unfolding number_at
 number_takes w limit wide bytes n rest fits e =
     let g = guard_some (ltb (length bytes) (byte_len w)) _ (n, rest) e in
     let long : byte_len w ≤ length bytes = ltb-false _ _ g.0 in
-    subst (λ (got : ℕ × List ℕ). (bytes ≡ to_be_bytes w got.0 ++ got.1) × (got.0 < limit) × IsBytes got.1) (some_is _ (n, rest) g.1)
-    (sym (ap (λ (xs : List ℕ). xs ++ drop (byte_len w) bytes) (front_bytes w limit wide bytes fits long) ∙ take-append-drop (byte_len w) bytes), wide.below (take (byte_len w) bytes) (IsBytes-take (byte_len w) bytes fits), IsBytes-drop (byte_len w) bytes fits)
+    subst (λ (got : ℕ × List ℕ). (bytes ≡ to_be_bytes w got.0 ++ got.1) × (got.0 < limit) × IsBytes got.1) (some_is _ (n, rest) g.1) (
+      sym (ap (λ (xs : List ℕ). xs ++ drop (byte_len w) bytes) (front_bytes w limit wide bytes fits long) ∙ take-append-drop (byte_len w) bytes),
+      wide.below (take (byte_len w) bytes) (IsBytes-take (byte_len w) bytes fits),
+      IsBytes-drop (byte_len w) bytes fits,
+    )
 
 pub number_again : (w : Width) (limit : ℕ) (wide : IsWide w limit) (n : ℕ) (rest : List ℕ) → n < limit → number_at w (to_be_bytes w n ++ rest) ≡ Some (n, rest)
 unfolding number_at
@@ -79,7 +83,10 @@ zero_found (suc b ∷ bytes) lt e =
     let at : first_zero (suc b ∷ bytes) ≡ suc (first_zero bytes) = omega (arith, past_other b bytes) in
     let more = zero_found bytes (omega arith) (omega arith) in
     let len = more.1 in
-    subst (λ (k : ℕ). IsTextCell (take k (suc b ∷ bytes)) (suc b ∷ bytes)) (sym at) (ap (λ (xs : List ℕ). suc b ∷ xs) more.0, omega (arith, past_other b (take (first_zero bytes) bytes)))
+    subst (λ (k : ℕ). IsTextCell (take k (suc b ∷ bytes)) (suc b ∷ bytes)) (sym at) (
+      ap (λ (xs : List ℕ). suc b ∷ xs) more.0,
+      omega (arith, past_other b (take (first_zero bytes) bytes)),
+    )
 
 zero_last : (text : List ℕ) → HasNoZero text → first_zero (text ++ 0 ∷ []) ≡ length text
 zero_last [] h = refl
@@ -105,7 +112,8 @@ text_again text bytes is =
     let len : length (text ++ 0 ∷ []) ≡ length text + 1 = omega (arith, length-append text (0 ∷ [])) in
     let there : ltb (first_zero (text ++ 0 ∷ [])) (length (text ++ 0 ∷ [])) ≡ true = lt-ltb _ _ (omega arith) in
     let last : eqb (first_zero (text ++ 0 ∷ []) + 1) (length (text ++ 0 ∷ [])) ≡ true = eq-eqb _ _ (omega arith) in
-    let taken : take (first_zero (text ++ 0 ∷ [])) (text ++ 0 ∷ []) ≡ text = ap (λ (k : ℕ). take k (text ++ 0 ∷ [])) at ∙ take_at text (0 ∷ []) (length text) refl in
+    let taken : take (first_zero (text ++ 0 ∷ [])) (text ++ 0 ∷ []) ≡ text = ap (λ (k : ℕ). take k (text ++ 0 ∷ [])) at
+    ∙ take_at text (0 ∷ []) (length text) refl in
     ap text_in is.0 ∙ rw (there, last, taken) refl
 
 not_empty : (b : ℕ) (bytes text : List ℕ) → IsTextCell text [] → (let none : List ℕ = [] in none) ≡ b ∷ bytes
@@ -181,8 +189,10 @@ names_take bytes names fits e =
     let rest : drop a.0.0 b.0.1 ≡ c.0.1 = ap (λ (x : List ℕ × List ℕ). x.1) (some_is _ c.0 g.1) in
     let len0 : a.0.0 ≡ length c.0.0 = (let l : a.0.0 ≡ length (take a.0.0 b.0.1) = omega (arith, length-take a.0.0 b.0.1) in l) ∙ ap length name in
     let len1 : b.0.0 ≡ length c.0.1 = eqb-true _ _ same.0 in
-    let both : b.0.1 ≡ c.0.0 ++ c.0.1 = sym (take-append-drop a.0.0 b.0.1) ∙ ap (λ (xs : List ℕ). xs ++ drop a.0.0 b.0.1) name ∙ ap (λ (xs : List ℕ). c.0.0 ++ xs) rest in
-    let front : bytes ≡ a.0.0 ∷ b.0.0 ∷ b.0.1 = t0.0 ∙ ap (λ (xs : List ℕ). xs ++ a.0.1) (byte_text a.0.0 t0.1) ∙ ap (λ (xs : List ℕ). a.0.0 ∷ xs) (t1.0 ∙ ap (λ (xs : List ℕ). xs ++ b.0.1) (byte_text b.0.0 t1.1)) in
+    let both : b.0.1 ≡ c.0.0 ++ c.0.1 = sym (take-append-drop a.0.0 b.0.1) ∙ ap (λ (xs : List ℕ). xs ++ drop a.0.0 b.0.1) name
+    ∙ ap (λ (xs : List ℕ). c.0.0 ++ xs) rest in
+    let front : bytes ≡ a.0.0 ∷ b.0.0 ∷ b.0.1 = t0.0 ∙ ap (λ (xs : List ℕ). xs ++ a.0.1) (byte_text a.0.0 t0.1)
+    ∙ ap (λ (xs : List ℕ). a.0.0 ∷ xs) (t1.0 ∙ ap (λ (xs : List ℕ). xs ++ b.0.1) (byte_text b.0.0 t1.1)) in
     let parts : bytes ≡ length c.0.0 ∷ length c.0.1 ∷ c.0.0 ++ c.0.1 = front ∙ (λ i. len0 i ∷ len1 i ∷ both i) in
     subst (λ (x : List ℕ × List ℕ). IsCell Names x bytes []) (some_is _ names same.1) (parts, omega (arith, len0, t0.1), omega (arith, len1, t1.1), refl)
 
@@ -191,10 +201,18 @@ unfolding names_in some_at
 names_again names bytes is =
     let n0 = length names.0 in
     let n1 = length names.1 in
-    let front : bytes ≡ to_be_bytes w8 n0 ++ (to_be_bytes w8 n1 ++ (names.0 ++ names.1)) = is.0 ∙ (λ i. (sym (byte_text n0 is.1) i) ++ ((sym (byte_text n1 is.2) i) ++ (names.0 ++ names.1))) in
+    let front : bytes ≡ to_be_bytes w8 n0 ++ (to_be_bytes w8 n1 ++ (names.0 ++ names.1)) = is.0
+    ∙ (λ i. (sym (byte_text n0 is.1) i) ++ ((sym (byte_text n1 is.2) i) ++ (names.0 ++ names.1))) in
     let g : ltb (length (names.0 ++ names.1)) n0 ≡ false = le-ltb _ _ (omega (arith, length-append names.0 names.1)) in
     let same : eqb n1 n1 ≡ true = eq-eqb _ _ refl in
-    ap names_in front ∙ rw (number_again w8 (2 ^ 8) wide8 n0 (to_be_bytes w8 n1 ++ (names.0 ++ names.1)) is.1, number_again w8 (2 ^ 8) wide8 n1 (names.0 ++ names.1) is.2, g, take_at names.0 names.1 n0 refl, drop_at names.0 names.1 n0 refl, same) refl
+    ap names_in front ∙ rw (
+      number_again w8 (2 ^ 8) wide8 n0 (to_be_bytes w8 n1 ++ (names.0 ++ names.1)) is.1,
+      number_again w8 (2 ^ 8) wide8 n1 (names.0 ++ names.1) is.2,
+      g,
+      take_at names.0 names.1 n0 refl,
+      drop_at names.0 names.1 n0 refl,
+      same,
+    ) refl
 
 -- ---- a cell
 
@@ -205,7 +223,8 @@ no_bytes : IsBytes []
 no_bytes i = omega arith
 
 -- what stands up to the end
-ended : (k : Kind) (bytes : List ℕ) (o : Option (Cell k)) (x : Cell k × List ℕ) → ((y : Cell k) → o ≡ Some y → IsCell k y bytes []) → whole o ≡ Some x → Taken k bytes x
+ended : (k : Kind) (bytes : List ℕ) (o : Option (Cell k)) (x : Cell k × List ℕ) → ((y : Cell k) → o ≡ Some y → IsCell k y bytes []) → whole o ≡ Some x
+    → Taken k bytes x
 ended k bytes o x is e =
     let found = map_some o _ x e in
     subst (Taken k bytes) found.2 (bytes, sym (append-nil bytes), is found.0 found.1, no_bytes)
@@ -222,9 +241,17 @@ cell_takes Pad bytes x fits e =
 cell_takes (Run n) bytes x fits e =
     let g = guard_some (ltb (length bytes) n) _ x e in
     let long : n ≤ length bytes = ltb-false _ _ g.0 in
-    subst (Taken (Run n) bytes) (some_is _ x g.1) (take n bytes, sym (take-append-drop n bytes), (refl, omega (arith, length-take n bytes)), IsBytes-drop n bytes fits)
+    subst (Taken (Run n) bytes) (some_is _ x g.1) (
+      take n bytes,
+      sym (take-append-drop n bytes),
+      (refl, omega (arith, length-take n bytes)),
+      IsBytes-drop n bytes fits,
+    )
 cell_takes Text bytes x fits e = ended Text bytes (text_in bytes) x (λ y found. (text_takes bytes y found, refl)) e
-cell_takes (MaybeText limit) bytes x fits e = ended (MaybeText limit) bytes (maybe_text_in limit bytes) x (λ y found. (maybe_text_takes limit bytes y found, refl)) e
+cell_takes (MaybeText limit) bytes x fits e = ended (MaybeText limit) bytes (maybe_text_in limit bytes) x (λ y found. (
+  maybe_text_takes limit bytes y found,
+  refl,
+)) e
 cell_takes Rest bytes x fits e = ended Rest bytes (at_most_65500 bytes) x (λ y found. let t = most_takes bytes y found in (t.0, t.1, refl)) e
 cell_takes Counted bytes x fits e = ended Counted bytes (counted_in bytes) x (λ y found. let t = counted_takes bytes y fits found in (t.0, t.1, refl)) e
 cell_takes Whole bytes x fits e = ended Whole bytes (Some bytes) x (λ y found. (some_is bytes y found, refl)) e
@@ -262,7 +289,13 @@ fields_take (k ∷ ks) bytes fields fits e =
     let first = bind_some (cell_at k bytes) _ fields e in
     let others = bind_some (fields_in ks first.0.1) _ fields first.2 in
     let taken = cell_takes k bytes first.0 fits first.1 in
-    subst (λ (f : Fields (k ∷ ks)). AreFields (k ∷ ks) f bytes) (some_is _ fields others.2) (taken.0, first.0.1, taken.1, taken.2, fields_take ks first.0.1 others.0 taken.3 others.1)
+    subst (λ (f : Fields (k ∷ ks)). AreFields (k ∷ ks) f bytes) (some_is _ fields others.2) (
+      taken.0,
+      first.0.1,
+      taken.1,
+      taken.2,
+      fields_take ks first.0.1 others.0 taken.3 others.1,
+    )
 
 pub fields_again : (ks : List Kind) (fields : Fields ks) (bytes : List ℕ) → AreFields ks fields bytes → fields_in ks bytes ≡ Some fields
 fields_again [] fields bytes is = rw is refl
@@ -286,7 +319,8 @@ last_written Counted some fits = (refl, fits, refl)
 last_written Whole some fits = (refl, refl)
 last_written Names names fits = (refl, fits.0, fits.1, refl)
 
-cell_written : (k l : Kind) (ks : List Kind) (x : Cell k) (rest : List ℕ) → ends_well (k ∷ l ∷ ks) ≡ true → CellFits k x → IsCell k x (cell_text k x) rest × (ends_well (l ∷ ks) ≡ true)
+cell_written : (k l : Kind) (ks : List Kind) (x : Cell k) (rest : List ℕ) → ends_well (k ∷ l ∷ ks) ≡ true → CellFits k x
+    → IsCell k x (cell_text k x) rest × (ends_well (l ∷ ks) ≡ true)
 cell_written Byte l ks n rest ends fits = ((refl, fits), ends)
 cell_written Half l ks n rest ends fits = ((refl, fits), ends)
 cell_written Word l ks n rest ends fits = ((refl, fits), ends)

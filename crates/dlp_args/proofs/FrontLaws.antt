@@ -17,7 +17,8 @@ unfolding arguments_in
 left_err zero bytes fault e = refl
 left_err (suc count) bytes fault e = rw e refl
 
-pub left_ok : (count : ℕ) (bytes : List ℕ) (argument : Argument) (rest : List ℕ) → 0 < count → argument_at 0 bytes ≡ Ok (argument, rest) → arguments_in count bytes ≡ argument ∷ arguments_in (count - 1) rest
+pub left_ok : (count : ℕ) (bytes : List ℕ) (argument : Argument) (rest : List ℕ) → 0 < count → argument_at 0 bytes ≡ Ok (argument, rest)
+    → arguments_in count bytes ≡ argument ∷ arguments_in (count - 1) rest
 unfolding arguments_in
 left_ok zero bytes argument rest some e = absurd (omega arith)
 left_ok (suc count) bytes argument rest some e = let k : suc count - 1 ≡ count = omega arith in rw (k, e) refl
@@ -63,7 +64,8 @@ argument_anywhere p q bytes x e =
     let there = guard_ok (ltb (length step.0.rest) step.0.size) _ _ x step.2 in
     rw (header_anywhere p q bytes step.0 step.1, there.0) there.1
 
-pub left_all : (count place : ℕ) (bytes : List ℕ) (arguments : List Argument) → arguments_at count place bytes ≡ Ok arguments → arguments_in count bytes ≡ arguments
+pub left_all : (count place : ℕ) (bytes : List ℕ) (arguments : List Argument) → arguments_at count place bytes ≡ Ok arguments
+    → arguments_in count bytes ≡ arguments
 unfolding arguments_at arguments_in
 left_all zero place [] arguments e = cc
 left_all zero place (byte ∷ bytes) arguments e = absurd cc
@@ -92,30 +94,38 @@ no_front (Err e) = refl
 pub starts : (count place : ℕ) (bytes : List ℕ) → SoFar (arguments_at count place bytes) count place bytes
 starts count place bytes = record { front = []; is = no_front (arguments_at count place bytes) }
 
-regroup : (front : List Argument) (first : Argument) (read : Result (List Argument) ArgFault) → with_front front (read >>= λ xs. Ok (first ∷ xs)) ≡ with_front (front ++ first ∷ []) read
+regroup : (front : List Argument) (first : Argument) (read : Result (List Argument) ArgFault)
+    → with_front front (read >>= λ xs. Ok (first ∷ xs)) ≡ with_front (front ++ first ∷ []) read
 regroup front first (Ok xs) = ap (λ (ys : List Argument). Ok ys) (simp append_assoc)
 regroup front first (Err e) = refl
 
-pub goes_on : (total : Result (List Argument) ArgFault) (count i place : ℕ) (bytes : List ℕ) (first : Argument) (rest : List ℕ) → SoFar total (count - i) place bytes → i < count → argument_at place bytes ≡ Ok (first, rest) → SoFar total (count - (i + 1)) (place + (length bytes - length rest)) rest
+pub goes_on : (total : Result (List Argument) ArgFault) (count i place : ℕ) (bytes : List ℕ) (first : Argument) (rest : List ℕ)
+    → SoFar total (count - i) place bytes → i < count → argument_at place bytes ≡ Ok (first, rest)
+    → SoFar total (count - (i + 1)) (place + (length bytes - length rest)) rest
 unfolding arguments_at
 goes_on total count i place bytes first rest so_far lt h =
     let k : count - i ≡ suc (count - (i + 1)) = omega arith in
-    let one : with_front so_far.front (arguments_at (count - i) place bytes) ≡ with_front (so_far.front ++ first ∷ []) (arguments_at (count - (i + 1)) (place + (length bytes - length rest)) rest) = rw (k, h) (regroup so_far.front first _) in
+    let one : with_front so_far.front (arguments_at (count - i) place bytes)
+    ≡ with_front (so_far.front
+    ++ first ∷ []) (arguments_at (count - (i + 1)) (place + (length bytes - length rest)) rest) = rw (k, h) (regroup so_far.front first _) in
     record { front = so_far.front ++ first ∷ []; is = sym one ∙ so_far.is }
 
-pub stops : (total : Result (List Argument) ArgFault) (count i place : ℕ) (bytes : List ℕ) (fault : ArgFault) → SoFar total (count - i) place bytes → i < count → argument_at place bytes ≡ Err fault → total ≡ Err fault
+pub stops : (total : Result (List Argument) ArgFault) (count i place : ℕ) (bytes : List ℕ) (fault : ArgFault) → SoFar total (count - i) place bytes
+    → i < count → argument_at place bytes ≡ Err fault → total ≡ Err fault
 unfolding arguments_at
 stops total count i place bytes fault so_far lt h =
     let k : count - i ≡ suc (count - (i + 1)) = omega arith in
     let one : with_front so_far.front (arguments_at (count - i) place bytes) ≡ Err fault = rw (k, h) refl in
     sym so_far.is ∙ one
 
-pub has_more : (total : Result (List Argument) ArgFault) (left place : ℕ) (bytes : List ℕ) → SoFar total left place bytes → left ≡ 0 → 0 < length bytes → total ≡ Err (Wrapper place)
+pub has_more : (total : Result (List Argument) ArgFault) (left place : ℕ) (bytes : List ℕ) → SoFar total left place bytes → left ≡ 0 → 0 < length bytes
+    → total ≡ Err (Wrapper place)
 unfolding arguments_at
 has_more total left place [] so_far none some = absurd (omega arith)
 has_more total left place (byte ∷ bytes) so_far none some = sym so_far.is ∙ rw none refl
 
-pub is_all : (total : Result (List Argument) ArgFault) (left place : ℕ) (bytes : List ℕ) (so_far : SoFar total left place bytes) → left ≡ 0 → length bytes ≡ 0 → total ≡ Ok so_far.front
+pub is_all : (total : Result (List Argument) ArgFault) (left place : ℕ) (bytes : List ℕ) (so_far : SoFar total left place bytes) → left ≡ 0
+    → length bytes ≡ 0 → total ≡ Ok so_far.front
 unfolding arguments_at
 is_all total left place [] so_far none empty = sym so_far.is ∙ rw none (ap (λ (xs : List Argument). Ok xs) (append-nil so_far.front))
 is_all total left place (byte ∷ bytes) so_far none empty = absurd (omega arith)

@@ -6,7 +6,8 @@ use Rattle.dlp_args.specs.declared.function.Function.{Function}
 use Rattle.dlp_args.specs.declared.function.Function.TheVariants as function
 use Rattle.dlp_args.specs.Functions.{function_of, number_of}
 
-named : (n k : ℕ) (g f : Function) (rest : Option Function) → k ≡ number_of g → (rest ≡ Some f → n ≡ number_of f) → cond (eqb n k) (Some g) rest ≡ Some f → n ≡ number_of f
+named : (n k : ℕ) (g f : Function) (rest : Option Function) → k ≡ number_of g → (rest ≡ Some f → n ≡ number_of f) → cond (eqb n k) (Some g) rest ≡ Some f
+    → n ≡ number_of f
 named n k g f rest is more e =
     elim (chosen (eqb n k) _ _ (Some f) e) [
       | inl this ↦ let same : g ≡ f = let s = this.1 in cc in eqb-true _ _ this.0 ∙ is ∙ ap number_of same

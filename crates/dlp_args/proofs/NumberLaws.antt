@@ -64,5 +64,9 @@ wide32 = record {
 }
 
 -- the bytes at the front are those of their number
-pub front_bytes : (w : Width) (limit : ℕ) → IsWide w limit → (bytes : List ℕ) → IsBytes bytes → byte_len w ≤ length bytes → to_be_bytes w (from_be_bytes w (take (byte_len w) bytes)) ≡ take (byte_len w) bytes
-front_bytes w limit wide bytes fits long = wide.back (take (byte_len w) bytes) (omega (arith, length-take (byte_len w) bytes)) (IsBytes-take (byte_len w) bytes fits)
+pub front_bytes : (w : Width) (limit : ℕ) → IsWide w limit → (bytes : List ℕ) → IsBytes bytes → byte_len w ≤ length bytes
+    → to_be_bytes w (from_be_bytes w (take (byte_len w) bytes)) ≡ take (byte_len w) bytes
+front_bytes w limit wide bytes fits long = wide.back (take (byte_len w) bytes) (omega (
+  arith,
+  length-take (byte_len w) bytes,
+)) (IsBytes-take (byte_len w) bytes fits)

@@ -31,8 +31,16 @@ pub fn append_header(out: &mut Message, id: u8, size: usize)
 pub fn put(out: &mut Message, number: u8, id: u8, front: &[u8], some: &[u8], last: &[u8])
     requires low { 0x20 ≤ id }
     requires high { id < 0x40 }
-    requires fits { length (number ∷ 1 ∷ arg_text (record { id = id; bytes = front.now ++ (some.now ++ last.now) })) ≤ 65535 }
-    ensures { out.new ≡ number ∷ 1 ∷ arg_text (record { id = id; bytes = front.now ++ (some.now ++ last.now) }) }
+    requires fits { length (number ∷ 1 ∷ arg_text (record {
+      id = id;
+      bytes = front.now
+          ++ (some.now ++ last.now);
+    })) ≤ 65535 }
+    ensures { out.new ≡ number ∷ 1 ∷ arg_text (record {
+      id = id;
+      bytes = front.now
+          ++ (some.now ++ last.now);
+    }) }
 {
     out.clear();
     append(out, &[number, 1]);

@@ -9,8 +9,10 @@ use crate::message::Message;
 pub fn write_arg(message: &mut Message, id: u8, bytes: &[u8]) -> bool
     requires low { 0x20 ≤ id }
     requires high { id < 0x40 }
-    ensures fits { IsTrue result ↔ (length message.old + length (arg_text (record { id = id; bytes = bytes.now })) ≤ 65535) }
-    ensures written { result ≡ true → message.new ≡ message.old ++ arg_text (record { id = id; bytes = bytes.now }) }
+    ensures fits { IsTrue result
+        ↔ (length message.old + length (arg_text (record { id = id; bytes = bytes.now })) ≤ 65535) }
+    ensures written { result ≡ true
+        → message.new ≡ message.old ++ arg_text (record { id = id; bytes = bytes.now }) }
     ensures stays { result ≡ false → message.new ≡ message.old }
 {
     let size = bytes.len();
