@@ -1,6 +1,6 @@
 -- Ids that are taken, and free ones.
-use Rattle.std.proofs.Common.{◌≡◌, ℕ, ◌+◌, ◌<◌, ◌≤◌, true, false, List, [], ◌∷◌, ◌||◌, map, length, refl, ap, sym, ◌∙◌, subst, arith}
-use Rattle.std.specs.Prelude.{Option, None, Some, is_none, is_some, nat_lt}
+use Rattle.std.proofs.Common.{◌≡◌, ℕ, ◌+◌, ◌<◌, ◌≤◌, Bool, true, false, cond, List, [], ◌∷◌, ◌||◌, map, length, refl, ap, sym, ◌∙◌, subst, arith}
+use Rattle.std.specs.Prelude.{Option, None, Some, is_none, find, is_some, nat_lt}
 use Rattle.std.specs.List.{list_any}
 use Rattle.std.proofs.lemmas.List.{length-map}
 use Rattle.std.proofs.lemmas.Bool.{ltb-true, ltb-false}
@@ -8,7 +8,11 @@ use Rattle.pdb_values.specs.declared.record.Record.{Record}
 use Rattle.palm_device.specs.FreshIds.{is_among}
 use Rattle.palm_device.specs.Records.{has_id, place_of_id}
 use Rattle.handheld_files.proofs.SettledLaws.{not_all}
-use Rattle.handheld_store.proofs.ListLaws.{placed_any}
+use Rattle.pdb_values.proofs.PlaceLaws.{is_some-position}
+
+found_any : (test : Record → Bool) (items : List Record) → is_some (find test items) ≡ list_any test items
+found_any test [] = refl
+found_any test (item ∷ items) = let rest = found_any test items in elim (test item) as (λ b. is_some (cond b (Some item) (find test items)) ≡ (b || list_any test items)) [ true ↦ refl | false ↦ rest ]
 
 pub any_has : (id : ℕ) (items : List Record) → list_any (has_id id) items ≡ is_among id (map (λ item. item.id) items)
 any_has id [] = refl
@@ -16,7 +20,7 @@ any_has id (item ∷ items) = ap (λ b. has_id id item || b) (any_has id items)
 
 -- an id has a place exactly where it is among the ids
 pub place_among : (id : ℕ) (items : List Record) → is_some (place_of_id id items) ≡ is_among id (map (λ item. item.id) items)
-place_among id items = placed_any (has_id id) items ∙ any_has id items
+place_among id items = is_some-position (has_id id) items ∙ found_any (has_id id) items ∙ any_has id items
 
 -- an id that has a place is among the ids
 pub among_placed : (id : ℕ) (items : List Record) → is_none (place_of_id id items) ≡ false → is_among id (map (λ item. item.id) items) ≡ true

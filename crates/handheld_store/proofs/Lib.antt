@@ -1,8 +1,4 @@
-pub mod EditLaws
 pub mod IdLaws
-pub mod KeepLaws
-pub mod LendLaws
+pub mod KeptLaws
 pub mod ListLaws
-pub mod ListedLaws
-pub mod OtherEditLaws
-pub mod ReplacedLaws
+pub mod SettledLaws

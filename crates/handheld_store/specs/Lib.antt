@@ -1,5 +1,4 @@
+pub mod Files
 pub mod Lents
-pub mod Loans
 pub mod Refusals
-pub mod Replaced
 pub mod Stores

@@ -1,7 +1,10 @@
 -- When a call on a store is refused, in the order of the refusals.
 use Rattle.std.specs.Prelude.{ℕ, Bool, true, false, ◌&&◌, nat_le, is_some, if◌then◌else◌, List, length, Option, None, Some, Result, Ok, Err}
+use Rattle.hs_folders.specs.declared.faults.FolderFault.{FolderFault}
+use Rattle.hs_folders.specs.declared.faults.FolderFault.TheVariants as folder
 use Rattle.pdb_values.specs.Databases.{DatabaseValue}
-use Rattle.palm_device.specs.Devices.{database_of, most_databases}
+use Rattle.pdb_values.specs.NamedDatabases.{database_of}
+use Rattle.palm_device.specs.Devices.{most_databases}
 use Rattle.palm_device.specs.Heads.{is_read_only}
 use Rattle.handheld_store.specs.declared.fault.StoreFault.{StoreFault}
 use Rattle.handheld_store.specs.declared.fault.StoreFault.TheVariants.{NotFound, Exists, ReadOnly, Limit, KeeperFault, NoMemory}
@@ -38,3 +41,9 @@ stops (Err ReadOnly) = false
 stops (Err Limit) = false
 stops (Err KeeperFault) = true
 stops (Err NoMemory) = true
+
+-- what a folder's fault makes of a call: a removal that finds no file is done, so nothing else can be missing
+abbrev pub store_fault : FolderFault → StoreFault
+store_fault folder.Failed = KeeperFault
+store_fault folder.Missing = NoMemory
+store_fault folder.NoMemory = NoMemory

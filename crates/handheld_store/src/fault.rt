@@ -1,12 +1,13 @@
-//! Why a call on a store was not done.
-ghost use Rattle.std.specs.Prelude.{◌≡◌, ◌≢◌};
+// Why a call on a store was not done.
+ghost use Rattle.std.specs.Prelude.{◌≡◌};
+ghost use Rattle.handheld_store.specs.Refusals.{store_fault};
 ghost use Rattle.handheld_store.specs.declared.fault.StoreFault.TheVariants.{NoMemory};
 
 use hs_folders::FolderFault;
 use std::alloc::{AllocError, AllocFailed};
 
 /// Why a call on a store was not done.
-#[derive(Clone, Copy, Debug, PartialEq, Eq)]
+#[derive(Clone, Copy)]
 pub enum StoreFault {
     /// No database has the name.
     NotFound,
@@ -22,6 +23,18 @@ pub enum StoreFault {
     NoMemory,
 }
 
+impl From<FolderFault> for StoreFault {
+    ghost from_gives = { λ refused fault. fault ≡ store_fault refused };
+
+    fn from(refused: FolderFault) -> StoreFault {
+        match refused {
+            FolderFault::Failed => StoreFault::KeeperFault,
+            FolderFault::Missing => StoreFault::NoMemory,
+            FolderFault::NoMemory => StoreFault::NoMemory,
+        }
+    }
+}
+
 impl From<AllocError> for StoreFault {
     ghost from_gives = { λ _ fault. fault ≡ NoMemory };
 
@@ -35,19 +48,5 @@ impl<T: Drop> From<AllocFailed<T>> for StoreFault {
 
     fn from(_refused: AllocFailed<T>) -> StoreFault {
         StoreFault::NoMemory
-    }
-}
-
-// What a fault of the folder makes of a call.
-pub fn store_fault(fault: FolderFault) -> StoreFault
-    requires { fault ≢ FolderFault.Missing }
-    ensures keeper { result ≡ StoreFault.KeeperFault → fault ≡ FolderFault.Failed }
-    ensures failed { fault ≡ FolderFault.Failed → result ≡ StoreFault.KeeperFault }
-    ensures memory { result ≢ StoreFault.KeeperFault → result ≡ StoreFault.NoMemory }
-{
-    match fault {
-        FolderFault::Failed => StoreFault::KeeperFault,
-        FolderFault::Missing => unreachable!(),
-        FolderFault::NoMemory => StoreFault::NoMemory,
     }
 }

@@ -1,9 +1,0 @@
-use Rattle.std.proofs.Common.{rules, ◌≡◌, refl, slice_get, slice_set, Some}
-use Rattle.palm_device.specs.Records.{rewritten, with_records}
-use Rattle.handheld_store.proofs.EditLaws.{edits_change}
-use Rattle.handheld_store.proofs.edit.set_record.Goals as goal
-
-pub returns-in-Some : goal.returns-in-Some
-returns-in-Some c =
-    let there : slice_get c.args.database.now.records c.args.place ≡ Some c.in-Some.item.now = search rules in
-    edits_change (rewritten c.args.content) c.args.database.now (with_records (slice_set c.args.database.now.records c.args.place (rewritten c.args.content c.in-Some.item.now)) c.args.database.now) c.args.place c.in-Some.item.now c.is_set-same.result there refl c.is_set-same.ensures.0 c.is_set-same.ensures.1 refl refl

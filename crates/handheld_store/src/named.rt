@@ -1,0 +1,169 @@
+// The databases of a store by their names, and their files.
+ghost use Rattle.std.specs.Prelude.{◌≡◌, ◌≤◌, IfOk, IfSome, IsErrOf, None, OnErr, OnOk, Ok, Some, false, is_err, length, true};
+ghost use Rattle.std.specs.Option.{option_copied};
+ghost use Rattle.hs_folders.specs.Moments.{OneChange};
+ghost use Rattle.pdb_values.specs.Databases.{DatabaseValue};
+ghost use Rattle.pdb_values.specs.NamedDatabases as named;
+ghost use Rattle.pdb_values.specs.NamedDatabases.{replaced, with_new, without_named};
+ghost use Rattle.pdb_values.specs.declared.user.UserInfo.{UserInfo as UserValue};
+ghost use Rattle.palm_device.specs.Blocks.{empty_database};
+ghost use Rattle.handheld_files.specs.Openings.{AreKept, Stands};
+ghost use Rattle.handheld_files.specs.Settled.{are_settled};
+ghost use Rattle.handheld_store.specs.Files.{Follows};
+ghost use Rattle.handheld_store.specs.Refusals.{create_fault, delete_fault, open_fault, refusal_of, stops};
+
+
+use crate::copies::{are_same, copy_of};
+use crate::fault::StoreFault;
+use crate::files::{file_of, remove_database_file, write_file};
+use hs_folders::Folder;
+use palm_device::has_bit;
+use pdb_values::{
+    Database, DbHead, DbName, database_of, insert_database, place_of, remove_database,
+};
+use std::alloc::Global;
+
+// The attribute of a database that may only be read.
+const READ_ONLY: u16 = 0x0002;
+
+// How many databases a handheld can have.
+const MOST_DATABASES: usize = 200;
+
+/// Whether a database of this name may be made.
+pub fn may_create(databases: &[Database], name: &DbName) -> Result<(), StoreFault>
+    ensures refusal { refusal_of result ≡ create_fault name.now databases.now }
+    ensures goes_on { stops result ≡ false }
+    ensures none { OnOk result (named.database_of name.now databases.now ≡ None) }
+    ensures room { OnOk result (length databases.now ≤ 199) }
+{
+    if database_of(databases, name.as_bytes()).is_some() {
+        return Err(StoreFault::Exists);
+    }
+    if databases.len() >= MOST_DATABASES {
+        return Err(StoreFault::Limit);
+    }
+    Ok(())
+}
+
+/// Lends the database of a name: the same one once more, which takes its place where it is kept.
+pub fn lend(
+    alloc: Global,
+    databases: &[Database],
+    name: &DbName,
+    writes: bool,
+) -> Result<Database, StoreFault>
+    requires { AreKept databases.now }
+    ensures refusal { refusal_of result ≡ open_fault writes (named.database_of name.now databases.now) }
+    ensures database { IfOk result (λ database.
+        named.database_of name.now databases.now ≡ Some database) }
+    ensures settled { IfOk result (λ database. are_settled database.records ≡ true) }
+{
+    let Some(database) = database_of(databases, name.as_bytes()) else {
+        return Err(StoreFault::NotFound);
+    };
+    if writes && has_bit(READ_ONLY, database.head().attributes) {
+        return Err(StoreFault::ReadOnly);
+    }
+    let copy = copy_of(alloc, database)?;
+    Ok(copy)
+}
+
+/// Puts an empty database of this head among the others, and writes its file.
+pub fn add_database<F: Folder>(
+    alloc: Global,
+    folder: &mut F,
+    databases: &mut Vec<Database>,
+    head: DbHead,
+) -> Result<(), StoreFault>
+    requires kept { AreKept databases.old.items }
+    requires none { named.database_of head.name databases.old.items ≡ None }
+    requires room { length databases.old.items ≤ 199 }
+    ensures added { OnOk result (
+        databases.new.items ≡ with_new (empty_database head) databases.old.items) }
+    ensures stays { OnErr result (databases.new.items ≡ databases.old.items) }
+    ensures kept { AreKept databases.new.items }
+    ensures follows { OnOk result (Follows None (Some (empty_database head))
+        (F.contents folder.old) (F.contents folder.new)) }
+    ensures stands { (user : UserValue) → Stands (F.contents folder.old) databases.old.items user
+        → OnOk result (Stands (F.contents folder.new) databases.new.items user) }
+    ensures change { OneChange F.contents F.moments F.paths F.faults folder.old folder.new
+        result (IsErrOf result StoreFault.KeeperFault) }
+    ensures stops { stops result ≡ is_err result }
+{
+    let name = head.name.copy();
+    let database = Database::new(alloc, head);
+    let file = file_of(alloc, &database)?;
+    insert_database(databases, database)?;
+    match write_file(folder, file.name.as_str(), &file.bytes) {
+        Ok(()) => Ok(()),
+        Err(fault) => {
+            remove_database(databases, name.as_bytes());
+            Err(fault)
+        }
+    }
+}
+
+/// Takes the database of a name out of the others, and removes its file.
+pub fn take_database<F: Folder>(
+    alloc: Global,
+    folder: &mut F,
+    databases: &mut Vec<Database>,
+    name: &DbName,
+) -> Result<(), StoreFault>
+    requires { AreKept databases.old.items }
+    ensures refusal { refusal_of result ≡ delete_fault name.now databases.old.items }
+    ensures taken { OnOk result (databases.new.items ≡ without_named name.now databases.old.items) }
+    ensures stays { OnErr result (databases.new.items ≡ databases.old.items) }
+    ensures none { named.database_of name.now databases.old.items ≡ None → folder.new ≡ folder.old }
+    ensures kept { AreKept databases.new.items }
+    ensures follows { OnOk result (Follows (named.database_of name.now databases.old.items) None
+        (F.contents folder.old) (F.contents folder.new)) }
+    ensures stands { (user : UserValue) → Stands (F.contents folder.old) databases.old.items user
+        → OnOk result (Stands (F.contents folder.new) databases.new.items user) }
+    ensures change { OneChange F.contents F.moments F.paths F.faults folder.old folder.new
+        result (IsErrOf result StoreFault.KeeperFault) }
+{
+    let Some(database) = database_of(databases, name.as_bytes()) else {
+        return Err(StoreFault::NotFound);
+    };
+    remove_database_file(alloc, folder, database.head())?;
+    remove_database(databases, name.as_bytes());
+    Ok(())
+}
+
+/// Puts a database in the place of the one of its name, and writes its file where it is another one.
+pub fn put_database<F: Folder>(
+    alloc: Global,
+    folder: &mut F,
+    databases: &mut Vec<Database>,
+    database: Database,
+) -> Result<(), StoreFault>
+    requires kept { AreKept databases.old.items }
+    requires settled { are_settled database.records ≡ true }
+    ensures put { OnOk result (databases.new.items ≡ replaced database databases.old.items) }
+    ensures stays { OnErr result (databases.new.items ≡ databases.old.items) }
+    ensures same { named.database_of database.head.name databases.old.items ≡ Some database
+        → (result ≡ Ok tt) × (folder.new ≡ folder.old) }
+    ensures kept { AreKept databases.new.items }
+    ensures follows { OnOk result (Follows
+        (named.database_of database.head.name databases.old.items)
+        (named.database_of database.head.name databases.new.items)
+        (F.contents folder.old) (F.contents folder.new)) }
+    ensures stands { (user : UserValue) → IfSome (named.database_of database.head.name databases.old.items) (λ was. was.head ≡ database.head)
+        → Stands (F.contents folder.old) databases.old.items user
+        → OnOk result (Stands (F.contents folder.new) databases.new.items user) }
+    ensures change { OneChange F.contents F.moments F.paths F.faults folder.old folder.new
+        result (IsErrOf result StoreFault.KeeperFault) }
+    ensures stops { stops result ≡ is_err result }
+{
+    let Some(place) = place_of(databases, database.head().name.as_bytes()) else {
+        return Ok(());
+    };
+    if are_same(&databases[place], &database) {
+        return Ok(());
+    }
+    let file = file_of(alloc, &database)?;
+    write_file(folder, file.name.as_str(), &file.bytes)?;
+    databases[place] = database;
+    Ok(())
+}
