@@ -1,6 +1,6 @@
 -- Databases that a store keeps, and what its folder stands for, once one is new, gone or another one.
-use Rattle.std.proofs.Common.{◌≡◌, ℕ, ◌<◌, ◌≤◌, ◌+◌, Bool, List, length, ap, sym, ◌∙◌, subst, true, false, cond, arith, refl, inr, get_or, slice_get, slice_set}
-use Rattle.std.specs.Prelude.{Option, Some, None, IfSome, is_some, option_and_then}
+use Rattle.std.proofs.Common.{◌≡◌, ℕ, ◌<◌, ◌≤◌, Bool, List, length, ap, sym, ◌∙◌, subst, true, false, cond, arith, refl, inr, get_or, slice_get, slice_set}
+use Rattle.std.specs.Prelude.{Option, Some, None, option_and_then}
 use Rattle.std.specs.FinMap as finmap
 use Rattle.std.specs.Option.{option_map}
 use Rattle.std.specs.Str.{bytes_eq}
@@ -12,9 +12,11 @@ use Rattle.pdb_values.specs.declared.user.UserInfo.{UserInfo}
 use Rattle.pdb_values.proofs.NamedLaws.{AllByRecursion-database_of, AllByRecursion-replaced, AllByRecursion-with_new, AllByRecursion-without_named, NamesRise-replaced, NamesRise-with_new, NamesRise-without_named, bytes_eq-is, bytes_eq-own, database_of-replaced, database_of-same, database_of-with_new, database_of-without_named, length-replaced, length-with_new, length-without_named}
 use Rattle.pdb_values.proofs.PlaceLaws.{find-position}
 use Rattle.pdb_files.specs.Files.{IsFileText, canonical}
-use Rattle.folder_files.specs.FileNames.{database_file}
+use Rattle.folder_files.specs.FileNames.{database_file, device_info_file}
+use Rattle.folder_files.specs.InfoFiles.{IsDeviceFile, device_text}
 use Rattle.handheld_files.specs.Openings.{AreKept, Stands}
 use Rattle.handheld_files.specs.Settled.{are_settled}
+use Rattle.handheld_files.proofs.ChangeLaws as change
 use Rattle.handheld_files.proofs.ChangeLaws.{stands_put}
 use Rattle.handheld_store.specs.Files.{Follows}
 use Rattle.handheld_store.proofs.ListLaws.{get_some}
@@ -118,3 +120,24 @@ Follows-other told told' databases databases' was new other written =
 
 pub not_other : (databases databases' : List DatabaseValue) (was new : DatabaseValue) → IsOther databases databases' was new → database_of new.head.name databases ≡ Some new → ⊥
 not_other databases databases' was new other own = other.differs (let both : ◌≡◌ {A = Option DatabaseValue} (Some was) (Some new) = sym other.here ∙ own in cc)
+
+-- ---- another user
+
+pub stands_user : (told told' : Option FileMap) (databases : List DatabaseValue) (user user' : UserInfo) → told' ≡ option_map (λ (held : FileMap). finmap.insert held device_info_file (device_text user')) told → IsDeviceFile user' (device_text user')
+    → Stands told databases user → Stands told' databases user'
+stands_user told told' databases user user' is file stands = change.stands_user told told' databases user user' (device_text user') is file stands
+
+-- ---- files that go with a database
+
+pub Follows-with_new : (told told' : Option FileMap) (databases databases' : List DatabaseValue) (new : DatabaseValue) → database_of new.head.name databases ≡ None → databases' ≡ with_new new databases
+    → told' ≡ option_map (λ (held : FileMap). finmap.insert held (database_file new.head) (canonical new)) told → Follows (database_of new.head.name databases) (database_of new.head.name databases') told told'
+Follows-with_new told told' databases databases' new none is written =
+    let found : database_of new.head.name databases' ≡ Some new = ap (database_of new.head.name) is ∙ database_of-with_new new.head.name new databases none
+    ∙ ap (λ b. cond b (Some new) (database_of new.head.name databases)) (bytes_eq-own new.head.name) in
+    subst (λ o. Follows o (database_of new.head.name databases') told told') (sym none) (subst (λ o. Follows None o told told') (sym found) (inr (λ same. absurd cc, written)))
+
+pub Follows-without_named : (told told' : Option FileMap) (databases databases' : List DatabaseValue) (name : List ℕ) (gone : DatabaseValue) → NamesRise databases → database_of name databases ≡ Some gone → databases' ≡ without_named name databases
+    → told' ≡ option_map (λ (held : FileMap). finmap.remove held (database_file gone.head)) told → Follows (database_of name databases) (database_of name databases') told told'
+Follows-without_named told told' databases databases' name gone rise here is removed =
+    let none : database_of name databases' ≡ None = ap (database_of name) is ∙ database_of-without_named name name databases rise ∙ ap (λ b. cond b None (database_of name databases)) (bytes_eq-own name) in
+    subst (λ o. Follows o (database_of name databases') told told') (sym here) (subst (λ o. Follows (Some gone) o told told') (sym none) (inr (λ same. absurd cc, removed)))

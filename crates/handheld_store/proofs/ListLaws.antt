@@ -1,6 +1,6 @@
 -- Lists by their entries.
-use Rattle.std.proofs.Common.{◌≡◌, ℕ, zero, suc, ◌<◌, ◌≤◌, List, [], ◌∷◌, length, refl, ap, sym, ◌∙◌, arith, slice_get, slice_set, get_or, map}
-use Rattle.std.specs.Prelude.{Some, None}
+use Rattle.std.proofs.Common.{◌≡◌, ℕ, zero, suc, ◌<◌, List, [], ◌∷◌, length, refl, ap, sym, ◌∙◌, arith, slice_get, slice_set, get_or, map}
+use Rattle.std.specs.Prelude.{Some}
 use Rattle.pdb_values.specs.Databases.{DatabaseValue}
 
 -- an entry that was looked up

@@ -2,17 +2,25 @@
 use Rattle.std.proofs.Common.{◌≡◌, ℕ, ◌<◌, Bool, true, false, cond, not, ◌&&◌, ◌||◌, ◌==◌, List, [], ◌∷◌, ◌++◌, map, refl, ap, sym, ◌∙◌, arith, slice_get, slice_set}
 use Rattle.std.specs.Prelude.{Option, None, Some, filter, is_some}
 use Rattle.std.specs.Option.{option_map}
-use Rattle.std.specs.List.{list_all, list_any}
+use Rattle.std.specs.List.{list_all}
 use Rattle.std.proofs.lemmas.Bool.Decides.{nat_tests}
 use Rattle.std.proofs.lemmas.List.{map-append}
 use Rattle.std.proofs.lemmas.List.Folds.{list_all-append, list_any-append}
 use Rattle.pdb_values.specs.Contents.{ContentValue}
+use Rattle.pdb_values.specs.Databases.{DatabaseValue}
 use Rattle.pdb_values.specs.declared.record.Record.{Record}
 use Rattle.palm_device.specs.Entries.{change_at, set_some, without_entry}
 use Rattle.palm_device.specs.FreshIds.{is_among}
-use Rattle.palm_device.specs.Records.{IsFree, clean, has_id, is_in, move_category, moved, new_record, put_record, reset_flags, without_record}
-use Rattle.palm_device.proofs.RecordLaws.{put_record_new}
+use Rattle.palm_device.specs.Edits.{edited}
+use Rattle.palm_device.specs.Kept.{is_kept}
+use Rattle.palm_device.specs.Records.{IsFree, clean, given_id, has_id, is_in, move_category, moved, new_record, place_of_id, put_record, reset_flags, rewritten, without_record}
+use Rattle.palm_device.specs.declared.edit.Edit.{Edit}
+use Rattle.palm_device.specs.declared.kept.Kept.{Kept}
+use Rattle.palm_device.specs.declared.edit.Edit.TheVariants as edit
+use Rattle.palm_device.proofs.RecordLaws.{put_record_new, put_record_placed}
 use Rattle.handheld_files.specs.Settled.{are_ids, are_settled}
+use Rattle.handheld_store.specs.Ids.{GivesGoodId, IsTakenOrFree}
+use Rattle.handheld_store.specs.Lents.{flagged, moved_to}
 use Rattle.handheld_store.proofs.IdLaws.{place_among}
 use Rattle.handheld_store.proofs.ListLaws.{map-set}
 
@@ -62,8 +70,8 @@ clean_busy : (items : List Record) → map (λ item. item.busy) (map clean items
 clean_busy [] = refl
 clean_busy (item ∷ items) = ap (λ rest. item.busy ∷ rest) (clean_busy items)
 
-pub are_settled-reset_flags : (items : List Record) → are_settled items ≡ true → are_settled (reset_flags items) ≡ true
-are_settled-reset_flags items settled = settled_alike items (map clean items) (clean_ids items) (clean_busy items) ∙ settled
+pub are_settled_reset_flags : (items : List Record) → are_settled items ≡ true → are_settled (reset_flags items) ≡ true
+are_settled_reset_flags items settled = settled_alike items (map clean items) (clean_ids items) (clean_busy items) ∙ settled
 
 moved_ids : (from to : ℕ) (items : List Record) → map (λ item. item.id) (move_category from to items) ≡ map (λ item. item.id) items
 moved_ids from to [] = refl
@@ -204,3 +212,47 @@ are_settled-put_free id content items free settled =
     let put : put_record id content items ≡ items ++ new_record id content ∷ [] = put_record_new id content items free.none in
     let none : is_among id (map (λ item. item.id) items) ≡ false = sym (place_among id items) ∙ ap is_some free.none in
     ap are_settled put ∙ settled_more items id content settled (not_zero id free.some) none
+
+-- ---- the selected record
+
+pub settled_rewritten : (content : ContentValue) (items : List Record) (place : ℕ) → are_settled items ≡ true → are_settled (change_at (rewritten content) place items) ≡ true
+settled_rewritten content items place settled = are_settled-change_at (rewritten content) items place (λ item. refl) (λ item. refl) settled
+
+pub settled_moved : (category : ℕ) (items : List Record) (place : ℕ) → are_settled items ≡ true → are_settled (change_at (moved_to category) place items) ≡ true
+settled_moved category items place settled = are_settled-change_at (moved_to category) items place (λ item. refl) (λ item. refl) settled
+
+pub settled_flagged : (dirty : Bool) (items : List Record) (place : ℕ) → are_settled items ≡ true → are_settled (change_at (flagged dirty) place items) ≡ true
+settled_flagged dirty items place settled = are_settled-change_at (flagged dirty) items place (λ item. refl) (λ item. refl) settled
+
+-- ---- an edit
+
+put_by : (id : ℕ) (content : ContentValue) (items : List Record) (o : Option ℕ) → place_of_id id items ≡ o → IsTakenOrFree id items → are_settled items ≡ true → are_settled (put_record id content items) ≡ true
+put_by id content items None at free settled = are_settled-put_free id content items (free at) settled
+put_by id content items (Some place) at free settled = rw (put_record_placed id content items place at) (settled_rewritten content items place settled)
+
+-- a record is put in its place, or under an id that is free
+pub are_settled-put_record : (id : ℕ) (content : ContentValue) (items : List Record) → IsTakenOrFree id items → are_settled items ≡ true → are_settled (put_record id content items) ≡ true
+are_settled-put_record id content items free settled = put_by id content items (place_of_id id items) refl free settled
+
+-- an edit that gives no new record a used id leaves settled records settled
+pub are_settled_edited : (free : ℕ) (asked : Edit) (database : DatabaseValue) → GivesGoodId free asked database → are_settled database.records ≡ true → are_settled (edited free asked database).records ≡ true
+are_settled_edited free (edit.AppBlock bytes) database new settled = settled
+are_settled_edited free (edit.SortBlock bytes) database new settled = settled
+are_settled_edited free (edit.Record id category secret bytes) database new settled = are_settled-put_record (given_id free id) (record { category = category; secret = secret; bytes = bytes.now }) database.records new settled
+are_settled_edited free edit.NoRecords database new settled = refl
+are_settled_edited free (edit.Keep kept) database new settled = are_settled-filter (is_kept kept) database.records settled
+are_settled_edited free (edit.WithoutRecord id) database new settled = are_settled-without_entry (has_id id) database.records settled
+are_settled_edited free edit.ResetFlags database new settled = are_settled_reset_flags database.records settled
+are_settled_edited free (edit.MoveCategory from to) database new settled = are_settled-move_category from to database.records settled
+are_settled_edited free (edit.Resource kind id bytes) database new settled = settled
+are_settled_edited free edit.NoResources database new settled = settled
+are_settled_edited free (edit.WithoutResource kind id) database new settled = settled
+
+pub settled_purged : (id : ℕ) (items : List Record) → are_settled items ≡ true → are_settled (without_record id items) ≡ true
+settled_purged id items settled = are_settled-without_entry (has_id id) items settled
+
+pub settled_kept : (kept : Kept) (items : List Record) → are_settled items ≡ true → are_settled (filter (is_kept kept) items) ≡ true
+settled_kept kept items settled = are_settled-filter (is_kept kept) items settled
+
+pub settled_put : (id : ℕ) (content : ContentValue) (items : List Record) → IsFree id items → are_settled items ≡ true → are_settled (put_record id content items) ≡ true
+settled_put id content items free settled = are_settled-put_free id content items free settled

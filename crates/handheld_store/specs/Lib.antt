@@ -1,4 +1,6 @@
 pub mod Files
+pub mod Ids
 pub mod Lents
+pub mod Loans
 pub mod Refusals
 pub mod Stores

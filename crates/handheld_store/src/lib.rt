@@ -1,14 +1,27 @@
-//! A handheld's folder, kept in memory.
+//! A handheld's folder, kept in memory: all its databases and its user.
+//!
+//! A `Store` holds a folder, the databases and the user that it stands for. It lends one database for
+//! one command, as an `OpenBase`, and inside it one record, as a `RecordMut`, so that a command can't
+//! touch what it wasn't given. What is lent is a second one of the database: it takes its place where
+//! it is kept, once its file is replaced, and only where it is another one. So after a folder's failure
+//! or want of memory the store still holds what its folder stands for. It is not sound any more then,
+//! and only hands its folder back.
+//!
+//! The files are those of the Palm File Format Specification, and an information file of this program's
+//! own.
 #![tactic(auto)]
 
 mod copies;
 mod fault;
 mod files;
+mod lent;
+mod loan;
 mod named;
 mod new_id;
+mod store;
 
-pub use copies::{are_same, copy_of};
-pub use new_id::free_id;
-pub use named::{add_database, lend, may_create, put_database, take_database};
 pub use fault::StoreFault;
-pub use files::{NewFile, file_of, remove_database_file, remove_file, write_file, write_user};
+pub use handheld_files::OpenFault;
+pub use lent::{LentDatabase, RecordMut};
+pub use loan::{Loan, OpenBase};
+pub use store::Store;

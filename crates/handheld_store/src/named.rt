@@ -12,7 +12,6 @@ ghost use Rattle.handheld_files.specs.Settled.{are_settled};
 ghost use Rattle.handheld_store.specs.Files.{Follows};
 ghost use Rattle.handheld_store.specs.Refusals.{create_fault, delete_fault, open_fault, refusal_of, stops};
 
-
 use crate::copies::{are_same, copy_of};
 use crate::fault::StoreFault;
 use crate::files::{file_of, remove_database_file, write_file};
@@ -53,7 +52,8 @@ pub fn lend(
     writes: bool,
 ) -> Result<Database, StoreFault>
     requires { AreKept databases.now }
-    ensures refusal { refusal_of result ≡ open_fault writes (named.database_of name.now databases.now) }
+    ensures refusal { refusal_of result
+        ≡ open_fault writes (named.database_of name.now databases.now) }
     ensures database { IfOk result (λ database.
         named.database_of name.now databases.now ≡ Some database) }
     ensures settled { IfOk result (λ database. are_settled database.records ≡ true) }
@@ -82,7 +82,9 @@ pub fn add_database<F: Folder>(
         databases.new.items ≡ with_new (empty_database head) databases.old.items) }
     ensures stays { OnErr result (databases.new.items ≡ databases.old.items) }
     ensures kept { AreKept databases.new.items }
-    ensures follows { OnOk result (Follows None (Some (empty_database head))
+    ensures follows { OnOk result (Follows
+        (named.database_of head.name databases.old.items)
+        (named.database_of head.name databases.new.items)
         (F.contents folder.old) (F.contents folder.new)) }
     ensures stands { (user : UserValue) → Stands (F.contents folder.old) databases.old.items user
         → OnOk result (Stands (F.contents folder.new) databases.new.items user) }
@@ -116,7 +118,9 @@ pub fn take_database<F: Folder>(
     ensures stays { OnErr result (databases.new.items ≡ databases.old.items) }
     ensures none { named.database_of name.now databases.old.items ≡ None → folder.new ≡ folder.old }
     ensures kept { AreKept databases.new.items }
-    ensures follows { OnOk result (Follows (named.database_of name.now databases.old.items) None
+    ensures follows { OnOk result (Follows
+        (named.database_of name.now databases.old.items)
+        (named.database_of name.now databases.new.items)
         (F.contents folder.old) (F.contents folder.new)) }
     ensures stands { (user : UserValue) → Stands (F.contents folder.old) databases.old.items user
         → OnOk result (Stands (F.contents folder.new) databases.new.items user) }
@@ -143,13 +147,15 @@ pub fn put_database<F: Folder>(
     ensures put { OnOk result (databases.new.items ≡ replaced database databases.old.items) }
     ensures stays { OnErr result (databases.new.items ≡ databases.old.items) }
     ensures same { named.database_of database.head.name databases.old.items ≡ Some database
-        → (result ≡ Ok tt) × (folder.new ≡ folder.old) }
+        → (result ≡ Ok tt) × (folder.new ≡ folder.old) × (databases.new ≡ databases.old) }
     ensures kept { AreKept databases.new.items }
     ensures follows { OnOk result (Follows
         (named.database_of database.head.name databases.old.items)
         (named.database_of database.head.name databases.new.items)
         (F.contents folder.old) (F.contents folder.new)) }
-    ensures stands { (user : UserValue) → IfSome (named.database_of database.head.name databases.old.items) (λ was. was.head ≡ database.head)
+    ensures stands { (user : UserValue)
+        → IfSome (named.database_of database.head.name databases.old.items)
+        (λ was. was.head ≡ database.head)
         → Stands (F.contents folder.old) databases.old.items user
         → OnOk result (Stands (F.contents folder.new) databases.new.items user) }
     ensures change { OneChange F.contents F.moments F.paths F.faults folder.old folder.new

@@ -3,7 +3,7 @@ use Rattle.std.specs.Prelude.{OnOk}
 use Rattle.std.specs.FinMap as finmap
 use Rattle.std.specs.Option.{option_map}
 use Rattle.hs_folders.specs.FileMaps.{FileMap}
-use Rattle.folder_files.specs.InfoFiles.{IsDeviceFile, device_text}
+use Rattle.folder_files.specs.InfoFiles.{IsDeviceFile}
 use Rattle.folder_files.specs.FileNames.{device_info_file}
 use Rattle.handheld_store.proofs.files.write_user.Goals as goal
 

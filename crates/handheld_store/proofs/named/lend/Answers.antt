@@ -1,4 +1,4 @@
-use Rattle.std.proofs.Common.{◌≡◌, ◌∙◌, Some, rules}
+use Rattle.std.proofs.Common.{◌≡◌, Some, rules}
 use Rattle.pdb_values.specs.NamedDatabases.{database_of}
 use Rattle.handheld_store.proofs.KeptLaws.{settled_database}
 use Rattle.handheld_store.proofs.named.lend.Goals as goal

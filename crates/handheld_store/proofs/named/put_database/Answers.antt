@@ -1,4 +1,4 @@
-use Rattle.std.proofs.Common.{◌≡◌, ◌∙◌, ◌<◌, Some, length, rules, slice_set, subst, sym}
+use Rattle.std.proofs.Common.{◌≡◌, Some, rules, slice_set, subst, sym}
 use Rattle.std.specs.Prelude.{IfSome}
 use Rattle.std.specs.FinMap as finmap
 use Rattle.std.specs.Option.{option_map}
@@ -8,7 +8,7 @@ use Rattle.pdb_values.specs.NamedDatabases.{place_of}
 use Rattle.pdb_files.specs.Files.{IsFileText, canonical}
 use Rattle.folder_files.specs.FileNames.{database_file}
 use Rattle.handheld_files.specs.Openings.{AreKept, Stands}
-use Rattle.handheld_store.proofs.KeptLaws.{AreKept-replaced, Follows-other, IsOther, Stands-replaced, not_other, other_at}
+use Rattle.handheld_store.proofs.KeptLaws.{AreKept-replaced, Follows-other, Stands-replaced, not_other, other_at}
 use Rattle.handheld_store.proofs.named.put_database.Goals as goal
 
 pub returns-in_err-file-clause-same : goal.returns-in_err-file-clause-same
