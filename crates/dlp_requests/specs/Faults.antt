@@ -12,11 +12,11 @@ of_arg_fault (arg.BadId place) = BadId place
 of_arg_fault (arg.BadSize place) = BadSize place
 
 -- the arguments, or their refusal
-abbrev pub lifted : {A : Type 0} → Result A ArgFault → Result A RequestFault
-lifted (Ok x) = Ok x
-lifted (Err fault) = Err (of_arg_fault fault)
+abbrev pub of_arguments : {A : Type 0} → Result A ArgFault → Result A RequestFault
+of_arguments (Ok x) = Ok x
+of_arguments (Err fault) = Err (of_arg_fault fault)
 
 -- what an argument holds, or `Size` where its layout has no such length
-abbrev pub sized : {A : Type 0} → Option A → Result A RequestFault
-sized None = Err Size
-sized (Some x) = Ok x
+abbrev pub or_size : {A : Type 0} → Option A → Result A RequestFault
+or_size None = Err Size
+or_size (Some x) = Ok x

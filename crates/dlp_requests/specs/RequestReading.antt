@@ -9,7 +9,7 @@ use Rattle.dlp_args.specs.Functions.{function_of}
 use Rattle.dlp_args.specs.Fields.{fields_in}
 use Rattle.dlp_requests.specs.declared.fault.RequestFault.{RequestFault}
 use Rattle.dlp_requests.specs.declared.fault.RequestFault.TheVariants as fault
-use Rattle.dlp_requests.specs.Faults.{lifted, sized}
+use Rattle.dlp_requests.specs.Faults.{of_arguments, or_size}
 use Rattle.dlp_requests.specs.Forms as form
 use Rattle.dlp_requests.specs.Forms.{Form, argument_of, kinds_of}
 use Rattle.dlp_requests.specs.RequestValues.{RequestValue}
@@ -28,7 +28,7 @@ argument_bytes (Some id) (argument ∷ second ∷ more) = Err fault.Argument
 
 -- the request of a form by its arguments
 abbrev pub request_by : Form → List Argument → Result RequestValue RequestFault
-request_by form arguments = argument_bytes (argument_of form) arguments >>= λ bytes. sized (request_in form bytes)
+request_by form arguments = argument_bytes (argument_of form) arguments >>= λ bytes. or_size (request_in form bytes)
 
 -- the id of the first argument
 abbrev pub first_id : List Argument → Option ℕ
@@ -79,4 +79,4 @@ known number (Some found) = Ok found
 unfoldable pub request_at : List ℕ → Result RequestValue RequestFault
 request_at [] = Err (fault.Wrapper 0)
 request_at (number ∷ []) = known number (function_of number) >>= λ found. Err (fault.Wrapper 0)
-request_at (number ∷ count ∷ bytes) = known number (function_of number) >>= λ found. lifted (arguments_at count 2 bytes) >>= request_of found
+request_at (number ∷ count ∷ bytes) = known number (function_of number) >>= λ found. of_arguments (arguments_at count 2 bytes) >>= request_of found

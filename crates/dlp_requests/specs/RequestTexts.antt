@@ -2,7 +2,8 @@
 use Rattle.std.specs.Prelude.{◌≡◌, ◌≤◌, ℕ, List, [], ◌∷◌, length, Option, Some, None}
 use Rattle.dlp_args.specs.Arguments.{ArgText, arg_text}
 use Rattle.dlp_args.specs.Arguments as argument
-use Rattle.dlp_args.specs.Fields.{AreFields, fields_text, FieldsFit}
+use Rattle.dlp_args.specs.Cells.{Kind, Text, Whole, Cell}
+use Rattle.dlp_args.specs.Fields.{Fields, AreFields, fields_text, FieldsFit}
 use Rattle.dlp_requests.specs.Forms.{number_of, argument_of, kinds_of}
 use Rattle.dlp_requests.specs.RequestValues.{RequestValue}
 
@@ -27,6 +28,16 @@ argument_text (Some id) content = 1 ∷ arg_text (record { id = id; bytes = cont
 -- the text that is written of a request
 unfoldable pub request_text : RequestValue → List ℕ
 request_text value = number_of value.form ∷ argument_text (argument_of value.form) (fields_text (kinds_of value.form) value.fields)
+
+-- a text, or bytes of no set length, are at most 65,500
+abbrev pub IsShortCell : (k : Kind) → Cell k → Type 0
+IsShortCell Text text = length text ≤ 65500
+IsShortCell Whole some = length some ≤ 65500
+IsShortCell other x = Unit {0}
+
+abbrev pub AreShort : (ks : List Kind) → Fields ks → Type 0
+AreShort [] fields = Unit {0}
+AreShort (k ∷ ks) fields = IsShortCell k fields.0 × AreShort ks fields.1
 
 -- the fields keep the bounds of the layout, and the text fits into a message
 pub record KeepsBounds (value : RequestValue) : Type 0 where

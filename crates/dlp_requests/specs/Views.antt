@@ -11,10 +11,22 @@ use Rattle.dlp_requests.specs.RequestValues.{RequestValue}
 -- a lent request is what it says, with the bytes that it lends
 abbrev pub request_value : Request → RequestValue
 request_value lent.ReadUserInfo = record { form = form.ReadUserInfo; fields = tt }
-request_value (lent.WriteUserInfo user viewer pc date bits name_len name) = record { form = form.WriteUserInfo; fields = (user, (viewer, (pc, (date, (bits, (name_len, (option_map (λ name. name.now) name, tt))))))) }
+request_value (lent.WriteUserInfo user viewer pc date bits name_len name) = record {
+  form = form.WriteUserInfo;
+  fields = (
+    user,
+    (viewer, (pc, (date, (bits, (name_len, (option_map (λ name. name.now) name, tt)))))),
+  );
+}
 request_value (lent.ReadDbList flags card start) = record { form = form.ReadDbList; fields = (flags, (card, (start, tt))) }
 request_value (lent.OpenDb card mode name) = record { form = form.OpenDb; fields = (card, (mode, (name.now, tt))) }
-request_value (lent.CreateDb creator kind card flags version name) = record { form = form.CreateDb; fields = (creator.0, (kind.0, (card, (tt, (flags, (version, (name.now, tt))))))) }
+request_value (lent.CreateDb creator kind card flags version name) = record {
+  form = form.CreateDb;
+  fields = (
+    creator.0,
+    (kind.0, (card, (tt, (flags, (version, (name.now, tt)))))),
+  );
+}
 request_value (lent.CloseDb handle) = record { form = form.CloseDb; fields = (handle, tt) }
 request_value (lent.DeleteDb card name) = record { form = form.DeleteDb; fields = (card, (tt, (name.now, tt))) }
 request_value (lent.ReadAppBlock handle offset length) = record { form = form.ReadAppBlock; fields = (handle, (tt, (offset, (length, tt)))) }
@@ -23,11 +35,35 @@ request_value (lent.ReadSortBlock handle offset length) = record { form = form.R
 request_value (lent.WriteSortBlock handle bytes) = record { form = form.WriteSortBlock; fields = (handle, (tt, (bytes.now, tt))) }
 request_value (lent.ReadNextModifiedRec handle) = record { form = form.ReadNextModifiedRec; fields = (handle, tt) }
 request_value (lent.ReadRecordById handle id offset length) = record { form = form.ReadRecordById; fields = (handle, (tt, (id, (offset, (length, tt))))) }
-request_value (lent.ReadRecordByIndex handle index offset length) = record { form = form.ReadRecordByIndex; fields = (handle, (tt, (index, (offset, (length, tt))))) }
-request_value (lent.WriteRecord handle flags id attributes category bytes) = record { form = form.WriteRecord; fields = (handle, (flags, (id, (attributes, (category, (bytes.now, tt)))))) }
+request_value (lent.ReadRecordByIndex handle index offset length) = record {
+  form = form.ReadRecordByIndex;
+  fields = (
+    handle,
+    (tt, (index, (offset, (length, tt)))),
+  );
+}
+request_value (lent.WriteRecord handle flags id attributes category bytes) = record {
+  form = form.WriteRecord;
+  fields = (
+    handle,
+    (flags, (id, (attributes, (category, (bytes.now, tt))))),
+  );
+}
 request_value (lent.DeleteRecord handle flags id) = record { form = form.DeleteRecord; fields = (handle, (flags, (id, tt))) }
-request_value (lent.ReadResourceByIndex handle index offset length) = record { form = form.ReadResourceByIndex; fields = (handle, (tt, (index, (offset, (length, tt))))) }
-request_value (lent.ReadResourceByType handle kind id offset length) = record { form = form.ReadResourceByType; fields = (handle, (tt, (kind.0, (id, (offset, (length, tt)))))) }
+request_value (lent.ReadResourceByIndex handle index offset length) = record {
+  form = form.ReadResourceByIndex;
+  fields = (
+    handle,
+    (tt, (index, (offset, (length, tt)))),
+  );
+}
+request_value (lent.ReadResourceByType handle kind id offset length) = record {
+  form = form.ReadResourceByType;
+  fields = (
+    handle,
+    (tt, (kind.0, (id, (offset, (length, tt))))),
+  );
+}
 request_value (lent.WriteResource handle kind id bytes) = record { form = form.WriteResource; fields = (handle, (tt, (kind.0, (id, (bytes.now, tt))))) }
 request_value (lent.DeleteResource handle flags kind id) = record { form = form.DeleteResource; fields = (handle, (flags, (kind.0, (id, tt)))) }
 request_value (lent.CleanUpDatabase handle) = record { form = form.CleanUpDatabase; fields = (handle, tt) }

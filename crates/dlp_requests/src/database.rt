@@ -1,4 +1,6 @@
 // What the argument of a request about databases, their blocks and their handles holds.
+#![tactic(auto, unfolding(crate::specs::RequestTexts::request_text, crate::specs::RequestTexts::IsRequest))]
+
 ghost use Rattle.std.specs.Prelude.{◌≡◌};
 ghost use Rattle.dlp_requests.specs.Forms as form;
 ghost use Rattle.dlp_requests.specs.RequestTexts.{IsRequest, request_text};
@@ -20,7 +22,6 @@ pub(crate) fn read_db_list(content: &[u8]) -> Option<Request<'_>>
     Some(Request::ReadDbList { flags, card, start })
 }
 
-#[tactic(auto, unfolding(crate::specs::RequestTexts::request_text, crate::specs::RequestTexts::IsRequest))]
 pub(crate) fn put_read_db_list(out: &mut Message, flags: u8, card: u8, start: u16)
     requires { IsRequest (request_value (Request.ReadDbList flags card start)) }
     ensures { out.new ≡ request_text (request_value (Request.ReadDbList flags card start)) }
@@ -45,7 +46,6 @@ pub(crate) fn open_db(content: &[u8]) -> Option<Request<'_>>
     Some(Request::OpenDb { card, mode, name })
 }
 
-#[tactic(auto, unfolding(crate::specs::RequestTexts::request_text, crate::specs::RequestTexts::IsRequest))]
 pub(crate) fn put_open_db(out: &mut Message, card: u8, mode: u8, name: &[u8])
     requires { IsRequest (request_value (Request.OpenDb card mode name)) }
     ensures { out.new ≡ request_text (request_value (Request.OpenDb card mode name.entry)) }
@@ -104,7 +104,6 @@ pub(crate) fn close_db(content: &[u8]) -> Option<Request<'_>>
     Some(Request::CloseDb { handle })
 }
 
-#[tactic(auto, unfolding(crate::specs::RequestTexts::request_text, crate::specs::RequestTexts::IsRequest))]
 pub(crate) fn put_close_db(out: &mut Message, handle: u8)
     requires { IsRequest (request_value (Request.CloseDb handle)) }
     ensures { out.new ≡ request_text (request_value (Request.CloseDb handle)) }
@@ -121,7 +120,6 @@ pub(crate) fn delete_db(content: &[u8]) -> Option<Request<'_>>
     Some(Request::DeleteDb { card, name })
 }
 
-#[tactic(auto, unfolding(crate::specs::RequestTexts::request_text, crate::specs::RequestTexts::IsRequest))]
 pub(crate) fn put_delete_db(out: &mut Message, card: u8, name: &[u8])
     requires { IsRequest (request_value (Request.DeleteDb card name)) }
     ensures { out.new ≡ request_text (request_value (Request.DeleteDb card name.entry)) }
@@ -144,7 +142,6 @@ pub(crate) fn read_app_block(content: &[u8]) -> Option<Request<'_>>
     })
 }
 
-#[tactic(auto, unfolding(crate::specs::RequestTexts::request_text, crate::specs::RequestTexts::IsRequest))]
 pub(crate) fn put_read_app_block(out: &mut Message, handle: u8, offset: u16, length: u16)
     requires { IsRequest (request_value (Request.ReadAppBlock handle offset length)) }
     ensures { out.new ≡ request_text (request_value (Request.ReadAppBlock handle offset length)) }
@@ -176,7 +173,6 @@ pub(crate) fn read_sort_block(content: &[u8]) -> Option<Request<'_>>
     })
 }
 
-#[tactic(auto, unfolding(crate::specs::RequestTexts::request_text, crate::specs::RequestTexts::IsRequest))]
 pub(crate) fn put_read_sort_block(out: &mut Message, handle: u8, offset: u16, length: u16)
     requires { IsRequest (request_value (Request.ReadSortBlock handle offset length)) }
     ensures { out.new ≡ request_text (request_value (Request.ReadSortBlock handle offset length)) }
@@ -202,7 +198,6 @@ pub(crate) fn write_app_block(content: &[u8]) -> Option<Request<'_>>
     Some(Request::WriteAppBlock { handle, bytes })
 }
 
-#[tactic(auto, unfolding(crate::specs::RequestTexts::request_text, crate::specs::RequestTexts::IsRequest))]
 pub(crate) fn put_write_app_block(out: &mut Message, handle: u8, bytes: &[u8])
     requires { IsRequest (request_value (Request.WriteAppBlock handle bytes)) }
     ensures { out.new ≡ request_text (request_value (Request.WriteAppBlock handle bytes.entry)) }
@@ -220,7 +215,6 @@ pub(crate) fn write_sort_block(content: &[u8]) -> Option<Request<'_>>
     Some(Request::WriteSortBlock { handle, bytes })
 }
 
-#[tactic(auto, unfolding(crate::specs::RequestTexts::request_text, crate::specs::RequestTexts::IsRequest))]
 pub(crate) fn put_write_sort_block(out: &mut Message, handle: u8, bytes: &[u8])
     requires { IsRequest (request_value (Request.WriteSortBlock handle bytes)) }
     ensures { out.new ≡ request_text (request_value (Request.WriteSortBlock handle bytes.entry)) }
@@ -237,7 +231,6 @@ pub(crate) fn read_open_db_info(content: &[u8]) -> Option<Request<'_>>
     Some(Request::ReadOpenDbInfo { handle })
 }
 
-#[tactic(auto, unfolding(crate::specs::RequestTexts::request_text, crate::specs::RequestTexts::IsRequest))]
 pub(crate) fn put_read_open_db_info(out: &mut Message, handle: u8)
     requires { IsRequest (request_value (Request.ReadOpenDbInfo handle)) }
     ensures { out.new ≡ request_text (request_value (Request.ReadOpenDbInfo handle)) }

@@ -6,7 +6,7 @@ use dlp_args::ArgFault;
 use thiserror::Error;
 
 /// The first rule that the bytes of a request break. A place is an offset from the first byte.
-#[derive(Clone, Copy, Debug, PartialEq, Eq, Error)]
+#[derive(Clone, Copy, Debug, Error)]
 pub enum RequestFault {
     /// No function has this byte.
     #[error("no function has the byte {0}")]

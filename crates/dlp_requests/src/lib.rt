@@ -16,7 +16,7 @@ mod session;
 mod writer;
 
 pub use fault::RequestFault;
-pub use laws::request_round_trip;
+pub use laws::{request_round_trip, short_requests_fit};
 pub use reader::read_request;
 pub use request::Request;
 pub use writer::write_request;

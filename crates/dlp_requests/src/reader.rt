@@ -58,35 +58,35 @@ fn request_of<'a>(function: Function, args: &Args<'a>) -> Result<Request<'a>, Re
             none(args)?;
             Ok(Request::ReadUserInfo)
         }
-        Function::WriteUserInfo => sized(session::write_user_info(only(args, 0x20)?)),
-        Function::ReadDbList => sized(database::read_db_list(only(args, 0x20)?)),
-        Function::OpenDb => sized(database::open_db(only(args, 0x20)?)),
-        Function::CreateDb => sized(database::create_db(only(args, 0x20)?)),
-        Function::CloseDb => sized(database::close_db(only(args, 0x20)?)),
-        Function::DeleteDb => sized(database::delete_db(only(args, 0x20)?)),
-        Function::ReadAppBlock => sized(database::read_app_block(only(args, 0x20)?)),
-        Function::ReadSortBlock => sized(database::read_sort_block(only(args, 0x20)?)),
-        Function::WriteAppBlock => sized(database::write_app_block(only(args, 0x20)?)),
-        Function::WriteSortBlock => sized(database::write_sort_block(only(args, 0x20)?)),
-        Function::ReadNextModifiedRec => sized(record::read_next_modified_rec(only(args, 0x20)?)),
+        Function::WriteUserInfo => or_size(session::write_user_info(only(args, 0x20)?)),
+        Function::ReadDbList => or_size(database::read_db_list(only(args, 0x20)?)),
+        Function::OpenDb => or_size(database::open_db(only(args, 0x20)?)),
+        Function::CreateDb => or_size(database::create_db(only(args, 0x20)?)),
+        Function::CloseDb => or_size(database::close_db(only(args, 0x20)?)),
+        Function::DeleteDb => or_size(database::delete_db(only(args, 0x20)?)),
+        Function::ReadAppBlock => or_size(database::read_app_block(only(args, 0x20)?)),
+        Function::ReadSortBlock => or_size(database::read_sort_block(only(args, 0x20)?)),
+        Function::WriteAppBlock => or_size(database::write_app_block(only(args, 0x20)?)),
+        Function::WriteSortBlock => or_size(database::write_sort_block(only(args, 0x20)?)),
+        Function::ReadNextModifiedRec => or_size(record::read_next_modified_rec(only(args, 0x20)?)),
         Function::ReadRecord => read_record(args),
-        Function::WriteRecord => sized(record::write_record(only(args, 0x20)?)),
-        Function::DeleteRecord => sized(record::delete_record(only(args, 0x20)?)),
+        Function::WriteRecord => or_size(record::write_record(only(args, 0x20)?)),
+        Function::DeleteRecord => or_size(record::delete_record(only(args, 0x20)?)),
         Function::ReadResource => read_resource(args),
-        Function::WriteResource => sized(resource::write_resource(only(args, 0x20)?)),
-        Function::DeleteResource => sized(resource::delete_resource(only(args, 0x20)?)),
-        Function::CleanUpDatabase => sized(record::clean_up_database(only(args, 0x20)?)),
-        Function::ResetSyncFlags => sized(record::reset_sync_flags(only(args, 0x20)?)),
-        Function::ResetRecordIndex => sized(record::reset_record_index(only(args, 0x20)?)),
-        Function::AddSyncLogEntry => sized(session::add_sync_log_entry(only(args, 0x20)?)),
-        Function::ReadOpenDbInfo => sized(database::read_open_db_info(only(args, 0x20)?)),
-        Function::MoveCategory => sized(record::move_category(only(args, 0x20)?)),
+        Function::WriteResource => or_size(resource::write_resource(only(args, 0x20)?)),
+        Function::DeleteResource => or_size(resource::delete_resource(only(args, 0x20)?)),
+        Function::CleanUpDatabase => or_size(record::clean_up_database(only(args, 0x20)?)),
+        Function::ResetSyncFlags => or_size(record::reset_sync_flags(only(args, 0x20)?)),
+        Function::ResetRecordIndex => or_size(record::reset_record_index(only(args, 0x20)?)),
+        Function::AddSyncLogEntry => or_size(session::add_sync_log_entry(only(args, 0x20)?)),
+        Function::ReadOpenDbInfo => or_size(database::read_open_db_info(only(args, 0x20)?)),
+        Function::MoveCategory => or_size(record::move_category(only(args, 0x20)?)),
         Function::OpenConduit => {
             none(args)?;
             Ok(Request::OpenConduit)
         }
-        Function::EndOfSync => sized(session::end_of_sync(only(args, 0x20)?)),
-        Function::ReadRecordIdList => sized(record::read_record_id_list(only(args, 0x20)?)),
+        Function::EndOfSync => or_size(session::end_of_sync(only(args, 0x20)?)),
+        Function::ReadRecordIdList => or_size(record::read_record_id_list(only(args, 0x20)?)),
     }
 }
 
@@ -98,9 +98,9 @@ fn read_record<'a>(args: &Args<'a>) -> Result<Request<'a>, RequestFault>
         return Err(RequestFault::Argument);
     };
     if first.id == 0x21 {
-        sized(record::read_record_by_index(only(args, 0x21)?))
+        or_size(record::read_record_by_index(only(args, 0x21)?))
     } else {
-        sized(record::read_record_by_id(only(args, 0x20)?))
+        or_size(record::read_record_by_id(only(args, 0x20)?))
     }
 }
 
@@ -112,9 +112,9 @@ fn read_resource<'a>(args: &Args<'a>) -> Result<Request<'a>, RequestFault>
         return Err(RequestFault::Argument);
     };
     if first.id == 0x21 {
-        sized(resource::read_resource_by_type(only(args, 0x21)?))
+        or_size(resource::read_resource_by_type(only(args, 0x21)?))
     } else {
-        sized(resource::read_resource_by_index(only(args, 0x20)?))
+        or_size(resource::read_resource_by_index(only(args, 0x20)?))
     }
 }
 
@@ -129,8 +129,8 @@ fn only<'a>(args: &Args<'a>, id: u8) -> Result<&'a [u8], RequestFault>
     }
 }
 
-fn sized(request: Option<Request<'_>>) -> Result<Request<'_>, RequestFault>
-    ensures { Gives request_value result (faults.sized (option_map request_value request.entry)) }
+fn or_size(request: Option<Request<'_>>) -> Result<Request<'_>, RequestFault>
+    ensures { Gives request_value result (faults.or_size (option_map request_value request.entry)) }
 {
     request.ok_or(RequestFault::Size)
 }

@@ -1,4 +1,6 @@
 // What the argument of a request about records holds.
+#![tactic(auto, unfolding(crate::specs::RequestTexts::request_text, crate::specs::RequestTexts::IsRequest))]
+
 ghost use Rattle.std.specs.Prelude.{◌≡◌};
 ghost use Rattle.dlp_requests.specs.Forms as form;
 ghost use Rattle.dlp_requests.specs.RequestTexts.{IsRequest, request_text};
@@ -15,7 +17,6 @@ pub(crate) fn read_next_modified_rec(content: &[u8]) -> Option<Request<'_>>
     Some(Request::ReadNextModifiedRec { handle })
 }
 
-#[tactic(auto, unfolding(crate::specs::RequestTexts::request_text, crate::specs::RequestTexts::IsRequest))]
 pub(crate) fn put_read_next_modified_rec(out: &mut Message, handle: u8)
     requires { IsRequest (request_value (Request.ReadNextModifiedRec handle)) }
     ensures { out.new ≡ request_text (request_value (Request.ReadNextModifiedRec handle)) }
@@ -40,7 +41,6 @@ pub(crate) fn read_record_by_id(content: &[u8]) -> Option<Request<'_>>
     })
 }
 
-#[tactic(auto, unfolding(crate::specs::RequestTexts::request_text, crate::specs::RequestTexts::IsRequest))]
 pub(crate) fn put_read_record_by_id(
     out: &mut Message,
     handle: u8,
@@ -83,7 +83,6 @@ pub(crate) fn read_record_by_index(content: &[u8]) -> Option<Request<'_>>
     })
 }
 
-#[tactic(auto, unfolding(crate::specs::RequestTexts::request_text, crate::specs::RequestTexts::IsRequest))]
 pub(crate) fn put_read_record_by_index(
     out: &mut Message,
     handle: u8,
@@ -128,7 +127,6 @@ pub(crate) fn write_record(content: &[u8]) -> Option<Request<'_>>
     })
 }
 
-#[tactic(auto, unfolding(crate::specs::RequestTexts::request_text, crate::specs::RequestTexts::IsRequest))]
 pub(crate) fn put_write_record(
     out: &mut Message,
     handle: u8,
@@ -164,7 +162,6 @@ pub(crate) fn delete_record(content: &[u8]) -> Option<Request<'_>>
     Some(Request::DeleteRecord { handle, flags, id })
 }
 
-#[tactic(auto, unfolding(crate::specs::RequestTexts::request_text, crate::specs::RequestTexts::IsRequest))]
 pub(crate) fn put_delete_record(out: &mut Message, handle: u8, flags: u8, id: u32)
     requires { IsRequest (request_value (Request.DeleteRecord handle flags id)) }
     ensures { out.new ≡ request_text (request_value (Request.DeleteRecord handle flags id)) }
@@ -188,7 +185,6 @@ pub(crate) fn clean_up_database(content: &[u8]) -> Option<Request<'_>>
     Some(Request::CleanUpDatabase { handle })
 }
 
-#[tactic(auto, unfolding(crate::specs::RequestTexts::request_text, crate::specs::RequestTexts::IsRequest))]
 pub(crate) fn put_clean_up_database(out: &mut Message, handle: u8)
     requires { IsRequest (request_value (Request.CleanUpDatabase handle)) }
     ensures { out.new ≡ request_text (request_value (Request.CleanUpDatabase handle)) }
@@ -204,7 +200,6 @@ pub(crate) fn reset_sync_flags(content: &[u8]) -> Option<Request<'_>>
     Some(Request::ResetSyncFlags { handle })
 }
 
-#[tactic(auto, unfolding(crate::specs::RequestTexts::request_text, crate::specs::RequestTexts::IsRequest))]
 pub(crate) fn put_reset_sync_flags(out: &mut Message, handle: u8)
     requires { IsRequest (request_value (Request.ResetSyncFlags handle)) }
     ensures { out.new ≡ request_text (request_value (Request.ResetSyncFlags handle)) }
@@ -220,7 +215,6 @@ pub(crate) fn reset_record_index(content: &[u8]) -> Option<Request<'_>>
     Some(Request::ResetRecordIndex { handle })
 }
 
-#[tactic(auto, unfolding(crate::specs::RequestTexts::request_text, crate::specs::RequestTexts::IsRequest))]
 pub(crate) fn put_reset_record_index(out: &mut Message, handle: u8)
     requires { IsRequest (request_value (Request.ResetRecordIndex handle)) }
     ensures { out.new ≡ request_text (request_value (Request.ResetRecordIndex handle)) }
@@ -239,7 +233,6 @@ pub(crate) fn move_category(content: &[u8]) -> Option<Request<'_>>
     Some(Request::MoveCategory { handle, from, to })
 }
 
-#[tactic(auto, unfolding(crate::specs::RequestTexts::request_text, crate::specs::RequestTexts::IsRequest))]
 pub(crate) fn put_move_category(out: &mut Message, handle: u8, from: u8, to: u8)
     requires { IsRequest (request_value (Request.MoveCategory handle from to)) }
     ensures { out.new ≡ request_text (request_value (Request.MoveCategory handle from to)) }
@@ -263,7 +256,6 @@ pub(crate) fn read_record_id_list(content: &[u8]) -> Option<Request<'_>>
     })
 }
 
-#[tactic(auto, unfolding(crate::specs::RequestTexts::request_text, crate::specs::RequestTexts::IsRequest))]
 pub(crate) fn put_read_record_id_list(
     out: &mut Message,
     handle: u8,

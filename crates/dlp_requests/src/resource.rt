@@ -1,4 +1,6 @@
 // What the argument of a request about resources holds.
+#![tactic(auto, unfolding(crate::specs::RequestTexts::request_text, crate::specs::RequestTexts::IsRequest))]
+
 ghost use Rattle.std.specs.Prelude.{◌≡◌};
 ghost use Rattle.dlp_requests.specs.Forms as form;
 ghost use Rattle.dlp_requests.specs.RequestTexts.{IsRequest, request_text};
@@ -25,7 +27,6 @@ pub(crate) fn read_resource_by_index(content: &[u8]) -> Option<Request<'_>>
     })
 }
 
-#[tactic(auto, unfolding(crate::specs::RequestTexts::request_text, crate::specs::RequestTexts::IsRequest))]
 pub(crate) fn put_read_resource_by_index(
     out: &mut Message,
     handle: u8,
@@ -70,7 +71,6 @@ pub(crate) fn read_resource_by_type(content: &[u8]) -> Option<Request<'_>>
     })
 }
 
-#[tactic(auto, unfolding(crate::specs::RequestTexts::request_text, crate::specs::RequestTexts::IsRequest))]
 pub(crate) fn put_read_resource_by_type(
     out: &mut Message,
     handle: u8,
@@ -141,7 +141,6 @@ pub(crate) fn delete_resource(content: &[u8]) -> Option<Request<'_>>
     })
 }
 
-#[tactic(auto, unfolding(crate::specs::RequestTexts::request_text, crate::specs::RequestTexts::IsRequest))]
 pub(crate) fn put_delete_resource(out: &mut Message, handle: u8, flags: u8, kind: FourCc, id: u16)
     requires { IsRequest (request_value (Request.DeleteResource handle flags kind id)) }
     ensures { out.new ≡ request_text (request_value (Request.DeleteResource handle flags kind id)) }

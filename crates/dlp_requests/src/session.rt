@@ -1,4 +1,6 @@
 // What the argument of a request about the user and the session holds.
+#![tactic(auto, unfolding(crate::specs::RequestTexts::request_text, crate::specs::RequestTexts::IsRequest))]
+
 ghost use Rattle.std.specs.Prelude.{◌≡◌};
 ghost use Rattle.dlp_requests.specs.Forms as form;
 ghost use Rattle.dlp_requests.specs.RequestTexts.{IsRequest, request_text};
@@ -68,7 +70,6 @@ pub(crate) fn add_sync_log_entry(content: &[u8]) -> Option<Request<'_>>
     Some(Request::AddSyncLogEntry { text })
 }
 
-#[tactic(auto, unfolding(crate::specs::RequestTexts::request_text, crate::specs::RequestTexts::IsRequest))]
 pub(crate) fn put_add_sync_log_entry(out: &mut Message, text: &[u8])
     requires { IsRequest (request_value (Request.AddSyncLogEntry text)) }
     ensures { out.new ≡ request_text (request_value (Request.AddSyncLogEntry text.entry)) }
@@ -84,7 +85,6 @@ pub(crate) fn end_of_sync(content: &[u8]) -> Option<Request<'_>>
     Some(Request::EndOfSync { status })
 }
 
-#[tactic(auto, unfolding(crate::specs::RequestTexts::request_text, crate::specs::RequestTexts::IsRequest))]
 pub(crate) fn put_end_of_sync(out: &mut Message, status: u16)
     requires { IsRequest (request_value (Request.EndOfSync status)) }
     ensures { out.new ≡ request_text (request_value (Request.EndOfSync status)) }
