@@ -28,7 +28,8 @@ impl Calls {
 
     // Counts a call, and answers whether it is to fail. If so, that is a fault.
     pub(crate) fn count(&mut self) -> bool
-        ensures counted { CountsCall self.old.made self.new.made self.old.failing.items self.new.failing.items (IsTrue result) }
+        ensures counted { CountsCall self.old.made self.new.made
+            self.old.failing.items self.new.failing.items (IsTrue result) }
         ensures cause { HasCause self.old.faults self.new.faults (IsTrue result) }
     {
         self.made = self.made.saturating_add(1);

@@ -10,7 +10,7 @@ use std::io::{ErrorKind, Write};
 use std::rt::Files;
 
 /// A file of the file system, made new when it is opened. It tells neither what it took nor a path.
-/// A pipe, a device or a folder in its place is a fault, and so is writing before a file was opened.
+/// A pipe, a device or a folder in its place is a fault, as is writing before a file was opened.
 #[derive(Drop)]
 pub struct FileSink<'r, R: Files> {
     rt: &'r R,

@@ -10,7 +10,7 @@ use std::io::{ErrorKind, Read};
 use std::rt::Files;
 
 /// A file of the file system, read from its beginning. It tells neither its bytes nor a path.
-/// A pipe, a device or a folder in its place is a fault, and so is reading before a file was opened.
+/// A pipe, a device or a folder in its place is a fault, as is reading before a file was opened.
 #[derive(Drop)]
 pub struct FileSource<'r, R: Files> {
     rt: &'r R,

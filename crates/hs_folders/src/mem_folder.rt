@@ -53,7 +53,8 @@ impl MemFolder {
     /// Makes these the bytes of one file, to prepare the folder. It counts as no call.
     pub fn put(&mut self, name: &str, bytes: &[u8]) -> Result<(), AllocError>
         ensures ok { OnOk result (⟦<Self as Folder>⟧.contents self.new
-            ≡ option_map (λ held. finmap.insert held name.now bytes.now) (⟦<Self as Folder>⟧.contents self.old)) }
+            ≡ option_map (λ held.
+            finmap.insert held name.now bytes.now) (⟦<Self as Folder>⟧.contents self.old)) }
         ensures err { OnErr result (
             ⟦<Self as Folder>⟧.contents self.new ≡ ⟦<Self as Folder>⟧.contents self.old) }
 
@@ -122,7 +123,8 @@ impl MemFolder {
     pub fn copy_at(&self, alloc: Global, moment: u64) -> Result<Option<MemFolder>, AllocError>
         ensures contents { IfOk result (λ found. option_map (λ copy.
             ⟦<Self as Folder>⟧.contents copy) found
-            ≡ option_and_then (λ moments. slice_get moments moment) (⟦<Self as Folder>⟧.moments self.now)) }
+            ≡ option_and_then (λ moments.
+            slice_get moments moment) (⟦<Self as Folder>⟧.moments self.now)) }
         ensures moments { IfOk result (λ found. IfSome found (λ copy.
             ⟦<Self as Folder>⟧.moments copy ≡ None)) }
         ensures paths { IfOk result (λ found. IfSome found (λ copy.

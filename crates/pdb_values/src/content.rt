@@ -23,7 +23,11 @@ impl Model for Content {
 
     ghost Value = { ContentValue };
 
-    ghost view = { λ content. record { category = content.category; secret = content.secret; bytes = content.bytes.items } };
+    ghost view = { λ content. record {
+      category = content.category;
+      secret = content.secret;
+      bytes = content.bytes.items;
+    } };
 
     ghost invariant = { λ content. length content.bytes.items ≤ 65500 };
 }
@@ -35,7 +39,8 @@ impl Content {
     /// A content of these bytes, where they are at most 65,500.
     pub fn new(category: Category, secret: bool, bytes: Vec<u8>) -> Result<Content, TooLarge>
         ensures { MatchResult result
-            (λ content. (vec_len bytes ≤ 65500) × (content ≡ record { category = category; secret = secret; bytes = bytes.items }))
+            (λ content. (vec_len bytes ≤ 65500)
+            × (content ≡ record { category = category; secret = secret; bytes = bytes.items }))
             (λ refused. (65500 < vec_len bytes) × (refused.0.items ≡ bytes.items)) }
     {
         if bytes.len() > Self::LIMIT {

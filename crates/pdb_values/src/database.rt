@@ -75,7 +75,8 @@ impl Database {
 
     /// One with no block and no entry.
     pub fn new(alloc: Global, head: DbHead) -> Database
-        ensures { result ≡ record { head = head; app = None; sort = None; records = []; resources = [] } }
+        ensures { result
+            ≡ record { head = head; app = None; sort = None; records = []; resources = [] } }
     {
         Database {
             head,
@@ -132,10 +133,12 @@ impl Database {
     /// Puts a record behind the others.
     pub fn push_record(&mut self, item: Record) -> Result<(), PushFault<Record>>
         requires { holds_resources self.old.head.attributes ≡ false }
-        ensures ok { OnOk result (self.new ≡ record self.old { records = self.old.records ++ item ∷ [] }) }
+        ensures ok { OnOk result (
+            self.new ≡ record self.old { records = self.old.records ++ item ∷ [] }) }
         ensures err { OnErr result (self.new ≡ self.old) }
         ensures full { (result ≡ Err (PushFault.Full item)) ↔ (length self.old.records ≡ 65535) }
-        ensures handed_back { IfErr result (λ fault. (fault ≡ PushFault.Full item) ⊎ (fault ≡ PushFault.NoMemory item)) }
+        ensures handed_back { IfErr result (λ fault.
+            (fault ≡ PushFault.Full item) ⊎ (fault ≡ PushFault.NoMemory item)) }
     {
         if self.records.len() == Self::GREATEST_COUNT {
             return Err(PushFault::Full(item));
@@ -149,9 +152,11 @@ impl Database {
     /// Puts a resource behind the others.
     pub fn push_resource(&mut self, resource: Resource) -> Result<(), PushFault<Resource>>
         requires { holds_resources self.old.head.attributes ≡ true }
-        ensures ok { OnOk result (self.new ≡ record self.old { resources = self.old.resources ++ resource ∷ [] }) }
+        ensures ok { OnOk result (
+            self.new ≡ record self.old { resources = self.old.resources ++ resource ∷ [] }) }
         ensures err { OnErr result (self.new ≡ self.old) }
-        ensures too_large { (result ≡ Err (PushFault.TooLarge resource)) ↔ (65500 < length resource.bytes) }
+        ensures too_large { (result ≡ Err (PushFault.TooLarge resource))
+            ↔ (65500 < length resource.bytes) }
         ensures full { (result ≡ Err (PushFault.Full resource))
             ↔ ((length resource.bytes ≤ 65500) × (length self.old.resources ≡ 65535)) }
         ensures handed_back { IfErr result (λ fault. (fault ≡ PushFault.TooLarge resource)
@@ -203,7 +208,8 @@ impl Database {
     /// Takes one record out. The others keep their order.
     pub fn remove_record(&mut self, place: usize) -> Option<Record>
         ensures taken { result ≡ slice_get self.old.records place }
-        ensures rest { IsSome result → self.new ≡ record self.old { records = remove self.old.records place } }
+        ensures rest { IsSome result →
+            self.new ≡ record self.old { records = remove self.old.records place } }
         ensures none { IfNone result (self.new ≡ self.old) }
     {
         if place >= self.records.len() {
@@ -215,7 +221,8 @@ impl Database {
     /// Takes one resource out. The others keep their order.
     pub fn remove_resource(&mut self, place: usize) -> Option<Resource>
         ensures taken { result ≡ slice_get self.old.resources place }
-        ensures rest { IsSome result → self.new ≡ record self.old { resources = remove self.old.resources place } }
+        ensures rest { IsSome result →
+            self.new ≡ record self.old { resources = remove self.old.resources place } }
         ensures none { IfNone result (self.new ≡ self.old) }
     {
         if place >= self.resources.len() {
@@ -228,7 +235,8 @@ impl Database {
     pub fn set_resource(&mut self, place: usize, bytes: Bytes)
         requires there { place < length self.old.resources }
         requires short { length bytes ≤ 65500 }
-        ensures { self.new ≡ record self.old { resources = with_bytes_at self.old.resources place bytes } }
+        ensures { self.new
+            ≡ record self.old { resources = with_bytes_at self.old.resources place bytes } }
     {
         self.resources[place].bytes = bytes;
     }

@@ -1,0 +1,159 @@
+// Values of Palm databases.
+use crate::{bytes_at, number_at, number32_at, word_at};
+use pdb_values::{
+    Category, Content, DbName, Kind, NameFault, PalmDate, Password, Record, RecordId, TooLarge,
+    UserName,
+};
+use std::alloc::{AllocError, Global};
+
+/// What a line on values asks for, the line itself where it names a case, or that there is no such line.
+pub fn obey(alloc: Global, line: &str, words: &[&str]) -> Result<String, AllocError> {
+    match word_at(words, 0) {
+        "case" => String::from_str(alloc, line),
+        "name" => named(alloc, &bytes_at(alloc, words, 1)),
+        "stem" => stem(alloc, &bytes_at(alloc, words, 1)),
+        "id" => numbered(
+            alloc,
+            RecordId::new(number32_at(words, 1)).map(RecordId::number),
+        ),
+        "category" => {
+            let number = word_at(words, 1).parse().unwrap_or(0);
+            numbered(
+                alloc,
+                Category::new(number).map(|category| u32::from(category.number())),
+            )
+        }
+        "user" => user(alloc, &bytes_at(alloc, words, 1)),
+        "password" => password(alloc, &bytes_at(alloc, words, 1)),
+        "content" => content(alloc, number_at(words, 1)),
+        "kind" => kind(
+            alloc,
+            word_at(words, 1) == "deleted",
+            bytes_at(alloc, words, 2),
+        ),
+        "date" => {
+            let text = line.strip_prefix("date ").unwrap_or("");
+            dated(alloc, PalmDate::read_text(text).ok())
+        }
+        "wire" => wire(alloc, &bytes_at(alloc, words, 1)),
+        "seconds" => seconds(alloc, number32_at(words, 1)),
+        _ => format!(in alloc; "no such line: {line}"),
+    }
+}
+
+fn named(alloc: Global, bytes: &[u8]) -> Result<String, AllocError> {
+    match DbName::new(bytes) {
+        Ok(_) => String::from_str(alloc, "ok"),
+        Err(NameFault::Empty) => String::from_str(alloc, "empty"),
+        Err(NameFault::TooLong) => String::from_str(alloc, "too long"),
+        Err(NameFault::BadByte(place)) => format!(in alloc; "bad byte {place}"),
+    }
+}
+
+// The bytes of a name's copy, and its stem.
+fn stem(alloc: Global, bytes: &[u8]) -> Result<String, AllocError> {
+    match DbName::new(bytes) {
+        Ok(name) => {
+            let copy = hex::encode(alloc, name.copy().as_bytes())?;
+            let stem = name.file_stem(alloc)?;
+            format!(in alloc; "{copy} {stem}")
+        }
+        Err(_) => String::from_str(alloc, "no name"),
+    }
+}
+
+fn numbered(alloc: Global, number: Option<u32>) -> Result<String, AllocError> {
+    match number {
+        Some(number) => format!(in alloc; "number {number}"),
+        None => String::from_str(alloc, "none"),
+    }
+}
+
+fn user(alloc: Global, bytes: &[u8]) -> Result<String, AllocError> {
+    match UserName::new(bytes) {
+        Some(name) => shown(alloc, name.copy().as_bytes()),
+        None => String::from_str(alloc, "none"),
+    }
+}
+
+fn password(alloc: Global, bytes: &[u8]) -> Result<String, AllocError> {
+    match Password::new(bytes) {
+        Some(password) => shown(alloc, password.copy().as_bytes()),
+        None => String::from_str(alloc, "none"),
+    }
+}
+
+fn shown(alloc: Global, bytes: &[u8]) -> Result<String, AllocError> {
+    let text = hex::encode(alloc, bytes)?;
+    format!(in alloc; "bytes {text}")
+}
+
+// A secret content of so many bytes in category 1, which goes to category 2, beside its copy.
+fn content(alloc: Global, length: usize) -> Result<String, AllocError> {
+    let (Some(first), Some(second)) = (Category::new(1), Category::new(2)) else {
+        return String::from_str(alloc, "no category");
+    };
+    let bytes = vec![in alloc; 9; length]?;
+    match Content::new(first, true, bytes) {
+        Ok(mut content) => {
+            let copy = content.copy(alloc)?;
+            let before = copy.same(&content);
+            content.set_category(second);
+            let after = copy.same(&content);
+            let secret = content.secret();
+            let category = content.category().number();
+            let count = content.bytes().len();
+            format!(in alloc;
+                "length {count} same {before} then {after} category {category} secret {secret}"
+            )
+        }
+        Err(TooLarge(bytes)) => {
+            let count = bytes.len();
+            format!(in alloc; "too large {count}")
+        }
+    }
+}
+
+fn kind(alloc: Global, deleted: bool, bytes: Vec<u8>) -> Result<String, AllocError> {
+    let (Some(id), Some(category)) = (RecordId::new(1), Category::new(3)) else {
+        return String::from_str(alloc, "no number");
+    };
+    let Ok(content) = Content::new(category, false, bytes) else {
+        return String::from_str(alloc, "too large");
+    };
+    let item = Record {
+        id,
+        deleted,
+        dirty: false,
+        busy: false,
+        content,
+    };
+    let said = match item.kind() {
+        Kind::Live => "live",
+        Kind::Archived => "archived",
+        Kind::Deleted => "deleted",
+    };
+    String::from_str(alloc, said)
+}
+
+fn dated(alloc: Global, date: Option<PalmDate>) -> Result<String, AllocError> {
+    match date {
+        Some(date) => format!(in alloc; "seconds {}", date.seconds()),
+        None => String::from_str(alloc, "no date"),
+    }
+}
+
+fn wire(alloc: Global, bytes: &[u8]) -> Result<String, AllocError> {
+    match bytes.first_chunk::<8>() {
+        Some(bytes) => dated(alloc, PalmDate::from_wire(*bytes).ok()),
+        None => String::from_str(alloc, "not eight bytes"),
+    }
+}
+
+// The bytes on the wire, and the seconds that are read back from them.
+fn seconds(alloc: Global, number: u32) -> Result<String, AllocError> {
+    let wire = PalmDate::of_seconds(number).to_wire();
+    let text = hex::encode(alloc, wire)?;
+    let read = dated(alloc, PalmDate::from_wire(wire).ok())?;
+    format!(in alloc; "wire {text} {read}")
+}
