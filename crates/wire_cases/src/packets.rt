@@ -33,7 +33,17 @@ impl PacketSink for Shelf {
         if self.packets.len() == self.room {
             return Err(AllocError);
         }
-        let packet = owned(packet);
+        let mut body = ArrayVec::new();
+        if body.try_extend_from_slice(packet.body).is_err() {
+            return Err(AllocError);
+        }
+        let packet = Packet {
+            dest: packet.dest,
+            source: packet.source,
+            kind: packet.kind,
+            id: packet.id,
+            body,
+        };
         match self.packets.push(packet) {
             Ok(()) => Ok(()),
             Err(_) => Err(AllocError),
@@ -95,38 +105,20 @@ impl Packets {
     }
 }
 
-// A packet of its own.
-fn owned(packet: PacketLent<'_>) -> Packet {
-    let mut body = ArrayVec::new();
-    for byte in packet.body {
-        let _fits = body.try_push(*byte).is_ok();
-    }
-    Packet {
-        dest: packet.dest,
-        source: packet.source,
-        kind: packet.kind,
-        id: packet.id,
-        body,
-    }
-}
-
 // The text of the packet that these words name.
 fn written(alloc: Global, words: &[&str]) -> ArrayVec<u8, MAX_PACKET> {
-    let body = bytes_of(alloc, words, 5);
-    let packet = owned(lent(words, &body));
-    let mut text = ArrayVec::new();
-    write_packet(&packet, &mut text);
-    text
-}
-
-fn lent<'b>(words: &[&str], body: &'b [u8]) -> PacketLent<'b> {
-    PacketLent {
+    let mut body = ArrayVec::new();
+    let _fits = body.try_extend_from_slice(&bytes_of(alloc, words, 5));
+    let packet = Packet {
         dest: byte_of(words, 1),
         source: byte_of(words, 2),
         kind: byte_of(words, 3),
         id: byte_of(words, 4),
         body,
-    }
+    };
+    let mut text = ArrayVec::new();
+    write_packet(&packet, &mut text);
+    text
 }
 
 // The text in words of a packet between the sockets of a session.

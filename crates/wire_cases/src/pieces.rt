@@ -63,12 +63,12 @@ impl Pieces {
     }
 
     fn timer(&mut self) -> Result<String, AllocError> {
-        let said = if self.sender.current().is_none() {
-            "nothing waits"
-        } else if self.sender.on_timer().is_ok() {
-            "again"
-        } else {
-            "spent"
+        let said = match self.sender.current() {
+            None => "nothing waits",
+            Some(_) => match self.sender.on_timer() {
+                Ok(()) => "again",
+                Err(_) => "spent",
+            },
         };
         String::from_str(self.alloc, said)
     }
