@@ -4,7 +4,7 @@ use Rattle.byteorder.specs.Endian.{big_bytes}
 use Rattle.cmp_hello.specs.declared.hello.Hello.{Hello}
 use Rattle.cmp_hello.specs.declared.hello.HelloKind.{HelloKind}
 use Rattle.cmp_hello.specs.declared.hello.HelloKind.TheVariants.{Wake, Init, Abort}
-use Rattle.cmp_hello.specs.declared.hello.TheConstants.{MAJOR_VERSION}
+use Rattle.cmp_hello.specs.Numbers.{major_version}
 
 -- the byte that says what a greeting is for
 abbrev pub kind_code : HelloKind → ℕ
@@ -15,7 +15,7 @@ kind_code Abort = 3
 -- the bytes of a greeting: its kind, its flags, the two versions, two bytes that bear nothing, and the rate
 abbrev pub hello_bytes : Hello → List ℕ → List ℕ
 hello_bytes hello unread =
-    kind_code hello.kind ∷ hello.flags ∷ MAJOR_VERSION ∷ hello.minor ∷ (unread ++ big_bytes 4 hello.rate)
+    kind_code hello.kind ∷ hello.flags ∷ major_version ∷ hello.minor ∷ (unread ++ big_bytes 4 hello.rate)
 
 -- the bytes are a text of the greeting, whatever the two unread ones are
 pub record HelloText (hello : Hello) (bytes : List ℕ) : Type 0 where

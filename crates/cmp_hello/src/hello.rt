@@ -25,7 +25,7 @@ pub(crate) const MINOR: usize = 3;
 pub(crate) const RATE: usize = 6;
 
 /// What a greeting is for.
-#[derive(Clone, Copy, Debug, PartialEq, Eq)]
+#[derive(Clone, Copy, Debug)]
 pub enum HelloKind {
     /// The handheld asks for a session.
     Wake,
@@ -36,7 +36,7 @@ pub enum HelloKind {
 }
 
 /// A greeting.
-#[derive(Clone, Copy, Debug, PartialEq, Eq)]
+#[derive(Clone, Copy)]
 pub struct Hello {
     pub kind: HelloKind,
     /// 0x80: the rate changes to `rate` behind this greeting.
@@ -48,7 +48,7 @@ pub struct Hello {
 }
 
 /// Why bytes are no greeting.
-#[derive(Clone, Copy, Debug, PartialEq, Eq)]
+#[derive(Clone, Copy, Debug)]
 pub enum HelloFault {
     /// They aren't ten.
     Length,

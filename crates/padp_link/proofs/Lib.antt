@@ -4,3 +4,4 @@ pub mod CollectingLaws
 pub mod SenderLaws
 pub mod NeighbourLaws
 pub mod ReceiverLaws
+pub mod WaitingLaws

@@ -2,7 +2,7 @@
 use Rattle.std.specs.Prelude.{◌≡◌, ℕ, ◌*◌, ◌≤◌, min, List, length, map, Vec, vec_capacity}
 use Rattle.std.specs.List.{range_with_len}
 use Rattle.std.specs.declared.alloc.Global.{Global}
-use Rattle.padp_link.specs.declared.fragment.TheConstants.{MAX_DATA}
+use Rattle.padp_link.specs.Numbers.{max_data}
 use Rattle.padp_link.specs.declared.fragment.PadpKind.TheVariants.{Data}
 use Rattle.padp_link.specs.declared.piece.Key.{Key}
 use Rattle.padp_link.specs.FragmentText.{FragmentValue}
@@ -15,7 +15,7 @@ taken_pieces length count bytes = map (λ number. fragment_of bytes (piece_of 0 
 -- the bytes are those of the first pieces, and there is room for the longest message
 pub record HoldsPieces (size count : ℕ) (message : Vec ℕ Global) : Type 0 where
   pub count_fits : count ≤ piece_count size
-  pub has_all : length message.items ≡ min (MAX_DATA * count) size
+  pub has_all : length message.items ≡ min (max_data * count) size
   pub room : 65535 ≤ vec_capacity message
 
 -- the data fragment of this key with this part of a message

@@ -4,7 +4,7 @@ use Rattle.std.specs.Bool.{beq}
 use Rattle.byteorder.specs.Endian.{big_bytes}
 use Rattle.padp_link.specs.declared.fragment.PadpKind.{PadpKind}
 use Rattle.padp_link.specs.declared.fragment.PadpKind.TheVariants.{Data, Ack, Tickle, Abort}
-use Rattle.padp_link.specs.declared.fragment.TheConstants.{MAX_DATA, FIRST, LAST}
+use Rattle.padp_link.specs.Numbers.{max_data, first_flag, last_flag}
 
 -- a fragment, wherever its part of a message lies
 pub record FragmentValue : Type 0 where
@@ -40,17 +40,17 @@ are_flags kind flags = nat_eq (bit_and flags (strange_flags kind)) 0
 -- A first fragment has the whole message, or as much of it as fits, and is the last one where that is all. Its size is the
 -- length of the message.
 abbrev pub fits_first : Bool → ℕ → ℕ → Bool
-fits_first last size len = nat_eq len (min size MAX_DATA) && beq last (nat_le size MAX_DATA)
+fits_first last size len = nat_eq len (min size max_data) && beq last (nat_le size max_data)
 
 -- A later fragment is full unless it is the last one, which has at least one byte. Its size is its place in the message.
 abbrev pub fits_later : Bool → ℕ → ℕ → Bool
 fits_later last size len =
-    nat_eq (size % MAX_DATA) 0 && not (nat_eq size 0) && (if last then nat_le 1 len && nat_le len MAX_DATA else nat_eq len MAX_DATA)
+    nat_eq (size % max_data) 0 && not (nat_eq size 0) && (if last then nat_le 1 len && nat_le len max_data else nat_eq len max_data)
 
 -- a fragment of this kind with these flags and this size may have so many bytes of a message
 abbrev pub fits_size : PadpKind → ℕ → ℕ → ℕ → Bool
 fits_size Data flags size len =
-    if has_flag FIRST flags then fits_first (has_flag LAST flags) size len else fits_later (has_flag LAST flags) size len
+    if has_flag first_flag flags then fits_first (has_flag last_flag flags) size len else fits_later (has_flag last_flag flags) size len
 fits_size _ flags size len = nat_eq len 0
 
 -- the fragment is one of the protocol

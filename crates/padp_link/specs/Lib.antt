@@ -1,3 +1,4 @@
+pub mod Numbers
 pub mod FragmentText
 pub mod FragmentFaults
 pub mod FragmentValues

@@ -3,30 +3,30 @@ use Rattle.std.specs.Prelude.{ℕ, ◌+◌, ◌-◌, ◌*◌, min, max, List, le
 use Rattle.std.specs.List.{range_with_len}
 use Rattle.std.specs.Int.{div_ceil}
 use Rattle.padp_link.specs.declared.fragment.PadpKind.TheVariants.{Data}
-use Rattle.padp_link.specs.declared.fragment.TheConstants.{MAX_DATA, FIRST, LAST}
+use Rattle.padp_link.specs.Numbers.{max_data, first_flag, last_flag}
 use Rattle.padp_link.specs.declared.piece.Key.{Key}
 use Rattle.padp_link.specs.declared.piece.Piece.{Piece}
 use Rattle.padp_link.specs.FragmentText.{FragmentValue}
 
 -- how many pieces a message of this length has: a message of no bytes has one
 abbrev pub piece_count : ℕ → ℕ
-piece_count length = max (div_ceil length MAX_DATA) 1
+piece_count length = max (div_ceil length max_data) 1
 
 -- the flags of the piece of this number, from 0 on
 abbrev pub piece_flags : ℕ → ℕ → ℕ
 piece_flags length number =
-    (if nat_eq number 0 then FIRST else 0) + (if nat_eq (number + 1) (piece_count length) then LAST else 0)
+    (if nat_eq number 0 then first_flag else 0) + (if nat_eq (number + 1) (piece_count length) then last_flag else 0)
 
 -- the size that it bears: the first one that of the message, each later one its place
 abbrev pub piece_size : ℕ → ℕ → ℕ
-piece_size length number = if nat_eq number 0 then length else MAX_DATA * number
+piece_size length number = if nat_eq number 0 then length else max_data * number
 
 -- the piece of this number of a message under this id
 abbrev pub piece_of : ℕ → ℕ → ℕ → Piece
 piece_of id length number = record {
   key = record { id = id; flags = piece_flags length number; size = piece_size length number };
-  place = MAX_DATA * number;
-  length = min (length - MAX_DATA * number) MAX_DATA;
+  place = max_data * number;
+  length = min (length - max_data * number) max_data;
 }
 
 -- the pieces of a message of this length under this id

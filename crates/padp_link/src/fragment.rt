@@ -55,7 +55,7 @@ pub enum PadpKind {
 }
 
 /// A fragment, whose part of a message lies in a buffer.
-#[derive(Clone, Copy, Debug)]
+#[derive(Clone, Copy)]
 pub struct Fragment<'a> {
     pub kind: PadpKind,
     pub flags: u8,
@@ -64,7 +64,7 @@ pub struct Fragment<'a> {
 }
 
 /// Why bytes are no fragment.
-#[derive(Clone, Copy, Debug, PartialEq, Eq)]
+#[derive(Clone, Copy, Debug)]
 pub enum FragmentFault {
     /// They are too few for a header.
     Short,
@@ -90,14 +90,14 @@ impl<'a> Fragment<'a> {
 
     /// Whether it bears the flag of a first one.
     pub(crate) fn is_first(&self) -> bool
-        ensures { result ≡ has_flag FIRST self.now.flags }
+        ensures { result ≡ has_flag 0x80 self.now.flags }
     {
         self.flags & FIRST != 0
     }
 
     /// Whether it bears the flag of a last one.
     pub(crate) fn is_last(&self) -> bool
-        ensures { result ≡ has_flag LAST self.now.flags }
+        ensures { result ≡ has_flag 0x40 self.now.flags }
     {
         self.flags & LAST != 0
     }

@@ -1,11 +1,14 @@
 //! What holds of all fragments and of all pieces. Each function here does nothing: its contract is the
 //! law.
-ghost use Rattle.std.specs.Prelude.{◌≡◌, List, ℕ, Some, [], length};
+ghost use Rattle.std.specs.Prelude.{◌≡◌, ◌+◌, ◌<◌, ◌≤◌, List, ℕ, Some, [], length};
 ghost use Rattle.padp_link.specs.FragmentText.{FragmentValue, FragmentText, IsFragment};
 ghost use Rattle.padp_link.specs.Neighbours.{Outgoing, Neighbours, HaveDifferentIds, HaveDifferentKeys, all_pieces, session_from};
 ghost use Rattle.std.specs.List.{AllByRecursion};
-ghost use Rattle.padp_link.specs.Pieces.{fragments, piece_of, piece_count};
+ghost use Rattle.padp_link.specs.Pieces.{fragment_of, fragments, piece_of, piece_count};
 ghost use Rattle.padp_link.specs.Receivers.{ReceiverValue, AnswersAll, answers_to_all, whole_of};
+ghost use Rattle.padp_link.specs.Senders.{SenderValue, waiting};
+ghost use Rattle.padp_link.specs.declared.fragment.PadpKind.TheVariants.{Ack, Data};
+ghost use Rattle.padp_link.specs.declared.piece.Piece.{Piece};
 ghost use Rattle.padp_link.specs.declared.receiver.Taken.{Taken};
 
 /// No bytes are the text of two fragments.
@@ -36,4 +39,23 @@ pub fn pieces_give_the_message()
         receiver.awaited ≡ Some id → receiver.pieces ≡ [] → ¬ (receiver.last ≡ Some ((piece_of id (length message) 0).key)) →
         AnswersAll receiver id (fragments id message) answers end →
         (answers ≡ answers_to_all (piece_count (length message))) × (end.pieces ≡ fragments id message) × (whole_of end.pieces ≡ Some message) }
+{}
+
+/// The piece of a message that waits ends inside the message, and its fragment is one of the protocol.
+pub fn waiting_piece_is_a_fragment()
+    ensures { (sender : SenderValue) (message : List ℕ) (piece : Piece) → length message ≡ sender.length → waiting sender ≡ Some piece →
+        (piece.place + piece.length ≤ sender.length) × IsFragment (fragment_of message piece) }
+{}
+
+/// The acknowledgement of a data fragment bears its flags and its size, and is a fragment of the protocol.
+pub fn acknowledgement_is_a_fragment()
+    ensures { (fragment : FragmentValue) → fragment.kind ≡ Data → fragment.flags < 256 → IsFragment fragment →
+        IsFragment (record { kind = Ack; flags = fragment.flags; size = fragment.size; bytes = [] }) }
+{}
+
+/// By their numbers: a piece and the next one of its message have different keys, and so have any two pieces of messages of
+/// different ids.
+pub fn pieces_by_number_have_different_keys()
+    ensures next { (id length number : ℕ) → HaveDifferentKeys (piece_of id length number) (piece_of id length (number + 1)) }
+    ensures others { (id other length later number place : ℕ) → ¬ (id ≡ other) → HaveDifferentKeys (piece_of id length number) (piece_of other later place) }
 {}

@@ -21,8 +21,9 @@ pub use fragment::{
     MEMORY_ERROR, PadpKind, read_fragment, write_fragment,
 };
 pub use laws::{
-    keys_differ_in_a_session, neighbours_have_different_keys, pieces_are_fragments,
-    pieces_give_the_message, text_determines_fragment,
+    acknowledgement_is_a_fragment, keys_differ_in_a_session, neighbours_have_different_keys,
+    pieces_are_fragments, pieces_by_number_have_different_keys, pieces_give_the_message,
+    text_determines_fragment, waiting_piece_is_a_fragment,
 };
 pub use piece::{Key, Piece};
 pub use receiver::{Receiver, Taken};

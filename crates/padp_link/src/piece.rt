@@ -6,7 +6,7 @@ use crate::fragment::{FIRST, LAST, MAX_DATA};
 
 /// What tells the fragments of an end from each other: the transaction, the flags and the size. An
 /// acknowledgement bears the key of its fragment.
-#[derive(Clone, Copy, Debug, PartialEq, Eq)]
+#[derive(Clone, Copy, PartialEq, Eq)]
 pub struct Key {
     pub id: u8,
     pub flags: u8,
@@ -14,7 +14,7 @@ pub struct Key {
 }
 
 /// A piece of a message: its key, the place where it begins and how many bytes it has.
-#[derive(Clone, Copy, Debug, PartialEq, Eq)]
+#[derive(Clone, Copy)]
 pub struct Piece {
     pub key: Key,
     pub place: u16,

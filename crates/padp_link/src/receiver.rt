@@ -14,7 +14,7 @@ use std::alloc::{AllocError, Global};
 use std::marker::Model;
 
 /// What became of a data fragment.
-#[derive(Clone, Copy, Debug, PartialEq, Eq)]
+#[derive(Clone, Copy, Debug)]
 pub enum Taken {
     /// It was the next piece.
     Accepted,
@@ -27,7 +27,7 @@ pub enum Taken {
 }
 
 /// Puts together one message after the other. The memory for the longest one is taken when it is made.
-#[derive(Debug, Drop)]
+#[derive(Drop)]
 pub struct Receiver {
     awaited: Option<u8>,
     // The length of the message, how many of its pieces were taken, and their bytes.

@@ -1,5 +1,5 @@
 //! The end that sends the pieces of a message.
-ghost use Rattle.std.specs.Prelude.{◌≡◌, ◌↔◌, ◌+◌, ◌<◌, ◌≤◌, IsTrue, IsErr, OnOk, OnErr, Some, true, false};
+ghost use Rattle.std.specs.Prelude.{◌≡◌, ◌↔◌, ◌+◌, ◌<◌, ◌≤◌, IsTrue, IsErr, OnOk, OnErr, IsSome, Some, true, false};
 ghost use Rattle.padp_link.specs.Pieces.{piece_count};
 ghost use Rattle.padp_link.specs.Senders.{SenderValue, waiting, waiting_key, Waits, WaitsOnLast};
 
@@ -10,11 +10,11 @@ use std::marker::Model;
 pub const MAX_TRIES: u8 = 10;
 
 /// The waiting piece was sent as often as a piece is.
-#[derive(Clone, Copy, Debug, PartialEq, Eq)]
+#[derive(Clone, Copy)]
 pub struct TriesSpent;
 
 /// Sends a message piece by piece: the next one goes once the one before it is acknowledged.
-#[derive(Debug, Drop)]
+#[derive(Drop)]
 pub struct Sender {
     id: u8,
     length: u16,
@@ -61,7 +61,8 @@ impl Sender {
     /// The piece that waits for its acknowledgement: the one behind those that are acknowledged.
     #[tactic(auto, using(crate::proofs::SenderLaws::waiting_is, crate::proofs::SenderLaws::waiting_none))]
     pub fn current(&self) -> Option<Piece>
-        ensures { result ≡ waiting self.now }
+        ensures piece { result ≡ waiting self.now }
+        ensures waits { IsSome result ↔ Waits self.now }
     {
         if self.acknowledged < piece_count(self.length) {
             Some(piece_at(self.id, self.length, self.acknowledged))
@@ -99,9 +100,9 @@ impl Sender {
     /// Counts one more try of the waiting piece. Refused exactly where it had ten.
     pub fn on_timer(&mut self) -> Result<(), TriesSpent>
         requires { Waits self.old }
-        ensures spent { IsErr result ↔ (self.old.tries ≡ MAX_TRIES) }
+        ensures spent { IsErr result ↔ (self.old.tries ≡ 10) }
         ensures counted { OnOk result (self.new ≡ record self.old { tries = self.old.tries + 1 }) }
-        ensures bound { self.new.tries ≤ MAX_TRIES }
+        ensures bound { self.new.tries ≤ 10 }
         ensures stays { OnErr result (self.new ≡ self.old) }
     {
         if self.tries == MAX_TRIES {

@@ -10,7 +10,7 @@ use Rattle.byteorder.specs.Endian.{big_bytes}
 use Rattle.slp_frames.specs.Crc.{crc_of}
 use Rattle.slp_frames.specs.Places.{Begins, IsOpen, IsDead}
 use Rattle.slp_frames.specs.PacketScan.{fields_at, packet_at, has_packet, has_header, is_open, Place, Whole, Open, Dead, place_of}
-use Rattle.slp_frames.specs.declared.packet.TheConstants.{SYNC, MAX_BODY}
+use Rattle.slp_frames.specs.Numbers.{sync_bytes, max_body}
 
 -- ---- `starts_with` as a split
 
@@ -26,11 +26,11 @@ pub length-header_text : (header : HeaderValue) → length (header_text header) 
 unfolding header_text
 length-header_text header = refl
 
-pub header_stands_first : (header : HeaderValue) (rest : List ℕ) → take 3 (header_text header ++ rest) ++ [] ≡ SYNC
+pub header_stands_first : (header : HeaderValue) (rest : List ℕ) → take 3 (header_text header ++ rest) ++ [] ≡ sync_bytes
 unfolding header_text
 header_stands_first header rest = refl
 
-fields_at-header_text : (header : HeaderValue) (rest : List ℕ) → header.size ≤ MAX_BODY → fields_at (header_text header ++ rest) ≡ header
+fields_at-header_text : (header : HeaderValue) (rest : List ℕ) → header.size ≤ max_body → fields_at (header_text header ++ rest) ≡ header
 unfolding header_text fields_at
 fields_at-header_text header rest fits =
     let size : (fields_at (header_text header ++ rest)).size ≡ header.size = omega arith in
@@ -68,17 +68,17 @@ packet_at-packet_text packet rest fits =
 -- ---- which place it is
 
 -- a test of a limit and of a front
-limit_and_front : (size : ℕ) (bytes front : List ℕ) → (nat_le size MAX_BODY && starts_with nat_eq bytes front) ≡ true → (size ≤ MAX_BODY) × (bytes ≡ front ++ drop (length front) bytes)
+limit_and_front : (size : ℕ) (bytes front : List ℕ) → (nat_le size max_body && starts_with nat_eq bytes front) ≡ true → (size ≤ max_body) × (bytes ≡ front ++ drop (length front) bytes)
 limit_and_front size bytes front h =
-    let both = and_parts (nat_le size MAX_BODY) (starts_with nat_eq bytes front) h in
-    (leb-true size MAX_BODY both.0, starts_then bytes front both.1)
+    let both = and_parts (nat_le size max_body) (starts_with nat_eq bytes front) h in
+    (leb-true size max_body both.0, starts_then bytes front both.1)
 
 pub place_of-packet : (packet : PacketValue) (bytes : List ℕ) → Begins packet bytes → place_of bytes ≡ Whole packet
 unfolding place_of has_packet
 place_of-packet packet bytes begins =
     let fields : fields_at bytes ≡ header_of packet = rw begins.is (fields_at-packet_text packet begins.rest begins.has_text) in
     let at : packet_at bytes ≡ packet = rw begins.is (packet_at-packet_text packet begins.rest begins.has_text) in
-    let small : nat_le (fields_at bytes).size MAX_BODY ≡ true = rw fields (le-leb (length packet.body) MAX_BODY begins.has_text) in
+    let small : nat_le (fields_at bytes).size max_body ≡ true = rw fields (le-leb (length packet.body) max_body begins.has_text) in
     let front : starts_with nat_eq bytes (packet_text (packet_at bytes)) ≡ true = rw (at, begins.is) (starts (packet_text packet) begins.rest) in
     cond-true _ _ _ (and_from _ _ small front) ∙ ap Whole at
 
@@ -108,14 +108,14 @@ packet_stands packet bytes whole =
 -- ---- open
 
 -- a list that is begun by the header of a packet that is longer than it, or of which it is the beginning
-pub has_header-header_text : (header : HeaderValue) (bytes rest : List ℕ) → header.size ≤ MAX_BODY → bytes ≡ header_text header ++ rest → (fields_at bytes ≡ header) × (has_header bytes ≡ true)
+pub has_header-header_text : (header : HeaderValue) (bytes rest : List ℕ) → header.size ≤ max_body → bytes ≡ header_text header ++ rest → (fields_at bytes ≡ header) × (has_header bytes ≡ true)
 unfolding has_header
 has_header-header_text header bytes rest fits is =
     let fields : fields_at bytes ≡ header = rw is (fields_at-header_text header rest fits) in
-    let small : nat_le (fields_at bytes).size MAX_BODY ≡ true = rw fields (le-leb header.size MAX_BODY fits) in
+    let small : nat_le (fields_at bytes).size max_body ≡ true = rw fields (le-leb header.size max_body fits) in
     (fields, and_from _ _ small (rw (fields, is) (starts (header_text header) rest)))
 
-pub header_stands : (bytes : List ℕ) → has_header bytes ≡ true → ((fields_at bytes).size ≤ MAX_BODY) × (bytes ≡ header_text (fields_at bytes) ++ drop 10 bytes)
+pub header_stands : (bytes : List ℕ) → has_header bytes ≡ true → ((fields_at bytes).size ≤ max_body) × (bytes ≡ header_text (fields_at bytes) ++ drop 10 bytes)
 unfolding has_header
 header_stands bytes h =
     let parts = limit_and_front (fields_at bytes).size bytes (header_text (fields_at bytes)) h in
@@ -136,7 +136,7 @@ not_packet_and_open packet bytes begins opens =
 is_open-open : (bytes : List ℕ) → IsOpen bytes → is_open bytes ≡ true
 unfolding is_open
 is_open-open bytes (inl short) =
-    cond-true _ _ _ (lt-ltb (length bytes) 10 short.few) ∙ (starts_is Decides-eqb SYNC (take 3 bytes) _ refl).1 short.rest short.agrees
+    cond-true _ _ _ (lt-ltb (length bytes) 10 short.few) ∙ (starts_is Decides-eqb sync_bytes (take 3 bytes) _ refl).1 short.rest short.agrees
 is_open-open bytes (inr begun) =
     let stands = has_header-header_text begun.header bytes begun.rest begun.fits begun.is in
     let ten : 10 ≤ length bytes = omega (arith, ap (λ (s : List ℕ). length s) begun.is, length-append (header_text begun.header) begun.rest, length-header_text begun.header) in
@@ -156,7 +156,7 @@ open_stands bytes opens =
     elim (cases_lt (length bytes) 10) [
       | inl few ↦
           let sync = (sym (cond-true _ _ _ (lt-ltb (length bytes) 10 few)) ∙ test) in
-          inl (record { few = few; rest = drop (length (take 3 bytes)) SYNC; agrees = starts_then SYNC (take 3 bytes) sync })
+          inl (record { few = few; rest = drop (length (take 3 bytes)) sync_bytes; agrees = starts_then sync_bytes (take 3 bytes) sync })
       | inr ten ↦
           let tests = (sym (cond-false _ _ _ (le-ltb (length bytes) 10 ten)) ∙ test) in
           let parts = and_parts (has_header bytes) (nat_lt (length bytes) (text_len (fields_at bytes).size)) tests in

@@ -9,7 +9,7 @@ use Rattle.slp_frames.specs.Crc.{crc_of}
 use Rattle.slp_frames.specs.PacketText.{header_text, header_of, PacketValue, packet_text, text_len}
 use Rattle.slp_frames.specs.Places.{Begins}
 use Rattle.slp_frames.specs.PacketScan.{fields_at, packet_at, has_packet, has_header, is_open, Whole, Open, Dead, place_of}
-use Rattle.slp_frames.specs.declared.packet.TheConstants.{SYNC, HEADER_LEN, MAX_BODY}
+use Rattle.slp_frames.specs.Numbers.{sync_bytes, header_len, max_body}
 use Rattle.slp_frames.proofs.PlaceLaws.{starts, starts_then, length-header_text, crc_bytes, packet_text-parts, length-behind, has_packet_stands, has_header-header_text, header_stands, place_of-packet, place_of-open}
 
 -- without a packet it is open or dead
@@ -19,25 +19,25 @@ no_packet bytes none =
     cond-false _ _ _ (false_from_ne_true (has_packet bytes) (λ test. none (has_packet_stands bytes test)))
 
 -- fewer than ten bytes
-short : (bytes : List ℕ) (agrees : Bool) → length bytes < HEADER_LEN → starts_with nat_eq SYNC (take (min 3 (length bytes)) bytes) ≡ agrees → place_of bytes ≡ cond agrees Open Dead
+short : (bytes : List ℕ) (agrees : Bool) → length bytes < header_len → starts_with nat_eq sync_bytes (take (min 3 (length bytes)) bytes) ≡ agrees → place_of bytes ≡ cond agrees Open Dead
 unfolding is_open
 short bytes agrees few test =
-    let same : starts_with nat_eq SYNC (take 3 bytes) ≡ agrees = subst (λ (s : List ℕ). starts_with nat_eq SYNC s ≡ agrees) (take_min 3 bytes) test in
-    let is : is_open bytes ≡ agrees = cond-true _ _ _ (lt-ltb (length bytes) HEADER_LEN few) ∙ same in
+    let same : starts_with nat_eq sync_bytes (take 3 bytes) ≡ agrees = subst (λ (s : List ℕ). starts_with nat_eq sync_bytes s ≡ agrees) (take_min 3 bytes) test in
+    let is : is_open bytes ≡ agrees = cond-true _ _ _ (lt-ltb (length bytes) header_len few) ∙ same in
     no_packet bytes (λ begins. omega (arith, length-behind (packet_at bytes) bytes begins)) ∙ ap (λ (b : Bool). cond b Open Dead) is
 
-pub place_of_short : (bytes : List ℕ) → length bytes < HEADER_LEN → starts_with nat_eq SYNC (take (min 3 (length bytes)) bytes) ≡ true → place_of bytes ≡ Open
+pub place_of_short : (bytes : List ℕ) → length bytes < header_len → starts_with nat_eq sync_bytes (take (min 3 (length bytes)) bytes) ≡ true → place_of bytes ≡ Open
 place_of_short bytes few test = short bytes true few test
 
-pub place_of_no_sync : (bytes : List ℕ) → length bytes < HEADER_LEN → starts_with nat_eq SYNC (take (min 3 (length bytes)) bytes) ≡ false → place_of bytes ≡ Dead
+pub place_of_no_sync : (bytes : List ℕ) → length bytes < header_len → starts_with nat_eq sync_bytes (take (min 3 (length bytes)) bytes) ≡ false → place_of bytes ≡ Dead
 place_of_no_sync bytes few test = short bytes false few test
 
 -- from ten bytes on
-open_by_header : (bytes : List ℕ) → HEADER_LEN ≤ length bytes → is_open bytes ≡ (has_header bytes && nat_lt (length bytes) (text_len (fields_at bytes).size))
+open_by_header : (bytes : List ℕ) → header_len ≤ length bytes → is_open bytes ≡ (has_header bytes && nat_lt (length bytes) (text_len (fields_at bytes).size))
 unfolding is_open
-open_by_header bytes ten = cond-false _ _ _ (le-ltb (length bytes) HEADER_LEN ten)
+open_by_header bytes ten = cond-false _ _ _ (le-ltb (length bytes) header_len ten)
 
-pub place_of_no_header : (bytes : List ℕ) → HEADER_LEN ≤ length bytes → has_header bytes ≡ false → place_of bytes ≡ Dead
+pub place_of_no_header : (bytes : List ℕ) → header_len ≤ length bytes → has_header bytes ≡ false → place_of bytes ≡ Dead
 place_of_no_header bytes ten none =
     let no_text : Begins (packet_at bytes) bytes → ⊥ = λ begins.
     let parts = begins.is ∙ packet_text-parts (packet_at bytes) begins.rest in
@@ -56,8 +56,8 @@ before_crc packet = header_text (header_of packet) ++ packet.body
 -- where all of a packet's length is there
 record IsLongEnough (bytes : List ℕ) : Type 0 where
   size : length (packet_at bytes).body ≡ (fields_at bytes).size
-  front : take (HEADER_LEN + (fields_at bytes).size) bytes ≡ before_crc (packet_at bytes)
-  front_len : length (before_crc (packet_at bytes)) ≡ HEADER_LEN + (fields_at bytes).size
+  front : take (header_len + (fields_at bytes).size) bytes ≡ before_crc (packet_at bytes)
+  front_len : length (before_crc (packet_at bytes)) ≡ header_len + (fields_at bytes).size
 
 long_enough : (bytes : List ℕ) → has_header bytes ≡ true → text_len (fields_at bytes).size ≤ length bytes → IsLongEnough bytes
 long_enough bytes test long =
@@ -79,22 +79,22 @@ abbrev pub has_crc : ℕ → List ℕ → Bool
 has_crc count bytes = starts_with nat_eq (drop count bytes) (big_bytes 2 (crc_of (take count bytes)))
 
 -- behind what the CRC is made of stands the CRC
-begins_by_crc : (bytes : List ℕ) → IsLongEnough bytes → (fields_at bytes).size ≤ MAX_BODY → has_crc (HEADER_LEN + (fields_at bytes).size) bytes ≡ true → Begins (packet_at bytes) bytes
+begins_by_crc : (bytes : List ℕ) → IsLongEnough bytes → (fields_at bytes).size ≤ max_body → has_crc (header_len + (fields_at bytes).size) bytes ≡ true → Begins (packet_at bytes) bytes
 unfolding packet_text
 begins_by_crc bytes long fits test =
     let packet = packet_at bytes in
-    let count = HEADER_LEN + (fields_at bytes).size in
+    let count = header_len + (fields_at bytes).size in
     let crc : big_bytes 2 (crc_of (take count bytes)) ≡ crc_bytes packet = ap (λ (s : List ℕ). big_bytes 2 (crc_of s)) long.front in
     let behind = starts_then (drop count bytes) (crc_bytes packet) (subst (λ (mark : List ℕ). starts_with nat_eq (drop count bytes) mark ≡ true) crc test) in
     let rest = drop (length (crc_bytes packet)) (drop count bytes) in
     let is : bytes ≡ before_crc packet ++ (crc_bytes packet ++ rest) = sym (take-append-drop count bytes) ∙ cc (long.front, behind) in
     record { has_text = omega (arith, long.size); rest = rest; is = is ∙ sym (append_assoc (before_crc packet) (crc_bytes packet) rest) }
 
-crc_by_begins : (bytes : List ℕ) → IsLongEnough bytes → Begins (packet_at bytes) bytes → has_crc (HEADER_LEN + (fields_at bytes).size) bytes ≡ true
+crc_by_begins : (bytes : List ℕ) → IsLongEnough bytes → Begins (packet_at bytes) bytes → has_crc (header_len + (fields_at bytes).size) bytes ≡ true
 unfolding packet_text
 crc_by_begins bytes long begins =
     let packet = packet_at bytes in
-    let count = HEADER_LEN + (fields_at bytes).size in
+    let count = header_len + (fields_at bytes).size in
     let is : bytes ≡ before_crc packet ++ (crc_bytes packet ++ begins.rest) = begins.is ∙ append_assoc (before_crc packet) (crc_bytes packet) begins.rest in
     let behind : drop count bytes ≡ crc_bytes packet ++ begins.rest =
     ap (λ (s : List ℕ). drop count s) is ∙ drop_at (before_crc packet) (crc_bytes packet ++ begins.rest) count long.front_len in
@@ -102,11 +102,11 @@ crc_by_begins bytes long begins =
     subst (λ (s : List ℕ). starts_with nat_eq s (big_bytes 2 (crc_of (take count bytes))) ≡ true) (sym behind)
     (subst (λ (mark : List ℕ). starts_with nat_eq (crc_bytes packet ++ begins.rest) mark ≡ true) (sym crc) (starts (crc_bytes packet) begins.rest))
 
-pub place_of_whole : (bytes : List ℕ) → has_header bytes ≡ true → text_len (fields_at bytes).size ≤ length bytes → has_crc (HEADER_LEN + (fields_at bytes).size) bytes ≡ true → place_of bytes ≡ Whole (packet_at bytes)
+pub place_of_whole : (bytes : List ℕ) → has_header bytes ≡ true → text_len (fields_at bytes).size ≤ length bytes → has_crc (header_len + (fields_at bytes).size) bytes ≡ true → place_of bytes ≡ Whole (packet_at bytes)
 place_of_whole bytes test long crc =
     place_of-packet (packet_at bytes) bytes (begins_by_crc bytes (long_enough bytes test long) (header_stands bytes test).0 crc)
 
-pub place_of_wrong_crc : (bytes : List ℕ) → has_header bytes ≡ true → text_len (fields_at bytes).size ≤ length bytes → has_crc (HEADER_LEN + (fields_at bytes).size) bytes ≡ false → place_of bytes ≡ Dead
+pub place_of_wrong_crc : (bytes : List ℕ) → has_header bytes ≡ true → text_len (fields_at bytes).size ≤ length bytes → has_crc (header_len + (fields_at bytes).size) bytes ≡ false → place_of bytes ≡ Dead
 place_of_wrong_crc bytes test long wrong =
     let none = no_packet bytes (λ begins. both_ways _ wrong (crc_by_begins bytes (long_enough bytes test long) begins)) in
     none ∙ cond-false _ _ _ (open_by_header bytes (omega arith) ∙ and_right _ _ (le-ltb (length bytes) (text_len (fields_at bytes).size) long))

@@ -9,12 +9,12 @@ use Rattle.slp_frames.specs.FoundPlaces.{FindsAt}
 use Rattle.slp_frames.specs.Readers.{ReaderValue}
 use Rattle.slp_frames.specs.Histories.{Continues, HandsOut, after_packet}
 use Rattle.slp_frames.specs.declared.packet.PacketLent.{PacketLent}
-use Rattle.slp_frames.specs.declared.packet.TheConstants.{MAX_PACKET}
+use Rattle.slp_frames.specs.Numbers.{max_packet}
 use Rattle.slp_frames.proofs.PlaceLaws.{packet_stands, open_stands}
 use Rattle.slp_frames.proofs.ScanLaws.{scan-open, continues_start, continues_now, continues_then, continues_packet}
 
 -- what is open is shorter than the longest packet
-length-open : (bytes : List ℕ) → IsOpen bytes → length bytes < MAX_PACKET
+length-open : (bytes : List ℕ) → IsOpen bytes → length bytes < max_packet
 length-open bytes (inl short) = omega (arith, short.few)
 length-open bytes (inr begun) = omega (arith, begun.fits, begun.unfinished)
 

@@ -6,9 +6,9 @@ use Rattle.slp_frames.specs.PacketText.{HeaderValue, header_text, header_of, Pac
 use Rattle.slp_frames.specs.Places.{Begins, IsHeaderFront, IsOpen, IsDead}
 use Rattle.slp_frames.specs.PacketScan.{Place, Whole, Open, Dead, place_of, with_later, scan_behind, scan}
 use Rattle.slp_frames.specs.Histories.{Continues}
-use Rattle.slp_frames.specs.declared.packet.TheConstants.{SYNC, HEADER_LEN, MAX_BODY}
+use Rattle.slp_frames.specs.Numbers.{sync_bytes, header_len, max_body}
 use Rattle.slp_frames.proofs.PlaceTests.{place_of_short}
-use Rattle.slp_frames.proofs.PlaceLaws.{length-header_text, length-packet_text, length-behind, crc_bytes, packet_text-parts, header_stands_first, place_of-packet, place_of-dead, packet_stands, dead_stands}
+use Rattle.slp_frames.proofs.PlaceLaws.{length-header_text, length-packet_text, length-behind, crc_bytes, packet_text-parts, header_stands_first, place_of-packet, place_of-dead, place_of-open, packet_stands, dead_stands}
 
 -- ---- a dead place stays dead
 
@@ -27,15 +27,15 @@ front-take (suc n) (byte ∷ bytes) more =
     let later = front-take n bytes more in
     (later.0, ap (λ (s : List ℕ). byte ∷ s) later.1)
 
-short_front : (bytes more rest : List ℕ) → length bytes < HEADER_LEN → SYNC ≡ take 3 (bytes ++ more) ++ rest → IsHeaderFront bytes
+short_front : (bytes more rest : List ℕ) → length bytes < header_len → sync_bytes ≡ take 3 (bytes ++ more) ++ rest → IsHeaderFront bytes
 short_front bytes more rest few agrees =
     let front = front-take 3 bytes more in
     record { few = few; rest = front.0 ++ rest; agrees = agrees ∙ ap (λ (s : List ℕ). s ++ rest) front.1 ∙ append_assoc (take 3 bytes) front.0 rest }
 
 -- what a packet's header begins, or what begins it, is open while it is shorter than the packet
-open_front : (header : HeaderValue) (bytes more rest : List ℕ) → header.size ≤ MAX_BODY → bytes ++ more ≡ header_text header ++ rest → length bytes < text_len header.size → IsOpen bytes
+open_front : (header : HeaderValue) (bytes more rest : List ℕ) → header.size ≤ max_body → bytes ++ more ≡ header_text header ++ rest → length bytes < text_len header.size → IsOpen bytes
 open_front header bytes more rest fits is unfinished =
-    elim (cases_lt (length bytes) HEADER_LEN) [
+    elim (cases_lt (length bytes) header_len) [
       | inl few ↦ inl (short_front bytes more [] few (sym (ap (λ (s : List ℕ). take 3 s ++ []) is ∙ header_stands_first header rest)))
       | inr ten ↦
           let stands = front_stands bytes more (header_text header) rest is (omega (arith, length-header_text header)) in
@@ -172,3 +172,10 @@ pub scan_packet_text : (packet : PacketValue) → HasText packet → scan (packe
 scan_packet_text packet fits =
     let begins : Begins packet (packet_text packet) = record { has_text = fits; rest = []; is = sym (append-nil (packet_text packet)) } in
     scan-packet packet (packet_text packet) begins ∙ ap (λ (s : List ℕ). packet ∷ scan s) (behind-packet packet (packet_text packet) begins)
+
+-- bytes that are cut off before the end of a packet's text hold no packet
+pub scan-cut : (packet : PacketValue) (bytes more : List ℕ) → HasText packet → bytes ++ more ≡ packet_text packet → length bytes < length (packet_text packet) → scan bytes ≡ []
+scan-cut packet bytes more fits is cut =
+    let parts : packet_text packet ≡ header_text (header_of packet) ++ (packet.body ++ (crc_bytes packet ++ [])) = sym (append-nil (packet_text packet)) ∙ packet_text-parts packet [] in
+    scan-open bytes
+    (place_of-open bytes (open_front (header_of packet) bytes more (packet.body ++ (crc_bytes packet ++ [])) fits (is ∙ parts) (omega (arith, length-packet_text packet, cut))))

@@ -7,7 +7,7 @@ use Rattle.slp_frames.specs.PacketScan.{scan}
 use Rattle.slp_frames.specs.PacketValues.{lent_value, handed_out}
 use Rattle.slp_frames.specs.Readers.{TallyValue, ReaderValue}
 use Rattle.slp_frames.specs.declared.packet.PacketLent.{PacketLent}
-use Rattle.slp_frames.specs.declared.packet.TheConstants.{MAX_PACKET}
+use Rattle.slp_frames.specs.Numbers.{max_packet}
 use Rattle.slp_frames.specs.contracts.reader.SlpReader.{the_row}
 
 -- A reader that took these bytes, handed out these packets and holds these bytes goes on rightly: whatever bytes follow, the
@@ -35,7 +35,7 @@ pub record HandsOut (old : ReaderValue) (result : Option PacketLent) (new : Read
   pub has_text : IfSome result (λ packet. HasText (lent_value packet))
   -- it answers None only where it holds no packet, and then there is room
   pub all : IfNone result (scan new.held ≡ [])
-  pub room : IfNone result (length new.held < MAX_PACKET)
+  pub room : IfNone result (length new.held < max_packet)
   pub tally : new.tally ≡ after_packet old.tally result
 
 -- the same of a reader that is lent until the packet is given back

@@ -1,3 +1,4 @@
+pub mod Numbers
 pub mod Crc
 pub mod PacketText
 pub mod Places

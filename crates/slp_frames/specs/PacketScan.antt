@@ -3,22 +3,22 @@ use Rattle.std.specs.Prelude.{ℕ, zero, suc, ◌-◌, Bool, ◌&&◌, List, [],
 use Rattle.std.specs.List.{starts_with}
 use Rattle.byteorder.specs.Endian.{big_number}
 use Rattle.slp_frames.specs.PacketText.{HeaderValue, header_text, PacketValue, packet_text, text_len}
-use Rattle.slp_frames.specs.declared.packet.TheConstants.{SYNC, HEADER_LEN, MAX_BODY, DEST, SOURCE, KIND, SIZE, ID}
+use Rattle.slp_frames.specs.Numbers.{sync_bytes, header_len, max_body, dest_place, source_place, kind_place, size_place, id_place}
 
 -- what the header at the front says, if one stands there
 unfoldable pub fields_at : List ℕ → HeaderValue
 fields_at bytes = record {
-  dest = slice_index bytes DEST;
-  source = slice_index bytes SOURCE;
-  kind = slice_index bytes KIND;
-  size = big_number 2 (drop SIZE bytes);
-  id = slice_index bytes ID;
+  dest = slice_index bytes dest_place;
+  source = slice_index bytes source_place;
+  kind = slice_index bytes kind_place;
+  size = big_number 2 (drop size_place bytes);
+  id = slice_index bytes id_place;
 }
 
 -- the packet with this header whose text the bytes begin with, if one stands there
 abbrev pub packet_behind : HeaderValue → List ℕ → PacketValue
 packet_behind header bytes =
-    record { dest = header.dest; source = header.source; kind = header.kind; id = header.id; body = take header.size (drop HEADER_LEN bytes) }
+    record { dest = header.dest; source = header.source; kind = header.kind; id = header.id; body = take header.size (drop header_len bytes) }
 
 abbrev pub packet_at : List ℕ → PacketValue
 packet_at bytes = packet_behind (fields_at bytes) bytes
@@ -26,17 +26,17 @@ packet_at bytes = packet_behind (fields_at bytes) bytes
 -- a packet's text stands at the front: the one that these fields and this body make
 unfoldable pub has_packet : List ℕ → Bool
 has_packet bytes =
-    nat_le (fields_at bytes).size MAX_BODY && starts_with nat_eq bytes (packet_text (packet_at bytes))
+    nat_le (fields_at bytes).size max_body && starts_with nat_eq bytes (packet_text (packet_at bytes))
 
 -- a packet's header stands at the front: the one that these fields make
 unfoldable pub has_header : List ℕ → Bool
 has_header bytes =
-    nat_le (fields_at bytes).size MAX_BODY && starts_with nat_eq bytes (header_text (fields_at bytes))
+    nat_le (fields_at bytes).size max_body && starts_with nat_eq bytes (header_text (fields_at bytes))
 
 -- the bytes may become a packet's text by further ones, as far as its header tells
 unfoldable pub is_open : List ℕ → Bool
 is_open bytes =
-    if nat_lt (length bytes) HEADER_LEN then starts_with nat_eq SYNC (take 3 bytes)
+    if nat_lt (length bytes) header_len then starts_with nat_eq sync_bytes (take 3 bytes)
     else has_header bytes && nat_lt (length bytes) (text_len (fields_at bytes).size)
 
 -- what stands at the front

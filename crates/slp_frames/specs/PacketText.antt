@@ -2,7 +2,7 @@
 use Rattle.std.specs.Prelude.{ℕ, ◌+◌, ◌%◌, ◌≤◌, List, [], ◌∷◌, ◌++◌, length, sum}
 use Rattle.byteorder.specs.Endian.{big_bytes}
 use Rattle.slp_frames.specs.Crc.{crc_of}
-use Rattle.slp_frames.specs.declared.packet.TheConstants.{SYNC, HEADER_LEN, CRC_LEN, MAX_BODY}
+use Rattle.slp_frames.specs.Numbers.{sync_bytes, header_len, crc_len, max_body}
 
 -- what the header of a packet says: two sockets, the type of the body and its size, the transaction
 pub record HeaderValue : Type 0 where
@@ -30,12 +30,12 @@ with_sum bytes = bytes ++ sum bytes % 256 ∷ []
 
 -- bytes, and the CRC of them, the higher byte first
 abbrev pub with_crc : List ℕ → List ℕ
-with_crc bytes = bytes ++ big_bytes CRC_LEN (crc_of bytes)
+with_crc bytes = bytes ++ big_bytes crc_len (crc_of bytes)
 
 -- the ten bytes of a header: BE EF ED, the fields in their order, and the sum of these nine bytes
 unfoldable pub header_text : HeaderValue → List ℕ
 header_text header =
-    with_sum (SYNC ++ header.dest ∷ header.source ∷ header.kind ∷ (big_bytes 2 header.size ++ header.id ∷ []))
+    with_sum (sync_bytes ++ header.dest ∷ header.source ∷ header.kind ∷ (big_bytes 2 header.size ++ header.id ∷ []))
 
 -- the bytes of a packet: its header, its body, and the CRC of both
 unfoldable pub packet_text : PacketValue → List ℕ
@@ -43,8 +43,8 @@ packet_text packet = with_crc (header_text (header_of packet) ++ packet.body)
 
 -- how many bytes the text of a packet has whose body has this size
 abbrev pub text_len : ℕ → ℕ
-text_len size = HEADER_LEN + size + CRC_LEN
+text_len size = header_len + size + crc_len
 
 -- a packet has a text where its body isn't too long
 abbrev pub HasText : PacketValue → Type 0
-HasText packet = length packet.body ≤ MAX_BODY
+HasText packet = length packet.body ≤ max_body

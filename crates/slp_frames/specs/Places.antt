@@ -2,7 +2,7 @@
 -- 1,028 bytes and that the next place is tried after a bad header or CRC is this protocol reader's own rule.
 use Rattle.std.specs.Prelude.{◌≡◌, ℕ, ◌+◌, ◌<◌, ◌≤◌, List, [], ◌∷◌, ◌++◌, length, take, drop, ◌⊎◌}
 use Rattle.slp_frames.specs.PacketText.{HeaderValue, header_text, PacketValue, packet_text, HasText, text_len}
-use Rattle.slp_frames.specs.declared.packet.TheConstants.{SYNC, HEADER_LEN, MAX_BODY}
+use Rattle.slp_frames.specs.Numbers.{sync_bytes, header_len, max_body}
 
 -- the text of the packet begins these bytes
 pub record Begins (packet : PacketValue) (bytes : List ℕ) : Type 0 where
@@ -12,14 +12,14 @@ pub record Begins (packet : PacketValue) (bytes : List ℕ) : Type 0 where
 
 -- fewer bytes than a header has, which agree with BE EF ED as far as they reach
 pub record IsHeaderFront (bytes : List ℕ) : Type 0 where
-  pub few : length bytes < HEADER_LEN
+  pub few : length bytes < header_len
   pub rest : List ℕ
-  pub agrees : SYNC ≡ take 3 bytes ++ rest
+  pub agrees : sync_bytes ≡ take 3 bytes ++ rest
 
 -- the header of a packet that is longer than these bytes begins them
 pub record IsPacketFront (bytes : List ℕ) : Type 0 where
   pub header : HeaderValue
-  pub fits : header.size ≤ MAX_BODY
+  pub fits : header.size ≤ max_body
   pub rest : List ℕ
   pub is : bytes ≡ header_text header ++ rest
   pub unfinished : length bytes < text_len header.size

@@ -3,7 +3,7 @@ use Rattle.std.specs.Prelude.{◌≡◌, ℕ, ◌<◌, List, [], ◌++◌, lengt
 use Rattle.slp_frames.specs.PacketText.{PacketValue}
 use Rattle.slp_frames.specs.PacketScan.{scan}
 use Rattle.slp_frames.specs.Histories.{Continues}
-use Rattle.slp_frames.specs.declared.packet.TheConstants.{MAX_PACKET}
+use Rattle.slp_frames.specs.Numbers.{max_packet}
 
 -- `now` is `first` and the packets that a reader handed out which took these bytes and holds these
 pub record Gains (taken : List ℕ) (first now : List PacketValue) (held : List ℕ) : Type 0 where
@@ -20,4 +20,4 @@ pub record GainsFront (taken : List ℕ) (first now : List PacketValue) : Type 0
 -- no packet is held, and there is room
 pub record IsDrained (held : List ℕ) : Type 0 where
   pub all : scan held ≡ []
-  pub room : length held < MAX_PACKET
+  pub room : length held < max_packet

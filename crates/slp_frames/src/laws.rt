@@ -1,6 +1,6 @@
 //! What holds of all packets and all streams. Each function here does nothing: its contract is the
 //! law.
-ghost use Rattle.std.specs.Prelude.{◌≡◌, ◌++◌, List, ℕ, [], ◌∷◌, map};
+ghost use Rattle.std.specs.Prelude.{◌≡◌, ◌++◌, List, ℕ, [], ◌∷◌, ◌<◌, length, map};
 ghost use Rattle.slp_frames.specs.PacketText.{PacketValue, packet_text, HasText};
 ghost use Rattle.slp_frames.specs.Places.{IsDead, Located, IsScan};
 ghost use Rattle.slp_frames.specs.PacketScan.{scan};
@@ -29,4 +29,9 @@ pub fn scan_begins_longer_scan()
 pub fn scan_is_by_places()
     ensures there { (bytes : List ℕ) → (found : List Located) × IsScan bytes found × (map (λ f. f.packet) found ≡ scan bytes) }
     ensures only { (bytes : List ℕ) (found others : List Located) → IsScan bytes found → IsScan bytes others → found ≡ others }
+{}
+
+/// A text that is cut off before its end holds no packet.
+pub fn a_cut_text_holds_no_packet()
+    ensures { (p : PacketValue) (bytes more : List ℕ) → HasText p → bytes ++ more ≡ packet_text p → length bytes < length (packet_text p) → scan bytes ≡ [] }
 {}

@@ -18,8 +18,8 @@ mod tally;
 
 pub use checksum::crc;
 pub use laws::{
-    dead_stays_dead, scan_begins_longer_scan, scan_is_by_places, text_determines_packet,
-    text_is_scanned,
+    a_cut_text_holds_no_packet, dead_stays_dead, scan_begins_longer_scan, scan_is_by_places,
+    text_determines_packet, text_is_scanned,
 };
 pub use packet::{
     CRC_LEN, HEADER_LEN, MAX_BODY, MAX_PACKET, Packet, PacketLent, SYNC, write_packet,

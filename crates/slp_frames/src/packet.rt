@@ -41,7 +41,7 @@ pub(crate) const SUM: usize = 9;
 
 /// A packet: the sockets that it goes to and comes from, the type of its body, the transaction's id
 /// and the body.
-#[derive(Clone, Debug, Drop)]
+#[derive(Drop)]
 pub struct Packet {
     pub dest: u8,
     pub source: u8,
@@ -51,7 +51,7 @@ pub struct Packet {
 }
 
 /// A packet whose body lies in a buffer.
-#[derive(Clone, Copy, Debug)]
+#[derive(Clone, Copy)]
 pub struct PacketLent<'a> {
     pub dest: u8,
     pub source: u8,

@@ -11,7 +11,7 @@ use crate::packet::{
 use byteorder::{BigEndian, ByteOrder};
 
 /// What stands at the front of bytes.
-#[derive(Clone, Copy, Debug)]
+#[derive(Clone, Copy)]
 pub(crate) enum Place {
     /// A packet's text, whose body has this size.
     Whole(usize),
@@ -22,7 +22,7 @@ pub(crate) enum Place {
 }
 
 /// The first place that isn't dead.
-#[derive(Clone, Copy, Debug)]
+#[derive(Clone, Copy)]
 pub(crate) struct Found {
     pub(crate) place: usize,
     /// The size of the body of the packet that stands there, if one does.
@@ -80,7 +80,7 @@ pub(crate) fn place_of(bytes: &[u8]) -> Place
 /// What stands at the front of bytes that are too few for a header.
 #[tactic(auto, using(crate::proofs::PlaceTests::short_places))]
 fn short_place(bytes: &[u8]) -> Place
-    requires { length bytes.now < HEADER_LEN }
+    requires { length bytes.now < 10 }
     ensures { IsPlace bytes.now result }
 {
     let front = &bytes[..SYNC.len().min(bytes.len())];
@@ -94,7 +94,7 @@ fn short_place(bytes: &[u8]) -> Place
 /// Whether a packet's header stands at the front.
 #[tactic(auto, unfolding(crate::specs::PacketScan::has_header, crate::specs::PacketScan::fields_at))]
 fn has_header(bytes: &[u8]) -> bool
-    requires { HEADER_LEN ≤ length bytes.now }
+    requires { 10 ≤ length bytes.now }
     ensures { result ≡ has_header bytes.now }
 {
     let size = size_at(bytes);
@@ -105,7 +105,7 @@ fn has_header(bytes: &[u8]) -> bool
 /// The size that a header at the front announces.
 #[tactic(auto, unfolding(crate::specs::PacketScan::fields_at))]
 fn size_at(bytes: &[u8]) -> u16
-    requires { HEADER_LEN ≤ length bytes.now }
+    requires { 10 ≤ length bytes.now }
     ensures { result ≡ (fields_at bytes.now).size }
 {
     BigEndian::read_u16(&bytes[SIZE..])

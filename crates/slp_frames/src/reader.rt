@@ -15,7 +15,7 @@ use std::marker::Model;
 /// Finds the packets in a stream of bytes that comes in any pieces, and keeps no more of it than the
 /// longest packet has. A place of the stream that can't begin a packet is passed by one byte, so that
 /// a packet inside a broken one is found.
-#[derive(Debug, Drop)]
+#[derive(Drop)]
 pub struct SlpReader {
     buffer: ArrayVec<u8, MAX_PACKET>,
     // How many bytes of the buffer are in packets that were handed out, or can't be in one.
@@ -51,7 +51,7 @@ impl SlpReader {
     /// Takes as many bytes of the piece as there is room for, and answers how many. That is at least
     /// one of a piece that isn't empty where `next` answered None last.
     pub fn feed(&mut self, piece: &[u8]) -> usize
-        ensures count { result ≡ min (length piece.now) (MAX_PACKET - length self.old.held) }
+        ensures count { result ≡ min (length piece.now) (1040 - length self.old.held) }
         ensures held { self.new.held ≡ self.old.held ++ take result piece.now }
         ensures continues { (taken : List ℕ) (handed : List PacketValue) →
             Continues taken handed self.old.held → Continues (taken ++ take result piece.now) handed self.new.held }

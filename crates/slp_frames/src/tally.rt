@@ -6,7 +6,7 @@ use std::marker::Model;
 
 /// How many bytes a reader took and how many packets it handed out since it was made. A count that
 /// reaches its greatest value stays there.
-#[derive(Clone, Copy, Debug, PartialEq, Eq)]
+#[derive(Clone, Copy)]
 pub struct Tally {
     bytes: u64,
     packets: u64,
