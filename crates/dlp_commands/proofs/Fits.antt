@@ -10,7 +10,7 @@ use Rattle.pdb_values.specs.declared.head.DbHead.{DbHead}
 use Rattle.dlp_args.specs.Cells.{HasNoZero}
 use Rattle.dlp_args.specs.Arguments.{Tiny, Short, header, arg_text}
 use Rattle.dlp_replies.specs.EntryLists.{entry_text}
-use Rattle.dlp_replies.specs.Frames.{named}
+use Rattle.dlp_replies.specs.Frames.{name_text}
 use Rattle.dlp_replies.specs.ReplyValues.{ReadUserInfo, ReadDbList, ReadRecordIdList, ReadAppBlock, ReadSortBlock, ReadNextModifiedRec, ReadRecord, ReadResource}
 use Rattle.dlp_replies.specs.Writables.{IsWritable}
 
@@ -46,17 +46,17 @@ date_by false time = refl
 date_length : (seconds : ℕ) → length (wire_date seconds) ≡ 8
 date_length seconds = date_by (seconds == 0) (civil_of seconds)
 
-named_length : (name : List ℕ) → length (named name) ≤ length name + 1
+named_length : (name : List ℕ) → length (name_text name) ≤ length name + 1
 named_length [] = omega arith
 named_length (byte ∷ bytes) = let all = length-append bytes (0 ∷ []) in omega arith
 
 pub user_fits : (user viewer pc good last : ℕ) (name password : List ℕ) → length name ≤ 40 → HasNoZero name → length password ≤ 40 → IsWritable (ReadUserInfo user viewer pc good last name password)
 user_fits user viewer pc good last name password short no_zero few = record {
   bounds = (short, no_zero, few);
-  fits = text_short 0x90 (to_be_bytes w32 user ++ (to_be_bytes w32 viewer ++ (to_be_bytes w32 pc ++ (wire_date good ++ (wire_date last ++ (length (named name) ∷ length password ∷ named name ++ password))))))
-      (let one = length-append (wire_date good) (wire_date last ++ (length (named name) ∷ length password ∷ named name ++ password)) in
-      let two = length-append (wire_date last) (length (named name) ∷ length password ∷ named name ++ password) in
-      let three = length-append (named name) password in
+  fits = text_short 0x90 (to_be_bytes w32 user ++ (to_be_bytes w32 viewer ++ (to_be_bytes w32 pc ++ (wire_date good ++ (wire_date last ++ (length (name_text name) ∷ length password ∷ name_text name ++ password))))))
+      (let one = length-append (wire_date good) (wire_date last ++ (length (name_text name) ∷ length password ∷ name_text name ++ password)) in
+      let two = length-append (wire_date last) (length (name_text name) ∷ length password ∷ name_text name ++ password) in
+      let three = length-append (name_text name) password in
       let first = date_length good in
       let second = date_length last in
       let whole = named_length name in

@@ -8,7 +8,7 @@ use Rattle.dlp_args.specs.CellReading.{◌>>=◌}
 use Rattle.dlp_replies.specs.Checks.{Checks, first_bad, is_date}
 use Rattle.dlp_replies.specs.EntryLists.{Row}
 use Rattle.dlp_replies.specs.EntryReading.{entry_at, rows_in, rows_or_none, row_name, row_checks, rows_checks, item_of}
-use Rattle.dlp_replies.specs.Faults.{passed}
+use Rattle.dlp_replies.specs.Faults.{or_place}
 use Rattle.dlp_replies.specs.Lent.{item_at, items_in, first_or_none}
 use Rattle.dlp_replies.proofs.ListLaws.{tests_pass, tests_stop, both_pass}
 
@@ -26,7 +26,8 @@ no_rows (suc left) bytes some e = rw e refl
 abbrev pub added : Row → Option (List Row) → Option (List Row)
 added first o = o >>= λ others. Some (first ∷ others)
 
-first_row : (left : ℕ) (bytes : List ℕ) (row : Row) (rest : List ℕ) → entry_at bytes ≡ Some (row, rest) → rows_in (suc left) bytes ≡ added row (rows_in left rest)
+first_row : (left : ℕ) (bytes : List ℕ) (row : Row) (rest : List ℕ) → entry_at bytes ≡ Some (row, rest)
+    → rows_in (suc left) bytes ≡ added row (rows_in left rest)
 unfolding rows_in
 first_row left bytes row rest e = rw e refl
 
@@ -39,32 +40,44 @@ added_rows first None e = absurd cc
 added_rows first (Some others) e = refl
 
 -- whether the others are entries decides
-more_rows : (left : ℕ) (bytes : List ℕ) (row : Row) (rest : List ℕ) → entry_at bytes ≡ Some (row, rest) → is_some (rows_in (suc left) bytes) ≡ is_some (rows_in left rest)
+more_rows : (left : ℕ) (bytes : List ℕ) (row : Row) (rest : List ℕ) → entry_at bytes ≡ Some (row, rest)
+    → is_some (rows_in (suc left) bytes) ≡ is_some (rows_in left rest)
 more_rows left bytes row rest e = ap is_some (first_row left bytes row rest e) ∙ added_some row (rows_in left rest)
 
-rows_there : (left : ℕ) (bytes : List ℕ) (row : Row) (rest : List ℕ) → entry_at bytes ≡ Some (row, rest) → is_some (rows_in left rest) ≡ true → rows_or_none (rows_in (suc left) bytes) ≡ row ∷ rows_or_none (rows_in left rest)
+rows_there : (left : ℕ) (bytes : List ℕ) (row : Row) (rest : List ℕ) → entry_at bytes ≡ Some (row, rest) → is_some (rows_in left rest) ≡ true
+    → rows_or_none (rows_in (suc left) bytes) ≡ row ∷ rows_or_none (rows_in left rest)
 rows_there left bytes row rest e all = ap rows_or_none (first_row left bytes row rest e) ∙ added_rows row (rows_in left rest) all
 
 -- the same in a walk, behind i entries
-pub walk_on : (count i : ℕ) (bytes : List ℕ) (row : Row) (rest : List ℕ) → i < count → entry_at bytes ≡ Some (row, rest) → is_some (rows_in (count - i) bytes) ≡ is_some (rows_in (count - (i + 1)) rest)
+pub walk_on : (count i : ℕ) (bytes : List ℕ) (row : Row) (rest : List ℕ) → i < count → entry_at bytes ≡ Some (row, rest)
+    → is_some (rows_in (count - i) bytes) ≡ is_some (rows_in (count - (i + 1)) rest)
 walk_on count i bytes row rest lt e = ap (λ (n : ℕ). is_some (rows_in n bytes)) (one_less count i lt) ∙ more_rows (count - (i + 1)) bytes row rest e
 
 pub walk_ends : (count i : ℕ) (bytes : List ℕ) → i < count → entry_at bytes ≡ None → is_some (rows_in (count - i) bytes) ≡ false
 walk_ends count i bytes lt e = ap is_some (no_rows (count - i) bytes (omega arith) e)
 
-walk_rows : (count i : ℕ) (bytes : List ℕ) (row : Row) (rest : List ℕ) → i < count → entry_at bytes ≡ Some (row, rest) → is_some (rows_in (count - i) bytes) ≡ true → rows_or_none (rows_in (count - i) bytes) ≡ row ∷ rows_or_none (rows_in (count - (i + 1)) rest)
+walk_rows : (count i : ℕ) (bytes : List ℕ) (row : Row) (rest : List ℕ) → i < count → entry_at bytes ≡ Some (row, rest)
+    → is_some (rows_in (count - i) bytes) ≡ true → rows_or_none (rows_in (count - i) bytes) ≡ row ∷ rows_or_none (rows_in (count - (i + 1)) rest)
 walk_rows count i bytes row rest lt e all =
-    ap (λ (n : ℕ). rows_or_none (rows_in n bytes)) (one_less count i lt) ∙ rows_there (count - (i + 1)) bytes row rest e (sym (walk_on count i bytes row rest lt e) ∙ all)
+    ap (λ (n : ℕ). rows_or_none (rows_in n bytes)) (one_less count i lt)
+    ∙ rows_there (count - (i + 1)) bytes row rest e (sym (walk_on count i bytes row rest lt e) ∙ all)
 
 -- the values of the first entry are some
-pub values_on : (count i place : ℕ) (bytes : List ℕ) (row : Row) (rest : List ℕ) → i < count → entry_at bytes ≡ Some (row, rest) → is_some (rows_in (count - i) bytes) ≡ true → first_bad (row_checks place row) ≡ None → first_bad (rows_checks place (rows_or_none (rows_in (count - i) bytes))) ≡ first_bad (rows_checks (place + row.0) (rows_or_none (rows_in (count - (i + 1)) rest)))
+pub values_on : (count i place : ℕ) (bytes : List ℕ) (row : Row) (rest : List ℕ) → i < count → entry_at bytes ≡ Some (row, rest)
+    → is_some (rows_in (count - i) bytes) ≡ true → first_bad (row_checks place row) ≡ None
+    → first_bad (rows_checks place (rows_or_none (rows_in (count - i) bytes)))
+    ≡ first_bad (rows_checks (place + row.0) (rows_or_none (rows_in (count - (i + 1)) rest)))
 values_on count i place bytes row rest lt e all valid =
-    ap (λ (rows : List Row). first_bad (rows_checks place rows)) (walk_rows count i bytes row rest lt e all) ∙ tests_pass (row_checks place row) (rows_checks (place + row.0) (rows_or_none (rows_in (count - (i + 1)) rest))) valid
+    ap (λ (rows : List Row). first_bad (rows_checks place rows)) (walk_rows count i bytes row rest lt e all)
+    ∙ tests_pass (row_checks place row) (rows_checks (place + row.0) (rows_or_none (rows_in (count - (i + 1)) rest))) valid
 
 -- a value of the first entry is none
-pub values_end : (count i place bad : ℕ) (bytes : List ℕ) (row : Row) (rest : List ℕ) → i < count → entry_at bytes ≡ Some (row, rest) → is_some (rows_in (count - i) bytes) ≡ true → first_bad (row_checks place row) ≡ Some bad → first_bad (rows_checks place (rows_or_none (rows_in (count - i) bytes))) ≡ Some bad
+pub values_end : (count i place bad : ℕ) (bytes : List ℕ) (row : Row) (rest : List ℕ) → i < count → entry_at bytes ≡ Some (row, rest)
+    → is_some (rows_in (count - i) bytes) ≡ true → first_bad (row_checks place row) ≡ Some bad
+    → first_bad (rows_checks place (rows_or_none (rows_in (count - i) bytes))) ≡ Some bad
 values_end count i place bad bytes row rest lt e all none =
-    ap (λ (rows : List Row). first_bad (rows_checks place rows)) (walk_rows count i bytes row rest lt e all) ∙ tests_stop (row_checks place row) (rows_checks (place + row.0) (rows_or_none (rows_in (count - (i + 1)) rest))) bad none
+    ap (λ (rows : List Row). first_bad (rows_checks place rows)) (walk_rows count i bytes row rest lt e all)
+    ∙ tests_stop (row_checks place row) (rows_checks (place + row.0) (rows_or_none (rows_in (count - (i + 1)) rest))) bad none
 
 none_left : (end : Bool) → (is_some (cond end (let o : Option (List Row) = Some [] in o) None) ≡ end) × (rows_or_none (cond end (Some []) None) ≡ [])
 none_left true = (refl, refl)
@@ -108,13 +121,13 @@ pub row_near : (a bad : ℕ) (row : Row) → first_bad (row_checks a row) ≡ So
 unfolding row_checks at_places
 row_near a bad row e = near_place a bad (is_date row.1.1.1.1.1.1.1.0) (is_date row.1.1.1.1.1.1.1.1.0) (is_date row.1.1.1.1.1.1.1.1.1.0) (is_none (name_fault (row_name row))) e
 
-pub passed_ok : {A : Type 0} (bad : Option ℕ) (x y : A) → passed bad x ≡ Ok y → (bad ≡ None) × (x ≡ y)
-passed_ok None x y e = (refl, cc)
-passed_ok (Some place) x y e = absurd cc
+pub or_place_ok : {A : Type 0} (bad : Option ℕ) (x y : A) → or_place bad x ≡ Ok y → (bad ≡ None) × (x ≡ y)
+or_place_ok None x y e = (refl, cc)
+or_place_ok (Some place) x y e = absurd cc
 
-pub passed_err : {A : Type 0} (bad : Option ℕ) (x : A) (place : ℕ) → passed bad x ≡ Err place → bad ≡ Some place
-passed_err None x place e = absurd cc
-passed_err (Some at) x place e = cc
+pub or_place_err : {A : Type 0} (bad : Option ℕ) (x : A) (place : ℕ) → or_place bad x ≡ Err place → bad ≡ Some place
+or_place_err None x place e = absurd cc
+or_place_err (Some at) x place e = cc
 
 -- ---- entries whose values are some
 
@@ -123,23 +136,27 @@ unfolding items_in
 no_items zero bytes e = refl
 no_items (suc left) bytes e = rw e refl
 
-first_item : (left : ℕ) (bytes : List ℕ) (item : ℕ × DbHead) (rest : List ℕ) → item_at bytes ≡ Some (item, rest) → items_in (suc left) bytes ≡ item ∷ items_in left rest
+first_item : (left : ℕ) (bytes : List ℕ) (item : ℕ × DbHead) (rest : List ℕ) → item_at bytes ≡ Some (item, rest)
+    → items_in (suc left) bytes ≡ item ∷ items_in left rest
 unfolding items_in
 first_item left bytes item rest e = rw e refl
 
 -- a walk to the entry at a place, behind i entries
-pub place_on : (count place i : ℕ) (bytes : List ℕ) (item : ℕ × DbHead) (rest : List ℕ) → i < place → place < count → item_at bytes ≡ Some (item, rest) → slice_get (items_in (count - i) bytes) (place - i) ≡ slice_get (items_in (count - (i + 1)) rest) (place - (i + 1))
+pub place_on : (count place i : ℕ) (bytes : List ℕ) (item : ℕ × DbHead) (rest : List ℕ) → i < place → place < count → item_at bytes ≡ Some (item, rest)
+    → slice_get (items_in (count - i) bytes) (place - i) ≡ slice_get (items_in (count - (i + 1)) rest) (place - (i + 1))
 place_on count place i bytes item rest lt few e =
     rw (one_less count i (omega arith), one_less place i lt, first_item (count - (i + 1)) bytes item rest e) refl
 
-pub place_there : (left place : ℕ) (bytes : List ℕ) (item : ℕ × DbHead) (rest : List ℕ) → place ≡ 0 → 0 < left → item_at bytes ≡ Some (item, rest) → slice_get (items_in left bytes) place ≡ Some item
+pub place_there : (left place : ℕ) (bytes : List ℕ) (item : ℕ × DbHead) (rest : List ℕ) → place ≡ 0 → 0 < left → item_at bytes ≡ Some (item, rest)
+    → slice_get (items_in left bytes) place ≡ Some item
 place_there zero place bytes item rest none some e = absurd (omega arith)
 place_there (suc left) place bytes item rest none some e = rw (none, first_item left bytes item rest e) refl
 
 pub place_ends : (left place : ℕ) (bytes : List ℕ) → item_at bytes ≡ None → slice_get (items_in left bytes) place ≡ None
 place_ends left place bytes e = rw (no_items left bytes e) refl
 
-few_found : (left : ℕ) (o : Option ((ℕ × DbHead) × List ℕ)) → ((bytes : List ℕ) → length (items_in left bytes) ≤ left) → length (first_or_none o (items_in left)) ≤ suc left
+few_found : (left : ℕ) (o : Option ((ℕ × DbHead) × List ℕ)) → ((bytes : List ℕ) → length (items_in left bytes) ≤ left)
+    → length (first_or_none o (items_in left)) ≤ suc left
 few_found left None few = omega arith
 few_found left (Some found) few = omega (arith, few found.1)
 
@@ -152,26 +169,31 @@ pub split : {A : Type 0} (o : Option A) → (o ≡ None) ⊎ ((x : A) × (o ≡ 
 split None = inl refl
 split (Some x) = inr (x, refl)
 
-item_there : (bytes : List ℕ) (row : Row) (rest : List ℕ) → entry_at bytes ≡ Some (row, rest) → first_bad (row_checks 0 row) ≡ None → item_at bytes ≡ Some (item_of row, rest)
+item_there : (bytes : List ℕ) (row : Row) (rest : List ℕ) → entry_at bytes ≡ Some (row, rest) → first_bad (row_checks 0 row) ≡ None
+    → item_at bytes ≡ Some (item_of row, rest)
 unfolding item_at
 item_there bytes row rest e valid = rw (e, valid) refl
 
 pub place_past : (count place : ℕ) (bytes : List ℕ) → count ≤ place → slice_get (items_in count bytes) place ≡ None
 place_past count place bytes past = slice_get_past (items_in count bytes) place (omega (arith, few_items count bytes))
 
-pub item_ok : (bytes : List ℕ) (row : Row) (rest : List ℕ) (item : ℕ × DbHead) → entry_at bytes ≡ Some (row, rest) → passed (first_bad (row_checks 0 row)) (item_of row) ≡ Ok item → item_at bytes ≡ Some (item, rest)
-item_ok bytes row rest item e said = let p = passed_ok (first_bad (row_checks 0 row)) (item_of row) item said in item_there bytes row rest e p.0 ∙ ap (λ (x : ℕ × DbHead). Some (x, rest)) p.1
+pub item_ok : (bytes : List ℕ) (row : Row) (rest : List ℕ) (item : ℕ × DbHead) → entry_at bytes ≡ Some (row, rest)
+    → or_place (first_bad (row_checks 0 row)) (item_of row) ≡ Ok item → item_at bytes ≡ Some (item, rest)
+item_ok bytes row rest item e said = let p = or_place_ok (first_bad (row_checks 0 row)) (item_of row) item said in
+    item_there bytes row rest e p.0 ∙ ap (λ (x : ℕ × DbHead). Some (x, rest)) p.1
 
-pub item_bad : (bytes : List ℕ) (row : Row) (rest : List ℕ) (bad : ℕ) → entry_at bytes ≡ Some (row, rest) → passed (first_bad (row_checks 0 row)) (item_of row) ≡ Err bad → item_at bytes ≡ None
+pub item_bad : (bytes : List ℕ) (row : Row) (rest : List ℕ) (bad : ℕ) → entry_at bytes ≡ Some (row, rest)
+    → or_place (first_bad (row_checks 0 row)) (item_of row) ≡ Err bad → item_at bytes ≡ None
 unfolding item_at
-item_bad bytes row rest bad e said = rw (e, passed_err (first_bad (row_checks 0 row)) (item_of row) bad said) refl
+item_bad bytes row rest bad e said = rw (e, or_place_err (first_bad (row_checks 0 row)) (item_of row) bad said) refl
 
 pub item_none : (bytes : List ℕ) → entry_at bytes ≡ None → item_at bytes ≡ None
 unfolding item_at
 item_none bytes e = rw e refl
 
 -- the entries of bytes are what their cells say
-pub items_are : (left at : ℕ) (bytes : List ℕ) → is_some (rows_in left bytes) ≡ true → first_bad (rows_checks at (rows_or_none (rows_in left bytes))) ≡ None → (items_in left bytes ≡ map item_of (rows_or_none (rows_in left bytes))) × (length (items_in left bytes) ≡ left)
+pub items_are : (left at : ℕ) (bytes : List ℕ) → is_some (rows_in left bytes) ≡ true → first_bad (rows_checks at (rows_or_none (rows_in left bytes))) ≡ None
+    → (items_in left bytes ≡ map item_of (rows_or_none (rows_in left bytes))) × (length (items_in left bytes) ≡ left)
 unfolding items_in
 items_are zero at bytes all valid = (sym (ap (map item_of) (no_more_rows 0 bytes refl)), refl)
 items_are (suc left) at bytes all valid =
@@ -184,6 +206,9 @@ items_are (suc left) at bytes all valid =
           let there = rows_there left bytes row rest found.1 more in
           let both = both_pass (row_checks at row) (rows_checks (at + row.0) (rows_or_none (rows_in left rest))) (subst (λ (xs : List Row). first_bad (rows_checks at xs) ≡ None) there valid) in
           let others = items_are left (at + row.0) rest more both.1 in
-          let first = first_item left bytes (item_of row) rest (item_there bytes row rest found.1 (row_anywhere at 0 row both.0)) in
-          (first ∙ ap (λ (xs : List (ℕ × DbHead)). item_of row ∷ xs) others.0 ∙ sym (ap (map item_of) there), let len = ap length first in omega (arith, len, others.1))
+          let first = first_item left bytes (item_of row) rest (item_there bytes row rest found.1 (row_anywhere at 0 row both.0)) in (
+            first ∙ ap (λ (xs : List (ℕ × DbHead)). item_of row ∷ xs) others.0 ∙ sym (ap (map item_of) there),
+            let len = ap length first in
+                omega (arith, len, others.1),
+          )
     ]

@@ -61,13 +61,20 @@ entry_takes (byte ∷ bytes) x fits e =
     let last : (row.0, whole.0.1) ≡ x = some_is (row.0, whole.0.1) x row.2 in
     let rest : drop n (byte ∷ bytes) ≡ whole.0.1 = ap (λ (y : List ℕ × List ℕ). y.1) parts in
     let is : (row.0, drop n (byte ∷ bytes)) ≡ x = subst (λ (xs : List ℕ). (row.0, xs) ≡ x) (sym rest) last in
-    subst (EntryTaken (byte ∷ bytes)) is (take n (byte ∷ bytes), sym (take-append-drop n (byte ∷ bytes)), fields_take entry (take n (byte ∷ bytes)) row.0 (IsBytes-take n (byte ∷ bytes) fits) cells, said, IsBytes-drop n (byte ∷ bytes) fits)
+    subst (EntryTaken (byte ∷ bytes)) is (
+      take n (byte ∷ bytes),
+      sym (take-append-drop n (byte ∷ bytes)),
+      fields_take entry (take n (byte ∷ bytes)) row.0 (IsBytes-take n (byte ∷ bytes) fits) cells,
+      said,
+      IsBytes-drop n (byte ∷ bytes) fits,
+    )
 
 pub entry_again : (row : Row) (text rest : List ℕ) → AreFields entry row text → row.0 ≡ length text → entry_at (text ++ rest) ≡ Some (row, rest)
 unfolding entry_at some_at
 entry_again row text rest is size =
     let front : text ≡ row.0 ∷ is.1 = is.2 ∙ ap (λ (xs : List ℕ). xs ++ is.1) is.3.0 in
-    let first : number_at w8 (text ++ rest) ≡ Some (row.0, is.1 ++ rest) = ap (λ (xs : List ℕ). number_at w8 (xs ++ rest)) front ∙ byte_at row.0 (is.1 ++ rest) in
+    let first : number_at w8 (text ++ rest) ≡ Some (row.0, is.1 ++ rest) = ap (λ (xs : List ℕ). number_at w8 (xs ++ rest)) front
+    ∙ byte_at row.0 (is.1 ++ rest) in
     let g : ltb (length (text ++ rest)) row.0 ≡ false = le-ltb _ _ (omega (arith, length-append text rest, size)) in
     let read : fields_in entry text ≡ Some row = fields_again entry row text is in
     rw (first, g, take_at text rest row.0 (sym size), drop_at text rest row.0 (sym size), read) refl
@@ -82,7 +89,8 @@ rows_take (suc count) bytes rows fits e =
     let others = bind_some (rows_in count first.0.1) _ rows first.2 in
     let taken = entry_takes bytes first.0 fits first.1 in
     let more = rows_take count first.0.1 others.0 taken.4 others.1 in
-    subst (λ (xs : List Row). (length xs ≡ suc count) × AreRows xs bytes) (some_is _ rows others.2) (ap (λ (n : ℕ). suc n) more.0, (taken.0, first.0.1, taken.1, taken.2, taken.3, more.1))
+    subst (λ (xs : List Row). (length xs ≡ suc count)
+    × AreRows xs bytes) (some_is _ rows others.2) (ap (λ (n : ℕ). suc n) more.0, (taken.0, first.0.1, taken.1, taken.2, taken.3, more.1))
 
 pub rows_again : (rows : List Row) (bytes : List ℕ) → AreRows rows bytes → rows_in (length rows) bytes ≡ Some rows
 unfolding rows_in

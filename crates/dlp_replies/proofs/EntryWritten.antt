@@ -27,7 +27,15 @@ pub date_len : (seconds : ℕ) → length (wire_date seconds) ≡ 8
 date_len seconds = len_of_both (eqb seconds 0) (0 ∷ 0 ∷ 0 ∷ 0 ∷ 0 ∷ 0 ∷ 0 ∷ 0 ∷ []) (wire_of (civil_of seconds)) refl refl
 
 pub entry_text_len : (item : ℕ × DbHead) → length item.1.kind.0 ≡ 4 → length item.1.creator.0 ≡ 4 → length (entry_text item) ≡ 45 + length item.1.name
-entry_text_len item kind creator = omega (arith, length-append {A = ℕ}, kind, creator, date_len item.1.created, date_len item.1.modified, date_len item.1.backup)
+entry_text_len item kind creator = omega (
+  arith,
+  length-append {A = ℕ},
+  kind,
+  creator,
+  date_len item.1.created,
+  date_len item.1.modified,
+  date_len item.1.backup,
+)
 
 none_is : (b : Bool) (place : ℕ) → cond b (Some place) None ≡ None → b ≡ false
 none_is true place e = absurd cc
@@ -40,8 +48,25 @@ no_zero name is =
     omega arith
 
 entry_fits : (item : ℕ × DbHead) → IsEntry item → FieldsFit entry (row_of item)
-entry_fits item is =
-    (omega (arith, is.name.short), (tt, (is.attributes, (is.kind, (is.creator, (is.version, (is.modnum, (date_len item.1.created, (date_len item.1.modified, (date_len item.1.backup, (is.index, no_zero item.1.name is.name)))))))))))
+entry_fits item is = (
+  omega (arith, is.name.short),
+  (
+    tt,
+    (
+      is.attributes,
+      (
+        is.kind,
+        (
+          is.creator,
+          (
+            is.version,
+            (is.modnum, (date_len item.1.created, (date_len item.1.modified, (date_len item.1.backup, (is.index, no_zero item.1.name is.name))))),
+          ),
+        ),
+      ),
+    ),
+  ),
+)
 
 -- they are the cells of what is written
 cells_written : (item : ℕ × DbHead) (rest : List ℕ) → IsEntry item → entry_at (entry_text item ++ rest) ≡ Some (row_of item, rest)
@@ -63,12 +88,18 @@ name_none name is =
 row_passes : (at : ℕ) (item : ℕ × DbHead) → IsEntry item → first_bad (row_checks at (row_of item)) ≡ None
 unfolding row_checks
 row_passes at item is =
-    rw (read_wire_of_wire_date item.1.created is.created, read_wire_of_wire_date item.1.modified is.modified, read_wire_of_wire_date item.1.backup is.backup, name_none item.1.name is.name) refl
+    rw (
+      read_wire_of_wire_date item.1.created is.created,
+      read_wire_of_wire_date item.1.modified is.modified,
+      read_wire_of_wire_date item.1.backup is.backup,
+      name_none item.1.name is.name,
+    ) refl
 
 pub rows_pass : (at : ℕ) (items : List (ℕ × DbHead)) → AllByRecursion IsEntry items → first_bad (rows_checks at (map row_of items)) ≡ None
 rows_pass at [] all = refl
 rows_pass at (item ∷ items) all =
-    tests_pass (row_checks at (row_of item)) (rows_checks (at + (row_of item).0) (map row_of items)) (row_passes at item all.0) ∙ rows_pass (at + (row_of item).0) items all.1
+    tests_pass (row_checks at (row_of item)) (rows_checks (at + (row_of item).0) (map row_of items)) (row_passes at item all.0)
+    ∙ rows_pass (at + (row_of item).0) items all.1
 
 item_again : (item : ℕ × DbHead) → IsEntry item → item_of (row_of item) ≡ item
 unfolding item_of

@@ -5,3 +5,4 @@ pub mod EntryWritten
 pub mod IdLaws
 pub mod ReplyLaws
 pub mod WriteLaws
+pub mod OwnLaws

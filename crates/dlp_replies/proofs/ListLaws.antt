@@ -63,7 +63,8 @@ some_iff (Some y) P x iff holds = ap (λ z. Some z) iff.1
 -- ---- texts of lists
 
 -- what is still to be written from a place on
-texts_left : {A : Type 0} (f : A → List ℕ) (xs : List A) (place : ℕ) (x : A) → slice_get xs place ≡ Some x → flat_map f (drop place xs) ≡ f x ++ flat_map f (drop (place + 1) xs)
+texts_left : {A : Type 0} (f : A → List ℕ) (xs : List A) (place : ℕ) (x : A) → slice_get xs place ≡ Some x
+    → flat_map f (drop place xs) ≡ f x ++ flat_map f (drop (place + 1) xs)
 texts_left f xs place x e = ap (flat_map f) (from_place xs place x e)
 
 pub within_list : {A : Type 0} (xs : List A) (place : ℕ) → slice_get xs place ≡ None → length xs ≤ place
@@ -72,23 +73,30 @@ within_list (x ∷ xs) zero e = absurd cc
 within_list (x ∷ xs) (suc place) e = omega (arith, within_list xs place e)
 
 -- one more text is written
-pub text_added : {A : Type 0} (f : A → List ℕ) (xs : List A) (place : ℕ) (x : A) (out all : List ℕ) → slice_get xs place ≡ Some x → out ++ flat_map f (drop place xs) ≡ all → (out ++ f x) ++ flat_map f (drop (place + 1) xs) ≡ all
+pub text_added : {A : Type 0} (f : A → List ℕ) (xs : List A) (place : ℕ) (x : A) (out all : List ℕ) → slice_get xs place ≡ Some x
+    → out ++ flat_map f (drop place xs) ≡ all → (out ++ f x) ++ flat_map f (drop (place + 1) xs) ≡ all
 text_added f xs place x out all e is = rw append_assoc (ap (λ (rest : List ℕ). out ++ rest) (sym (texts_left f xs place x e)) ∙ is)
 
 -- it fits where all of them do
-pub text_fits : {A : Type 0} (f : A → List ℕ) (xs : List A) (place : ℕ) (x : A) (out all : List ℕ) → slice_get xs place ≡ Some x → out ++ flat_map f (drop place xs) ≡ all → length out + length (f x) ≤ length all
+pub text_fits : {A : Type 0} (f : A → List ℕ) (xs : List A) (place : ℕ) (x : A) (out all : List ℕ) → slice_get xs place ≡ Some x
+    → out ++ flat_map f (drop place xs) ≡ all → length out + length (f x) ≤ length all
 text_fits f xs place x out all e is =
     let rest = flat_map f (drop (place + 1) xs) in
     let len = ap length (text_added f xs place x out all e is) in
     omega (arith, len, length-append (out ++ f x) rest, length-append out (f x))
 
 -- nothing is left
-pub texts_done : {A : Type 0} (f : A → List ℕ) (xs : List A) (place : ℕ) (out all : List ℕ) → length xs ≤ place → out ++ flat_map f (drop place xs) ≡ all → out ≡ all
+pub texts_done : {A : Type 0} (f : A → List ℕ) (xs : List A) (place : ℕ) (out all : List ℕ) → length xs ≤ place → out ++ flat_map f (drop place xs) ≡ all
+    → out ≡ all
 texts_done f xs place out all past is = sym (append-nil out) ∙ ap (λ (rest : List ℕ). out ++ rest) (sym (at_drop_all (flat_map f) xs place past)) ∙ is
 
 -- the lengths of texts add up
-pub lengths_left : {A : Type 0} (f : A → List ℕ) (xs : List A) (place len : ℕ) (x : A) → slice_get xs place ≡ Some x → len + length (flat_map f (drop place xs)) ≡ length (flat_map f xs) → (len + length (f x)) + length (flat_map f (drop (place + 1) xs)) ≡ length (flat_map f xs)
-lengths_left f xs place len x e is = let more = ap length (texts_left f xs place x e) in omega (arith, more, length-append (f x) (flat_map f (drop (place + 1) xs)), is)
+pub lengths_left : {A : Type 0} (f : A → List ℕ) (xs : List A) (place len : ℕ) (x : A) → slice_get xs place ≡ Some x
+    → len + length (flat_map f (drop place xs)) ≡ length (flat_map f xs)
+    → (len + length (f x)) + length (flat_map f (drop (place + 1) xs)) ≡ length (flat_map f xs)
+lengths_left f xs place len x e is = let more = ap length (texts_left f xs place x e) in
+    omega (arith, more, length-append (f x) (flat_map f (drop (place + 1) xs)), is)
 
-pub lengths_done : {A : Type 0} (f : A → List ℕ) (xs : List A) (place len : ℕ) → length xs ≤ place → len + length (flat_map f (drop place xs)) ≡ length (flat_map f xs) → len ≡ length (flat_map f xs)
+pub lengths_done : {A : Type 0} (f : A → List ℕ) (xs : List A) (place len : ℕ) → length xs ≤ place
+    → len + length (flat_map f (drop place xs)) ≡ length (flat_map f xs) → len ≡ length (flat_map f xs)
 lengths_done f xs place len past is = let none = ap length (at_drop_all (flat_map f) xs place past) in omega (arith, none, is)

@@ -16,9 +16,9 @@ use Rattle.dlp_args.specs.Fields.{Fields, fields_in}
 use Rattle.dlp_args.proofs.CellLaws.{bind_some, fields_take, fields_again}
 use Rattle.dlp_replies.specs.declared.fault.ReplyFault.{ReplyFault}
 use Rattle.dlp_replies.specs.declared.reply.Reply.{Reply}
-use Rattle.dlp_replies.specs.Faults.{lifted, argued, sized, valued}
+use Rattle.dlp_replies.specs.Faults.{of_arguments, or_argument, or_size, or_value}
 use Rattle.dlp_replies.specs.Checks.{first_bad}
-use Rattle.dlp_replies.specs.ReplyReading.{reply_byte, measured_in, valid_in, only_content, without, shaped, reply_at}
+use Rattle.dlp_replies.specs.ReplyReading.{reply_byte, measured_in, valid_in, only_content, without, reply_by, reply_at}
 use Rattle.dlp_replies.specs.ReplyTexts.{IsShape, IsRefusal, ReplyText}
 use Rattle.dlp_replies.specs.ReplyValues.{ReplyValue, Refused}
 use Rattle.dlp_replies.specs.Shapes.{Shape, Unknown, Bare, One, shape_of}
@@ -32,29 +32,31 @@ done : {A B : Type 0} (r : Result A ReplyFault) (f : A → Result B ReplyFault) 
 done (Ok x) f y e = (x, refl, e)
 done (Err d) f y e = absurd cc
 
-sized_is : {A : Type 0} (o : Option A) (y : A) → sized o ≡ Ok y → o ≡ Some y
-sized_is None y e = absurd cc
-sized_is (Some x) y e = cc
+or_size_is : {A : Type 0} (o : Option A) (y : A) → or_size o ≡ Ok y → o ≡ Some y
+or_size_is None y e = absurd cc
+or_size_is (Some x) y e = cc
 
-argued_is : {A : Type 0} (o : Option A) (y : A) → argued o ≡ Ok y → o ≡ Some y
-argued_is None y e = absurd cc
-argued_is (Some x) y e = cc
+or_argument_is : {A : Type 0} (o : Option A) (y : A) → or_argument o ≡ Ok y → o ≡ Some y
+or_argument_is None y e = absurd cc
+or_argument_is (Some x) y e = cc
 
-lifted_is : {A : Type 0} (r : Result A ArgFault) (y : A) → lifted r ≡ Ok y → r ≡ Ok y
-lifted_is (Ok x) y e = cc
-lifted_is (Err d) y e = absurd cc
+of_arguments_is : {A : Type 0} (r : Result A ArgFault) (y : A) → of_arguments r ≡ Ok y → r ≡ Ok y
+of_arguments_is (Ok x) y e = cc
+of_arguments_is (Err d) y e = absurd cc
 
-valued_is : {A : Type 0} (place : ℕ) (bad : Option ℕ) (x y : A) → valued place bad x ≡ Ok y → (bad ≡ None) × (x ≡ y)
-valued_is place None x y e = (refl, cc)
-valued_is place (Some k) x y e = absurd cc
+or_value_is : {A : Type 0} (place : ℕ) (bad : Option ℕ) (x y : A) → or_value place bad x ≡ Ok y → (bad ≡ None) × (x ≡ y)
+or_value_is place None x y e = (refl, cc)
+or_value_is place (Some k) x y e = absurd cc
 
-measured_is : (kinds : List Kind) (sizes : Fields kinds → Bool) (content : List ℕ) (fields : Fields kinds) → measured_in kinds sizes content ≡ Some fields → (fields_in kinds content ≡ Some fields) × (sizes fields ≡ true)
+measured_is : (kinds : List Kind) (sizes : Fields kinds → Bool) (content : List ℕ) (fields : Fields kinds) → measured_in kinds sizes content ≡ Some fields
+    → (fields_in kinds content ≡ Some fields) × (sizes fields ≡ true)
 measured_is kinds sizes content fields e =
     let found = bind_some (fields_in kinds content) _ fields e in
     let same = kept (sizes found.0) found.0 fields found.2 in
     (found.1 ∙ ap (λ (v : Fields kinds). Some v) same.1, ap sizes (sym same.1) ∙ same.0)
 
-without_is : (value found : ReplyValue) (arguments : List Argument) (bytes : List ℕ) → ArgTexts arguments bytes → without value arguments ≡ Ok found → (found ≡ value) × (length arguments ≡ 0) × (bytes ≡ [])
+without_is : (value found : ReplyValue) (arguments : List Argument) (bytes : List ℕ) → ArgTexts arguments bytes → without value arguments ≡ Ok found
+    → (found ≡ value) × (length arguments ≡ 0) × (bytes ≡ [])
 without_is value found [] bytes texts e = (sym (ok_is value found e), refl, texts)
 without_is value found (argument ∷ arguments) bytes texts e = absurd cc
 
@@ -62,20 +64,21 @@ without_is value found (argument ∷ arguments) bytes texts e = absurd cc
 no_truth : true ≡ false → ⊥
 no_truth e = cc
 
-pub shape_takes : (first : ℕ) (s : Shape) (end : ℕ) (arguments : List Argument) (bytes : List ℕ) (value : ReplyValue) → IsBytes bytes → ArgTexts arguments bytes → shaped s end arguments ≡ Ok value → IsShape first s value (first ∷ length arguments ∷ 0 ∷ 0 ∷ bytes)
-unfolding shaped valid_in
+pub shape_takes : (first : ℕ) (s : Shape) (end : ℕ) (arguments : List Argument) (bytes : List ℕ) (value : ReplyValue) → IsBytes bytes
+    → ArgTexts arguments bytes → reply_by s end arguments ≡ Ok value → IsShape first s value (first ∷ length arguments ∷ 0 ∷ 0 ∷ bytes)
+unfolding reply_by valid_in
 shape_takes first Unknown end arguments bytes found fits texts e = absurd cc
 shape_takes first (Bare value) end arguments bytes found fits texts e =
     let w = without_is value found arguments bytes texts e in
     (w.0, λ i. first ∷ w.1 i ∷ 0 ∷ 0 ∷ w.2 i)
 shape_takes first (One kinds sizes checks make) end [] bytes found fits texts e = absurd cc
 shape_takes first (One kinds sizes checks make) end (argument ∷ []) bytes found fits texts e =
-    let content = done (argued (only_content (argument ∷ []))) _ found e in
+    let content = done (or_argument (only_content (argument ∷ []))) _ found e in
     let step = done (valid_in kinds sizes checks _ content.0) _ found content.2 in
-    let fields = done (sized (measured_in kinds sizes content.0)) _ step.0 step.1 in
-    let measured = measured_is kinds sizes content.0 fields.0 (sized_is _ fields.0 fields.1) in
-    let made = valued_is _ (first_bad (checks fields.0)) fields.0 step.0 fields.2 in
-    elim (chosen (eqb argument.id 0x20) _ _ (Some content.0) (argued_is _ content.0 content.1)) [
+    let fields = done (or_size (measured_in kinds sizes content.0)) _ step.0 step.1 in
+    let measured = measured_is kinds sizes content.0 fields.0 (or_size_is _ fields.0 fields.1) in
+    let made = or_value_is _ (first_bad (checks fields.0)) fields.0 step.0 fields.2 in
+    elim (chosen (eqb argument.id 0x20) _ _ (Some content.0) (or_argument_is _ content.0 content.1)) [
       | inl this ↦
           let id-is : argument.id ≡ 0x20 = eqb-true _ _ this.0 in
           let content-is : argument.bytes ≡ content.0 = let s = this.1 in cc in
@@ -97,15 +100,23 @@ shape_takes first (One kinds sizes checks make) end (argument ∷ []) bytes foun
     ]
 shape_takes first (One kinds sizes checks make) end (argument ∷ second ∷ more) bytes found fits texts e = absurd cc
 
-pub shape_again : (first : ℕ) (s : Shape) (value : ReplyValue) (rest : List ℕ) (end : ℕ) → IsShape first s value (first ∷ rest) → (arguments : List Argument) × (bytes : List ℕ) × (rest ≡ length arguments ∷ 0 ∷ 0 ∷ bytes) × ArgTexts arguments bytes × (shaped s end arguments ≡ Ok value)
-unfolding shaped valid_in
+pub shape_again : (first : ℕ) (s : Shape) (value : ReplyValue) (rest : List ℕ) (end : ℕ) → IsShape first s value (first ∷ rest)
+    → (arguments : List Argument) × (bytes : List ℕ) × (rest ≡ length arguments ∷ 0 ∷ 0 ∷ bytes) × ArgTexts arguments bytes
+    × (reply_by s end arguments ≡ Ok value)
+unfolding reply_by valid_in
 shape_again first Unknown value rest end is = absurd (no_truth is)
-shape_again first (Bare done) value rest end is = let e = is.1 in let r : rest ≡ 0 ∷ 0 ∷ 0 ∷ [] = cc in ([], [], r, refl, ap (λ (a : ReplyValue). Ok a) (sym is.0))
+shape_again first (Bare done) value rest end is = let e = is.1 in let r : rest ≡ 0 ∷ 0 ∷ 0 ∷ [] = cc in
+    ([], [], r, refl, ap (λ (a : ReplyValue). Ok a) (sym is.0))
 shape_again first (One kinds sizes checks make) value rest end is =
     let e = is.is in
     let r : rest ≡ 1 ∷ 0 ∷ 0 ∷ is.text = cc in
-    let read : fields_in kinds is.content ≡ Some is.fields = fields_again kinds is.fields is.content is.fields_text in
-    (record { id = 0x20; bytes = is.content } ∷ [], is.text, r, (is.form, is.text, [], is.argument, sym (append-nil is.text), refl), rw (read, is.measured, is.valid) (ap (λ (a : ReplyValue). Ok a) is.made))
+    let read : fields_in kinds is.content ≡ Some is.fields = fields_again kinds is.fields is.content is.fields_text in (
+      record { id = 0x20; bytes = is.content } ∷ [],
+      is.text,
+      r,
+      (is.form, is.text, [], is.argument, sym (append-nil is.text), refl),
+      rw (read, is.measured, is.valid) (ap (λ (a : ReplyValue). Ok a) is.made),
+    )
 
 -- ---- the whole message
 
@@ -133,8 +144,8 @@ reply_takes number (first ∷ count ∷ high ∷ low ∷ bytes) value fits e =
     elim (chosen (eqb first (reply_byte number)) _ _ (Ok value) e) [
       | inl this ↦
           let first-is : first ≡ reply_byte number = eqb-true _ _ this.0 in
-          let arguments = done (lifted (arguments_at count 4 bytes)) _ value this.1 in
-          let texts = arguments_take count 4 bytes arguments.0 rest-fits (lifted_is _ _ arguments.1) in
+          let arguments = done (of_arguments (arguments_at count 4 bytes)) _ value this.1 in
+          let texts = arguments_take count 4 bytes arguments.0 rest-fits (of_arguments_is _ _ arguments.1) in
           elim (chosen (eqb code 0) _ _ (Ok value) arguments.2) [
             | inl none ↦
                 let zeros = code_is high low (eqb-true _ _ none.0) in
@@ -167,9 +178,10 @@ starts first Unknown value bytes is = absurd (no_truth is)
 starts first (Bare done) value bytes is = (0 ∷ 0 ∷ 0 ∷ [], is.1)
 starts first (One kinds sizes checks make) value bytes is = (1 ∷ 0 ∷ 0 ∷ is.text, is.is)
 
-shaped_again : (number : ℕ) (value : ReplyValue) (bytes : List ℕ) → IsShape (reply_byte number) (shape_of (function_of number)) value bytes → reply_at number bytes ≡ Ok value
+reply_by_again : (number : ℕ) (value : ReplyValue) (bytes : List ℕ) → IsShape (reply_byte number) (shape_of (function_of number)) value bytes
+    → reply_at number bytes ≡ Ok value
 unfolding reply_at
-shaped_again number value bytes is =
+reply_by_again number value bytes is =
     let s = shape_of (function_of number) in
     let first = reply_byte number in
     let front = starts first s value bytes is in
@@ -178,13 +190,14 @@ shaped_again number value bytes is =
     let same : eqb first first ≡ true = eq-eqb _ _ refl in
     let read : arguments_at (length there.0) 4 there.1 ≡ Ok there.0 = arguments_again there.0 4 there.1 there.3 in
     let end-is : length (first ∷ length there.0 ∷ 0 ∷ 0 ∷ there.1) ≡ length bytes = ap length (sym whole) in
-    ap (reply_at number) whole ∙ rw (same, read) (ap (λ (k : ℕ). shaped s k there.0) end-is ∙ there.4)
+    ap (reply_at number) whole ∙ rw (same, read) (ap (λ (k : ℕ). reply_by s k there.0) end-is ∙ there.4)
 
 pub reply_again : (number : ℕ) (value : ReplyValue) (bytes : List ℕ) → ReplyText number value bytes → reply_at number bytes ≡ Ok value
 unfolding reply_at
 reply_again number value bytes (inl refused) = refusal_again number value bytes refused
-reply_again number value bytes (inr is) = shaped_again number value bytes is
+reply_again number value bytes (inr is) = reply_by_again number value bytes is
 
-pub is_found : (number : ℕ) (bytes : List ℕ) (r : Result Reply ReplyFault) → IsBytes bytes → Gives reply_value r (reply_at number bytes) → IfOk r (λ reply. ReplyText number (reply_value reply) bytes)
+pub is_found : (number : ℕ) (bytes : List ℕ) (r : Result Reply ReplyFault) → IsBytes bytes → Gives reply_value r (reply_at number bytes)
+    → IfOk r (λ reply. ReplyText number (reply_value reply) bytes)
 is_found number bytes (Ok reply) fits gives = reply_takes number bytes (reply_value reply) fits gives
 is_found number bytes (Err e) fits gives = tt

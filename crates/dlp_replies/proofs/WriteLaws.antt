@@ -1,8 +1,8 @@
 -- What is written of a reply is one of its texts.
-use Rattle.std.proofs.Common.{◌≡◌, ℕ, ◌*◌, ◌≤◌, Bool, true, ◌&&◌, eqb, leb, List, [], ◌∷◌, ◌++◌, length, map, is_some, Some, None, refl, sym, ap, ◌∙◌, arith, inl, inr}
+use Rattle.std.proofs.Common.{◌≡◌, ℕ, ◌≤◌, Bool, true, ◌&&◌, leb, List, [], ◌∷◌, ◌++◌, length, is_some, Some, None, refl, sym, ap, ◌∙◌, arith, inl, inr}
 use Rattle.std.proofs.lemmas.Bool.{le-leb, eq-eqb}
 use Rattle.std.proofs.lemmas.List.{length-append}
-use Rattle.pdb_values.specs.PalmDates.{read_wire, wire_date}
+use Rattle.pdb_values.specs.PalmDates.{wire_date}
 use Rattle.pdb_values.proofs.DateLaws.{read_wire_of_wire_date}
 use Rattle.dlp_args.specs.Arguments.{header, written_form, arg_text}
 use Rattle.dlp_args.proofs.ArgumentLaws.{written_text}
@@ -11,10 +11,8 @@ use Rattle.dlp_args.specs.Cells.{Kind, HasNoZero}
 use Rattle.dlp_args.specs.Fields.{Fields, fields_text, FieldsFit, ends_well}
 use Rattle.dlp_args.proofs.CellLaws.{fields_written, short_text_again}
 use Rattle.dlp_replies.specs.EntryLists.{entries_text}
-use Rattle.dlp_replies.specs.EntryReading.{rows_of, rows_or_none, rows_checks, item_of}
-use Rattle.dlp_replies.specs.IdLists.{ids_text, words, ids_checks}
-use Rattle.dlp_replies.specs.Frames.{named, frame, function_byte, reply_text, IsReply}
-use Rattle.dlp_replies.specs.Layouts as layouts
+use Rattle.dlp_replies.specs.IdLists.{ids_text, ids_checks}
+use Rattle.dlp_replies.specs.Frames.{name_text, frame, function_byte, reply_text, IsReply}
 use Rattle.dlp_replies.specs.Checks as checks
 use Rattle.dlp_replies.specs.Checks.{Checks, first_bad, user_name, date_or_zero, text_or_none}
 use Rattle.dlp_replies.specs.ReplyReading.{reply_byte}
@@ -24,7 +22,11 @@ use Rattle.dlp_replies.specs.ReplyValues.{ReplyValue}
 use Rattle.dlp_replies.proofs.EntryWritten.{rows_written, rows_pass, items_again}
 use Rattle.dlp_replies.proofs.IdLaws.{words_of_text, ids_text_len, ids_pass}
 
-with_written : (first : ℕ) (kinds : List Kind) (sizes : Fields kinds → Bool) (checks : Fields kinds → Checks) (make : Fields kinds → ReplyValue) (fields : Fields kinds) (value : ReplyValue) → ends_well kinds ≡ true → FieldsFit kinds fields → sizes fields ≡ true → first_bad (checks fields) ≡ None → make fields ≡ value → length (first ∷ 1 ∷ 0 ∷ 0 ∷ arg_text (record { id = 0x20; bytes = fields_text kinds fields })) ≤ 65535 → IsOne first kinds sizes checks make value (first ∷ 1 ∷ 0 ∷ 0 ∷ arg_text (record { id = 0x20; bytes = fields_text kinds fields }))
+with_written : (first : ℕ) (kinds : List Kind) (sizes : Fields kinds → Bool) (checks : Fields kinds → Checks) (make : Fields kinds
+    → ReplyValue) (fields : Fields kinds) (value : ReplyValue) → ends_well kinds ≡ true → FieldsFit kinds fields → sizes fields ≡ true
+    → first_bad (checks fields) ≡ None → make fields ≡ value
+    → length (first ∷ 1 ∷ 0 ∷ 0 ∷ arg_text (record { id = 0x20; bytes = fields_text kinds fields })) ≤ 65535
+    → IsOne first kinds sizes checks make value (first ∷ 1 ∷ 0 ∷ 0 ∷ arg_text (record { id = 0x20; bytes = fields_text kinds fields }))
 with_written first kinds sizes checks make fields value ends fits measured valid made short =
     let content = fields_text kinds fields in
     let size : length content ≤ 65535 = omega (arith, length-append (header (written_form (length content)) 0x20 (length content)) content) in
@@ -41,18 +43,20 @@ with_written first kinds sizes checks make fields value ends fits measured valid
       is = refl;
     }
 
-record_valid : (id category : ℕ) (bytes : List ℕ) → id ≤ 16777215 → category ≤ 15 → length bytes ≤ 65500 → first_bad ((0, checks.is_id id) ∷ (9, checks.is_category category) ∷ (10, leb (length bytes) 65500) ∷ []) ≡ None
+record_valid : (id category : ℕ) (bytes : List ℕ) → id ≤ 16777215 → category ≤ 15 → length bytes ≤ 65500
+    → first_bad ((0, checks.is_id id) ∷ (9, checks.is_category category) ∷ (10, leb (length bytes) 65500) ∷ []) ≡ None
 record_valid id category bytes low kept short = rw (le-leb id 16777215 low, le-leb category 15 kept, le-leb (length bytes) 65500 short) refl
 
 id_valid : (id : ℕ) → id ≤ 16777215 → first_bad ((0, checks.is_id id) ∷ []) ≡ None
 id_valid id low = rw (le-leb id 16777215 low) refl
 
-user_sized : (name password : List ℕ) → user_name (named name) ≡ Some name → length password ≤ 40 → (is_some (user_name (named name)) && leb (length password) 40) ≡ true
+user_sized : (name password : List ℕ) → user_name (name_text name) ≡ Some name → length password ≤ 40
+    → (is_some (user_name (name_text name)) && leb (length password) 40) ≡ true
 user_sized name password found short = rw (found, le-leb (length password) 40 short) refl
 
 -- ---- a user's name
 
-name_found : (name : List ℕ) → HasNoZero name → length name ≤ 40 → user_name (named name) ≡ Some name
+name_found : (name : List ℕ) → HasNoZero name → length name ≤ 40 → user_name (name_text name) ≡ Some name
 unfolding user_name
 name_found [] none short = refl
 name_found (byte ∷ bytes) none short = short_text_again 40 (byte ∷ bytes) ((byte ∷ bytes) ++ 0 ∷ []) (refl, none) short
@@ -64,22 +68,71 @@ reply_written (values.ReadUserInfo user viewer pc good last name password) is =
     let g = read_wire_of_wire_date good is.values.0 in
     let l = read_wire_of_wire_date last is.values.1 in
     let n = name_found name is.values.3 is.values.2 in
-    inr (with_written 0x90 layouts.user_info checks.user_sizes checks.user_checks (λ v. values.ReadUserInfo v.0 v.1.0 v.1.1.0 (date_or_zero (read_wire v.1.1.1.0)) (date_or_zero (read_wire v.1.1.1.1.0)) (text_or_none (user_name v.1.1.1.1.1.0.0)) v.1.1.1.1.1.0.1) (user, (viewer, (pc, (wire_date good, (wire_date last, ((named name, password), tt)))))) _ refl is.fields (user_sized name password n is.values.4) (rw (g, l) refl) (rw (g, l, n) refl) is.fits)
+    inr (with_written _ _ _ _ _ (
+      user,
+      (viewer, (pc, (wire_date good, (wire_date last, ((name_text name, password), tt))))),
+    ) _ refl is.fields (user_sized name password n is.values.4) (rw (
+      g,
+      l,
+    ) refl) (rw (g, l, n) refl) is.fits)
 reply_written (values.ReadDbList last flags entries) is =
     let rows = rows_written entries is.values in
-    inr (with_written 0x96 layouts.db_list (λ v. is_some (rows_of v)) (λ v. rows_checks 4 (rows_or_none (rows_of v))) (λ v. values.ReadDbList v.0 v.1.0 (map item_of (rows_or_none (rows_of v)))) (last, (flags, (length entries, (entries_text entries, tt)))) _ refl is.fields (rw rows refl) (rw rows (rows_pass 4 entries is.values)) (rw rows (ap (values.ReadDbList last flags) (items_again entries is.values))) is.fits)
-reply_written (values.OpenDb handle) is = inr (with_written 0x97 layouts.handle_alone (λ v. true) (λ v. []) (λ v. values.OpenDb v.0) (handle, tt) _ refl is.fields refl refl refl is.fits)
-reply_written (values.CreateDb handle) is = inr (with_written 0x98 layouts.handle_alone (λ v. true) (λ v. []) (λ v. values.CreateDb v.0) (handle, tt) _ refl is.fields refl refl refl is.fits)
-reply_written (values.ReadAppBlock bytes) is = inr (with_written 0x9B layouts.block (λ v. true) (λ v. []) (λ v. values.ReadAppBlock v.0) (bytes, tt) _ refl is.fields refl refl refl is.fits)
-reply_written (values.ReadSortBlock bytes) is = inr (with_written 0x9D layouts.block (λ v. true) (λ v. []) (λ v. values.ReadSortBlock v.0) (bytes, tt) _ refl is.fields refl refl refl is.fits)
-reply_written (values.ReadNextModifiedRec id index size attributes category bytes) is = inr (with_written 0x9F layouts.record_reply (λ v. true) checks.record_checks (λ v. values.ReadNextModifiedRec v.0 v.1.0 v.1.1.0 v.1.1.1.0 v.1.1.1.1.0 v.1.1.1.1.1.0) (id, (index, (size, (attributes, (category, (bytes, tt)))))) _ refl is.fields refl (record_valid id category bytes is.values.0 is.values.1 is.values.2) refl is.fits)
-reply_written (values.ReadRecord id index size attributes category bytes) is = inr (with_written 0xA0 layouts.record_reply (λ v. true) checks.record_checks (λ v. values.ReadRecord v.0 v.1.0 v.1.1.0 v.1.1.1.0 v.1.1.1.1.0 v.1.1.1.1.1.0) (id, (index, (size, (attributes, (category, (bytes, tt)))))) _ refl is.fields refl (record_valid id category bytes is.values.0 is.values.1 is.values.2) refl is.fits)
-reply_written (values.WriteRecord id) is = inr (with_written 0xA1 layouts.id_alone (λ v. true) checks.id_checks (λ v. values.WriteRecord v.0) (id, tt) _ refl is.fields refl (id_valid id is.values) refl is.fits)
-reply_written (values.ReadResource kind id index size bytes) is = inr (with_written 0xA3 layouts.resource_reply (λ v. true) (λ v. []) (λ v. values.ReadResource v.0 v.1.0 v.1.1.0 v.1.1.1.0 v.1.1.1.1.0) (kind, (id, (index, (size, (bytes, tt))))) _ refl is.fields refl refl refl is.fits)
-reply_written (values.ReadOpenDbInfo count) is = inr (with_written 0xAB layouts.count_alone (λ v. true) (λ v. []) (λ v. values.ReadOpenDbInfo v.0) (count, tt) _ refl is.fields refl refl refl is.fits)
+    inr (with_written _ _ _ _ _ (
+      last,
+      (
+        flags,
+        (
+          length entries,
+          (
+            entries_text entries,
+            tt,
+          ),
+        ),
+      ),
+    ) _ refl is.fields (rw rows refl) (rw rows (rows_pass 4 entries is.values)) (rw rows (ap (values.ReadDbList last flags) (items_again entries is.values))) is.fits)
+reply_written (values.OpenDb handle) is = inr (with_written _ _ _ _ _ (handle, tt) _ refl is.fields refl refl refl is.fits)
+reply_written (values.CreateDb handle) is = inr (with_written _ _ _ _ _ (handle, tt) _ refl is.fields refl refl refl is.fits)
+reply_written (values.ReadAppBlock bytes) is = inr (with_written _ _ _ _ _ (bytes, tt) _ refl is.fields refl refl refl is.fits)
+reply_written (values.ReadSortBlock bytes) is = inr (with_written _ _ _ _ _ (bytes, tt) _ refl is.fields refl refl refl is.fits)
+reply_written (values.ReadNextModifiedRec id index size attributes category bytes) is = inr (with_written _ _ _ _ _ (
+  id,
+  (
+    index,
+    (
+      size,
+      (
+        attributes,
+        (category, (bytes, tt)),
+      ),
+    ),
+  ),
+) _ refl is.fields refl (record_valid id category bytes is.values.0 is.values.1 is.values.2) refl is.fits)
+reply_written (values.ReadRecord id index size attributes category bytes) is = inr (with_written _ _ _ _ _ (
+  id,
+  (
+    index,
+    (
+      size,
+      (
+        attributes,
+        (category, (bytes, tt)),
+      ),
+    ),
+  ),
+) _ refl is.fields refl (record_valid id category bytes is.values.0 is.values.1 is.values.2) refl is.fits)
+reply_written (values.WriteRecord id) is = inr (with_written _ _ _ _ _ (id, tt) _ refl is.fields refl (id_valid id is.values) refl is.fits)
+reply_written (values.ReadResource kind id index size bytes) is = inr (with_written _ _ _ _ _ (
+  kind,
+  (id, (index, (size, (bytes, tt)))),
+) _ refl is.fields refl refl refl is.fits)
+reply_written (values.ReadOpenDbInfo count) is = inr (with_written _ _ _ _ _ (count, tt) _ refl is.fields refl refl refl is.fits)
 reply_written (values.ReadRecordIdList ids) is =
     let numbers = words_of_text ids is.values in
-    inr (with_written 0xB1 layouts.id_list (λ v. eqb (4 * v.0) (length v.1.0)) (λ v. ids_checks 2 (words v.1.0)) (λ v. values.ReadRecordIdList (words v.1.0)) (length ids, (ids_text ids, tt)) _ refl is.fields (eq-eqb _ _ (sym (ids_text_len ids))) (ap (λ (xs : List ℕ). first_bad (ids_checks 2 xs)) numbers ∙ ids_pass 2 ids is.values) (ap values.ReadRecordIdList numbers) is.fits)
+    inr (with_written _ _ _ _ _ (
+      length ids,
+      (ids_text ids, tt),
+    ) _ refl is.fields (eq-eqb _ _ (sym (ids_text_len ids))) (ap (λ (xs : List ℕ). first_bad (ids_checks 2 xs)) numbers
+    ∙ ids_pass 2 ids is.values) (ap values.ReadRecordIdList numbers) is.fits)
 reply_written values.WriteUserInfo is = inr (refl, refl)
 reply_written values.CloseDb is = inr (refl, refl)
 reply_written values.DeleteDb is = inr (refl, refl)

@@ -20,8 +20,22 @@ Row = Fields entry
 -- the cells of a database's index and head
 abbrev pub row_of : ℕ × DbHead → Row
 row_of item =
-    let head = item.1 in
-    (45 + length head.name, (tt, (head.attributes, (head.kind.0, (head.creator.0, (head.version, (head.modnum, (wire_date head.created, (wire_date head.modified, (wire_date head.backup, (item.0, (head.name, tt))))))))))))
+    let head = item.1 in (
+      45 + length head.name,
+      (
+        tt,
+        (
+          head.attributes,
+          (
+            head.kind.0,
+            (
+              head.creator.0,
+              (head.version, (head.modnum, (wire_date head.created, (wire_date head.modified, (wire_date head.backup, (item.0, (head.name, tt))))))),
+            ),
+          ),
+        ),
+      ),
+    )
 
 -- the text that is written of an entry
 abbrev pub entry_text : ℕ × DbHead → List ℕ
@@ -29,7 +43,8 @@ entry_text item = fields_text entry (row_of item)
 
 -- what it has before the dates, and from them on
 abbrev pub entry_front : DbHead → List ℕ
-entry_front head = (45 + length head.name) ∷ 0 ∷ to_be_bytes w16 head.attributes ++ (head.kind.0 ++ (head.creator.0 ++ (to_be_bytes w16 head.version ++ to_be_bytes w32 head.modnum)))
+entry_front head = (45 + length head.name) ∷ 0 ∷ to_be_bytes w16 head.attributes
+    ++ (head.kind.0 ++ (head.creator.0 ++ (to_be_bytes w16 head.version ++ to_be_bytes w32 head.modnum)))
 
 abbrev pub entry_back : ℕ → DbHead → List ℕ
 entry_back index head = wire_date head.created ++ (wire_date head.modified ++ (wire_date head.backup ++ (to_be_bytes w16 index ++ (head.name ++ 0 ∷ []))))

@@ -46,7 +46,10 @@ row_name row = row.1.1.1.1.1.1.1.1.1.1.1.0
 -- the three dates and the name of an entry at a place
 unfoldable pub row_checks : ℕ → Row → Checks
 row_checks at row =
-    (at + 18, is_date row.1.1.1.1.1.1.1.0) ∷ (at + 26, is_date row.1.1.1.1.1.1.1.1.0) ∷ (at + 34, is_date row.1.1.1.1.1.1.1.1.1.0) ∷ (at + 44, is_none (name_fault (row_name row))) ∷ []
+    (at + 18, is_date row.1.1.1.1.1.1.1.0) ∷ (at + 26, is_date row.1.1.1.1.1.1.1.1.0) ∷ (at + 34, is_date row.1.1.1.1.1.1.1.1.1.0) ∷ (
+      at + 44,
+      is_none (name_fault (row_name row)),
+    ) ∷ []
 
 -- the values of entries from a place on
 abbrev pub rows_checks : ℕ → List Row → Checks

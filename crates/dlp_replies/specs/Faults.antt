@@ -12,26 +12,26 @@ of_arg_fault (arg.BadId place) = BadId place
 of_arg_fault (arg.BadSize place) = BadSize place
 
 -- the arguments, or their refusal
-abbrev pub lifted : {A : Type 0} → Result A ArgFault → Result A ReplyFault
-lifted (Ok x) = Ok x
-lifted (Err fault) = Err (of_arg_fault fault)
+abbrev pub of_arguments : {A : Type 0} → Result A ArgFault → Result A ReplyFault
+of_arguments (Ok x) = Ok x
+of_arguments (Err fault) = Err (of_arg_fault fault)
 
 -- the one argument, or `Argument` where another number or another id stands there
-abbrev pub argued : {A : Type 0} → Option A → Result A ReplyFault
-argued None = Err Argument
-argued (Some x) = Ok x
+abbrev pub or_argument : {A : Type 0} → Option A → Result A ReplyFault
+or_argument None = Err Argument
+or_argument (Some x) = Ok x
 
 -- what an argument holds, or `Size` where its layout has no such length
-abbrev pub sized : {A : Type 0} → Option A → Result A ReplyFault
-sized None = Err Size
-sized (Some x) = Ok x
+abbrev pub or_size : {A : Type 0} → Option A → Result A ReplyFault
+or_size None = Err Size
+or_size (Some x) = Ok x
 
 -- what the values say, or `Value` at the first that is none; the argument begins at the place
-abbrev pub valued : {A : Type 0} → ℕ → Option ℕ → A → Result A ReplyFault
-valued place None x = Ok x
-valued place (Some bad) x = Err (Value (place + bad))
+abbrev pub or_value : {A : Type 0} → ℕ → Option ℕ → A → Result A ReplyFault
+or_value place None x = Ok x
+or_value place (Some bad) x = Err (Value (place + bad))
 
 -- the value, or the place of the first value that is none
-abbrev pub passed : {A : Type 0} → Option ℕ → A → Result A ℕ
-passed None x = Ok x
-passed (Some place) x = Err place
+abbrev pub or_place : {A : Type 0} → Option ℕ → A → Result A ℕ
+or_place None x = Ok x
+or_place (Some place) x = Err place

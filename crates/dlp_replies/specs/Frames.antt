@@ -19,14 +19,17 @@ pub data Frame : Type 0 where
   With : (number : ℕ) (kinds : List Kind) → Fields kinds → Frame
 
 -- a name with its zero; an empty name is no byte
-abbrev pub named : List ℕ → List ℕ
-named [] = []
-named (byte ∷ bytes) = (byte ∷ bytes) ++ 0 ∷ []
+abbrev pub name_text : List ℕ → List ℕ
+name_text [] = []
+name_text (byte ∷ bytes) = (byte ∷ bytes) ++ 0 ∷ []
 
 -- the function's byte, and what the argument holds
 abbrev pub frame : ReplyValue → Frame
 frame (Refused number code) = Refusal number code
-frame (ReadUserInfo user viewer pc good last name password) = With 0x10 user_info (user, (viewer, (pc, (wire_date good, (wire_date last, ((named name, password), tt))))))
+frame (ReadUserInfo user viewer pc good last name password) = With 0x10 user_info (
+  user,
+  (viewer, (pc, (wire_date good, (wire_date last, ((name_text name, password), tt))))),
+)
 frame (ReadDbList last flags entries) = With 0x16 db_list (last, (flags, (length entries, (entries_text entries, tt))))
 frame (OpenDb handle) = With 0x17 handle_alone (handle, tt)
 frame (CreateDb handle) = With 0x18 handle_alone (handle, tt)
@@ -60,7 +63,7 @@ frame_text (Refusal number code) = reply_byte number ∷ 0 ∷ to_be_bytes w16 c
 frame_text (Alone number) = (number + 0x80) ∷ 0 ∷ 0 ∷ 0 ∷ []
 frame_text (With number kinds fields) = (number + 0x80) ∷ 1 ∷ 0 ∷ 0 ∷ arg_text (record { id = 0x20; bytes = fields_text kinds fields })
 
--- the byte of the function that is answered
+-- the byte of the function that is answer_of
 abbrev pub function_byte : Frame → ℕ
 function_byte (Refusal number code) = number
 function_byte (Alone number) = number
@@ -78,7 +81,8 @@ FrameFits (With number kinds fields) = FieldsFit kinds fields
 
 -- the bounds of values
 abbrev pub ValuesFit : ReplyValue → Type 0
-ValuesFit (ReadUserInfo user viewer pc good last name password) = (good < 2 ^ 32) × (last < 2 ^ 32) × (length name ≤ 40) × HasNoZero name × (length password ≤ 40)
+ValuesFit (ReadUserInfo user viewer pc good last name password) = (good < 2 ^ 32) × (last < 2 ^ 32) × (length name ≤ 40) × HasNoZero name
+    × (length password ≤ 40)
 ValuesFit (ReadDbList last flags entries) = AllByRecursion IsEntry entries
 ValuesFit (ReadNextModifiedRec id index size attributes category bytes) = IsId id × (category ≤ 15) × (length bytes ≤ 65500)
 ValuesFit (ReadRecord id index size attributes category bytes) = IsId id × (category ≤ 15) × (length bytes ≤ 65500)

@@ -8,7 +8,7 @@ use Rattle.dlp_args.specs.Cells.{Kind}
 use Rattle.dlp_args.specs.Fields.{Fields, fields_in}
 use Rattle.dlp_replies.specs.declared.fault.ReplyFault.{ReplyFault}
 use Rattle.dlp_replies.specs.declared.fault.ReplyFault.TheVariants as fault
-use Rattle.dlp_replies.specs.Faults.{lifted, argued, sized, valued}
+use Rattle.dlp_replies.specs.Faults.{of_arguments, or_argument, or_size, or_value}
 use Rattle.dlp_replies.specs.Checks.{Checks, first_bad}
 use Rattle.dlp_replies.specs.ReplyValues.{ReplyValue, Refused}
 use Rattle.dlp_replies.specs.Shapes.{Shape, Unknown, Bare, One, shape_of}
@@ -23,10 +23,11 @@ measured_in kinds sizes content = option_and_then (λ v. if sizes v then Some v 
 
 -- the same where its values are some; the content begins at this place
 unfoldable pub valid_in : (kinds : List Kind) → (Fields kinds → Bool) → (Fields kinds → Checks) → ℕ → List ℕ → Result (Fields kinds) ReplyFault
-valid_in kinds sizes checks place content = sized (measured_in kinds sizes content) >>= λ v. valued place (first_bad (checks v)) v
+valid_in kinds sizes checks place content = or_size (measured_in kinds sizes content) >>= λ v. or_value place (first_bad (checks v)) v
 
 -- what they say
-abbrev pub made_in : (kinds : List Kind) → (Fields kinds → Bool) → (Fields kinds → Checks) → (Fields kinds → ReplyValue) → ℕ → List ℕ → Result ReplyValue ReplyFault
+abbrev pub made_in : (kinds : List Kind) → (Fields kinds → Bool) → (Fields kinds → Checks) → (Fields kinds → ReplyValue) → ℕ → List ℕ
+    → Result ReplyValue ReplyFault
 made_in kinds sizes checks make place content = valid_in kinds sizes checks place content >>= λ v. Ok (make v)
 
 -- what the one argument has, which bears the id 0x20
@@ -44,19 +45,19 @@ abbrev pub without : ReplyValue → List Argument → Result ReplyValue ReplyFau
 without value arguments = no_arguments arguments >>= λ none. Ok value
 
 -- a reply of this shape; its one argument is the last thing before the end of the message
-unfoldable pub shaped : Shape → ℕ → List Argument → Result ReplyValue ReplyFault
-shaped Unknown end arguments = Err fault.Argument
-shaped (Bare value) end arguments = without value arguments
-shaped (One kinds sizes checks make) end arguments = argued (only_content arguments) >>= λ content. made_in kinds sizes checks make (end - length content) content
+unfoldable pub reply_by : Shape → ℕ → List Argument → Result ReplyValue ReplyFault
+reply_by Unknown end arguments = Err fault.Argument
+reply_by (Bare value) end arguments = without value arguments
+reply_by (One kinds sizes checks make) end arguments = or_argument (only_content arguments) >>= λ content. made_in kinds sizes checks make (end - length content) content
 
 -- a reply with this error, where 0 is none
-abbrev pub answered : ℕ → ℕ → ℕ → List Argument → Result ReplyValue ReplyFault
-answered number code end arguments = if code == 0 then shaped (shape_of (function_of number)) end arguments else without (Refused number code) arguments
+abbrev pub answer_of : ℕ → ℕ → ℕ → List Argument → Result ReplyValue ReplyFault
+answer_of number code end arguments = if code == 0 then reply_by (shape_of (function_of number)) end arguments else without (Refused number code) arguments
 
 -- the function with 0x80 set, the number of arguments, the error, and the arguments
 unfoldable pub reply_at : ℕ → List ℕ → Result ReplyValue ReplyFault
 reply_at number (first ∷ count ∷ high ∷ low ∷ bytes) =
-    if first == reply_byte number then lifted (arguments_at count 4 bytes) >>= answered number (from_be_bytes w16 (high ∷ low ∷ [])) (length (first ∷ count ∷ high ∷ low ∷ bytes)) else Err (fault.Function first)
+    if first == reply_byte number then of_arguments (arguments_at count 4 bytes) >>= answer_of number (from_be_bytes w16 (high ∷ low ∷ [])) (length (first ∷ count ∷ high ∷ low ∷ bytes)) else Err (fault.Function first)
 reply_at number [] = Err (fault.Wrapper 0)
 reply_at number (a ∷ []) = Err (fault.Wrapper 0)
 reply_at number (a ∷ b ∷ []) = Err (fault.Wrapper 0)

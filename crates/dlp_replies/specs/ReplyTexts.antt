@@ -12,7 +12,8 @@ use Rattle.dlp_replies.specs.Shapes.{Shape, Unknown, Bare, One, shape_of}
 
 -- the bytes are the function, one argument, no error, and then one of the texts of cells whose lengths agree and whose
 -- values say this
-pub record IsOne (first : ℕ) (kinds : List Kind) (sizes : Fields kinds → Bool) (checks : Fields kinds → Checks) (make : Fields kinds → ReplyValue) (value : ReplyValue) (bytes : List ℕ) : Type 0 where
+pub record IsOne (first : ℕ) (kinds : List Kind) (sizes : Fields kinds → Bool) (checks : Fields kinds → Checks) (make : Fields kinds
+    → ReplyValue) (value : ReplyValue) (bytes : List ℕ) : Type 0 where
   pub fields : Fields kinds
   pub form : Form
   pub content : List ℕ
@@ -32,7 +33,8 @@ IsShape first (One kinds sizes checks make) value bytes = IsOne first kinds size
 
 -- the bytes are the function, no argument, and an error other than 0
 abbrev pub IsRefusal : ℕ → ReplyValue → List ℕ → Type 0
-IsRefusal number value bytes = (code : ℕ) × (0 < code) × (code < 2 ^ 16) × (value ≡ Refused number code) × (bytes ≡ reply_byte number ∷ 0 ∷ to_be_bytes w16 code)
+IsRefusal number value bytes = (code : ℕ) × (0 < code) × (code < 2 ^ 16) × (value ≡ Refused number code)
+    × (bytes ≡ reply_byte number ∷ 0 ∷ to_be_bytes w16 code)
 
 -- the bytes are a text of a reply to the function: a refusal, or what its shape says
 abbrev pub ReplyText : ℕ → ReplyValue → List ℕ → Type 0

@@ -21,9 +21,17 @@ pub data Shape : Type 0 where
 abbrev pub plain : (kinds : List Kind) → (Fields kinds → ReplyValue) → Shape
 plain kinds make = One kinds (λ v. true) (λ v. []) make
 
+-- what the cells of a user and of a resource say
+abbrev pub user_said : Fields user_info → ReplyValue
+user_said (user, (viewer, (pc, (good, (last, (names, end)))))) =
+    ReadUserInfo user viewer pc (date_or_zero (read_wire good)) (date_or_zero (read_wire last)) (text_or_none (user_name names.0)) names.1
+
+abbrev pub resource_said : Fields resource_reply → ReplyValue
+resource_said (kind, (id, (index, (size, (bytes, end))))) = ReadResource kind id index size bytes
+
 -- the shape of each function's reply
 abbrev pub shape : Function → Shape
-shape function.ReadUserInfo = One user_info user_sizes user_checks (λ v. ReadUserInfo v.0 v.1.0 v.1.1.0 (date_or_zero (read_wire v.1.1.1.0)) (date_or_zero (read_wire v.1.1.1.1.0)) (text_or_none (user_name v.1.1.1.1.1.0.0)) v.1.1.1.1.1.0.1)
+shape function.ReadUserInfo = One user_info user_sizes user_checks user_said
 shape function.ReadDbList = One db_list (λ v. is_some (rows_of v)) (λ v. rows_checks 4 (rows_or_none (rows_of v))) (λ v. ReadDbList v.0 v.1.0 (map item_of (rows_or_none (rows_of v))))
 shape function.OpenDb = plain handle_alone (λ v. OpenDb v.0)
 shape function.CreateDb = plain handle_alone (λ v. CreateDb v.0)
@@ -32,7 +40,7 @@ shape function.ReadSortBlock = plain block (λ v. ReadSortBlock v.0)
 shape function.ReadNextModifiedRec = One record_reply (λ v. true) record_checks (λ v. ReadNextModifiedRec v.0 v.1.0 v.1.1.0 v.1.1.1.0 v.1.1.1.1.0 v.1.1.1.1.1.0)
 shape function.ReadRecord = One record_reply (λ v. true) record_checks (λ v. ReadRecord v.0 v.1.0 v.1.1.0 v.1.1.1.0 v.1.1.1.1.0 v.1.1.1.1.1.0)
 shape function.WriteRecord = One id_alone (λ v. true) id_checks (λ v. WriteRecord v.0)
-shape function.ReadResource = plain resource_reply (λ v. ReadResource v.0 v.1.0 v.1.1.0 v.1.1.1.0 v.1.1.1.1.0)
+shape function.ReadResource = plain resource_reply resource_said
 shape function.ReadOpenDbInfo = plain count_alone (λ v. ReadOpenDbInfo v.0)
 shape function.ReadRecordIdList = One id_list (λ v. 4 * v.0 == length v.1.0) (λ v. ids_checks 2 (words v.1.0)) (λ v. ReadRecordIdList (words v.1.0))
 shape function.WriteUserInfo = Bare WriteUserInfo

@@ -2,7 +2,7 @@
 use Rattle.std.specs.Prelude.{ℕ, List, ◌∷◌, ◌++◌, length}
 use Rattle.std.specs.Int.{w32, to_be_bytes}
 use Rattle.pdb_values.specs.PalmDates.{wire_date}
-use Rattle.dlp_replies.specs.Frames.{named}
+use Rattle.dlp_replies.specs.Frames.{name_text}
 
 -- the numbers and the dates
 abbrev pub user_front : ℕ → ℕ → ℕ → ℕ → ℕ → List ℕ
@@ -10,4 +10,4 @@ user_front user viewer pc good last = to_be_bytes w32 user ++ (to_be_bytes w32 v
 
 -- the name and the password behind their lengths
 abbrev pub user_back : List ℕ → List ℕ → List ℕ
-user_back name password = length (named name) ∷ length password ∷ named name ++ password
+user_back name password = length (name_text name) ∷ length password ∷ name_text name ++ password

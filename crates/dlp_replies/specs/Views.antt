@@ -45,5 +45,19 @@ record_fields cells = (cells.id, (cells.index, (cells.size, (cells.attributes, (
 
 -- the cells of an entry
 abbrev pub entry_row : EntryCells → Row
-entry_row cells =
-    (cells.size, (tt, (cells.attributes, (cells.kind.0, (cells.creator.0, (cells.version, (cells.modnum, (cells.created, (cells.modified, (cells.backup, (cells.index, (cells.name.now, tt))))))))))))
+entry_row cells = (
+  cells.size,
+  (
+    tt,
+    (
+      cells.attributes,
+      (
+        cells.kind.0,
+        (
+          cells.creator.0,
+          (cells.version, (cells.modnum, (cells.created, (cells.modified, (cells.backup, (cells.index, (cells.name.now, tt))))))),
+        ),
+      ),
+    ),
+  ),
+)

@@ -1,7 +1,7 @@
 // The one argument of a reply, or none.
 ghost use Rattle.std.specs.Prelude.{◌≡◌};
 ghost use Rattle.dlp_args.specs.Views.{Gives};
-ghost use Rattle.dlp_replies.specs.Faults.{argued};
+ghost use Rattle.dlp_replies.specs.Faults.{or_argument};
 ghost use Rattle.dlp_replies.specs.ReplyReading as reading;
 ghost use Rattle.dlp_replies.specs.Views.{reply_value};
 
@@ -11,7 +11,7 @@ use dlp_args::Args;
 
 // What the one argument has.
 pub(crate) fn only_content<'a>(args: &Args<'a>) -> Result<&'a [u8], ReplyFault>
-    ensures { Gives (λ content. content.now) result (argued (reading.only_content args.now)) }
+    ensures { Gives (λ content. content.now) result (or_argument (reading.only_content args.now)) }
 {
     let mut iter = args.iter();
     match (iter.next(), iter.next()) {

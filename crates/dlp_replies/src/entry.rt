@@ -8,7 +8,7 @@ ghost use Rattle.dlp_args.specs.Fields.{fields_in};
 ghost use Rattle.dlp_replies.specs.Checks.{date_or_zero, first_bad, is_date};
 ghost use Rattle.dlp_replies.specs.EntryLists.{entry};
 ghost use Rattle.dlp_replies.specs.EntryReading.{entry_at, item_of, row_checks};
-ghost use Rattle.dlp_replies.specs.Faults.{passed};
+ghost use Rattle.dlp_replies.specs.Faults.{or_place};
 ghost use Rattle.dlp_replies.specs.Views.{entry_row};
 
 use dlp_args::{take_4, take_8, take_u8, take_u16, take_u32, text_of};
@@ -82,7 +82,7 @@ impl EntryCells<'_> {
     #[tactic(auto, unfolding(crate::specs::EntryReading::row_checks, crate::specs::EntryReading::item_of))]
     pub(crate) fn item(&self, place: usize) -> Result<(u16, DbHead), usize>
         requires { place < 2 ^ 32 }
-        ensures { Gives (λ item. item) result (passed (first_bad (row_checks place (entry_row self.now))) (item_of (entry_row self.now))) }
+        ensures { Gives (λ item. item) result (or_place (first_bad (row_checks place (entry_row self.now))) (item_of (entry_row self.now))) }
     {
         let created = date_of(self.created, place + 18)?;
         let modified = date_of(self.modified, place + 26)?;
@@ -108,7 +108,10 @@ impl EntryCells<'_> {
 
 // A date, or the place where it stands.
 pub(crate) fn date_of(bytes: [u8; 8], place: usize) -> Result<PalmDate, usize>
-    ensures { Gives (λ date. date) result (passed (first_bad ((place, is_date bytes) ∷ [])) (date_or_zero (read_wire bytes))) }
+    ensures { Gives (λ date. date) result (or_place (first_bad ((
+      place,
+      is_date bytes,
+    ) ∷ [])) (date_or_zero (read_wire bytes))) }
 {
     match PalmDate::from_wire(bytes) {
         Ok(date) => Ok(date),
@@ -118,7 +121,10 @@ pub(crate) fn date_of(bytes: [u8; 8], place: usize) -> Result<PalmDate, usize>
 
 // The name of a database, or the place where it stands.
 fn name_of(bytes: &[u8], place: usize) -> Result<DbName, usize>
-    ensures { Gives (λ name. name) result (passed (first_bad ((place, is_none (name_fault bytes.now)) ∷ [])) bytes.now) }
+    ensures { Gives (λ name. name) result (or_place (first_bad ((
+      place,
+      is_none (name_fault bytes.now),
+    ) ∷ [])) bytes.now) }
 {
     match DbName::new(bytes) {
         Ok(name) => Ok(name),

@@ -6,7 +6,7 @@ use dlp_args::ArgFault;
 use thiserror::Error;
 
 /// The first rule that the bytes of a reply break. A place is an offset from the first byte.
-#[derive(Clone, Copy, Debug, PartialEq, Eq, Error)]
+#[derive(Clone, Copy, Debug, Error)]
 pub enum ReplyFault {
     /// The message is shorter than four bytes (place 0), or the argument that begins here passes the end, or these bytes
     /// stand after the last argument.
@@ -25,11 +25,11 @@ pub enum ReplyFault {
     #[error("the arguments are not those of the function")]
     Argument,
     /// The argument, a list or a part of it has a length that the layout does not allow, a text does not end with its one
-    /// zero, or a password has more than 40 bytes.
+    /// zero, or the name or the password of a user has more than 40 bytes.
     #[error("an argument has another length")]
     Size,
     /// The first byte of the first value that is none: an id above 16,777,215, a category above 15, no date, no name of a
-    /// database or of a user, or record data of more than 65,500 bytes.
+    /// database, or record data of more than 65,500 bytes.
     #[error("the value at place {0} is none")]
     Value(usize),
 }

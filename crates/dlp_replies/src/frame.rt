@@ -10,8 +10,16 @@ use pdb_values::{Category, RecordId};
 // Replaces the message by a reply of one argument, whose bytes are given in three parts.
 fn put(out: &mut Message, number: u8, front: &[u8], some: &[u8], last: &[u8])
     requires number { number < 0x80 }
-    requires fits { length ((number + 0x80) ∷ 1 ∷ 0 ∷ 0 ∷ arg_text (record { id = 0x20; bytes = front.now ++ (some.now ++ last.now) })) ≤ 65535 }
-    ensures { out.new ≡ (number + 0x80) ∷ 1 ∷ 0 ∷ 0 ∷ arg_text (record { id = 0x20; bytes = front.now ++ (some.now ++ last.now) }) }
+    requires fits { length ((number + 0x80) ∷ 1 ∷ 0 ∷ 0 ∷ arg_text (record {
+      id = 0x20;
+      bytes = front.now
+          ++ (some.now ++ last.now);
+    })) ≤ 65535 }
+    ensures { out.new ≡ (number + 0x80) ∷ 1 ∷ 0 ∷ 0 ∷ arg_text (record {
+      id = 0x20;
+      bytes = front.now
+          ++ (some.now ++ last.now);
+    }) }
 {
     out.clear();
     append(out, &[number + 0x80, 1, 0, 0]);
@@ -73,8 +81,14 @@ pub(crate) fn put_record(
     bytes: &[u8],
 )
     requires number { number < 0x80 }
-    requires fits { length (frame_text (With number layouts.record_reply (id, (index, (size, (attributes, (category, (bytes.now, tt)))))))) ≤ 65535 }
-    ensures { out.new ≡ frame_text (With number layouts.record_reply (id, (index, (size, (attributes, (category, (bytes.now, tt))))))) }
+    requires fits { length (frame_text (With number layouts.record_reply (
+      id,
+      (index, (size, (attributes, (category, (bytes.now, tt))))),
+    ))) ≤ 65535 }
+    ensures { out.new ≡ frame_text (With number layouts.record_reply (
+      id,
+      (index, (size, (attributes, (category, (bytes.now, tt))))),
+    )) }
 {
     let id = id.number().to_be_bytes();
     let index = index.to_be_bytes();
@@ -96,8 +110,14 @@ pub(crate) fn put_resource(
     bytes: &[u8],
 )
     requires short { length bytes.now ≤ 65500 }
-    requires fits { length (frame_text (With 0x23 layouts.resource_reply (kind.now, (id, (index, (size, (bytes.now, tt))))))) ≤ 65535 }
-    ensures { out.new ≡ frame_text (With 0x23 layouts.resource_reply (kind.now, (id, (index, (size, (bytes.now, tt)))))) }
+    requires fits { length (frame_text (With 0x23 layouts.resource_reply (
+      kind.now,
+      (id, (index, (size, (bytes.now, tt)))),
+    ))) ≤ 65535 }
+    ensures { out.new ≡ frame_text (With 0x23 layouts.resource_reply (
+      kind.now,
+      (id, (index, (size, (bytes.now, tt)))),
+    )) }
 {
     let id = id.to_be_bytes();
     let index = index.to_be_bytes();

@@ -12,8 +12,14 @@ use pdb_values::DbHead;
 
 // Databases.
 pub(crate) fn put_db_list(out: &mut Message, last: u16, flags: u8, entries: &Entries<'_>)
-    requires { length (frame_text (With 0x16 db_list (last, (flags, (length entries.now, (entries_text entries.now, tt)))))) ≤ 65535 }
-    ensures { out.new ≡ frame_text (With 0x16 db_list (last, (flags, (length entries.now, (entries_text entries.now, tt))))) }
+    requires { length (frame_text (With 0x16 db_list (
+      last,
+      (flags, (length entries.now, (entries_text entries.now, tt))),
+    ))) ≤ 65535 }
+    ensures { out.new ≡ frame_text (With 0x16 db_list (
+      last,
+      (flags, (length entries.now, (entries_text entries.now, tt))),
+    )) }
 {
     let last = last.to_be_bytes();
     out.clear();

@@ -1,7 +1,7 @@
 // Replies with a list: of databases, and of the ids of records.
 ghost use Rattle.std.specs.Prelude.{◌<◌, ◌^◌};
 ghost use Rattle.dlp_args.specs.Views.{Gives};
-ghost use Rattle.dlp_replies.specs.ReplyReading.{shaped};
+ghost use Rattle.dlp_replies.specs.ReplyReading.{reply_by};
 ghost use Rattle.dlp_replies.specs.Shapes.{shape};
 ghost use Rattle.dlp_replies.specs.Views.{reply_value};
 
@@ -14,10 +14,10 @@ use crate::reply::Reply;
 use dlp_args::{Args, Function, take_u8, take_u16};
 
 // Databases.
-#[tactic(auto, unfolding(crate::specs::ReplyReading::shaped, crate::specs::ReplyReading::valid_in))]
+#[tactic(auto, unfolding(crate::specs::ReplyReading::reply_by, crate::specs::ReplyReading::valid_in))]
 pub(crate) fn db_list<'a>(end: usize, args: &Args<'a>) -> Result<Reply<'a>, ReplyFault>
     requires { end < 2 ^ 63 }
-    ensures { Gives reply_value result (shaped (shape Function.ReadDbList) end args.now) }
+    ensures { Gives reply_value result (reply_by (shape Function.ReadDbList) end args.now) }
 {
     let content = only_content(args)?;
     let place = end.saturating_sub(content.len());
@@ -38,10 +38,10 @@ pub(crate) fn db_list<'a>(end: usize, args: &Args<'a>) -> Result<Reply<'a>, Repl
 }
 
 // The ids of records.
-#[tactic(auto, unfolding(crate::specs::ReplyReading::shaped, crate::specs::ReplyReading::valid_in))]
+#[tactic(auto, unfolding(crate::specs::ReplyReading::reply_by, crate::specs::ReplyReading::valid_in))]
 pub(crate) fn record_id_list<'a>(end: usize, args: &Args<'a>) -> Result<Reply<'a>, ReplyFault>
     requires { end < 2 ^ 63 }
-    ensures { Gives reply_value result (shaped (shape Function.ReadRecordIdList) end args.now) }
+    ensures { Gives reply_value result (reply_by (shape Function.ReadRecordIdList) end args.now) }
 {
     let content = only_content(args)?;
     let place = end.saturating_sub(content.len());

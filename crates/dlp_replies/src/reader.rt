@@ -1,6 +1,7 @@
 // Reading replies.
 ghost use Rattle.std.specs.Prelude.{◌≡◌, ◌<◌, ◌^◌, Ok, IfOk};
 ghost use Rattle.dlp_args.specs.Views.{Gives};
+ghost use Rattle.dlp_replies.specs.Frames.{frame, function_byte};
 ghost use Rattle.dlp_replies.specs.ReplyReading as reading;
 ghost use Rattle.dlp_replies.specs.ReplyReading.{reply_at};
 ghost use Rattle.dlp_replies.specs.ReplyTexts.{ReplyText};
@@ -24,7 +25,10 @@ pub fn read_reply(function: u8, bytes: &[u8]) -> Result<Reply<'_>, ReplyFault>
     // What is read has this text.
     ensures found { IfOk result (λ reply. ReplyText function (reply_value reply) bytes.now) }
     // What has this text is read.
-    ensures only { (value : ReplyValue) → ReplyText function value bytes.now → Gives reply_value result (Ok value) }
+    ensures only { (value : ReplyValue) → ReplyText function value bytes.now
+        → Gives reply_value result (Ok value) }
+    // It is a refusal of this function or the function's own reply.
+    ensures own { IfOk result (λ reply. function_byte (frame (reply_value reply)) ≡ function) }
     // Which rule is the first that is broken.
     ensures exact { Gives reply_value result (reply_at function bytes.now) }
 {
@@ -66,14 +70,14 @@ pub(crate) fn reply_byte(function: u8) -> u8
 }
 
 // The reply to a function without an error; the message ends at this place.
-#[tactic(auto, unfolding(crate::specs::ReplyReading::shaped))]
+#[tactic(auto, unfolding(crate::specs::ReplyReading::reply_by))]
 fn reply_to<'a>(
     function: Option<Function>,
     end: usize,
     args: &Args<'a>,
 ) -> Result<Reply<'a>, ReplyFault>
     requires { end < 2 ^ 63 }
-    ensures { Gives reply_value result (reading.shaped (shape_of function) end args.now) }
+    ensures { Gives reply_value result (reading.reply_by (shape_of function) end args.now) }
 {
     match function {
         Some(function) => known_reply(function, end, args),
@@ -82,10 +86,10 @@ fn reply_to<'a>(
 }
 
 // The reply to a function, without an error.
-#[tactic(auto, unfolding(crate::specs::ReplyReading::shaped))]
+#[tactic(auto, unfolding(crate::specs::ReplyReading::reply_by))]
 fn known_reply<'a>(function: Function, end: usize, args: &Args<'a>) -> Result<Reply<'a>, ReplyFault>
     requires { end < 2 ^ 63 }
-    ensures { Gives reply_value result (reading.shaped (shape function) end args.now) }
+    ensures { Gives reply_value result (reading.reply_by (shape function) end args.now) }
 {
     match function {
         Function::ReadUserInfo => user::user_info(end, args),

@@ -3,7 +3,7 @@ ghost use Rattle.std.specs.Prelude.{◌<◌, ◌^◌, true};
 ghost use Rattle.dlp_args.specs.Views.{Gives};
 ghost use Rattle.dlp_replies.specs.Checks.{id_checks, record_checks};
 ghost use Rattle.dlp_replies.specs.Layouts as layouts;
-ghost use Rattle.dlp_replies.specs.ReplyReading.{shaped, valid_in};
+ghost use Rattle.dlp_replies.specs.ReplyReading.{reply_by, valid_in};
 ghost use Rattle.dlp_replies.specs.Shapes.{shape};
 ghost use Rattle.dlp_replies.specs.Views.{record_fields, reply_value};
 
@@ -25,10 +25,10 @@ pub(crate) struct RecordCells<'a> {
 }
 
 // The next changed record.
-#[tactic(auto, unfolding(crate::specs::ReplyReading::shaped))]
+#[tactic(auto, unfolding(crate::specs::ReplyReading::reply_by))]
 pub(crate) fn next_modified_rec<'a>(end: usize, args: &Args<'a>) -> Result<Reply<'a>, ReplyFault>
     requires { end < 2 ^ 63 }
-    ensures { Gives reply_value result (shaped (shape Function.ReadNextModifiedRec) end args.now) }
+    ensures { Gives reply_value result (reply_by (shape Function.ReadNextModifiedRec) end args.now) }
 {
     let content = only_content(args)?;
     match record_reply(end.saturating_sub(content.len()), content) {
@@ -45,10 +45,10 @@ pub(crate) fn next_modified_rec<'a>(end: usize, args: &Args<'a>) -> Result<Reply
 }
 
 // A record.
-#[tactic(auto, unfolding(crate::specs::ReplyReading::shaped))]
+#[tactic(auto, unfolding(crate::specs::ReplyReading::reply_by))]
 pub(crate) fn record<'a>(end: usize, args: &Args<'a>) -> Result<Reply<'a>, ReplyFault>
     requires { end < 2 ^ 63 }
-    ensures { Gives reply_value result (shaped (shape Function.ReadRecord) end args.now) }
+    ensures { Gives reply_value result (reply_by (shape Function.ReadRecord) end args.now) }
 {
     let content = only_content(args)?;
     match record_reply(end.saturating_sub(content.len()), content) {
@@ -65,10 +65,10 @@ pub(crate) fn record<'a>(end: usize, args: &Args<'a>) -> Result<Reply<'a>, Reply
 }
 
 // The id of a written record.
-#[tactic(auto, unfolding(crate::specs::ReplyReading::shaped))]
+#[tactic(auto, unfolding(crate::specs::ReplyReading::reply_by))]
 pub(crate) fn write_record<'a>(end: usize, args: &Args<'a>) -> Result<Reply<'a>, ReplyFault>
     requires { end < 2 ^ 63 }
-    ensures { Gives reply_value result (shaped (shape Function.WriteRecord) end args.now) }
+    ensures { Gives reply_value result (reply_by (shape Function.WriteRecord) end args.now) }
 {
     let content = only_content(args)?;
     let id = id_alone(end.saturating_sub(content.len()), content)?;
@@ -103,7 +103,10 @@ fn record_reply(place: usize, content: &[u8]) -> Result<RecordCells<'_>, ReplyFa
 // The id of a written record.
 #[tactic(auto, unfolding(crate::specs::ReplyReading::valid_in))]
 fn id_alone(place: usize, content: &[u8]) -> Result<RecordId, ReplyFault>
-    ensures { Gives (λ id. (id, tt)) result (valid_in layouts.id_alone (λ v. true) id_checks place content.now) }
+    ensures { Gives (λ id. (
+      id,
+      tt,
+    )) result (valid_in layouts.id_alone (λ v. true) id_checks place content.now) }
 {
     let (id, rest) = take_u32(content).ok_or(ReplyFault::Size)?;
     end_of(rest).ok_or(ReplyFault::Size)?;

@@ -3,8 +3,8 @@ ghost use Rattle.std.specs.Prelude.{◌<◌, ◌^◌, [], true};
 ghost use Rattle.dlp_args.specs.Views.{Gives};
 ghost use Rattle.dlp_replies.specs.ReplyValues as values;
 ghost use Rattle.dlp_replies.specs.Layouts as layouts;
-ghost use Rattle.dlp_replies.specs.ReplyReading.{shaped, made_in};
-ghost use Rattle.dlp_replies.specs.Shapes.{shape};
+ghost use Rattle.dlp_replies.specs.ReplyReading.{reply_by, made_in};
+ghost use Rattle.dlp_replies.specs.Shapes.{shape, resource_said};
 ghost use Rattle.dlp_replies.specs.Views.{reply_value};
 
 use crate::argument::only_content;
@@ -14,10 +14,10 @@ use dlp_args::{Args, Function, rest_of, take_4, take_u16};
 use pdb_values::FourCc;
 
 // A resource.
-#[tactic(auto, unfolding(crate::specs::ReplyReading::shaped))]
+#[tactic(auto, unfolding(crate::specs::ReplyReading::reply_by))]
 pub(crate) fn resource<'a>(end: usize, args: &Args<'a>) -> Result<Reply<'a>, ReplyFault>
     requires { end < 2 ^ 63 }
-    ensures { Gives reply_value result (shaped (shape Function.ReadResource) end args.now) }
+    ensures { Gives reply_value result (reply_by (shape Function.ReadResource) end args.now) }
 {
     let content = only_content(args)?;
     resource_reply(end.saturating_sub(content.len()), content)
@@ -25,7 +25,7 @@ pub(crate) fn resource<'a>(end: usize, args: &Args<'a>) -> Result<Reply<'a>, Rep
 
 #[tactic(auto, unfolding(crate::specs::ReplyReading::valid_in))]
 fn resource_reply(place: usize, content: &[u8]) -> Result<Reply<'_>, ReplyFault>
-    ensures { Gives reply_value result (made_in layouts.resource_reply (λ v. true) (λ v. []) (λ v. values.ReadResource v.0 v.1.0 v.1.1.0 v.1.1.1.0 v.1.1.1.1.0) place content.now) }
+    ensures { Gives reply_value result (made_in layouts.resource_reply (λ v. true) (λ v. []) resource_said place content.now) }
 {
     let (kind, rest) = take_4(content).ok_or(ReplyFault::Size)?;
     let (id, rest) = take_u16(rest).ok_or(ReplyFault::Size)?;

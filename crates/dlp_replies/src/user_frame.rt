@@ -1,6 +1,6 @@
 // A reply about the user, put into a message.
 ghost use Rattle.std.specs.Prelude.{◌≡◌, ◌≤◌, ◌+◌, ◌++◌, length};
-ghost use Rattle.dlp_replies.specs.Frames.{reply_text, named};
+ghost use Rattle.dlp_replies.specs.Frames.{reply_text, name_text};
 ghost use Rattle.dlp_replies.specs.ReplyValues as values;
 ghost use Rattle.dlp_replies.specs.UserTexts.{user_back, user_front};
 ghost use Rattle.dlp_replies.specs.Writables.{IsWritable};
@@ -59,7 +59,7 @@ fn append_back(out: &mut Message, name: &[u8], password: &[u8])
 // The length of what is written of a name.
 fn named_len(name: &[u8]) -> usize
     requires { length name.now ≤ 40 }
-    ensures len { result ≡ length (named name.now) }
+    ensures len { result ≡ length (name_text name.now) }
     ensures small { result ≤ 41 }
 {
     match name {
@@ -71,8 +71,8 @@ fn named_len(name: &[u8]) -> usize
 // A name and its zero; an empty name is no byte.
 #[tactic(auto, using(std::proofs::Common::append_assoc))]
 fn append_name(out: &mut Message, name: &[u8])
-    requires { length out.old + length (named name.now) ≤ 65535 }
-    ensures { out.new ≡ out.old ++ named name.now }
+    requires { length out.old + length (name_text name.now) ≤ 65535 }
+    ensures { out.new ≡ out.old ++ name_text name.now }
 {
     match name {
         [] => {}

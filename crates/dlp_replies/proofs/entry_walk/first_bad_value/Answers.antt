@@ -3,7 +3,7 @@ use Rattle.dlp_replies.specs.Checks.{first_bad}
 use Rattle.dlp_replies.specs.EntryLists.{Row}
 use Rattle.dlp_replies.specs.EntryReading.{row_checks, rows_checks, item_of}
 use Rattle.dlp_replies.specs.Views.{entry_row}
-use Rattle.dlp_replies.proofs.EntryLaws.{walk_on, walk_ends, values_on, values_end, no_more_rows, passed_ok, passed_err, row_near}
+use Rattle.dlp_replies.proofs.EntryLaws.{walk_on, walk_ends, values_on, values_end, no_more_rows, or_place_ok, or_place_err, row_near}
 use Rattle.dlp_replies.proofs.entry_walk.first_bad_value.Goals as goal
 
 pub returns-in_err-cells-clause-bad : goal.returns-in_err-cells-clause-bad
@@ -15,20 +15,20 @@ returns-in_err-cells-clause-bad c =
 pub returns-in-Err-clause-bad : goal.returns-in-Err-clause-bad
 returns-in-Err-clause-bad c =
     let row = entry_row c.in_ok-cells.cells in
-    let bad = passed_err (first_bad (row_checks c.loop.place row)) (item_of row) c.in-Err.bad c.in-Err.ensures in
+    let bad = or_place_err (first_bad (row_checks c.loop.place row)) (item_of row) c.in-Err.bad c.in-Err.ensures in
     sym (c.loop.invariant.same ∙ values_end c.args.count c.loop.counter c.loop.place c.in-Err.bad c.loop.rest.now row c.in_ok-cells.after.now c.loop-test.true (sym c.in_ok-cells.ensures.entry) c.loop.invariant.all bad)
 
 pub returns-in-Err-clause-bound : goal.returns-in-Err-clause-bound
 returns-in-Err-clause-bound c =
     let row = entry_row c.in_ok-cells.cells in
-    let bad = passed_err (first_bad (row_checks c.loop.place row)) (item_of row) c.in-Err.bad c.in-Err.ensures in
+    let bad = or_place_err (first_bad (row_checks c.loop.place row)) (item_of row) c.in-Err.bad c.in-Err.ensures in
     let near = row_near c.loop.place c.in-Err.bad row bad in
     omega (arith, near, c.loop.invariant.near)
 
 pub loop-preserved : goal.loop-preserved
 loop-preserved c =
     let row = entry_row c.in_ok-cells.cells in
-    let good = passed_ok (first_bad (row_checks c.loop.place row)) (item_of row) c.in_default.field-0 c.in_default.ensures in
+    let good = or_place_ok (first_bad (row_checks c.loop.place row)) (item_of row) c.in_default.field-0 c.in_default.ensures in
     let size : c.from-place.result ≡ c.in_ok-cells.cells.size = c.from-place.ensures in
     record {
       near = omega (arith, c.loop.invariant.near, size, c.in_ok-cells.ensures.small);
