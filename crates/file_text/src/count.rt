@@ -1,9 +1,9 @@
 // How many entries a database has, in words.
 ghost use Rattle.std.specs.Prelude.{◌≡◌, IfOk, string_bytes};
-ghost use Rattle.pdb_files.specs.Files.{entry_count as count_of_entries};
 ghost use Rattle.file_text.specs.Counts.{check_text, entries_word};
 
 use crate::field::push_number;
+use pdb_files::entry_count;
 use pdb_values::Database;
 use std::alloc::{AllocError, Global};
 
@@ -15,17 +15,6 @@ pub fn check_text(alloc: Global, database: &Database) -> Result<String, AllocErr
     push_number(&mut text, "ok ", entry_count(database) as u64)?;
     text.push_str(entries_word(database.head().holds_resources()))?;
     Ok(text)
-}
-
-// How many records it has, or resources.
-fn entry_count(database: &Database) -> usize
-    ensures { result ≡ count_of_entries database.now }
-{
-    if database.head().holds_resources() {
-        database.resources().len()
-    } else {
-        database.records().len()
-    }
 }
 
 // What the entries are.

@@ -9,7 +9,8 @@ use std::alloc::{AllocError, Global};
 
 /// Appends a line for each record.
 pub fn push_records(alloc: Global, text: &mut String, records: &[Record]) -> Result<(), AllocError>
-    ensures { OnOk result (string_bytes text.new ≡ string_bytes text.old ++ record_lines records.now) }
+    ensures { OnOk result (
+        string_bytes text.new ≡ string_bytes text.old ++ record_lines records.now) }
 {
     for (place, item) in records.iter().enumerate() {
         push_record(alloc, text, place, item)?;
@@ -25,7 +26,8 @@ fn push_record(
     place: usize,
     item: &Record,
 ) -> Result<(), AllocError>
-    ensures { OnOk result (string_bytes text.new ≡ string_bytes text.old ++ record_line place item.now) }
+    ensures { OnOk result (
+        string_bytes text.new ≡ string_bytes text.old ++ record_line place item.now) }
 {
     push_number(text, "", place as u64)?;
     push_hex(alloc, text, " id ", &item.id.number().to_be_bytes()[1..])?;
@@ -41,7 +43,8 @@ pub fn push_resources(
     text: &mut String,
     resources: &[Resource],
 ) -> Result<(), AllocError>
-    ensures { OnOk result (string_bytes text.new ≡ string_bytes text.old ++ resource_lines resources.now) }
+    ensures { OnOk result (
+        string_bytes text.new ≡ string_bytes text.old ++ resource_lines resources.now) }
 {
     for (place, resource) in resources.iter().enumerate() {
         push_resource(alloc, text, place, resource)?;
@@ -57,7 +60,8 @@ fn push_resource(
     place: usize,
     resource: &Resource,
 ) -> Result<(), AllocError>
-    ensures { OnOk result (string_bytes text.new ≡ string_bytes text.old ++ resource_line place resource.now) }
+    ensures { OnOk result (
+        string_bytes text.new ≡ string_bytes text.old ++ resource_line place resource.now) }
 {
     push_number(text, "", place as u64)?;
     push_hex(alloc, text, " type ", &resource.kind.0)?;

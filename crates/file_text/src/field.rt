@@ -7,7 +7,8 @@ use std::fmt::Write;
 
 /// Appends a word and a number in decimal.
 pub fn push_number(text: &mut String, word: &str, number: u64) -> Result<(), AllocError>
-    ensures { OnOk result (string_bytes text.new ≡ string_bytes text.old ++ number_text word.now number) }
+    ensures { OnOk result (
+        string_bytes text.new ≡ string_bytes text.old ++ number_text word.now number) }
 {
     text.push_str(word)?;
     write!(text, "{number}")?;
@@ -21,7 +22,8 @@ pub fn push_hex(
     word: &str,
     bytes: &[u8],
 ) -> Result<(), AllocError>
-    ensures { OnOk result (string_bytes text.new ≡ string_bytes text.old ++ hex_text word.now bytes.now) }
+    ensures { OnOk result (
+        string_bytes text.new ≡ string_bytes text.old ++ hex_text word.now bytes.now) }
 {
     let digits = hex::encode(alloc, bytes)?;
     text.push_str(word)?;

@@ -60,7 +60,8 @@ pub fn push_dates_line(text: &mut String, head: &DbHead) -> Result<(), AllocErro
 /// Appends the line of the app block and the sort block.
 #[tactic(auto, unfolding(crate::specs::Heads::blocks_line))]
 pub fn push_blocks_line(text: &mut String, database: &Database) -> Result<(), AllocError>
-    ensures { OnOk result (string_bytes text.new ≡ string_bytes text.old ++ blocks_line database.now.app database.now.sort) }
+    ensures { OnOk result (string_bytes text.new ≡ string_bytes text.old
+        ++ blocks_line database.now.app database.now.sort) }
 {
     push_block(text, "app ", database.app())?;
     push_block(text, " sort ", database.sort())?;
@@ -70,7 +71,8 @@ pub fn push_blocks_line(text: &mut String, database: &Database) -> Result<(), Al
 
 // Appends a word and the length of a block, or `-` where it is absent.
 fn push_block(text: &mut String, word: &str, block: Option<&[u8]>) -> Result<(), AllocError>
-    ensures { OnOk result (string_bytes text.new ≡ string_bytes text.old ++ block_text word.now (option_copied block.entry)) }
+    ensures { OnOk result (string_bytes text.new ≡ string_bytes text.old
+        ++ block_text word.now (option_copied block.entry)) }
 {
     match block {
         Some(block) => push_number(text, word, block.len() as u64),

@@ -31,7 +31,8 @@ fn head_lines(alloc: Global, head: &DbHead) -> Result<String, AllocError>
 
 // Appends the lines of the entries.
 fn push_entries(alloc: Global, text: &mut String, database: &Database) -> Result<(), AllocError>
-    ensures { OnOk result (string_bytes text.new ≡ string_bytes text.old ++ entry_lines database.now) }
+    ensures { OnOk result (
+        string_bytes text.new ≡ string_bytes text.old ++ entry_lines database.now) }
 {
     if database.head().holds_resources() {
         push_resources(alloc, text, database.resources())

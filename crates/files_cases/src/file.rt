@@ -2,7 +2,8 @@
 use crate::{number_at, word_at};
 use file_text::{check_text, show_text};
 use pdb_files::{
-    attributes_of, one_database, read_database, round_trip, rules_are_the_grammar, write_database,
+    attributes_of, entry_count, one_database, read_database, round_trip, rules_are_the_grammar,
+    write_database,
 };
 use pdb_values::{Database, Record};
 use std::alloc::{AllocError, Global};
@@ -30,7 +31,7 @@ fn put(file: &mut Vec<u8>, word: &str) {
 pub fn parse(alloc: Global, bytes: &[u8]) -> Result<(String, Option<Database>), AllocError> {
     match read_database(alloc, bytes) {
         Ok(database) => {
-            let count = database.records().len() as u64 + database.resources().len() as u64;
+            let count = entry_count(&database);
             Ok((format!(in alloc; "ok {count}")?, Some(database)))
         }
         Err(fault) => match fault.bad_file() {

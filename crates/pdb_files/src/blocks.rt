@@ -13,10 +13,8 @@ use crate::entry::{begin_place, entry_length};
 use crate::fault::FileFault;
 use crate::field::u32_at;
 use crate::header::{HEADER_LENGTH, Header};
+use pdb_values::Database;
 use std::alloc::{AllocError, Global};
-
-// The greatest length of a block.
-const BLOCK_LIMIT: usize = 65_500;
 
 /// Where the blocks begin, as the header and the entries say.
 pub fn block_begins(alloc: Global, header: &Header, bytes: &[u8]) -> Result<Vec<u32>, AllocError>
@@ -56,7 +54,8 @@ fn push_begins(
     entries: &[u8],
 ) -> Result<(), AllocError>
     requires { entry_length of_resources * count ≤ length entries.now }
-    ensures { OnOk result (begins.new.items ≡ begins.old.items ++ begins_in (entry_length of_resources) (begin_place of_resources) count entries.now) }
+    ensures { OnOk result (begins.new.items ≡ begins.old.items
+        ++ begins_in (entry_length of_resources) (begin_place of_resources) count entries.now) }
 {
     let mut rest = entries;
     for _ in 0..count {
@@ -104,7 +103,7 @@ fn first_oversized(begins: &[u32], end: usize) -> Option<usize>
     ensures within { IfSome result (λ place. place < length begins.now) }
 {
     for place in 0..begins.len() {
-        if block_end(begins, place, end) - begins[place] as usize > BLOCK_LIMIT {
+        if block_end(begins, place, end) - begins[place] as usize > Database::LIMIT {
             return Some(place);
         }
     }
@@ -126,7 +125,9 @@ fn block_end(begins: &[u32], place: usize, end: usize) -> usize
 pub fn block<'a>(bytes: &'a [u8], begins: &[u32], place: usize) -> &'a [u8]
     requires there { place < length begins.now }
     requires order { AreInOrder 0 (length bytes.now) (drop place begins.now) }
-    ensures { result.now ≡ slice_range bytes.now (slice_index begins.now place) (next_begin (drop (place + 1) begins.now) (length bytes.now)) }
+    ensures { result.now
+        ≡ slice_range bytes.now (slice_index begins.now place)
+        (next_begin (drop (place + 1) begins.now) (length bytes.now)) }
 {
     &bytes[begins[place] as usize..block_end(begins, place, bytes.len())]
 }
@@ -140,7 +141,8 @@ pub fn front_block(
 ) -> Result<Option<Vec<u8>>, AllocError>
     requires there { length (begin_list offset) ≤ length begins.now }
     requires order { AreInOrder 0 (length bytes.now) begins.now }
-    ensures { IfOk result (λ block. block_of block ≡ front_block offset (blocks_in begins.now bytes.now)) }
+    ensures { IfOk result (λ block. block_of block
+        ≡ front_block offset (blocks_in begins.now bytes.now)) }
 {
     if offset == 0 {
         return Ok(None);

@@ -46,7 +46,7 @@ pub fn begin_place(of_resource: bool) -> usize
 }
 
 /// What an entry says of its record.
-#[derive(Debug, Drop)]
+#[derive(Drop)]
 pub struct Entry {
     /// The bits of its attributes.
     pub attributes: u8,
@@ -114,7 +114,8 @@ pub fn push_resource_entry(
     begin: u32,
     resource: &Resource,
 ) -> Result<(), AllocError>
-    ensures text { OnOk result (out.new.items ≡ out.old.items ++ resource_entry begin resource.now) }
+    ensures text { OnOk result (
+        out.new.items ≡ out.old.items ++ resource_entry begin resource.now) }
     ensures fits { OnOk result (FitsResource resource.now) }
 {
     out.extend_from_slice(&resource.kind.0)?;

@@ -10,7 +10,7 @@ use std::alloc::{AllocError, AllocFailed};
 use thiserror::Error;
 
 /// The first rule of the format that bytes break, in the order of the variants, or that there was no memory.
-#[derive(Clone, Copy, Debug, PartialEq, Eq, Error)]
+#[derive(Clone, Copy, Debug, Error)]
 pub enum FileFault {
     /// The header or the entries pass the end. Here is the length of the bytes.
     #[error("{0} bytes are too few")]

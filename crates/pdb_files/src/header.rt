@@ -50,7 +50,7 @@ const SEED: usize = 68;
 const COUNT: usize = 76;
 
 /// What a header says.
-#[derive(Debug, Drop)]
+#[derive(Drop)]
 pub struct Header {
     /// The head of the database.
     pub head: DbHead,
@@ -145,7 +145,8 @@ pub fn push_header(
     sort: u32,
     count: u16,
 ) -> Result<(), AllocError>
-    ensures text { OnOk result (out.new.items ≡ out.old.items ++ header_text head.now (zeros_behind head.now.name) app sort count) }
+    ensures text { OnOk result (out.new.items ≡ out.old.items
+        ++ header_text head.now (zeros_behind head.now.name) app sort count) }
     ensures fits { OnOk result (FitsHeader head.now) }
 {
     push_name(out, &head.name)?;
@@ -168,7 +169,8 @@ pub fn push_header(
 
 // Writes a name, and zeros up to the end of its field.
 fn push_name(out: &mut Vec<u8>, name: &DbName) -> Result<(), AllocError>
-    ensures text { OnOk result (out.new.items ≡ out.old.items ++ (name.now ++ 0 ∷ zeros_behind name.now)) }
+    ensures text { OnOk result (
+        out.new.items ≡ out.old.items ++ (name.now ++ 0 ∷ zeros_behind name.now)) }
     ensures name { IsName name.now }
 {
     let name = name.as_bytes();

@@ -22,11 +22,14 @@ pub fn round_trip(alloc: Global, database: &Database) -> Result<Database, FileFa
 
 /// No bytes are a text of two databases.
 pub fn one_database()
-    ensures { (bytes : List ℕ) (one other : DatabaseValue) → IsFileText one bytes → IsFileText other bytes → one ≡ other }
+    ensures { (bytes : List ℕ) (one other : DatabaseValue) → IsFileText one bytes
+        → IsFileText other bytes → one ≡ other }
 {}
 
 /// Bytes break no rule exactly where they are a text of a database.
 pub fn rules_are_the_grammar()
-    ensures text { (bytes : List ℕ) → All (λ byte. byte < 256) bytes → file_fault bytes ≡ None → (database : DatabaseValue) × IsFileText database bytes }
-    ensures no_fault { (bytes : List ℕ) (database : DatabaseValue) → IsFileText database bytes → file_fault bytes ≡ None }
+    ensures text { (bytes : List ℕ) → All (λ byte. byte < 256) bytes → file_fault bytes ≡ None →
+        (database : DatabaseValue) × IsFileText database bytes }
+    ensures no_fault { (bytes : List ℕ) (database : DatabaseValue) → IsFileText database bytes →
+        file_fault bytes ≡ None }
 {}

@@ -21,4 +21,4 @@ pub use entry::attributes_of;
 pub use fault::FileFault;
 pub use laws::{one_database, round_trip, rules_are_the_grammar};
 pub use reader::read_database;
-pub use writer::write_database;
+pub use writer::{entry_count, write_database};

@@ -21,8 +21,9 @@ pub fn read_database(alloc: Global, bytes: &[u8]) -> Result<Database, FileFault>
     // What is read has all of the bytes as its text.
     ensures found { IfOk result (λ database. IsFileText database bytes.now) }
     // What has all of the bytes as its text is read, unless memory runs out.
-    ensures only { (database : DatabaseValue) → IsFileText database bytes.now → MatchResult result (λ found. found ≡ database) (λ fault. fault ≡ FileFault.NoMemory) }
-    // A refusal is the first rule that the bytes break, and where they break none there is no other than of memory.
+    ensures only { (database : DatabaseValue) → IsFileText database bytes.now → MatchResult result
+        (λ found. found ≡ database) (λ fault. fault ≡ FileFault.NoMemory) }
+    // A refusal is the first rule that the bytes break, and where they break none it is of memory.
     ensures fault { Refuses result (file_fault bytes.now) }
 {
     read(alloc, bytes)
@@ -74,15 +75,18 @@ fn read_entries(
     bytes: &[u8],
     begins: &[u32],
 ) -> Result<(), FileFault>
-    requires long { 78 + entry_length (holds_resources database.old.head.attributes) * length begins.now ≤ length bytes.now }
+    requires long { 78 + entry_length (holds_resources database.old.head.attributes)
+        * length begins.now ≤ length bytes.now }
     requires few { length begins.now ≤ 65535 }
     requires no_records { database.old.records ≡ [] }
     requires no_resources { database.old.resources ≡ [] }
     requires order { AreInOrder 0 (length bytes.now) begins.now }
     requires short { AreShort (blocks_in begins.now bytes.now) }
     ensures entries { OnOk result (database.new ≡ record database.old {
-      records = if holds_resources database.old.head.attributes then [] else records_in (drop 78 bytes.now) (blocks_in begins.now bytes.now);
-      resources = if holds_resources database.old.head.attributes then resources_in (drop 78 bytes.now) (blocks_in begins.now bytes.now) else [];
+      records = if holds_resources database.old.head.attributes then []
+          else records_in (drop 78 bytes.now) (blocks_in begins.now bytes.now);
+      resources = if holds_resources database.old.head.attributes then
+          resources_in (drop 78 bytes.now) (blocks_in begins.now bytes.now) else [];
     }) }
     ensures memory { IsOkUnless result FileFault.NoMemory }
 {
@@ -106,7 +110,10 @@ fn read_records(
     requires no_records { database.old.records ≡ [] }
     requires order { AreInOrder 0 (length bytes.now) begins.now }
     requires short { AreShort (blocks_in begins.now bytes.now) }
-    ensures records { OnOk result (database.new ≡ record database.old { records = records_in (drop 78 bytes.now) (blocks_in begins.now bytes.now) }) }
+    ensures records { OnOk result (database.new
+        ≡ record database.old {
+          records = records_in (drop 78 bytes.now) (blocks_in begins.now bytes.now);
+        }) }
     ensures memory { IsOkUnless result FileFault.NoMemory }
 {
     let mut entries = bytes.split_at(HEADER_LENGTH).1;
@@ -131,7 +138,10 @@ fn read_resources(
     requires no_resources { database.old.resources ≡ [] }
     requires order { AreInOrder 0 (length bytes.now) begins.now }
     requires short { AreShort (blocks_in begins.now bytes.now) }
-    ensures resources { OnOk result (database.new ≡ record database.old { resources = resources_in (drop 78 bytes.now) (blocks_in begins.now bytes.now) }) }
+    ensures resources { OnOk result (database.new
+        ≡ record database.old {
+          resources = resources_in (drop 78 bytes.now) (blocks_in begins.now bytes.now);
+        }) }
     ensures memory { IsOkUnless result FileFault.NoMemory }
 {
     let mut entries = bytes.split_at(HEADER_LENGTH).1;
@@ -147,7 +157,8 @@ fn read_resources(
 fn add_record(database: &mut Database, item: Record) -> Result<(), FileFault>
     requires sort { holds_resources database.old.head.attributes ≡ false }
     requires room { length database.old.records < 65535 }
-    ensures added { OnOk result (database.new ≡ record database.old { records = database.old.records ++ item ∷ [] }) }
+    ensures added { OnOk result (
+        database.new ≡ record database.old { records = database.old.records ++ item ∷ [] }) }
     ensures memory { IsOkUnless result FileFault.NoMemory }
 {
     match database.push_record(item) {
@@ -162,7 +173,8 @@ fn add_resource(database: &mut Database, resource: Resource) -> Result<(), FileF
     requires sort { holds_resources database.old.head.attributes ≡ true }
     requires short { length resource.bytes ≤ 65500 }
     requires room { length database.old.resources < 65535 }
-    ensures added { OnOk result (database.new ≡ record database.old { resources = database.old.resources ++ resource ∷ [] }) }
+    ensures added { OnOk result (database.new
+        ≡ record database.old { resources = database.old.resources ++ resource ∷ [] }) }
     ensures memory { IsOkUnless result FileFault.NoMemory }
 {
     match database.push_resource(resource) {

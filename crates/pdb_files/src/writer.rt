@@ -41,8 +41,8 @@ pub fn write_database(alloc: Global, database: &Database) -> Result<Vec<u8>, All
     Ok(out)
 }
 
-// How many entries a database has.
-fn entry_count(database: &Database) -> usize
+/// How many entries a database has: resources, where its head says so, and else records.
+pub fn entry_count(database: &Database) -> usize
     ensures count { result ≡ entry_count database.now }
     ensures bound { result ≤ 65535 }
 {
@@ -76,7 +76,8 @@ fn block_offset(block: Option<&[u8]>, place: u32) -> u32
 // Writes the entries of a database, the data of whose first entry begins at a place of the file.
 fn push_entries(out: &mut Vec<u8>, begin: usize, database: &Database) -> Result<(), AllocError>
     requires { begin + 65500 * entry_count database.now < 2 ^ 32 }
-    ensures text { OnOk result (out.new.items ≡ out.old.items ++ entries_text (begins_from begin (data_of database.now)) database.now) }
+    ensures text { OnOk result (out.new.items ≡ out.old.items
+        ++ entries_text (begins_from begin (data_of database.now)) database.now) }
     ensures records { OnOk result (AllByRecursion FitsRecord database.now.records) }
     ensures resources { OnOk result (AllByRecursion FitsResource database.now.resources) }
     ensures short { OnOk result (AreShort (data_of database.now)) }
@@ -95,7 +96,8 @@ fn push_record_entries(
     records: &[Record],
 ) -> Result<(), AllocError>
     requires { begin + 65500 * length records.now < 2 ^ 32 }
-    ensures text { OnOk result (out.new.items ≡ out.old.items ++ record_entries (begins_from begin (record_data records.now)) records.now) }
+    ensures text { OnOk result (out.new.items ≡ out.old.items
+        ++ record_entries (begins_from begin (record_data records.now)) records.now) }
     ensures fits { OnOk result (AllByRecursion FitsRecord records.now) }
     ensures short { OnOk result (AreShort (record_data records.now)) }
 {
@@ -115,7 +117,8 @@ fn push_resource_entries(
 ) -> Result<(), AllocError>
     requires place { begin + 65500 * length resources.now < 2 ^ 32 }
     requires few_bytes { All IsShortResource resources.now }
-    ensures text { OnOk result (out.new.items ≡ out.old.items ++ resource_entries (begins_from begin (resource_data resources.now)) resources.now) }
+    ensures text { OnOk result (out.new.items ≡ out.old.items
+        ++ resource_entries (begins_from begin (resource_data resources.now)) resources.now) }
     ensures fits { OnOk result (AllByRecursion FitsResource resources.now) }
     ensures short { OnOk result (AreShort (resource_data resources.now)) }
 {
@@ -129,7 +132,8 @@ fn push_resource_entries(
 
 // Writes a block, if it is there.
 fn push_block(out: &mut Vec<u8>, block: Option<&[u8]>) -> Result<(), AllocError>
-    ensures { OnOk result (out.new.items ≡ out.old.items ++ concat (block_list (option_copied block.entry))) }
+    ensures { OnOk result (
+        out.new.items ≡ out.old.items ++ concat (block_list (option_copied block.entry))) }
 {
     match block {
         Some(block) => out.extend_from_slice(block),
