@@ -7,6 +7,7 @@ use Rattle.conduit_rules.specs.Fates.{Fate, fate}
 use Rattle.conduit_rules.specs.ById.{id_bound, put}
 use Rattle.conduit_rules.specs.News.{more_one, unpaired}
 use Rattle.conduit_rules.specs.Choices.{Sides, fate_at, partner, partner_at, partners, offers, choice}
+use Rattle.conduit_rules.specs.Writes.{given_to}
 use Rattle.conduit_rules.proofs.ByIdLaws.{each_below-same, sum-each_below_put, at_put}
 use Rattle.conduit_rules.proofs.NewsLaws.{unpaired-same}
 use Rattle.conduit_rules.proofs.PairingLaws.{unpaired-one_more}
@@ -25,10 +26,6 @@ same_choice s t live_same archived_same fates mates =
       archive = map (λ c. (0, c)) (archived_same k) ++ put_away k;
       adds = unpaired (λ c. count_of c (partners_same k)) (live_same k ++ news k);
     }
-
--- the handheld has this content under this id
-abbrev pub given_to : Sides → ℕ → ContentValue → Sides
-given_to s i c = record s { handheld = put s.handheld i (live c) }
 
 -- a kept content under its id changes nothing
 pub choice-put : (s : Sides) (i : ℕ) (c : ContentValue) → (fate_at s i).keep ≡ Some c → choice (given_to s i c) ≡ choice s

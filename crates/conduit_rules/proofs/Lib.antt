@@ -1,13 +1,17 @@
 pub mod AgreedLaws
+pub mod BoundLaws
 pub mod ByIdLaws
 pub mod ChoiceLaws
 pub mod ContentLaws
 pub mod DraftLaws
+pub mod KeptLaws
 pub mod LooseLaws
 pub mod NewsLaws
 pub mod PairingLaws
 pub mod PlanLaws
+pub mod RisingLaws
 pub mod SearchLaws
 pub mod SettledLaws
+pub mod StopLaws
 pub mod TableLaws
 pub mod ViewLaws

@@ -144,3 +144,28 @@ fast_held base i (Some r) bears honest = by_passing (not r.dirty && not r.delete
 -- where the records are honest, a fast view shows what the records hold, and so what a slow one shows
 pub view_held-fast : (base records : List Record) (i : ℕ) → nat_lt i id_bound ≡ true → IsHonest base records → view_held (fast_view base records) i ≡ held records i
 view_held-fast base records i within honest = ap seen_where (mapped_view (fast_seen base) records i (fast_id base) within) ∙ fast_held base i (first i records) (first-id i records) (honest i)
+
+-- ---- a fast reading of honest records is as good as a slow one
+
+any_view : (f : Record → Seen) (records : List Record) (i : ℕ) → ((r : Record) → (f r).id ≡ r.id)
+    → first_seen i (each_below (λ j. option_to_list (option_map f (first j records))) id_bound) ≡ (if nat_lt i id_bound then option_map f (first i records) else None)
+any_view f records i keeps =
+    first_seen-each_below (λ j. option_map f (first j records)) (λ j s e. mapped_id f j (first j records) s keeps (first-id j records) e) id_bound i
+
+same_where : (b : Bool) (base records : List Record) (i : ℕ) → IsHonest base records
+    → seen_where (if b then option_map (fast_seen base) (first i records) else None) ≡ seen_where (if b then option_map slow_seen (first i records) else None)
+same_where true base records i honest = fast_held base i (first i records) (first-id i records) (honest i) ∙ sym (slow_held (first i records))
+same_where false base records i honest = refl
+
+-- both show the same, under every id
+pub fast_is_slow : (base records : List Record) (i : ℕ) → IsHonest base records → view_held (fast_view base records) i ≡ view_held (slow_view records) i
+fast_is_slow base records i honest =
+    ap seen_where (any_view (fast_seen base) records i (fast_id base))
+    ∙ same_where (nat_lt i id_bound) base records i honest
+    ∙ sym (ap seen_where (any_view slow_seen records i (λ r. refl)))
+
+-- so the sides of the database are the same
+pub fast_sides : (base records rows : List Record) (gone_counts : Bool) → IsHonest base records
+    → sides_of (fast_view base records) rows base gone_counts ≡ sides_of (slow_view records) rows base gone_counts
+fast_sides base records rows gone_counts honest =
+    sides-same (fast_view base records) (slow_view records) rows base gone_counts (λ i. fast_is_slow base records i honest)

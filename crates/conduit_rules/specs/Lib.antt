@@ -9,3 +9,4 @@ pub mod Searches
 pub mod States
 pub mod Table
 pub mod Views
+pub mod Writes

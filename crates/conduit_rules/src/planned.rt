@@ -2,7 +2,7 @@
 use pdb_values::{Content, RecordId};
 
 /// What a synchronisation does with one database. All lists but `adds` are in rising ids.
-#[derive(Debug, Drop)]
+#[derive(Drop)]
 pub struct Plan {
     /// The rows that both sides have under ids that are known.
     pub kept: Vec<(RecordId, Content)>,

@@ -3,7 +3,7 @@ ghost use Rattle.std.specs.Prelude.{◌≡◌};
 ghost use Rattle.conduit_rules.specs.Table.{decision, kept, put_away, nothing_left, both_kept, with_same, with_changed, with_deleted, with_archived_same, with_archived_changed};
 
 /// What a side says of a record that the last synchronisation left on both sides, its base row.
-#[derive(Clone, Copy, Debug, PartialEq, Eq)]
+#[derive(Clone, Copy)]
 pub enum Side {
     /// It is there with the content of the base row.
     Same,
@@ -20,7 +20,7 @@ pub enum Side {
 }
 
 /// Whose content both sides keep under the id.
-#[derive(Clone, Copy, Debug, PartialEq, Eq)]
+#[derive(Clone, Copy)]
 pub enum Keep {
     /// No record stays under the id.
     None,
@@ -33,7 +33,7 @@ pub enum Keep {
 }
 
 /// Whose contents are archived under the id.
-#[derive(Clone, Copy, Debug, PartialEq, Eq)]
+#[derive(Clone, Copy)]
 pub enum Archive {
     /// None is.
     None,
@@ -48,7 +48,7 @@ pub enum Archive {
 }
 
 /// One cell of the table.
-#[derive(Clone, Copy, Debug, PartialEq, Eq)]
+#[derive(Clone, Copy)]
 pub struct Outcome {
     /// What both sides keep under the id.
     pub keep: Keep,

@@ -2,7 +2,7 @@
 use pdb_values::{Content, RecordId};
 
 /// What an entry of a view says of its record.
-#[derive(Clone, Copy, Debug, PartialEq, Eq)]
+#[derive(Clone, Copy)]
 pub enum SeenState {
     /// It is there, and was read.
     Live,
@@ -15,7 +15,7 @@ pub enum SeenState {
 }
 
 /// One record of the handheld as it was read.
-#[derive(Debug, Drop)]
+#[derive(Drop)]
 pub struct Seen {
     /// Its id.
     pub id: RecordId,
@@ -27,7 +27,7 @@ pub struct Seen {
 
 /// A handheld's database as it was read, in rising ids. Of entries with one id the first counts, and an id that
 /// no entry bears is an id that no record has.
-#[derive(Debug, Drop)]
+#[derive(Drop)]
 pub struct View {
     /// Its records.
     pub seen: Vec<Seen>,
