@@ -5,10 +5,9 @@ use Rattle.dlp_replies.specs.ReplyValues.{ReplyValue}
 use Rattle.dlp_commands.specs.Answers.{Finds, answer_text, answered}
 use Rattle.dlp_commands.specs.Errors.{check, not_supported, ◌>>=◌}
 use Rattle.dlp_commands.specs.Holding.{fits}
-use Rattle.dlp_commands.specs.Writings.{Plans, PlansHeld, written, written_on}
-use Rattle.dlp_commands.specs.declared.edit.Edit.{Edit}
+use Rattle.palm_device.specs.declared.edit.Edit.{Edit}
+use Rattle.dlp_commands.specs.Writings.{Plans, PlansHeld, WritingValue, written, written_on}
 use Rattle.dlp_commands.specs.declared.refusal.Refusal.{Refusal}
-use Rattle.dlp_commands.specs.declared.writing.Writing.{Writing}
 
 -- is that to what the table finds
 pub found_text : {A : Type 0} (number : ℕ) (view : A → ReplyValue) (answer : Result A Refusal) (found : Result ReplyValue ℕ) → Finds view answer found → answer_text number view answer ≡ answered number found
@@ -20,6 +19,6 @@ held_by true found is = refl
 held_by false found is = absurd cc
 
 -- a database that holds what is written
-pub plans_held : (asked : Writing) (database : DatabaseValue) (answer : Result Edit Refusal) → fits (written_on asked) database ≡ true → PlansHeld asked database answer → Plans asked database answer
+pub plans_held : (asked : WritingValue) (database : DatabaseValue) (answer : Result Edit Refusal) → fits (written_on asked) database ≡ true → PlansHeld asked database answer → Plans asked database answer
 plans_held asked database (Ok edit) suited plans = λ free. held_by _ (written free asked database) suited ∙ plans free
 plans_held asked database (Err refusal) suited plans = λ free. held_by _ (written free asked database) suited ∙ plans free

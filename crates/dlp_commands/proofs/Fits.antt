@@ -43,7 +43,7 @@ date_by : (b : Bool) (time : CivilTime) → length (if b then 0 ∷ 0 ∷ 0 ∷ 
 date_by true time = refl
 date_by false time = refl
 
-date_length : (seconds : ℕ) → length (wire_date seconds) ≡ 8
+pub date_length : (seconds : ℕ) → length (wire_date seconds) ≡ 8
 date_length seconds = date_by (seconds == 0) (civil_of seconds)
 
 named_length : (name : List ℕ) → length (name_text name) ≤ length name + 1

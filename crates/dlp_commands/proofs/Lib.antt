@@ -1,7 +1,11 @@
 pub mod ActLaws
 pub mod AnswerLaws
-pub mod ChangeLaws
 pub mod DataLaws
+pub mod DoneLaws
 pub mod Fits
+pub mod NumberLaws
 pub mod ReachedLaws
+pub mod ReplyLaws
 pub mod StepLaws
+pub mod TriedLaws
+pub mod WriteLaws

@@ -1,33 +1,34 @@
 -- Laws of steps and runs, by what a request made of the device.
-use Rattle.std.proofs.Common.{◌≡◌, ◌<◌, ℕ, Bool, true, false, cond, List, [], ◌∷◌, ◌++◌, Option, Some, None, Result, Ok, Err, IfOk, IfSome, refl, ap, sym, subst, ◌∙◌, arith, get_or, slice_get}
-use Rattle.std.specs.Prelude.{remove, ◌==◌}
-use Rattle.std.proofs.lemmas.List.{length-set}
-use Rattle.std.specs.Str.{bytes_eq}
-use Rattle.std.proofs.lemmas.Bool.{eqb-true, eqb-false}
-use Rattle.std.proofs.lemmas.List.Sums.{passes_at_first}
-use Rattle.std.proofs.lemmas.Option.{get_or_from_slice_get}
-use Rattle.std.proofs.lemmas.Slice.Eq.{bytes_eq-Decides}
-use Rattle.pdb_values.specs.Databases.{DatabaseValue}
-use Rattle.pdb_values.specs.declared.head.DbHead.{DbHead}
-use Rattle.dlp_requests.specs.declared.fault.RequestFault.{RequestFault}
+use Rattle.std.proofs.Common.{◌≡◌, ◌∙◌, ℕ, false, List, [], ◌∷◌, ◌++◌, Option, Some, None, Result, Ok, Err, refl, ap, sym, subst, lit<, append_assoc, append-nil}
+use Rattle.std.specs.List.{flat_map}
+use Rattle.pdb_values.specs.NamedDatabases.{database_of}
+use Rattle.dlp_args.proofs.NumberLaws.{IsBytes}
 use Rattle.dlp_requests.specs.RequestReading.{request_at}
-use Rattle.dlp_args.specs.Fields.{Fields}
-use Rattle.dlp_requests.specs.Forms as form
-use Rattle.dlp_requests.specs.Forms.{Form, kinds_of}
+use Rattle.dlp_requests.specs.RequestTexts.{request_text}
 use Rattle.dlp_requests.specs.RequestValues.{RequestValue}
-use Rattle.palm_device.specs.Devices.{Device, database_of, is_named, place_of}
-use Rattle.palm_device.specs.Handles.{Base, base_at}
-use Rattle.palm_device.specs.Records.{IsFree}
-use Rattle.palm_device.specs.Soundness.{IsDevice, AreIds, ids_of}
-use Rattle.palm_device.proofs.EntryLaws.{position_found, position_within}
-use Rattle.palm_device.proofs.NameLaws.{NamesRise-set, NamesRise-new, NamesRise-remove, EachHas-set, EachHas-new, EachHas-remove, length-new, length-remove, database_of-set_other, database_of-new_other, database_of-remove_other, none_named}
-use Rattle.dlp_commands.specs.Changes.{is_change}
+use Rattle.dlp_requests.specs.declared.fault.RequestFault.{RequestFault}
+use Rattle.dlp_requests.specs.declared.fault.RequestFault.TheVariants as fault
+use Rattle.dlp_requests.proofs.RequestLaws.{request_takes}
+use Rattle.dlp_replies.specs.Frames.{IsReply, reply_text}
+use Rattle.dlp_replies.specs.ReplyReading.{reply_at}
+use Rattle.dlp_replies.specs.ReplyTexts.{ReplyText}
+use Rattle.dlp_replies.specs.ReplyValues.{ReplyValue, Refused}
+use Rattle.dlp_replies.proofs.ReplyLaws.{reply_again}
+use Rattle.dlp_replies.proofs.WriteLaws.{reply_written}
+use Rattle.palm_device.specs.Bounds.{IsBounded}
+use Rattle.palm_device.specs.Devices.{Device}
+use Rattle.palm_device.specs.Soundness.{IsDevice}
+use Rattle.dlp_commands.specs.Changes.{changes, given_in, is_change}
 use Rattle.dlp_commands.specs.DeviceRuns.{Exchange, Ran}
-use Rattle.dlp_commands.specs.DeviceSteps.{DeviceStep, MayGive, FormMayGive, MayGiveTo, function_number, outcome, served, served_by, tried}
+use Rattle.dlp_commands.specs.DeviceSteps.{DeviceStep, MayGive, MayGiveTo, first_byte, function_number, outcome, served, served_by, tried}
+use Rattle.dlp_commands.specs.Errors.{fault_code}
 use Rattle.dlp_commands.specs.Reached.{Tried}
-use Rattle.dlp_commands.specs.RecordFunctions as records
-use Rattle.dlp_commands.specs.Targets.{is_name, target, target_of}
-use Rattle.dlp_commands.proofs.ChangeLaws.{Change, Turned, Marked, Edited, Made, Removed, GivesBy, GivesSome, tried_change}
+use Rattle.dlp_commands.specs.Talks.{Talk, WasAnswered, given}
+use Rattle.dlp_commands.specs.Targets.{is_name, target_of}
+use Rattle.dlp_commands.proofs.DoneLaws.{Done, RequestFits, tried_done}
+use Rattle.dlp_commands.proofs.NumberLaws.{FieldsFit-AreFields, first_byte-request_text, function_number-first_byte}
+use Rattle.dlp_commands.proofs.ReplyLaws.{Replies, refused_reply}
+use Rattle.dlp_commands.proofs.TriedLaws.{IsCode, Keeps}
 
 -- ---- runs
 
@@ -41,123 +42,109 @@ ran_cut old new (exchange ∷ front) back ran =
     let rest = ran_cut ran.0 new front back ran.2 in
     (rest.0, (ran.0, ran.1, rest.1), rest.2)
 
--- ---- the device after a step
+-- ---- a step
 
--- a request that was not refused changed the device, or nothing is as before
-pub data Stepped (old : Device) (read : Result RequestValue RequestFault) (new : Device) : Type 0 where
-  Same : new ≡ old → Stepped old read new
-  Done : (value : RequestValue) → read ≡ Ok value → Change old value new → Stepped old read new
+-- the bytes were refused under their first byte and nothing changed, or the request was done
+pub data Stepped (old : Device) (bytes reply : List ℕ) (new : Device) : Type 0 where
+  WasRefused : (code : ℕ) → IsCode code → new ≡ old → reply ≡ reply_text (Refused (first_byte bytes) code) → Stepped old bytes reply new
+  WasDone : (value : RequestValue) → request_at bytes ≡ Ok value → (answer : ReplyValue) → Done old value (new, answer) → reply ≡ reply_text answer → Stepped old bytes reply new
 
-given_by : (free id : ℕ) (b : Bool) → (id == 0) ≡ b → (id ≡ 0 → 0 < free) → 0 < cond b free id
-given_by free id true is when = when (eqb-true id 0 is)
-given_by free id false is when = let not_zero : id ≡ 0 → ⊥ = eqb-false id 0 is in omega arith
+code_is : (found : RequestFault) → IsCode (fault_code found)
+code_is (fault.Illegal number) = (lit< tt, lit< tt)
+code_is (fault.Wrapper place) = (lit< tt, lit< tt)
+code_is (fault.BadId place) = (lit< tt, lit< tt)
+code_is (fault.BadSize place) = (lit< tt, lit< tt)
+code_is fault.Argument = (lit< tt, lit< tt)
+code_is fault.Size = (lit< tt, lit< tt)
 
-some_given : (free id : ℕ) → (id ≡ 0 → 0 < free) → 0 < records.given_id free id
-some_given free id when = given_by free id (id == 0) refl when
+done_step : (old new : Device) (bytes reply : List ℕ) (value : RequestValue) (r : Tried) → request_at bytes ≡ Ok value → Keeps (Done old value) r → outcome old (function_number value) r ≡ (reply, new) → Stepped old bytes reply new
+done_step old new bytes reply value (Ok done) read keeps is =
+    let device : done.0 ≡ new = ap (λ (p : List ℕ × Device). p.1) is in
+    WasDone value read done.1 (subst (λ (d : Device). Done old value (d, done.1)) device keeps) (sym (ap (λ (p : List ℕ × Device). p.0) is))
+done_step old new bytes reply value (Err code) read keeps is =
+    WasRefused code keeps (sym (ap (λ (p : List ℕ × Device). p.1) is)) (sym (ap (λ (p : List ℕ × Device). p.0) is) ∙ ap (λ n. reply_text (Refused n code)) (function_number-first_byte bytes value read))
 
-may_some : (o : Option Base) (free id : ℕ) → IfSome o (λ base. id ≡ 0 → IsFree free base.database.records) → (base : Base) → o ≡ Some base → 0 < records.given_id free id
-may_some None free id may base is = absurd cc
-may_some (Some found) free id may base is = some_given free id (λ zero. (may zero).some)
+read_step : (old new : Device) (bytes reply : List ℕ) (free : ℕ) (read : Result RequestValue RequestFault) → request_at bytes ≡ read → MayGiveTo old free read → served_by old free bytes read ≡ (reply, new) → Stepped old bytes reply new
+read_step old new bytes reply free (Ok value) read may is = done_step old new bytes reply value (tried free old value) read (tried_done free old value may) is
+read_step old new bytes reply free (Err found) read may is =
+    WasRefused (fault_code found) (code_is found) (sym (ap (λ (p : List ℕ × Device). p.1) is)) (sym (ap (λ (p : List ℕ × Device). p.0) is))
 
-gives_by : (old : Device) (free : ℕ) (f : Form) (fields : Fields (kinds_of f)) → FormMayGive old free f fields → GivesBy free old f fields
-gives_by old free form.WriteRecord (handle, (flags, (id, more))) may = may_some (base_at old handle) free id may
-gives_by old free other fields may = tt
-
-gives_some : (old : Device) (free : ℕ) (value : RequestValue) → MayGiveTo old free (Ok value) → GivesSome free old value
-gives_some old free value may = gives_by old free value.form value.fields may
-
-second_is : (p q : List ℕ × Device) → p ≡ q → p.1 ≡ q.1
-second_is p q is = ap (λ (r : List ℕ × Device). r.1) is
-
-outcome_step : (old new : Device) (value : RequestValue) (reply : List ℕ) (r : Tried) → IfOk r (λ done. Change old value done.0) → outcome old (function_number value) r ≡ (reply, new) → Stepped old (Ok value) new
-outcome_step old new value reply (Ok done) change is = Done value refl (subst (Change old value) (second_is _ _ is) change)
-outcome_step old new value reply (Err code) change is = Same (sym (second_is _ _ is))
-
-step_by : (old new : Device) (bytes reply : List ℕ) (free : ℕ) (read : Result RequestValue RequestFault) → MayGiveTo old free read → served_by old free bytes read ≡ (reply, new) → Stepped old read new
-step_by old new bytes reply free (Ok value) may is = outcome_step old new value reply (tried free old value) (tried_change free old value (gives_some old free value may)) is
-step_by old new bytes reply free (Err fault) may is = Same (sym (second_is _ _ is))
-
-pub stepped : (old new : Device) (bytes reply : List ℕ) → DeviceStep old bytes reply new → Stepped old (request_at bytes) new
+pub stepped : (old new : Device) (bytes reply : List ℕ) → DeviceStep old bytes reply new → Stepped old bytes reply new
 unfolding served MayGive
-stepped old new bytes reply step = step_by old new bytes reply step.free (request_at bytes) step.may step.is
+stepped old new bytes reply step = read_step old new bytes reply step.free (request_at bytes) refl step.may step.is
 
 -- ---- what stays
 
-reads_by : (old new : Device) (value : RequestValue) → is_change (function_number value) ≡ false → Change old value new → (new.databases ≡ old.databases) × (new.user ≡ old.user)
-reads_by old new value reads (Turned is count) = (ap (λ (d : Device). d.databases) is, ap (λ (d : Device). d.user) is)
-reads_by old new value reads (Marked changes is) = absurd cc
-reads_by old new value reads (Edited changes base database at names edits is) = absurd cc
-reads_by old new value reads (Made changes database names none empty room is count) = absurd cc
-reads_by old new value reads (Removed changes name place names found is) = absurd cc
+same_request : (bytes : List ℕ) (value other : RequestValue) → request_at bytes ≡ Ok value → request_at bytes ≡ Ok other → value ≡ other
+same_request bytes value other first second = let both : ◌≡◌ {A = Result RequestValue RequestFault} (Ok value) (Ok other) = sym first ∙ second in cc
 
-pub reads_keep : (old new : Device) (read : Result RequestValue RequestFault) (value : RequestValue) → read ≡ Ok value → is_change (function_number value) ≡ false → Stepped old read new → (new.databases ≡ old.databases) × (new.user ≡ old.user)
-reads_keep old new read value is reads (Same same) = (ap (λ (d : Device). d.databases) same, ap (λ (d : Device). d.user) same)
-reads_keep old new read value is reads (Done done done_is change) =
-    let same : done ≡ value = cc in
-    reads_by old new done (ap (λ (v : RequestValue). is_change (function_number v)) same ∙ reads) change
+pub changes-request : (bytes : List ℕ) (value : RequestValue) → request_at bytes ≡ Ok value → changes bytes ≡ is_change (function_number value)
+unfolding changes
+changes-request bytes value read = ap is_change (sym (function_number-first_byte bytes value read))
 
--- a database that was found by a name has it
-name_is : (name : List ℕ) (databases : List DatabaseValue) (place : ℕ) (database : DatabaseValue) → place_of name databases ≡ Some place → slice_get databases place ≡ Some database → is_named name database ≡ true
-name_is name databases place database found there =
-    let at = position_found (is_named name) databases place found in
-    let first = passes_at_first (is_named name) databases database (omega arith) in
-    let here = get_or_from_slice_get databases place database database there in
-    subst (λ (d : DatabaseValue). is_named name d ≡ true) (ap (λ (k : ℕ). get_or databases k database) at.0 ∙ here) first
+pub changes-text : (value : RequestValue) → changes (request_text value) ≡ is_change (function_number value)
+unfolding changes
+changes-text value = ap is_change (first_byte-request_text value)
 
-same_bytes : (xs ys : List ℕ) → bytes_eq xs ys ≡ true → xs ≡ ys
-same_bytes xs ys e = grind (arith, e, bytes_eq-Decides xs ys)
+pub store_kept : (old new : Device) (bytes reply : List ℕ) → changes bytes ≡ false → Stepped old bytes reply new → (new.databases ≡ old.databases) × (new.user ≡ old.user)
+store_kept old new bytes reply quiet (WasRefused code is same text) = (ap (λ (d : Device). d.databases) same, ap (λ (d : Device). d.user) same)
+store_kept old new bytes reply quiet (WasDone value read answer done text) = done.quiet (sym (changes-request bytes value read) ∙ quiet)
 
-other_named : (name other : List ℕ) (databases : List DatabaseValue) (place : ℕ) (database : DatabaseValue) → place_of other databases ≡ Some place → slice_get databases place ≡ Some database → bytes_eq other name ≡ false → is_named name database ≡ false
-other_named name other databases place database found there differ =
-    let is : database.head.name ≡ other = same_bytes database.head.name other (name_is other databases place database found there) in
-    rw is differ
+pub reads_keep : (old new : Device) (bytes reply : List ℕ) (value : RequestValue) → request_at bytes ≡ Ok value → is_change (function_number value) ≡ false → Stepped old bytes reply new → (new.databases ≡ old.databases) × (new.user ≡ old.user)
+reads_keep old new bytes reply value read quiet step = store_kept old new bytes reply (changes-request bytes value read ∙ quiet) step
 
-removed_by : (name other : List ℕ) (databases : List DatabaseValue) (place : ℕ) (o : Option DatabaseValue) → slice_get databases place ≡ o → place_of other databases ≡ Some place → bytes_eq other name ≡ false → database_of name (remove databases place) ≡ database_of name databases
-removed_by name other databases place (Some database) there found differ = database_of-remove_other name databases place database there (other_named name other databases place database found there differ)
-removed_by name other databases place None there found differ = absurd (position_within (is_named other) databases place found there)
+pub target_keeps : (old new : Device) (bytes reply name : List ℕ) → Stepped old bytes reply new → is_name name (target_of old (request_at bytes)) ≡ false → database_of name new.databases ≡ database_of name old.databases
+target_keeps old new bytes reply name (WasRefused code is same text) differ = ap (λ (d : Device). database_of name d.databases) same
+target_keeps old new bytes reply name (WasDone value read answer done text) differ = done.others name (sym (ap (λ (r : Result RequestValue RequestFault). is_name name (target_of old r)) read) ∙ differ)
 
-target_by : (old new : Device) (value : RequestValue) (name : List ℕ) → is_name name (target old value) ≡ false → Change old value new → database_of name new.databases ≡ database_of name old.databases
-target_by old new value name differ (Turned is count) = ap (λ (d : Device). database_of name d.databases) is
-target_by old new value name differ (Marked changes is) = ap (λ (d : Device). database_of name d.databases) is
-target_by old new value name differ (Edited changes base database at names edits is) =
-    let other : bytes_eq base.opened.name name ≡ false = sym (ap (is_name name) names) ∙ differ in
-    let unnamed : is_named name base.database ≡ false = other_named name base.opened.name old.databases base.place base.database at.found at.there other in
-    ap (λ (d : Device). database_of name d.databases) is ∙ database_of-set_other name old.databases base.place base.database database at.there (ap (λ (head : DbHead). head.name) edits.head) unnamed
-target_by old new value name differ (Made changes database names none empty room is count) =
-    let other : bytes_eq database.head.name name ≡ false = sym (ap (is_name name) names) ∙ differ in
-    ap (λ (d : Device). database_of name d.databases) is ∙ database_of-new_other name database old.databases other
-target_by old new value name differ (Removed changes other place names found is) =
-    let unlike : bytes_eq other name ≡ false = sym (ap (is_name name) names) ∙ differ in
-    ap (λ (d : Device). database_of name d.databases) is ∙ removed_by name other old.databases place (slice_get old.databases place) refl found unlike
+pub sound_stays : (old new : Device) (bytes reply : List ℕ) → IsDevice old → Stepped old bytes reply new → IsDevice new
+sound_stays old new bytes reply sound (WasRefused code is same text) = subst IsDevice (sym same) sound
+sound_stays old new bytes reply sound (WasDone value read answer done text) = done.sound sound
 
-pub target_keeps : (old new : Device) (read : Result RequestValue RequestFault) (name : List ℕ) → Stepped old read new → is_name name (target_of old read) ≡ false → database_of name new.databases ≡ database_of name old.databases
-target_keeps old new read name (Same same) differ = ap (λ (d : Device). database_of name d.databases) same
-target_keeps old new read name (Done value is change) differ = target_by old new value name (sym (ap (λ (r : Result RequestValue RequestFault). is_name name (target_of old r)) is) ∙ differ) change
+request_fits : (bytes : List ℕ) (value : RequestValue) → IsBytes bytes → request_at bytes ≡ Ok value → RequestFits value
+request_fits bytes value are read = let text = request_takes bytes value are read in FieldsFit-AreFields _ value.fields text.content text.fields_text
 
--- ---- soundness
+pub bounded_stays : (old new : Device) (bytes reply : List ℕ) → IsBytes bytes → IsDevice old → IsBounded old → Stepped old bytes reply new → IsBounded new
+bounded_stays old new bytes reply are sound bounded (WasRefused code is same text) = subst IsBounded (sym same) bounded
+bounded_stays old new bytes reply are sound bounded (WasDone value read answer done text) = done.bounded (request_fits bytes value are read) sound bounded
 
-sound_by : (old new : Device) (value : RequestValue) → IsDevice old → Change old value new → IsDevice new
-sound_by old new value sound (Turned is count) = subst IsDevice (sym is) (record { names = sound.names; few = sound.few; ids = sound.ids; handles = count sound.handles })
-sound_by old new value sound (Marked changes is) = subst IsDevice (sym is) (record { names = sound.names; few = sound.few; ids = sound.ids; handles = sound.handles })
-sound_by old new value sound (Edited changes base database at names edits is) = subst IsDevice (sym is) (record {
-  names = NamesRise-set old.databases base.place base.database database at.there (ap (λ (head : DbHead). head.name) edits.head) sound.names;
-  few = rw length-set sound.few;
-  ids = EachHas-set (λ d. AreIds (ids_of d.records)) old.databases base.place base.database database at.there edits.ids sound.ids;
-  handles = sound.handles;
-})
-sound_by old new value sound (Made changes database names none empty room is count) = subst IsDevice (sym is) (record {
-  names = NamesRise-new database old.databases (none_named database.head.name old.databases none) sound.names;
-  few = let more = length-new database old.databases in omega arith;
-  ids = EachHas-new (λ d. AreIds (ids_of d.records)) database old.databases (rw empty tt) sound.ids;
-  handles = count sound.handles;
-})
-sound_by old new value sound (Removed changes name place names found is) = subst IsDevice (sym is) (record {
-  names = NamesRise-remove old.databases place sound.names;
-  few = let less = length-remove old.databases place in let few = sound.few in omega arith;
-  ids = EachHas-remove (λ d. AreIds (ids_of d.records)) old.databases place sound.ids;
-  handles = sound.handles;
-})
+-- ---- replies
 
-pub sound_stays : (old new : Device) (read : Result RequestValue RequestFault) → IsDevice old → Stepped old read new → IsDevice new
-sound_stays old new read sound (Same same) = subst IsDevice (sym same) sound
-sound_stays old new read sound (Done value is change) = sound_by old new value sound change
+-- a reply that is read as itself
+pub record IsRead (bytes reply : List ℕ) : Type 0 where
+  pub value : ReplyValue
+  pub is : IsReply value
+  pub text : reply ≡ reply_text value
+  pub read : reply_at (first_byte bytes) reply ≡ Ok value
+
+read_back : (bytes reply : List ℕ) (value : ReplyValue) → Replies (first_byte bytes) value → reply ≡ reply_text value → IsRead bytes reply
+read_back bytes reply value replies text =
+    let again : ReplyText (first_byte bytes) value (reply_text value) = subst (λ n. ReplyText n value (reply_text value)) replies.function (reply_written value replies.is) in
+    record { value = value; is = replies.is; text = text; read = ap (reply_at (first_byte bytes)) text ∙ reply_again (first_byte bytes) value (reply_text value) again }
+
+pub reply_read : (old new : Device) (bytes reply : List ℕ) → IsDevice old → IsBounded old → Stepped old bytes reply new → IsRead bytes reply
+reply_read old new bytes reply sound bounded (WasRefused code is same text) = read_back bytes reply (Refused (first_byte bytes) code) (refused_reply (first_byte bytes) code is.0 is.1) text
+reply_read old new bytes reply sound bounded (WasDone value read answer done text) =
+    let replies = done.reply sound bounded in
+    read_back bytes reply answer (record { is = replies.is; function = replies.function ∙ function_number-first_byte bytes value read }) text
+
+-- ---- given ids
+
+-- what more exchanges give stands behind
+pub given-append : (front back : List Exchange)
+    → flat_map (λ (exchange : Exchange). given_in exchange.request exchange.reply) (front ++ back)
+    ≡ flat_map (λ (exchange : Exchange). given_in exchange.request exchange.reply) front ++ flat_map (λ (exchange : Exchange). given_in exchange.request exchange.reply) back
+given-append [] back = refl
+given-append (exchange ∷ front) back =
+    ap (λ ids. given_in exchange.request exchange.reply ++ ids) (given-append front back)
+    ∙ sym (append_assoc (given_in exchange.request exchange.reply) (flat_map (λ (exchange : Exchange). given_in exchange.request exchange.reply) front) (flat_map (λ (exchange : Exchange). given_in exchange.request exchange.reply) back))
+
+pub given-answered : (old new : Talk) (request reply : List ℕ) → WasAnswered old request reply (Some new) → given new ≡ given old ++ given_in request reply
+given-answered old new request reply was =
+    let exchange : Exchange = record { request = request; reply = reply } in
+    let now : new.exchanges ≡ old.exchanges ++ exchange ∷ [] =
+    (let same : new ≡ record { device = was.device; exchanges = old.exchanges ++ exchange ∷ []; left = None } = some_is _ _ was.is in ap (λ (t : Talk). t.exchanges) same) in
+    ap (flat_map (λ (e : Exchange). given_in e.request e.reply)) now ∙ given-append old.exchanges (exchange ∷ []) ∙ ap (λ ids. given old ++ ids) (append-nil (given_in request reply))
+  where
+    some_is : (one other : Talk) → ◌≡◌ {A = Option Talk} (Some one) (Some other) → one ≡ other
+    some_is one other is = cc

@@ -6,12 +6,10 @@ use Rattle.palm_device.specs.Handles.{base_at}
 use Rattle.palm_device.specs.Records.{IsFree}
 use Rattle.dlp_commands.specs.DatabaseFunctions as databases
 use Rattle.dlp_commands.specs.DeviceSteps.{outcome}
-use Rattle.dlp_commands.specs.Holding.{fits}
-use Rattle.dlp_commands.specs.Reached.{Tried, reads, writes}
-use Rattle.dlp_commands.specs.Readings.{read_number, read_of, read_on}
-use Rattle.dlp_commands.specs.RecordFunctions as records
+use Rattle.dlp_commands.specs.Reached.{Tried, read_next_modified_rec, reads, reset_record_index, writes}
+use Rattle.dlp_commands.specs.Readings.{read_number}
 use Rattle.dlp_commands.specs.UserFunctions as users
-use Rattle.dlp_commands.specs.Writings.{IsShortWriting, write_number, written, written_on}
+use Rattle.dlp_commands.specs.Writings.{IsShortWriting, WriteRecord, WritingValue, write_number, writing_value}
 use Rattle.dlp_commands.specs.declared.command.Change.{Change}
 use Rattle.dlp_commands.specs.declared.command.Change.TheVariants as change
 use Rattle.dlp_commands.specs.declared.command.Command.{Command}
@@ -19,8 +17,6 @@ use Rattle.dlp_commands.specs.declared.command.Command.TheVariants as command
 use Rattle.dlp_commands.specs.declared.command.Quiet.{Quiet}
 use Rattle.dlp_commands.specs.declared.command.Quiet.TheVariants as quiet
 use Rattle.dlp_commands.specs.declared.user.UserMarks.{UserMarks}
-use Rattle.dlp_commands.specs.declared.writing.Writing.{Writing}
-use Rattle.dlp_commands.specs.declared.writing.Writing.TheVariants as writing
 
 -- the function's byte of what changes no database and not the user
 abbrev pub quiet_number : Quiet → ℕ
@@ -41,9 +37,9 @@ quiet_tried device quiet.ReadUser = users.read_user_info device
 quiet_tried device (quiet.List flags card start) = databases.read_db_list device flags card start
 quiet_tried device (quiet.Open card mode name) = databases.open_db device card mode name.now
 quiet_tried device (quiet.Close handle) = databases.close_db device handle
-quiet_tried device (quiet.Read handle reading) = reads (fits (read_on reading)) device handle (read_of reading)
-quiet_tried device (quiet.Next handle) = records.read_next_modified_rec device handle
-quiet_tried device (quiet.ResetIndex handle) = records.reset_record_index device handle
+quiet_tried device (quiet.Read handle reading) = reads device handle reading
+quiet_tried device (quiet.Next handle) = read_next_modified_rec device handle
+quiet_tried device (quiet.ResetIndex handle) = reset_record_index device handle
 quiet_tried device quiet.AddLogEntry = users.add_sync_log_entry device
 quiet_tried device quiet.OpenConduit = users.open_conduit device
 quiet_tried device quiet.EndOfSync = users.end_of_sync device
@@ -57,25 +53,25 @@ abbrev pub change_number : Change → ℕ
 change_number (change.WriteUser marks) = 0x11
 change_number (change.Create creator kind card flags version name) = 0x18
 change_number (change.Delete card name) = 0x1A
-change_number (change.Write handle writing) = write_number writing
+change_number (change.Write handle writing) = write_number (writing_value writing)
 
 -- what it does; `free` is the id that a new record gets
 abbrev pub change_tried : ℕ → Device → Change → Tried
 change_tried free device (change.WriteUser marks) = marks_tried device marks
 change_tried free device (change.Create creator kind card flags version name) = databases.create_db device creator.0 kind.0 card flags version name.now
 change_tried free device (change.Delete card name) = databases.delete_db device card name.now
-change_tried free device (change.Write handle writing) = writes (fits (written_on writing)) device handle (written free writing)
+change_tried free device (change.Write handle writing) = writes free device handle (writing_value writing)
 
 -- what is written is at most 65,500 bytes
 abbrev pub IsShortChange : Change → Type 0
 IsShortChange (change.WriteUser marks) = Unit {0}
 IsShortChange (change.Create creator kind card flags version name) = Unit {0}
 IsShortChange (change.Delete card name) = Unit {0}
-IsShortChange (change.Write handle writing) = IsShortWriting writing
+IsShortChange (change.Write handle writing) = IsShortWriting (writing_value writing)
 
 -- a writing may give a new record this id
-abbrev pub MayGiveFor : Device → ℕ → ℕ → Writing → Type 0
-MayGiveFor device free handle (writing.Record id attributes category bytes) = IfSome (base_at device handle) (λ base. id ≡ 0 → IsFree free base.database.records)
+abbrev pub MayGiveFor : Device → ℕ → ℕ → WritingValue → Type 0
+MayGiveFor device free handle (WriteRecord id attributes category bytes) = IfSome (base_at device handle) (λ base. id ≡ 0 → IsFree free base.database.records)
 MayGiveFor device free handle other = Unit {0}
 
 -- a change may give a new record this id
@@ -83,7 +79,7 @@ abbrev pub MayGiveBy : Device → ℕ → Change → Type 0
 MayGiveBy device free (change.WriteUser marks) = Unit {0}
 MayGiveBy device free (change.Create creator kind card flags version name) = Unit {0}
 MayGiveBy device free (change.Delete card name) = Unit {0}
-MayGiveBy device free (change.Write handle writing) = MayGiveFor device free handle writing
+MayGiveBy device free (change.Write handle writing) = MayGiveFor device free handle (writing_value writing)
 
 -- the function's byte of a command
 abbrev pub command_number : Command → ℕ

@@ -1,14 +1,15 @@
--- The functions on databases, handles and blocks: the table, with the errors in its order (pilot-link, `pi-dlp.h`).
-use Rattle.std.specs.Prelude.{ℕ, ◌+◌, List, [], ◌∷◌, length, take, drop, remove, Option, Some, None, Result, Ok, is_none, slice_get, nat_lt, nat_le, ◌==◌, ◌&&◌, not, if◌then◌else◌}
+-- The functions on databases and handles: the table, with the errors in its order (pilot-link, `pi-dlp.h`).
+use Rattle.std.specs.Prelude.{ℕ, ◌+◌, List, [], ◌∷◌, length, Some, None, Result, Ok, is_none, slice_get, nat_lt, ◌==◌, ◌&&◌, not, if◌then◌else◌}
+use Rattle.pdb_values.specs.NamedDatabases.{database_of, with_new, without_named}
 use Rattle.pdb_values.specs.Names.{name_fault}
 use Rattle.pdb_values.specs.declared.head.DbHead.{DbHead}
 use Rattle.dlp_replies.specs.ReplyValues as reply
-use Rattle.palm_device.specs.Blocks.{with_app, with_sort, empty_database, entry_count}
-use Rattle.palm_device.specs.Devices.{Device, most_databases, place_of, with_new, with_handles}
+use Rattle.palm_device.specs.Blocks.{empty_database}
+use Rattle.palm_device.specs.Devices.{Device, most_databases, with_handles}
 use Rattle.palm_device.specs.Handles.{is_open, free_handle, opened_at, with_handle, just_opened}
 use Rattle.palm_device.specs.Heads.{has_bit, is_read_only, new_head}
 use Rattle.dlp_commands.specs.Errors.{parameter, not_found, none_open, already_open, too_many_open, exists, read_only, limit, ◌>>=◌, check, need}
-use Rattle.dlp_commands.specs.Reached.{Tried, on_any, reads, writes}
+use Rattle.dlp_commands.specs.Reached.{Tried}
 
 -- ReadDBList, OpenDB, CreateDB, DeleteDB: another card than 0: parameter
 abbrev pub on_card : ℕ → Result (Unit {0}) ℕ
@@ -38,8 +39,7 @@ read_db_list device flags card start = do
 unfoldable pub open_db : Device → ℕ → ℕ → List ℕ → Tried
 open_db device card mode name = do
   right ← named card name
-  place ← need not_found (place_of name device.databases)
-  database ← need not_found (slice_get device.databases place)
+  database ← need not_found (database_of name device.databases)
   closed ← check already_open (not (is_open name device.handles))
   handle ← need too_many_open (free_handle device.handles)
   allowed ← check read_only (not (has_bit 0x40 mode && is_read_only database.head.attributes))
@@ -49,7 +49,7 @@ open_db device card mode name = do
 unfoldable pub create_db : Device → List ℕ → List ℕ → ℕ → ℕ → ℕ → List ℕ → Tried
 create_db device creator kind card flags version name = do
   right ← named card name
-  new ← check exists (is_none (place_of name device.databases))
+  new ← check exists (is_none (database_of name device.databases))
   handle ← need too_many_open (free_handle device.handles)
   room ← check limit (nat_lt (length device.databases) most_databases)
   Ok (record device { databases = with_new (empty_database (new_head name kind creator flags version)) device.databases; handles = with_handle handle (Some (just_opened name 0xC0)) device.handles }, reply.CreateDb handle)
@@ -64,33 +64,6 @@ close_db device handle = do
 unfoldable pub delete_db : Device → ℕ → List ℕ → Tried
 delete_db device card name = do
   right ← named card name
-  place ← need not_found (place_of name device.databases)
+  database ← need not_found (database_of name device.databases)
   closed ← check already_open (not (is_open name device.handles))
-  Ok (record device { databases = remove device.databases place }, reply.DeleteDb)
-
--- the bytes of a block from an offset on, at most so many: no block: not found; the offset is past its end: parameter
-abbrev pub block_part : Option (List ℕ) → ℕ → ℕ → Result (List ℕ) ℕ
-block_part block offset count = do
-  bytes ← need not_found block
-  within ← check parameter (nat_le offset (length bytes))
-  Ok (take count (drop offset bytes))
-
--- ReadAppBlock replies a part of the app block
-unfoldable pub read_app_block : Device → ℕ → ℕ → ℕ → Tried
-read_app_block device handle offset count = reads on_any device handle (λ database. block_part database.app offset count >>= λ bytes. Ok (reply.ReadAppBlock bytes))
-
--- ReadSortBlock replies a part of the sort block
-unfoldable pub read_sort_block : Device → ℕ → ℕ → ℕ → Tried
-read_sort_block device handle offset count = reads on_any device handle (λ database. block_part database.sort offset count >>= λ bytes. Ok (reply.ReadSortBlock bytes))
-
--- WriteAppBlock: no bytes remove the app block, else they are it
-unfoldable pub write_app_block : Device → ℕ → List ℕ → Tried
-write_app_block device handle bytes = writes on_any device handle (λ database. Ok (with_app bytes database, reply.WriteAppBlock))
-
--- WriteSortBlock: no bytes remove the sort block, else they are it
-unfoldable pub write_sort_block : Device → ℕ → List ℕ → Tried
-write_sort_block device handle bytes = writes on_any device handle (λ database. Ok (with_sort bytes database, reply.WriteSortBlock))
-
--- ReadOpenDBInfo replies the number of entries, deleted ones included
-unfoldable pub read_open_db_info : Device → ℕ → Tried
-read_open_db_info device handle = reads on_any device handle (λ database. Ok (reply.ReadOpenDbInfo (entry_count database)))
+  Ok (record device { databases = without_named name device.databases }, reply.DeleteDb)

@@ -12,11 +12,11 @@ use Rattle.palm_device.specs.Devices.{Device}
 use Rattle.palm_device.specs.Handles.{base_at}
 use Rattle.palm_device.specs.Records.{IsFree}
 use Rattle.dlp_commands.specs.Errors.{fault_code}
-use Rattle.dlp_commands.specs.Reached.{Tried}
-use Rattle.dlp_commands.specs.UserFunctions as users
 use Rattle.dlp_commands.specs.DatabaseFunctions as databases
-use Rattle.dlp_commands.specs.RecordFunctions as records
-use Rattle.dlp_commands.specs.ResourceFunctions as resources
+use Rattle.dlp_commands.specs.Reached.{Tried, read_next_modified_rec, reads, reset_record_index, writes}
+use Rattle.dlp_commands.specs.UserFunctions as users
+use Rattle.dlp_commands.specs.Writings as writing
+use Rattle.dlp_commands.specs.declared.reading.Reading.TheVariants as reading
 
 -- what a request of a form does; `free` is the id that a new record gets
 abbrev pub tried_by : ℕ → Device → (f : Form) → Fields (kinds_of f) → Tried
@@ -27,28 +27,28 @@ tried_by free device form.OpenDb (card, (mode, (name, end))) = databases.open_db
 tried_by free device form.CreateDb (creator, (kind, (card, (pad, (flags, (version, (name, end))))))) = databases.create_db device creator kind card flags version name
 tried_by free device form.CloseDb (handle, end) = databases.close_db device handle
 tried_by free device form.DeleteDb (card, (pad, (name, end))) = databases.delete_db device card name
-tried_by free device form.ReadAppBlock (handle, (pad, (offset, (count, end)))) = databases.read_app_block device handle offset count
-tried_by free device form.ReadSortBlock (handle, (pad, (offset, (count, end)))) = databases.read_sort_block device handle offset count
-tried_by free device form.WriteAppBlock (handle, (pad, (bytes, end))) = databases.write_app_block device handle bytes
-tried_by free device form.WriteSortBlock (handle, (pad, (bytes, end))) = databases.write_sort_block device handle bytes
-tried_by free device form.ReadNextModifiedRec (handle, end) = records.read_next_modified_rec device handle
-tried_by free device form.ReadRecordById (handle, (pad, (id, (offset, (count, end))))) = records.read_record_by_id device handle id offset count
-tried_by free device form.ReadRecordByIndex (handle, (pad, (index, (offset, (count, end))))) = records.read_record_by_index device handle index offset count
-tried_by free device form.WriteRecord (handle, (flags, (id, (attributes, (category, (bytes, end)))))) = records.write_record free device handle id attributes category bytes
-tried_by free device form.DeleteRecord (handle, (flags, (id, end))) = records.delete_record device handle flags id
-tried_by free device form.ReadResourceByIndex (handle, (pad, (index, (offset, (count, end))))) = resources.read_resource_by_index device handle index offset count
-tried_by free device form.ReadResourceByType (handle, (pad, (kind, (id, (offset, (count, end)))))) = resources.read_resource_by_type device handle kind id offset count
-tried_by free device form.WriteResource (handle, (pad, (kind, (id, (bytes, end))))) = resources.write_resource device handle kind id bytes
-tried_by free device form.DeleteResource (handle, (flags, (kind, (id, end)))) = resources.delete_resource device handle flags kind id
-tried_by free device form.CleanUpDatabase (handle, end) = records.clean_up_database device handle
-tried_by free device form.ResetSyncFlags (handle, end) = records.reset_sync_flags device handle
-tried_by free device form.ResetRecordIndex (handle, end) = records.reset_record_index device handle
+tried_by free device form.ReadAppBlock (handle, (pad, (offset, (count, end)))) = reads device handle (reading.AppBlock offset count)
+tried_by free device form.ReadSortBlock (handle, (pad, (offset, (count, end)))) = reads device handle (reading.SortBlock offset count)
+tried_by free device form.WriteAppBlock (handle, (pad, (bytes, end))) = writes free device handle (writing.AppBlock bytes)
+tried_by free device form.WriteSortBlock (handle, (pad, (bytes, end))) = writes free device handle (writing.SortBlock bytes)
+tried_by free device form.ReadNextModifiedRec (handle, end) = read_next_modified_rec device handle
+tried_by free device form.ReadRecordById (handle, (pad, (id, (offset, (count, end))))) = reads device handle (reading.RecordOfId id offset count)
+tried_by free device form.ReadRecordByIndex (handle, (pad, (index, (offset, (count, end))))) = reads device handle (reading.RecordAt index offset count)
+tried_by free device form.WriteRecord (handle, (flags, (id, (attributes, (category, (bytes, end)))))) = writes free device handle (writing.WriteRecord id attributes category bytes)
+tried_by free device form.DeleteRecord (handle, (flags, (id, end))) = writes free device handle (writing.DeleteRecord flags id)
+tried_by free device form.ReadResourceByIndex (handle, (pad, (index, (offset, (count, end))))) = reads device handle (reading.ResourceAt index offset count)
+tried_by free device form.ReadResourceByType (handle, (pad, (kind, (id, (offset, (count, end)))))) = reads device handle (reading.ResourceOfType (record { 0 = kind }) id offset count)
+tried_by free device form.WriteResource (handle, (pad, (kind, (id, (bytes, end))))) = writes free device handle (writing.WriteResource kind id bytes)
+tried_by free device form.DeleteResource (handle, (flags, (kind, (id, end)))) = writes free device handle (writing.DeleteResource flags kind id)
+tried_by free device form.CleanUpDatabase (handle, end) = writes free device handle writing.CleanUp
+tried_by free device form.ResetSyncFlags (handle, end) = writes free device handle writing.ResetFlags
+tried_by free device form.ResetRecordIndex (handle, end) = reset_record_index device handle
 tried_by free device form.AddSyncLogEntry (text, end) = users.add_sync_log_entry device
-tried_by free device form.ReadOpenDbInfo (handle, end) = databases.read_open_db_info device handle
-tried_by free device form.MoveCategory (handle, (from, (to, (pad, end)))) = records.move_category device handle from to
+tried_by free device form.ReadOpenDbInfo (handle, end) = reads device handle reading.EntryCount
+tried_by free device form.MoveCategory (handle, (from, (to, (pad, end)))) = writes free device handle (writing.MoveCategory from to)
 tried_by free device form.OpenConduit none = users.open_conduit device
 tried_by free device form.EndOfSync (status, end) = users.end_of_sync device
-tried_by free device form.ReadRecordIdList (handle, (flags, (start, (maximum, end)))) = records.read_record_id_list device handle start maximum
+tried_by free device form.ReadRecordIdList (handle, (flags, (start, (maximum, end)))) = reads device handle (reading.RecordIds start maximum)
 
 -- what a request does
 unfoldable pub tried : ℕ → Device → RequestValue → Tried

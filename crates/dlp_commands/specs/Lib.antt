@@ -9,10 +9,8 @@ pub mod Holding
 pub mod Links
 pub mod Reached
 pub mod Readings
-pub mod RecordFunctions
 pub mod Refusals
 pub mod RequestData
-pub mod ResourceFunctions
 pub mod Talks
 pub mod Targets
 pub mod UserFunctions

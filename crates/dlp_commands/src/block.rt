@@ -3,7 +3,7 @@ ghost use Rattle.std.specs.Prelude.{◌≡◌, ◌≤◌, IfOk, drop, length, ta
 ghost use Rattle.std.specs.Option.{option_copied};
 ghost use Rattle.pdb_values.specs.Blocks.{block_length};
 ghost use Rattle.dlp_commands.specs.Answers.{Finds};
-ghost use Rattle.dlp_commands.specs.DatabaseFunctions as table;
+ghost use Rattle.dlp_commands.specs.Readings as table;
 
 use crate::refusal::Refusal;
 

@@ -13,7 +13,7 @@ use dlp_requests::Request;
 use pdb_values::FourCc;
 
 /// What a request asks a handheld to do.
-#[derive(Clone, Copy, Debug)]
+#[derive(Clone, Copy)]
 pub enum Command<'a> {
     /// It changes no database and not the user.
     Quiet(Quiet<'a>),
@@ -22,7 +22,7 @@ pub enum Command<'a> {
 }
 
 /// What changes no database and not the user: handles and record indexes at most.
-#[derive(Clone, Copy, Debug)]
+#[derive(Clone, Copy)]
 pub enum Quiet<'a> {
     ReadUser,
     List { flags: u8, card: u8, start: u16 },
@@ -39,7 +39,7 @@ pub enum Quiet<'a> {
 }
 
 /// What may change a database or the user.
-#[derive(Clone, Copy, Debug)]
+#[derive(Clone, Copy)]
 pub enum Change<'a> {
     WriteUser {
         marks: UserMarks<'a>,
@@ -64,7 +64,7 @@ pub enum Change<'a> {
 
 impl<'a> Command<'a> {
     /// What a request asks.
-    #[tactic(auto, unfolding(crate::specs::DeviceSteps::tried, crate::specs::DatabaseFunctions::read_app_block, crate::specs::DatabaseFunctions::read_sort_block, crate::specs::DatabaseFunctions::write_app_block, crate::specs::DatabaseFunctions::write_sort_block, crate::specs::DatabaseFunctions::read_open_db_info, crate::specs::RecordFunctions::read_record_by_id, crate::specs::RecordFunctions::read_record_by_index, crate::specs::RecordFunctions::write_record, crate::specs::RecordFunctions::delete_record, crate::specs::RecordFunctions::clean_up_database, crate::specs::RecordFunctions::reset_sync_flags, crate::specs::RecordFunctions::move_category, crate::specs::RecordFunctions::read_record_id_list, crate::specs::ResourceFunctions::read_resource_by_index, crate::specs::ResourceFunctions::read_resource_by_type, crate::specs::ResourceFunctions::write_resource, crate::specs::ResourceFunctions::delete_resource))]
+    #[tactic(auto, unfolding(crate::specs::DeviceSteps::tried))]
     pub fn of(request: Request<'a>) -> Command<'a>
         requires { length (data_of (request_value request)) ≤ 65500 }
         ensures number { command_number result ≡ function_number (request_value request.entry) }

@@ -5,7 +5,7 @@ ghost use Rattle.dlp_commands.specs.Holding.{fits};
 use pdb_values::Database;
 
 /// What a function works on.
-#[derive(Clone, Copy, Debug)]
+#[derive(Clone, Copy)]
 pub enum Holds {
     /// Any database.
     Either,

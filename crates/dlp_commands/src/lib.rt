@@ -1,9 +1,10 @@
 //! What the requests of the Desktop Link Protocol do to a handheld, and the link over which they go.
 //!
-//! The table of the functions is in `specs`: `UserFunctions`, `DatabaseFunctions`, `RecordFunctions` and
-//! `ResourceFunctions` have a definition a function, with its errors in their order and then its effect. `DeviceSteps` makes
-//! of them what a message does to a device, `DeviceRuns` what several do. A `Link` is a device behind a line. The public
-//! source is pilot-link's `pi-dlp.h` and `dlp.c`.
+//! The table of the functions is in `specs`, each function once, with its errors in their order and then its effect: those on
+//! the user in `UserFunctions`, on databases and handles in `DatabaseFunctions`; what a handle leads to is in `Reached`, what is
+//! read of its database in `Readings`, what is written into it in `Writings`. `DeviceSteps` makes of them what a message does to
+//! a device, `DeviceRuns` what several do. A `Link` is a device behind a line. The public source is pilot-link's `pi-dlp.h` and
+//! `dlp.c`.
 //!
 //! What every program that is a device shares is here too: a request as a `Command`, what a `Reading` finds in a database, the
 //! `Edit` that a `Writing` plans, and how replies and errors are written.
@@ -11,7 +12,6 @@
 
 mod block;
 mod command;
-mod edit;
 mod holds;
 mod laws;
 mod link;
@@ -28,16 +28,17 @@ pub use command::{Change, Command, Quiet};
 pub use dlp_args::{Message, MessageText};
 pub use dlp_replies::{Entries, ErrorCode, Ids, Reply, ReplyFault, read_reply, write_reply};
 pub use dlp_requests::{Request, RequestFault, read_request, write_request};
-pub use edit::Edit;
 pub use holds::Holds;
 pub use laws::{
-    end_of_sync_closes_all, only_the_target_changes, reading_keeps_databases,
-    refused_changes_nothing, runs_append, soundness_stays, step_is_determined,
+    bounds_stay, end_of_sync_closes_all, first_byte_tells_changes, given_ids_append,
+    only_the_target_changes, reading_keeps_databases, refused_changes_nothing, replies_are_read,
+    runs_append, soundness_stays, step_is_determined,
 };
 pub use link::{Link, LinkFault};
 pub use listing::{is_writable, listed, more_flag, named};
+pub use palm_device::{Edit, given_id};
 pub use reading::Reading;
-pub use record::{content_of, given_id, next_record};
+pub use record::{content_of, next_record};
 pub use refusal::Refusal;
 pub use reply::{put_done, put_fault, put_listed, put_refusal, put_reply};
 pub use user::{UserMarks, marked, user_reply};

@@ -7,7 +7,7 @@ ghost use Rattle.dlp_commands.specs.Talks.{Answered, Talk, Unanswered};
 use dlp_args::Message;
 
 /// Why a link answers no more.
-#[derive(Clone, Copy, Debug, PartialEq, Eq)]
+#[derive(Clone, Copy)]
 pub enum LinkFault {
     /// It went down.
     Down,

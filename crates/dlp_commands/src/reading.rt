@@ -19,7 +19,7 @@ use std::alloc::{AllocError, Global};
 
 /// What a function reads of the database that its handle leads to: at most so many bytes from an offset on, a number of
 /// entries, or ids.
-#[derive(Clone, Copy, Debug)]
+#[derive(Clone, Copy)]
 pub enum Reading {
     AppBlock {
         offset: u16,

@@ -2,10 +2,12 @@
 ghost use Rattle.std.specs.Prelude.{◌≡◌, ◌<◌, ◌≤◌, IfOk, OnOk, drop, length, take, true};
 ghost use Rattle.dlp_replies.specs.Views.{reply_value};
 ghost use Rattle.dlp_replies.specs.Writables.{IsWritable};
+ghost use Rattle.palm_device.specs.Records as records;
 ghost use Rattle.palm_device.specs.Soundness.{ids_of};
 ghost use Rattle.dlp_commands.specs.Answers.{Finds};
+ghost use Rattle.dlp_commands.specs.Readings as table;
 ghost use Rattle.dlp_commands.specs.Readings.{next_in};
-ghost use Rattle.dlp_commands.specs.RecordFunctions as table;
+ghost use Rattle.dlp_commands.specs.Writings as writings;
 
 use crate::block::part_of;
 use crate::holds::Holds;
@@ -100,16 +102,9 @@ pub fn next_record(database: &Database, next: u16) -> Result<(u16, Reply<'_>), R
 
 // Whether an id asks for a new record.
 fn is_new(database: &Database, id: u32) -> bool
-    ensures { result ≡ table.is_new id database.now.records }
+    ensures { result ≡ records.is_new id database.now.records }
 {
     id == 0 || place_of_id(database.records(), id).is_none()
-}
-
-/// The id of a written record: the free one where it asks for one.
-pub fn given_id(free: RecordId, id: RecordId) -> RecordId
-    ensures { result ≡ table.given_id free id }
-{
-    if id.number() == 0 { free } else { id }
 }
 
 // The id and the category of a record that may be written.
@@ -118,9 +113,9 @@ pub(crate) fn may_write(
     id: u32,
     category: u8,
 ) -> Result<(RecordId, Category), Refusal>
-    ensures allowed { Finds (λ _. tt) result (table.may_write id category database.now.records) }
+    ensures allowed { Finds (λ _. tt) result (writings.may_write id category database.now.records) }
     ensures asked { IfOk result (λ asked. asked ≡ (id, category)) }
-    ensures room { OnOk result (table.is_new id database.now.records ≡ true → length database.now.records < 65535) }
+    ensures room { OnOk result (records.is_new id database.now.records ≡ true → length database.now.records < 65535) }
 {
     let Some(asked) = RecordId::new(id) else {
         return Err(Refusal::Parameter);

@@ -5,7 +5,7 @@ ghost use Rattle.dlp_commands.specs.Refusals.{code_of};
 use dlp_replies::ErrorCode;
 
 /// Why a request is refused.
-#[derive(Clone, Copy, Debug, PartialEq, Eq)]
+#[derive(Clone, Copy)]
 pub enum Refusal {
     /// A value that is none: another card, a bad name, date or category, an offset past the end.
     Parameter,

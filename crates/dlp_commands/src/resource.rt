@@ -2,8 +2,9 @@
 ghost use Rattle.std.specs.Prelude.{◌≡◌, IfOk, length};
 ghost use Rattle.dlp_replies.specs.Views.{reply_value};
 ghost use Rattle.dlp_replies.specs.Writables.{IsWritable};
+ghost use Rattle.palm_device.specs.Resources as resources;
 ghost use Rattle.dlp_commands.specs.Answers.{Finds};
-ghost use Rattle.dlp_commands.specs.ResourceFunctions as table;
+ghost use Rattle.dlp_commands.specs.Readings as table;
 
 use crate::block::part_of;
 use crate::refusal::Refusal;
@@ -49,7 +50,7 @@ pub(crate) fn code_len(code: &[u8; 4]) -> usize
 
 // Whether there is room for a written resource.
 pub(crate) fn has_room(database: &Database, kind: FourCc, id: u16) -> bool
-    ensures { result ≡ table.has_room kind.0 id database.now.resources }
+    ensures { result ≡ resources.has_room kind.0 id database.now.resources }
 {
     place_of_resource(database.resources(), kind, id).is_some()
         || database.resources().len() < 65_535

@@ -13,7 +13,7 @@ use pdb_values::{PalmDate, UserInfo, UserName};
 
 /// What WriteUserInfo bears: the numbers of the user, the viewer and the desktop, a date on the wire, which of them are to be
 /// set, and a name with its length.
-#[derive(Clone, Copy, Debug)]
+#[derive(Clone, Copy)]
 pub struct UserMarks<'a> {
     pub user: u32,
     pub viewer: u32,

@@ -2,21 +2,22 @@
 ghost use Rattle.std.specs.Prelude.{◌≡◌, ◌==◌, ◌≤◌, IfOk, false, length, true};
 ghost use Rattle.pdb_values.specs.Heads.{holds_resources};
 ghost use Rattle.dlp_replies.specs.Frames.{reply_text};
+ghost use Rattle.palm_device.specs.Edits.{IsFor, gives_free};
 ghost use Rattle.dlp_commands.specs.Holding.{fits};
-ghost use Rattle.dlp_commands.specs.Writings.{IsFor, IsShortWriting, Plans, PlansHeld, asks_free, gives_free, write_number, write_reply as reply_to, written_on};
+ghost use Rattle.dlp_commands.specs.Writings as value;
+ghost use Rattle.dlp_commands.specs.Writings.{IsShortWriting, Plans, PlansHeld, asks_free, write_number, write_reply as reply_to, writing_value, written_on};
 
-use crate::edit::Edit;
 use crate::holds::Holds;
 use crate::record::may_write;
 use crate::refusal::Refusal;
 use crate::resource::has_room;
 use dlp_args::Message;
 use dlp_replies::{Reply, write_reply};
-use palm_device::{Kept, has_bit, place_of_id, place_of_resource};
+use palm_device::{Edit, Kept, has_bit, place_of_id, place_of_resource};
 use pdb_values::{Category, Database, FourCc, RecordId};
 
 /// What a function writes into the database that its handle leads to.
-#[derive(Clone, Copy, Debug)]
+#[derive(Clone, Copy)]
 pub enum Writing<'a> {
     /// No bytes take the block away.
     AppBlock {
@@ -60,7 +61,7 @@ pub enum Writing<'a> {
 impl<'a> Writing<'a> {
     /// The function's byte.
     pub fn number(&self) -> u8
-        ensures { result ≡ write_number self.now }
+        ensures { result ≡ write_number (writing_value self.now) }
     {
         match self {
             Writing::AppBlock { .. } => 0x1C,
@@ -77,7 +78,7 @@ impl<'a> Writing<'a> {
 
     // What the database has to hold.
     fn holds(&self) -> Holds
-        ensures { result ≡ written_on self.now }
+        ensures { result ≡ written_on (writing_value self.now) }
     {
         match self {
             Writing::AppBlock { .. } => Holds::Either,
@@ -95,10 +96,10 @@ impl<'a> Writing<'a> {
     /// The edit that does it, or why it is refused.
     #[tactic(auto, using(crate::proofs::AnswerLaws::plans_held))]
     pub fn plan(&self, database: &Database) -> Result<Edit<'a>, Refusal>
-        requires { IsShortWriting self.now }
-        ensures plan { Plans self.now database.now result }
+        requires { IsShortWriting (writing_value self.now) }
+        ensures plan { Plans (writing_value self.now) database.now result }
         ensures possible { IfOk result (IsFor database.now) }
-        ensures free { IfOk result (λ edit. gives_free edit ≡ asks_free self.now) }
+        ensures free { IfOk result (λ edit. gives_free edit ≡ asks_free (writing_value self.now)) }
     {
         if !self.holds().fits(database) {
             return Err(Refusal::NotSupported);
@@ -108,11 +109,11 @@ impl<'a> Writing<'a> {
 
     // The same, where the database holds it.
     fn plan_suited(&self, database: &Database) -> Result<Edit<'a>, Refusal>
-        requires fits { fits (written_on self.now) database.now ≡ true }
-        requires short { IsShortWriting self.now }
-        ensures plan { PlansHeld self.now database.now result }
+        requires fits { fits (written_on (writing_value self.now)) database.now ≡ true }
+        requires short { IsShortWriting (writing_value self.now) }
+        ensures plan { PlansHeld (writing_value self.now) database.now result }
         ensures possible { IfOk result (IsFor database.now) }
-        ensures free { IfOk result (λ edit. gives_free edit ≡ asks_free self.now) }
+        ensures free { IfOk result (λ edit. gives_free edit ≡ asks_free (writing_value self.now)) }
     {
         match *self {
             Writing::AppBlock { bytes } => Ok(Edit::AppBlock { bytes }),
@@ -136,7 +137,7 @@ impl<'a> Writing<'a> {
 
     /// Replies that it is done. A written record has the given id.
     pub fn put_done(&self, given: RecordId, out: &mut Message)
-        ensures { out.new ≡ reply_text (reply_to given self.now) }
+        ensures { out.new ≡ reply_text (reply_to given (writing_value self.now)) }
     {
         let done = match self {
             Writing::AppBlock { .. } => Reply::WriteAppBlock,
@@ -163,7 +164,7 @@ fn written_record<'a>(
 ) -> Result<Edit<'a>, Refusal>
     requires records { holds_resources database.now.head.attributes ≡ false }
     requires short { length bytes.now ≤ 65500 }
-    ensures plan { PlansHeld (Writing.Record id attributes category bytes.entry) database.now result }
+    ensures plan { PlansHeld (value.WriteRecord id attributes category bytes.now) database.now result }
     ensures possible { IfOk result (IsFor database.now) }
     ensures free { IfOk result (λ edit. gives_free edit ≡ (id == 0)) }
 {
@@ -180,7 +181,7 @@ fn written_record<'a>(
 
 // All records without those that the flags and the id say.
 fn records_gone<'a>(database: &Database, flags: u8, id: u32) -> Result<Edit<'a>, Refusal>
-    ensures plan { PlansHeld (Writing.DeleteRecord flags id) database.now result }
+    ensures plan { PlansHeld (value.DeleteRecord flags id) database.now result }
     ensures possible { IfOk result (IsFor database.now) }
     ensures free { IfOk result (λ edit. gives_free edit ≡ false) }
 {
@@ -203,7 +204,7 @@ fn records_gone<'a>(database: &Database, flags: u8, id: u32) -> Result<Edit<'a>,
 
 // Every record of a category in another one.
 fn categories<'a>(database: &Database, from: u8, to: u8) -> Result<Edit<'a>, Refusal>
-    ensures plan { PlansHeld (Writing.MoveCategory from to) database.now result }
+    ensures plan { PlansHeld (value.MoveCategory from to) database.now result }
     ensures possible { IfOk result (IsFor database.now) }
     ensures free { IfOk result (λ edit. gives_free edit ≡ false) }
 {
@@ -222,7 +223,7 @@ fn written_resource<'a>(
 ) -> Result<Edit<'a>, Refusal>
     requires resources { holds_resources database.now.head.attributes ≡ true }
     requires short { length bytes.now ≤ 65500 }
-    ensures plan { PlansHeld (Writing.Resource kind id bytes.entry) database.now result }
+    ensures plan { PlansHeld (value.WriteResource kind.0 id bytes.now) database.now result }
     ensures possible { IfOk result (IsFor database.now) }
     ensures free { IfOk result (λ edit. gives_free edit ≡ false) }
 {
@@ -239,7 +240,7 @@ fn resources_gone<'a>(
     kind: FourCc,
     id: u16,
 ) -> Result<Edit<'a>, Refusal>
-    ensures plan { PlansHeld (Writing.DeleteResource flags kind id) database.now result }
+    ensures plan { PlansHeld (value.DeleteResource flags kind.0 id) database.now result }
     ensures possible { IfOk result (IsFor database.now) }
     ensures free { IfOk result (λ edit. gives_free edit ≡ false) }
 {

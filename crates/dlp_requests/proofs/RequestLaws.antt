@@ -183,7 +183,7 @@ request_of_takes function.EndOfSync arguments bytes value fits texts e = request
 request_of_takes function.ResetRecordIndex arguments bytes value fits texts e = request_by_takes form.ResetRecordIndex arguments bytes value fits texts e
 request_of_takes function.ReadRecordIdList arguments bytes value fits texts e = request_by_takes form.ReadRecordIdList arguments bytes value fits texts e
 
-request_takes : (bytes : List ℕ) (value : RequestValue) → IsBytes bytes → request_at bytes ≡ Ok value → RequestText value bytes
+pub request_takes : (bytes : List ℕ) (value : RequestValue) → IsBytes bytes → request_at bytes ≡ Ok value → RequestText value bytes
 unfolding request_at
 request_takes [] value fits e = absurd cc
 request_takes (number ∷ []) value fits e = let f = done (known number (function_of number)) _ value e in let no = f.2 in absurd cc

@@ -1,3 +1,4 @@
+pub mod BoundLaws
 pub mod EntryLaws
 pub mod IdLaws
 pub mod KeepingLaws

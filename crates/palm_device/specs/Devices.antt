@@ -1,7 +1,8 @@
 -- A handheld as a HotSync sees it: databases, a user, and the handles of open databases (pilot-link, `pi-dlp.h`).
-use Rattle.std.specs.Prelude.{ℕ, List, slice_set, Option}
+use Rattle.std.specs.Prelude.{List, Option}
 pub use Rattle.pdb_values.specs.Bounds.{most_databases}
 use Rattle.pdb_values.specs.Databases.{DatabaseValue}
+use Rattle.pdb_values.specs.NamedDatabases.{replaced}
 pub use Rattle.pdb_values.specs.NamedDatabases.{comes_before, database_of, is_named, place_for, place_of, with_new}
 use Rattle.pdb_values.specs.declared.user.UserInfo.{UserInfo}
 use Rattle.palm_device.specs.declared.opened.Opened.{Opened}
@@ -12,9 +13,9 @@ pub record Device : Type 0 where
   pub user : UserInfo
   pub handles : List (Option Opened)
 
--- another value of the database at a place; all else stays
-abbrev pub with_database : Device → ℕ → DatabaseValue → Device
-with_database device place database = record device { databases = slice_set device.databases place database }
+-- another value of the database of this one's name; all else stays
+abbrev pub with_database : Device → DatabaseValue → Device
+with_database device database = record device { databases = replaced database device.databases }
 
 -- the same handles over the same databases and user, or other handles
 abbrev pub with_handles : Device → List (Option Opened) → Device

@@ -3,7 +3,8 @@ use Rattle.std.specs.Prelude.{ℕ, ◌+◌, ◌-◌, Bool, false, ◌&&◌, not,
 use Rattle.std.specs.Str.{bytes_eq}
 use Rattle.std.specs.Option.{option_map}
 use Rattle.pdb_values.specs.Databases.{DatabaseValue}
-use Rattle.palm_device.specs.Devices.{Device, place_of}
+use Rattle.pdb_values.specs.NamedDatabases.{database_of}
+use Rattle.palm_device.specs.Devices.{Device}
 use Rattle.palm_device.specs.Heads.{has_bit, is_read_only}
 use Rattle.palm_device.specs.declared.opened.Opened.{Opened}
 
@@ -49,15 +50,14 @@ with_handle handle opened handles = slice_set handles (handle - 1) opened
 abbrev pub just_opened : List ℕ → ℕ → Opened
 just_opened name mode = record { name = name; mode = mode; next = 0 }
 
--- what a handle leads to: what is open, and its database with its place
+-- what a handle leads to: what is open, and the database of its name
 pub record Base : Type 0 where
   pub opened : Opened
-  pub place : ℕ
   pub database : DatabaseValue
 
 -- the base of what is open
 abbrev pub base_of : Device → Opened → Option Base
-base_of device opened = option_and_then (λ place. option_map (λ database. record { opened = opened; place = place; database = database }) (slice_get device.databases place)) (place_of opened.name device.databases)
+base_of device opened = option_map (λ database. record { opened = opened; database = database }) (database_of opened.name device.databases)
 
 -- the base of a handle
 abbrev pub base_at : Device → ℕ → Option Base

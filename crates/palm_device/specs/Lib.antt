@@ -1,4 +1,5 @@
 pub mod Blocks
+pub mod Bounds
 pub mod Devices
 pub mod Edits
 pub mod Entries

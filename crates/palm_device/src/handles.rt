@@ -7,7 +7,7 @@ use crate::opened::Opened;
 use std::marker::Model;
 
 /// The handles 1 to 8 of a device, each with what is open under it.
-#[derive(Debug, Drop)]
+#[derive(Drop)]
 pub struct Handles {
     slots: [Option<Opened>; 8],
 }

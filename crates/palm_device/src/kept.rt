@@ -5,7 +5,7 @@ ghost use Rattle.palm_device.specs.Kept.{is_kept};
 use pdb_values::{Category, Record};
 
 /// Which records are kept when others are taken out.
-#[derive(Clone, Copy, Debug)]
+#[derive(Clone, Copy)]
 pub enum Kept {
     /// Those that were not deleted.
     Live,

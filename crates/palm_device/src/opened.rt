@@ -2,7 +2,7 @@
 use pdb_values::DbName;
 
 /// A database that is open under a handle.
-#[derive(Debug, Drop)]
+#[derive(Drop)]
 pub struct Opened {
     /// The name of the database.
     pub name: DbName,

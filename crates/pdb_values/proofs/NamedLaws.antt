@@ -429,6 +429,18 @@ database_of-without_named name gone (x ∷ xs) rise = rw (without_named-cons gon
         ap (λ (o : Option DatabaseValue). cond (bytes_eq x.head.name name) (Some x) o) later
         ∙ turn (bytes_eq x.head.name name) (bytes_eq gone name) (λ same. ap (λ n. bytes_eq x.head.name n) (sym (bytes_eq-is gone name same)) ∙ is)
 
+-- any other name finds what it found, whatever the order
+pub database_of-without_other : (name gone : List ℕ) (databases : List DatabaseValue) → bytes_eq gone name ≡ false → database_of name (without_named gone databases) ≡ database_of name databases
+database_of-without_other name gone [] other = refl
+database_of-without_other name gone (x ∷ xs) other = rw (without_named-cons gone x xs) (by (bytes_eq x.head.name gone) refl (database_of-without_other name gone xs other))
+  where
+    by : (b : Bool) → bytes_eq x.head.name gone ≡ b → database_of name (without_named gone xs) ≡ database_of name xs
+        → database_of name (cond b xs (x ∷ without_named gone xs)) ≡ cond (bytes_eq x.head.name name) (Some x) (database_of name xs)
+    by true is later =
+        let differ : bytes_eq x.head.name name ≡ false = ap (λ n. bytes_eq n name) (bytes_eq-is x.head.name gone is) ∙ other in
+        sym (cond-false (bytes_eq x.head.name name) (Some x) (database_of name xs) differ)
+    by false is later = ap (λ (o : Option DatabaseValue). cond (bytes_eq x.head.name name) (Some x) o) later
+
 pub AllByRecursion-without_named : (P : DatabaseValue → Type 0) (name : List ℕ) (databases : List DatabaseValue) → AllByRecursion P databases → AllByRecursion P (without_named name databases)
 AllByRecursion-without_named P name [] each = tt
 AllByRecursion-without_named P name (x ∷ xs) each = rw (without_named-cons name x xs) (by (bytes_eq x.head.name name) (AllByRecursion-without_named P name xs each.1))

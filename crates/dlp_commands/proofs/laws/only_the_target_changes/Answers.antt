@@ -1,6 +1,5 @@
-use Rattle.dlp_requests.specs.RequestReading.{request_at}
 use Rattle.dlp_commands.proofs.StepLaws.{stepped, target_keeps}
 use Rattle.dlp_commands.proofs.laws.only_the_target_changes.Goals as goal
 
 pub returns : goal.returns
-returns c old new bytes reply name step differ = target_keeps old new (request_at bytes) name (stepped old new bytes reply step) differ
+returns c old new bytes reply name step differ = target_keeps old new bytes reply name (stepped old new bytes reply step) differ

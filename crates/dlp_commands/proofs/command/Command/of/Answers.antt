@@ -2,11 +2,8 @@
 use Rattle.std.proofs.Common.{◌≤◌, length, refl, subst}
 use Rattle.dlp_requests.specs.declared.request.Request.{Request}
 use Rattle.dlp_requests.specs.Views.{request_value}
-use Rattle.dlp_commands.specs.DatabaseFunctions as databases
 use Rattle.dlp_commands.specs.DeviceSteps.{tried}
-use Rattle.dlp_commands.specs.RecordFunctions as records
 use Rattle.dlp_commands.specs.RequestData.{data_of}
-use Rattle.dlp_commands.specs.ResourceFunctions as resources
 use Rattle.dlp_commands.proofs.command.Command.of.Goals as goal
 
 pub returns-in-WriteUserInfo-clause-same : goal.returns-in-WriteUserInfo-clause-same
@@ -34,22 +31,22 @@ unfolding tried
 returns-in-DeleteDb-clause-same c free device = rw c.in-DeleteDb.is refl
 
 pub returns-in-ReadAppBlock-clause-same : goal.returns-in-ReadAppBlock-clause-same
-unfolding tried databases.read_app_block
+unfolding tried
 returns-in-ReadAppBlock-clause-same c free device = rw (c.reads.ensures, c.in-ReadAppBlock.is) refl
 
 pub returns-in-WriteAppBlock-clause-same : goal.returns-in-WriteAppBlock-clause-same
-unfolding tried databases.write_app_block
+unfolding tried
 returns-in-WriteAppBlock-clause-same c free device = rw (c.writes.ensures, c.in-WriteAppBlock.is) refl
 
 pub returns-in-WriteAppBlock-clause-short : goal.returns-in-WriteAppBlock-clause-short
 returns-in-WriteAppBlock-clause-short c = rw c.writes.ensures (subst (λ (r : Request). length (data_of (request_value r)) ≤ 65500) c.in-WriteAppBlock.is c.requires)
 
 pub returns-in-ReadSortBlock-clause-same : goal.returns-in-ReadSortBlock-clause-same
-unfolding tried databases.read_sort_block
+unfolding tried
 returns-in-ReadSortBlock-clause-same c free device = rw (c.reads-in-ReadSortBlock.ensures, c.in-ReadSortBlock.is) refl
 
 pub returns-in-WriteSortBlock-clause-same : goal.returns-in-WriteSortBlock-clause-same
-unfolding tried databases.write_sort_block
+unfolding tried
 returns-in-WriteSortBlock-clause-same c free device = rw (c.writes-in-WriteSortBlock.ensures, c.in-WriteSortBlock.is) refl
 
 pub returns-in-WriteSortBlock-clause-short : goal.returns-in-WriteSortBlock-clause-short
@@ -60,15 +57,15 @@ unfolding tried
 returns-in-ReadNextModifiedRec-clause-same c free device = rw c.in-ReadNextModifiedRec.is refl
 
 pub returns-in-ReadRecordById-clause-same : goal.returns-in-ReadRecordById-clause-same
-unfolding tried records.read_record_by_id
+unfolding tried
 returns-in-ReadRecordById-clause-same c free device = rw (c.reads-in-ReadRecordById.ensures, c.in-ReadRecordById.is) refl
 
 pub returns-in-ReadRecordByIndex-clause-same : goal.returns-in-ReadRecordByIndex-clause-same
-unfolding tried records.read_record_by_index
+unfolding tried
 returns-in-ReadRecordByIndex-clause-same c free device = rw (c.reads-in-ReadRecordByIndex.ensures, c.in-ReadRecordByIndex.is) refl
 
 pub returns-in-WriteRecord-clause-same : goal.returns-in-WriteRecord-clause-same
-unfolding tried records.write_record
+unfolding tried
 returns-in-WriteRecord-clause-same c free device = rw (c.writes-in-WriteRecord.ensures, c.in-WriteRecord.is) refl
 
 pub returns-in-WriteRecord-clause-short : goal.returns-in-WriteRecord-clause-short
@@ -78,34 +75,34 @@ pub returns-in-WriteRecord-clause-may : goal.returns-in-WriteRecord-clause-may
 returns-in-WriteRecord-clause-may c free device = rw (c.writes-in-WriteRecord.ensures, c.in-WriteRecord.is) (λ may. may)
 
 pub returns-in-DeleteRecord-clause-same : goal.returns-in-DeleteRecord-clause-same
-unfolding tried records.delete_record
+unfolding tried
 returns-in-DeleteRecord-clause-same c free device = rw (c.writes-in-DeleteRecord.ensures, c.in-DeleteRecord.is) refl
 
 pub returns-in-ReadResourceByIndex-clause-same : goal.returns-in-ReadResourceByIndex-clause-same
-unfolding tried resources.read_resource_by_index
+unfolding tried
 returns-in-ReadResourceByIndex-clause-same c free device = rw (c.reads-in-ReadResourceByIndex.ensures, c.in-ReadResourceByIndex.is) refl
 
 pub returns-in-ReadResourceByType-clause-same : goal.returns-in-ReadResourceByType-clause-same
-unfolding tried resources.read_resource_by_type
+unfolding tried
 returns-in-ReadResourceByType-clause-same c free device = rw (c.reads-in-ReadResourceByType.ensures, c.in-ReadResourceByType.is) refl
 
 pub returns-in-WriteResource-clause-same : goal.returns-in-WriteResource-clause-same
-unfolding tried resources.write_resource
+unfolding tried
 returns-in-WriteResource-clause-same c free device = rw (c.writes-in-WriteResource.ensures, c.in-WriteResource.is) refl
 
 pub returns-in-WriteResource-clause-short : goal.returns-in-WriteResource-clause-short
 returns-in-WriteResource-clause-short c = rw c.writes-in-WriteResource.ensures (subst (λ (r : Request). length (data_of (request_value r)) ≤ 65500) c.in-WriteResource.is c.requires)
 
 pub returns-in-DeleteResource-clause-same : goal.returns-in-DeleteResource-clause-same
-unfolding tried resources.delete_resource
+unfolding tried
 returns-in-DeleteResource-clause-same c free device = rw (c.writes-in-DeleteResource.ensures, c.in-DeleteResource.is) refl
 
 pub returns-in-CleanUpDatabase-clause-same : goal.returns-in-CleanUpDatabase-clause-same
-unfolding tried records.clean_up_database
+unfolding tried
 returns-in-CleanUpDatabase-clause-same c free device = rw (c.writes-in-CleanUpDatabase.ensures, c.in-CleanUpDatabase.is) refl
 
 pub returns-in-ResetSyncFlags-clause-same : goal.returns-in-ResetSyncFlags-clause-same
-unfolding tried records.reset_sync_flags
+unfolding tried
 returns-in-ResetSyncFlags-clause-same c free device = rw (c.writes-in-ResetSyncFlags.ensures, c.in-ResetSyncFlags.is) refl
 
 pub returns-in-AddSyncLogEntry-clause-same : goal.returns-in-AddSyncLogEntry-clause-same
@@ -113,11 +110,11 @@ unfolding tried
 returns-in-AddSyncLogEntry-clause-same c free device = rw c.in-AddSyncLogEntry.is refl
 
 pub returns-in-ReadOpenDbInfo-clause-same : goal.returns-in-ReadOpenDbInfo-clause-same
-unfolding tried databases.read_open_db_info
+unfolding tried
 returns-in-ReadOpenDbInfo-clause-same c free device = rw (c.reads-in-ReadOpenDbInfo.ensures, c.in-ReadOpenDbInfo.is) refl
 
 pub returns-in-MoveCategory-clause-same : goal.returns-in-MoveCategory-clause-same
-unfolding tried records.move_category
+unfolding tried
 returns-in-MoveCategory-clause-same c free device = rw (c.writes-in-MoveCategory.ensures, c.in-MoveCategory.is) refl
 
 pub returns-in-EndOfSync-clause-same : goal.returns-in-EndOfSync-clause-same
@@ -129,5 +126,5 @@ unfolding tried
 returns-in-ResetRecordIndex-clause-same c free device = rw c.in-ResetRecordIndex.is refl
 
 pub returns-in-ReadRecordIdList-clause-same : goal.returns-in-ReadRecordIdList-clause-same
-unfolding tried records.read_record_id_list
+unfolding tried
 returns-in-ReadRecordIdList-clause-same c free device = rw (c.reads-in-ReadRecordIdList.ensures, c.in-ReadRecordIdList.is) refl
