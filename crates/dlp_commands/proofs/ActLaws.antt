@@ -14,21 +14,32 @@ use Rattle.dlp_commands.specs.Reached.{Tried}
 use Rattle.dlp_commands.specs.declared.command.Command.{Command}
 
 -- a request was read, and the command that it asks for was done
-pub command_step : (old new : Device) (bytes reply : List ℕ) (value : RequestValue) (asked : Command) → request_at bytes ≡ Ok value → command_number asked ≡ function_number value → ((free : ℕ) (device : Device) → command_tried free device asked ≡ tried free device value) → ((free : ℕ) (device : Device) → MayGiveIn device free asked → MayGiveTo device free (Ok value)) → Acts old asked reply new → DeviceStep old bytes reply new
+pub command_step : (old new : Device) (bytes reply : List ℕ) (value : RequestValue) (asked : Command) → request_at bytes ≡ Ok value
+    → command_number asked ≡ function_number value → ((free : ℕ) (device : Device) → command_tried free device asked ≡ tried free device value)
+    → ((free : ℕ) (device : Device) → MayGiveIn device free asked → MayGiveTo device free (Ok value)) → Acts old asked reply new
+    → DeviceStep old bytes reply new
 unfolding served MayGive
 command_step old new bytes reply value asked read number same may acts = record {
   free = acts.free;
   may = subst (MayGiveTo old acts.free) (sym read) (may acts.free old acts.may);
-  is = ap (λ (r : Result RequestValue RequestFault). served_by old acts.free bytes r) read ∙ ap (λ (n : ℕ). outcome old n (tried acts.free old value)) (sym number) ∙ ap (λ (done : Tried). outcome old (command_number asked) done) (sym (same acts.free old)) ∙ acts.is;
+  is = ap (λ (r : Result RequestValue RequestFault). served_by old acts.free bytes r) read
+      ∙ ap (λ (n : ℕ). outcome old n (tried acts.free old value)) (sym number)
+      ∙ ap (λ (done : Tried). outcome old (command_number asked) done) (sym (same acts.free old)) ∙ acts.is;
 }
 
 -- the same where memory may have run out
-pub command_step_ok : {A E : Type 0} (answer : Result A E) (old new : Device) (bytes reply : List ℕ) (value : RequestValue) (asked : Command) → request_at bytes ≡ Ok value → command_number asked ≡ function_number value → ((free : ℕ) (device : Device) → command_tried free device asked ≡ tried free device value) → ((free : ℕ) (device : Device) → MayGiveIn device free asked → MayGiveTo device free (Ok value)) → OnOk answer (Acts old asked reply new) → OnOk answer (DeviceStep old bytes reply new)
-command_step_ok (Ok x) old new bytes reply value asked read number same may acts = command_step old new bytes reply value asked read number same may acts
+pub command_step_ok : {A E : Type 0} (answer : Result A E) (old new : Device) (bytes reply : List ℕ) (value : RequestValue) (asked : Command)
+    → request_at bytes ≡ Ok value → command_number asked ≡ function_number value
+    → ((free : ℕ) (device : Device) → command_tried free device asked ≡ tried free device value)
+    → ((free : ℕ) (device : Device) → MayGiveIn device free asked → MayGiveTo device free (Ok value)) → OnOk answer (Acts old asked reply new)
+    → OnOk answer (DeviceStep old bytes reply new)
+command_step_ok (Ok x) old new bytes reply value asked read number same may acts =
+    command_step old new bytes reply value asked read number same may acts
 command_step_ok (Err e) old new bytes reply value asked read number same may acts = tt
 
 -- the bytes are no request
-pub fault_step : (old : Device) (bytes reply : List ℕ) (fault : RequestFault) → request_at bytes ≡ Err fault → reply ≡ reply_text (Refused (first_byte bytes) (fault_code fault)) → DeviceStep old bytes reply old
+pub fault_step : (old : Device) (bytes reply : List ℕ) (fault : RequestFault) → request_at bytes ≡ Err fault
+    → reply ≡ reply_text (Refused (first_byte bytes) (fault_code fault)) → DeviceStep old bytes reply old
 unfolding served MayGive
 fault_step old bytes reply fault read is = record {
   free = 0;

@@ -10,7 +10,8 @@ use Rattle.dlp_commands.specs.Writings.{Plans, PlansHeld, WritingValue, written,
 use Rattle.dlp_commands.specs.declared.refusal.Refusal.{Refusal}
 
 -- is that to what the table finds
-pub found_text : {A : Type 0} (number : ℕ) (view : A → ReplyValue) (answer : Result A Refusal) (found : Result ReplyValue ℕ) → Finds view answer found → answer_text number view answer ≡ answered number found
+pub found_text : {A : Type 0} (number : ℕ) (view : A → ReplyValue) (answer : Result A Refusal) (found : Result ReplyValue ℕ)
+    → Finds view answer found → answer_text number view answer ≡ answered number found
 found_text number view (Ok x) found is = ap (answered number) (sym is)
 found_text number view (Err refusal) found is = ap (answered number) (sym is)
 
@@ -19,6 +20,7 @@ held_by true found is = refl
 held_by false found is = absurd cc
 
 -- a database that holds what is written
-pub plans_held : (asked : WritingValue) (database : DatabaseValue) (answer : Result Edit Refusal) → fits (written_on asked) database ≡ true → PlansHeld asked database answer → Plans asked database answer
+pub plans_held : (asked : WritingValue) (database : DatabaseValue) (answer : Result Edit Refusal) → fits (written_on asked) database ≡ true
+    → PlansHeld asked database answer → Plans asked database answer
 plans_held asked database (Ok edit) suited plans = λ free. held_by _ (written free asked database) suited ∙ plans free
 plans_held asked database (Err refusal) suited plans = λ free. held_by _ (written free asked database) suited ∙ plans free

@@ -26,7 +26,8 @@ then_ok : {A B : Type 0} (r : Result A RequestFault) (f : A → Result B Request
 then_ok (Ok x) f y is = (x, refl, is)
 then_ok (Err fault) f y is = absurd cc
 
-or_size_form : (f : Form) (o : Option (Fields (kinds_of f))) (value : RequestValue) → or_size (option_map (λ fields. let v : RequestValue = record { form = f; fields = fields } in v) o) ≡ Ok value → value.form ≡ f
+or_size_form : (f : Form) (o : Option (Fields (kinds_of f))) (value : RequestValue)
+    → or_size (option_map (λ fields. let v : RequestValue = record { form = f; fields = fields } in v) o) ≡ Ok value → value.form ≡ f
 or_size_form f None value is = absurd cc
 or_size_form f (Some fields) value is =
     let same : (let v : RequestValue = record { form = f; fields = fields } in v) ≡ value = cc in
@@ -38,10 +39,12 @@ by_form f arguments value is =
     let found = then_ok (argument_bytes (argument_of f) arguments) (λ bytes. or_size (request_in f bytes)) value is in
     or_size_form f (fields_in (kinds_of f) found.0) value found.2
 
-by_number : (f : Form) (number : ℕ) (arguments : List Argument) (value : RequestValue) → number_of f ≡ number → request_by f arguments ≡ Ok value → number_of value.form ≡ number
+by_number : (f : Form) (number : ℕ) (arguments : List Argument) (value : RequestValue) → number_of f ≡ number → request_by f arguments ≡ Ok value
+    → number_of value.form ≡ number
 by_number f number arguments value same is = ap number_of (by_form f arguments value is) ∙ same
 
-by_two : (this other : Form) (number : ℕ) (id : Option ℕ) (arguments : List Argument) (value : RequestValue) → number_of this ≡ number → number_of other ≡ number → by_id_21 this other id arguments ≡ Ok value → number_of value.form ≡ number
+by_two : (this other : Form) (number : ℕ) (id : Option ℕ) (arguments : List Argument) (value : RequestValue) → number_of this ≡ number
+    → number_of other ≡ number → by_id_21 this other id arguments ≡ Ok value → number_of value.form ≡ number
 by_two this other number None arguments value same also is = by_number other number arguments value also is
 by_two this other number (Some id) arguments value same also is = by (id == 0x21) is
   where
@@ -49,7 +52,8 @@ by_two this other number (Some id) arguments value same also is = by (id == 0x21
     by true is = by_number this number arguments value same is
     by false is = by_number other number arguments value also is
 
-of_number : (f : Function) (arguments : List Argument) (value : RequestValue) → request_of f arguments ≡ Ok value → number_of value.form ≡ functions.number_of f
+of_number : (f : Function) (arguments : List Argument) (value : RequestValue) → request_of f arguments ≡ Ok value
+    → number_of value.form ≡ functions.number_of f
 unfolding request_of
 of_number function.ReadUserInfo arguments value is = by_number form.ReadUserInfo _ arguments value refl is
 of_number function.WriteUserInfo arguments value is = by_number form.WriteUserInfo _ arguments value refl is
@@ -63,10 +67,12 @@ of_number function.WriteAppBlock arguments value is = by_number form.WriteAppBlo
 of_number function.ReadSortBlock arguments value is = by_number form.ReadSortBlock _ arguments value refl is
 of_number function.WriteSortBlock arguments value is = by_number form.WriteSortBlock _ arguments value refl is
 of_number function.ReadNextModifiedRec arguments value is = by_number form.ReadNextModifiedRec _ arguments value refl is
-of_number function.ReadRecord arguments value is = by_two form.ReadRecordByIndex form.ReadRecordById _ (first_id arguments) arguments value refl refl is
+of_number function.ReadRecord arguments value is =
+    by_two form.ReadRecordByIndex form.ReadRecordById _ (first_id arguments) arguments value refl refl is
 of_number function.WriteRecord arguments value is = by_number form.WriteRecord _ arguments value refl is
 of_number function.DeleteRecord arguments value is = by_number form.DeleteRecord _ arguments value refl is
-of_number function.ReadResource arguments value is = by_two form.ReadResourceByType form.ReadResourceByIndex _ (first_id arguments) arguments value refl refl is
+of_number function.ReadResource arguments value is =
+    by_two form.ReadResourceByType form.ReadResourceByIndex _ (first_id arguments) arguments value refl refl is
 of_number function.WriteResource arguments value is = by_number form.WriteResource _ arguments value refl is
 of_number function.DeleteResource arguments value is = by_number form.DeleteResource _ arguments value refl is
 of_number function.CleanUpDatabase arguments value is = by_number form.CleanUpDatabase _ arguments value refl is
@@ -87,7 +93,8 @@ known_is number (Some found) f is = cc
 pub function_number-first_byte : (bytes : List ℕ) (value : RequestValue) → request_at bytes ≡ Ok value → function_number value ≡ first_byte bytes
 unfolding request_at
 function_number-first_byte [] value is = absurd cc
-function_number-first_byte (number ∷ []) value is = let found = then_ok (known number (function_of number)) _ value is in let none = found.2 in absurd cc
+function_number-first_byte (number ∷ []) value is = let found = then_ok (known number (function_of number)) _ value is in let none = found.2 in
+    absurd cc
 function_number-first_byte (number ∷ count ∷ bytes) value is =
     let found = then_ok (known number (function_of number)) _ value is in
     let arguments = then_ok (of_arguments (arguments_at count 2 bytes)) _ value found.2 in

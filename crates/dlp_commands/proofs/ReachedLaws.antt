@@ -30,25 +30,30 @@ pub base_at-closed : (device : Device) (handle : ℕ) → opened_at handle devic
 base_at-closed device handle none = rw none refl
 
 -- what is open has no database
-pub base_at-nowhere : (device : Device) (handle : ℕ) (opened : Opened) → opened_at handle device.handles ≡ Some opened → database_of opened.name device.databases ≡ None → base_at device handle ≡ None
+pub base_at-nowhere : (device : Device) (handle : ℕ) (opened : Opened) → opened_at handle device.handles ≡ Some opened
+    → database_of opened.name device.databases ≡ None → base_at device handle ≡ None
 base_at-nowhere device handle opened is none = base_at-opened device handle opened is ∙ rw none refl
 
 -- what is open has its database
-pub base_at-there : (device : Device) (handle : ℕ) (opened : Opened) (database : DatabaseValue) → opened_at handle device.handles ≡ Some opened → database_of opened.name device.databases ≡ Some database
+pub base_at-there : (device : Device) (handle : ℕ) (opened : Opened) (database : DatabaseValue) → opened_at handle device.handles ≡ Some opened
+    → database_of opened.name device.databases ≡ Some database
     → base_at device handle ≡ Some (record { opened = opened; database = database })
 base_at-there device handle opened database is there = base_at-opened device handle opened is ∙ rw there refl
 
 -- ---- functions that read
 
-pub reads_none : (old : Device) (number handle : ℕ) (asked : Reading) → base_at old handle ≡ None → outcome old number (reads old handle asked) ≡ (reply_text (Refused number none_open), old)
+pub reads_none : (old : Device) (number handle : ℕ) (asked : Reading) → base_at old handle ≡ None
+    → outcome old number (reads old handle asked) ≡ (reply_text (Refused number none_open), old)
 reads_none old number handle asked none = rw none refl
 
-replied_by : (old : Device) (number : ℕ) (found : Result ReplyValue ℕ) → outcome old number (found >>= λ value. Ok (old, value)) ≡ (answered number found, old)
+replied_by : (old : Device) (number : ℕ) (found : Result ReplyValue ℕ)
+    → outcome old number (found >>= λ value. Ok (old, value)) ≡ (answered number found, old)
 replied_by old number (Ok value) = refl
 replied_by old number (Err code) = refl
 
 -- the reply is what the database has
-pub reads_some : (old : Device) (number handle : ℕ) (asked : Reading) (base : Base) → base_at old handle ≡ Some base → outcome old number (reads old handle asked) ≡ (answered number (read_in asked base.database), old)
+pub reads_some : (old : Device) (number handle : ℕ) (asked : Reading) (base : Base) → base_at old handle ≡ Some base
+    → outcome old number (reads old handle asked) ≡ (answered number (read_in asked base.database), old)
 reads_some old number handle asked base some = rw some (replied_by old number (read_in asked base.database))
 
 -- ---- the record index
@@ -56,33 +61,42 @@ reads_some old number handle asked base some = rw some (replied_by old number (r
 pub next_none : (old : Device) (handle : ℕ) → base_at old handle ≡ None → next_of old handle ≡ Err none_open
 next_none old handle none = rw none refl
 
-pub next_some : (old : Device) (handle : ℕ) (base : Base) → base_at old handle ≡ Some base → next_of old handle ≡ next_in base.opened.next base.database
+pub next_some : (old : Device) (handle : ℕ) (base : Base) → base_at old handle ≡ Some base
+    → next_of old handle ≡ next_in base.opened.next base.database
 next_some old handle base some = rw some refl
 
-pub reset_none : (old : Device) (handle : ℕ) → base_at old handle ≡ None → outcome old 0x30 (reset_record_index old handle) ≡ (reply_text (Refused 0x30 none_open), old)
+pub reset_none : (old : Device) (handle : ℕ) → base_at old handle ≡ None
+    → outcome old 0x30 (reset_record_index old handle) ≡ (reply_text (Refused 0x30 none_open), old)
 unfolding reset_record_index
 reset_none old handle none = rw none refl
 
-pub reset_unfit : (old : Device) (handle : ℕ) (base : Base) → base_at old handle ≡ Some base → on_records base.database ≡ false → outcome old 0x30 (reset_record_index old handle) ≡ (reply_text (Refused 0x30 not_supported), old)
+pub reset_unfit : (old : Device) (handle : ℕ) (base : Base) → base_at old handle ≡ Some base → on_records base.database ≡ false
+    → outcome old 0x30 (reset_record_index old handle) ≡ (reply_text (Refused 0x30 not_supported), old)
 unfolding reset_record_index
 reset_unfit old handle base some unfit = rw (some, unfit) refl
 
-pub reset_done : (old : Device) (handle : ℕ) (base : Base) → base_at old handle ≡ Some base → on_records base.database ≡ true → outcome old 0x30 (reset_record_index old handle) ≡ (reply_text reply.ResetRecordIndex, with_index old handle 0)
+pub reset_done : (old : Device) (handle : ℕ) (base : Base) → base_at old handle ≡ Some base → on_records base.database ≡ true
+    → outcome old 0x30 (reset_record_index old handle) ≡ (reply_text reply.ResetRecordIndex, with_index old handle 0)
 unfolding reset_record_index
 reset_done old handle base some suits = rw (some, suits) refl
 
 -- ---- functions that write
 
-pub writes_none : (old : Device) (number handle free : ℕ) (asked : WritingValue) → base_at old handle ≡ None → outcome old number (writes free old handle asked) ≡ (reply_text (Refused number none_open), old)
+pub writes_none : (old : Device) (number handle free : ℕ) (asked : WritingValue) → base_at old handle ≡ None
+    → outcome old number (writes free old handle asked) ≡ (reply_text (Refused number none_open), old)
 writes_none old number handle free asked none = rw none refl
 
-pub writes_locked : (old : Device) (number handle free : ℕ) (asked : WritingValue) (base : Base) → base_at old handle ≡ Some base → is_writable base ≡ false → outcome old number (writes free old handle asked) ≡ (reply_text (Refused number read_only), old)
+pub writes_locked : (old : Device) (number handle free : ℕ) (asked : WritingValue) (base : Base) → base_at old handle ≡ Some base
+    → is_writable base ≡ false → outcome old number (writes free old handle asked) ≡ (reply_text (Refused number read_only), old)
 writes_locked old number handle free asked base some locked = rw (some, locked) refl
 
-pub writes_refused : (old : Device) (number handle free code : ℕ) (asked : WritingValue) (base : Base) → base_at old handle ≡ Some base → is_writable base ≡ true → written_in free asked base.database ≡ Err code
+pub writes_refused : (old : Device) (number handle free code : ℕ) (asked : WritingValue) (base : Base) → base_at old handle ≡ Some base
+    → is_writable base ≡ true → written_in free asked base.database ≡ Err code
     → outcome old number (writes free old handle asked) ≡ (reply_text (Refused number code), old)
 writes_refused old number handle free code asked base some allowed refused = rw (some, allowed, refused) refl
 
-pub writes_done : (old : Device) (number handle free : ℕ) (asked : WritingValue) (base : Base) (new : DatabaseValue) (value : ReplyValue) → base_at old handle ≡ Some base → is_writable base ≡ true
-    → written_in free asked base.database ≡ Ok (new, value) → outcome old number (writes free old handle asked) ≡ (reply_text value, with_database old new)
+pub writes_done : (old : Device) (number handle free : ℕ) (asked : WritingValue) (base : Base) (new : DatabaseValue) (value : ReplyValue)
+    → base_at old handle ≡ Some base → is_writable base ≡ true
+    → written_in free asked base.database ≡ Ok (new, value)
+    → outcome old number (writes free old handle asked) ≡ (reply_text value, with_database old new)
 writes_done old number handle free asked base new value some allowed done = rw (some, allowed, done) refl

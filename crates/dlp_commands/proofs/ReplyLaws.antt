@@ -9,7 +9,7 @@ use Rattle.pdb_values.specs.Databases.{DatabaseValue}
 use Rattle.pdb_values.specs.Heads.{holds_resources}
 use Rattle.pdb_values.specs.declared.record.Record.{Record}
 use Rattle.pdb_values.specs.declared.user.UserInfo.{UserInfo}
-use Rattle.dlp_replies.specs.Frames.{IsReply, frame, function_byte, named}
+use Rattle.dlp_replies.specs.Frames.{IsReply, frame, function_byte, name_text}
 use Rattle.dlp_replies.specs.IdLists.{IsId}
 use Rattle.dlp_replies.specs.ReplyValues as reply
 use Rattle.dlp_replies.specs.ReplyValues.{ReplyValue, Refused}
@@ -45,24 +45,36 @@ refused_reply number code some small = record { is = record { fields = (some, sm
 pub written_reply : (given : ℕ) (asked : WritingValue) → given ≤ 16777215 → Replies (write_number asked) (write_reply given asked)
 written_reply given (writing.AppBlock bytes) small = record { is = record { fields = tt; values = tt; fits = lit≤ tt }; function = refl }
 written_reply given (writing.SortBlock bytes) small = record { is = record { fields = tt; values = tt; fits = lit≤ tt }; function = refl }
-written_reply given (writing.WriteRecord id attributes category bytes) small = record { is = record { fields = omega arith; values = small; fits = text_short 0xA1 (to_be_bytes w32 given) (lit≤ tt) }; function = refl }
+written_reply given (writing.WriteRecord id attributes category bytes) small =
+    record { is = record { fields = omega arith; values = small; fits = text_short 0xA1 (to_be_bytes w32 given) (lit≤ tt) }; function = refl }
 written_reply given (writing.DeleteRecord flags id) small = record { is = record { fields = tt; values = tt; fits = lit≤ tt }; function = refl }
 written_reply given writing.CleanUp small = record { is = record { fields = tt; values = tt; fits = lit≤ tt }; function = refl }
 written_reply given writing.ResetFlags small = record { is = record { fields = tt; values = tt; fits = lit≤ tt }; function = refl }
 written_reply given (writing.MoveCategory from to) small = record { is = record { fields = tt; values = tt; fits = lit≤ tt }; function = refl }
 written_reply given (writing.WriteResource kind id bytes) small = record { is = record { fields = tt; values = tt; fits = lit≤ tt }; function = refl }
-written_reply given (writing.DeleteResource flags kind id) small = record { is = record { fields = tt; values = tt; fits = lit≤ tt }; function = refl }
+written_reply given (writing.DeleteResource flags kind id) small =
+    record { is = record { fields = tt; values = tt; fits = lit≤ tt }; function = refl }
 
-named_few : (name : List ℕ) → length name ≤ 40 → length (named name) < 256
-named_few [] short = lit< tt
-named_few (byte ∷ bytes) short = let all = length-append bytes (0 ∷ []) in omega arith
+name_text-few : (name : List ℕ) → length name ≤ 40 → length (name_text name) < 256
+name_text-few [] short = lit< tt
+name_text-few (byte ∷ bytes) short = let all = length-append bytes (0 ∷ []) in omega arith
 
 pub user_is_reply : (user : UserInfo) → IsBoundedUser user → Replies 0x10 (user_reply user)
 user_is_reply user bounded = record {
   is = record {
-    fields = (bounded.number, (bounded.viewer, (bounded.pc, (date_length user.good, (date_length user.last, (named_few user.name bounded.short, let few = bounded.password in omega arith))))));
+    fields = (
+      bounded.number,
+      (
+        bounded.viewer,
+        (
+          bounded.pc,
+          (date_length user.good, (date_length user.last, (name_text-few user.name bounded.short, let few = bounded.password in omega arith))),
+        ),
+      ),
+    );
     values = (bounded.good, bounded.last, bounded.short, has_no_zero user.name bounded.no_zero, bounded.password);
-    fits = (user_fits user.user user.viewer user.pc user.good user.last user.name user.password bounded.short (has_no_zero user.name bounded.no_zero) bounded.password).fits;
+    fits = (user_fits user.user user.viewer user.pc user.good user.last user.name user.password bounded.short (has_no_zero user.name bounded.no_zero)
+        bounded.password).fits;
   };
   function = refl;
 }
@@ -91,7 +103,8 @@ block_short None bytes short is = absurd cc
 block_short (Some found) bytes short is = let same : found ≡ bytes = cc in subst (λ (b : List ℕ). length b ≤ 65500) same short
 
 -- what a part of a block is
-part_keeps : (Short : Type 0) (P : ReplyValue → Type 0) (make : List ℕ → ReplyValue) (block : Option (List ℕ)) (offset count : ℕ) → (Short → block_length block ≤ 65500) → ((bytes : List ℕ) → length bytes ≤ 65500 → P (make bytes))
+part_keeps : (Short : Type 0) (P : ReplyValue → Type 0) (make : List ℕ → ReplyValue) (block : Option (List ℕ)) (offset count : ℕ)
+    → (Short → block_length block ≤ 65500) → ((bytes : List ℕ) → length bytes ≤ 65500 → P (make bytes))
     → Keeps (λ value. Short → P value) (block_part block offset count >>= λ bytes. Ok (make bytes))
 part_keeps Short P make block offset count bounded reply =
     keeps_then (block_part block offset count) _ (λ bytes. Short → length bytes ≤ 65500) _
@@ -99,9 +112,11 @@ part_keeps Short P make block offset count bounded reply =
     (λ within. λ short. part_short offset count bytes (block_short block bytes (bounded short) is))))
     (λ bytes short. λ holds. reply bytes (short holds))
 
-record_keeps : (database : DatabaseValue) (index offset count : ℕ) → Keeps (λ value. IsBoundedDatabase database → Replies 0x20 value) (record_part database index offset count)
+record_keeps : (database : DatabaseValue) (index offset count : ℕ)
+    → Keeps (λ value. IsBoundedDatabase database → Replies 0x20 value) (record_part database index offset count)
 record_keeps database index offset count =
-    keeps_need 5 (slice_get database.records index) _ _ (lit< tt, lit< tt) (λ item here. keeps_check 4 (nat_le offset (length item.content.bytes)) _ _ (lit< tt, lit< tt) (λ within. λ bounded.
+    keeps_need 5 (slice_get database.records index) _ _ (lit< tt, lit< tt)
+    (λ item here. keeps_check 4 (nat_le offset (length item.content.bytes)) _ _ (lit< tt, lit< tt) (λ within. λ bounded.
     let each = AllByRecursion-get IsBoundedRecord database.records index item bounded.records here in
     let at = slice_get-within database.records index item here in
     let few = bounded.whole.few_records in
@@ -119,9 +134,11 @@ record_keeps database index offset count =
       function = refl;
     }))
 
-resource_keeps : (database : DatabaseValue) (index offset count : ℕ) → Keeps (λ value. IsBoundedDatabase database → Replies 0x23 value) (resource_part database index offset count)
+resource_keeps : (database : DatabaseValue) (index offset count : ℕ)
+    → Keeps (λ value. IsBoundedDatabase database → Replies 0x23 value) (resource_part database index offset count)
 resource_keeps database index offset count =
-    keeps_need 5 (slice_get database.resources index) _ _ (lit< tt, lit< tt) (λ resource here. keeps_check 4 (nat_le offset (length resource.bytes)) _ _ (lit< tt, lit< tt) (λ within. λ bounded.
+    keeps_need 5 (slice_get database.resources index) _ _ (lit< tt, lit< tt)
+    (λ resource here. keeps_check 4 (nat_le offset (length resource.bytes)) _ _ (lit< tt, lit< tt) (λ within. λ bounded.
     let each = AllByRecursion-get IsBoundedResource database.resources index resource bounded.resources here in
     let at = slice_get-within database.resources index resource here in
     let few = bounded.whole.few_resources in
@@ -150,20 +167,25 @@ count_few false m n few other = omega arith
 
 -- ---- functions that read
 
-pub read_keeps : (asked : Reading) (database : DatabaseValue) → Keeps (λ value. IsBoundedDatabase database → Replies (read_number asked) value) (read_of asked database)
-read_keeps (reading.AppBlock offset count) database = part_keeps (IsBoundedDatabase database) (Replies 0x1B) reply.ReadAppBlock database.app offset count (λ bounded. bounded.whole.short_app)
+pub read_keeps : (asked : Reading) (database : DatabaseValue)
+    → Keeps (λ value. IsBoundedDatabase database → Replies (read_number asked) value) (read_of asked database)
+read_keeps (reading.AppBlock offset count) database =
+    part_keeps (IsBoundedDatabase database) (Replies 0x1B) reply.ReadAppBlock database.app offset count (λ bounded. bounded.whole.short_app)
     (λ bytes short. record { is = record { fields = short; values = tt; fits = (app_fits bytes short).fits }; function = refl })
-read_keeps (reading.SortBlock offset count) database = part_keeps (IsBoundedDatabase database) (Replies 0x1D) reply.ReadSortBlock database.sort offset count (λ bounded. bounded.whole.short_sort)
+read_keeps (reading.SortBlock offset count) database =
+    part_keeps (IsBoundedDatabase database) (Replies 0x1D) reply.ReadSortBlock database.sort offset count (λ bounded. bounded.whole.short_sort)
     (λ bytes short. record { is = record { fields = short; values = tt; fits = (sort_fits bytes short).fits }; function = refl })
 read_keeps reading.EntryCount database = λ bounded. record {
   is = record {
-    fields = count_few (holds_resources database.head.attributes) (length database.resources) (length database.records) bounded.whole.few_resources bounded.whole.few_records;
+    fields = count_few (holds_resources database.head.attributes) (length database.resources) (length database.records) bounded.whole.few_resources
+        bounded.whole.few_records;
     values = tt;
     fits = text_short 0xAB (to_be_bytes w16 (entry_count database)) (lit≤ tt);
   };
   function = refl;
 }
-read_keeps (reading.RecordOfId id offset count) database = keeps_need 5 (place_of_id id database.records) _ _ (lit< tt, lit< tt) (λ index is. record_keeps database index offset count)
+read_keeps (reading.RecordOfId id offset count) database =
+    keeps_need 5 (place_of_id id database.records) _ _ (lit< tt, lit< tt) (λ index is. record_keeps database index offset count)
 read_keeps (reading.RecordAt index offset count) database = record_keeps database index offset count
 read_keeps (reading.RecordIds start maximum) database = λ bounded.
     let ids = take (min maximum 16000) (drop start (ids_of database.records)) in
@@ -171,17 +193,21 @@ read_keeps (reading.RecordIds start maximum) database = λ bounded.
     record {
       is = record {
         fields = (omega arith, tt);
-        values = AllByRecursion-take IsId (min maximum 16000) (drop start (ids_of database.records)) (AllByRecursion-drop IsId start (ids_of database.records) (ids_each database.records bounded.records));
+        values = AllByRecursion-take IsId (min maximum 16000) (drop start (ids_of database.records))
+            (AllByRecursion-drop IsId start (ids_of database.records) (ids_each database.records bounded.records));
         fits = (ids_fit ids few).fits;
       };
       function = refl;
     }
-read_keeps (reading.ResourceOfType kind id offset count) database = keeps_need 5 (place_of_resource kind.0 id database.resources) _ _ (lit< tt, lit< tt) (λ index is. resource_keeps database index offset count)
+read_keeps (reading.ResourceOfType kind id offset count) database =
+    keeps_need 5 (place_of_resource kind.0 id database.resources) _ _ (lit< tt, lit< tt) (λ index is. resource_keeps database index offset count)
 read_keeps (reading.ResourceAt index offset count) database = resource_keeps database index offset count
 
-pub read_in_keeps : (asked : Reading) (database : DatabaseValue) → Keeps (λ value. IsBoundedDatabase database → Replies (read_number asked) value) (read_in asked database)
+pub read_in_keeps : (asked : Reading) (database : DatabaseValue)
+    → Keeps (λ value. IsBoundedDatabase database → Replies (read_number asked) value) (read_in asked database)
 read_in_keeps asked database =
-    keeps_check 13 (fits (read_on asked) database) (λ suited. read_of asked database) (λ value. IsBoundedDatabase database → Replies (read_number asked) value) (lit< tt, lit< tt) (λ suited. read_keeps asked database)
+    keeps_check 13 (fits (read_on asked) database) (λ suited. read_of asked database) (λ value. IsBoundedDatabase database
+    → Replies (read_number asked) value) (lit< tt, lit< tt) (λ suited. read_keeps asked database)
 
 -- the next changed record stands within
 pub record NextReplies (database : DatabaseValue) (found : ℕ × ReplyValue) : Type 0 where
@@ -191,7 +217,8 @@ pub record NextReplies (database : DatabaseValue) (found : ℕ × ReplyValue) : 
 pub next_keeps : (next : ℕ) (database : DatabaseValue) → Keeps (NextReplies database) (next_in next database)
 next_keeps next database =
     let found : ℕ → Result (ℕ × ReplyValue) ℕ = λ place. need 5 (slice_get database.records place) >>= λ item. Ok (place, whole place item) in
-    keeps_check 13 (on_records database) (λ suited. need 5 (next_changed next database.records) >>= found) (NextReplies database) (lit< tt, lit< tt) (λ suited.
+    keeps_check 13 (on_records database) (λ suited. need 5 (next_changed next database.records) >>= found) (NextReplies database) (lit< tt, lit< tt)
+    (λ suited.
     keeps_need 5 (next_changed next database.records) found (NextReplies database) (lit< tt, lit< tt) (λ place is.
     keeps_need 5 (slice_get database.records place) (λ item. Ok (place, whole place item)) (NextReplies database) (lit< tt, lit< tt) (λ item here.
     let at = slice_get-within database.records place item here in
@@ -219,7 +246,8 @@ flag_few : (b : Bool) → cond b 0x80 0 < 2 ^ 8
 flag_few true = lit< tt
 flag_few false = lit< tt
 
-pub list_is_reply : (databases : List DatabaseValue) (start : ℕ) (database : DatabaseValue) → slice_get databases start ≡ Some database → length databases ≤ 200 → AllByRecursion IsBoundedDatabase databases
+pub list_is_reply : (databases : List DatabaseValue) (start : ℕ) (database : DatabaseValue) → slice_get databases start ≡ Some database
+    → length databases ≤ 200 → AllByRecursion IsBoundedDatabase databases
     → Replies 0x16 (reply.ReadDbList start (more_flag start (length databases)) ((start, listed database.head) ∷ []))
 list_is_reply databases start database here few each =
     let bounded = AllByRecursion-get IsBoundedDatabase databases start database each here in

@@ -36,7 +36,8 @@ pub ran_joined : (old between new : Device) (front back : List Exchange) → Ran
 ran_joined old between new [] back first second = subst (λ (d : Device). Ran d back new) first second
 ran_joined old between new (exchange ∷ front) back first second = (first.0, first.1, ran_joined first.0 between new front back first.2 second)
 
-pub ran_cut : (old new : Device) (front back : List Exchange) → Ran old (front ++ back) new → (between : Device) × Ran old front between × Ran between back new
+pub ran_cut : (old new : Device) (front back : List Exchange) → Ran old (front ++ back) new → (between : Device) × Ran old front between
+    × Ran between back new
 ran_cut old new [] back ran = (old, refl, ran)
 ran_cut old new (exchange ∷ front) back ran =
     let rest = ran_cut ran.0 new front back ran.2 in
@@ -47,7 +48,8 @@ ran_cut old new (exchange ∷ front) back ran =
 -- the bytes were refused under their first byte and nothing changed, or the request was done
 pub data Stepped (old : Device) (bytes reply : List ℕ) (new : Device) : Type 0 where
   WasRefused : (code : ℕ) → IsCode code → new ≡ old → reply ≡ reply_text (Refused (first_byte bytes) code) → Stepped old bytes reply new
-  WasDone : (value : RequestValue) → request_at bytes ≡ Ok value → (answer : ReplyValue) → Done old value (new, answer) → reply ≡ reply_text answer → Stepped old bytes reply new
+  WasDone : (value : RequestValue) → request_at bytes ≡ Ok value → (answer : ReplyValue) → Done old value (new, answer) → reply ≡ reply_text answer
+      → Stepped old bytes reply new
 
 code_is : (found : RequestFault) → IsCode (fault_code found)
 code_is (fault.Illegal number) = (lit< tt, lit< tt)
@@ -57,15 +59,19 @@ code_is (fault.BadSize place) = (lit< tt, lit< tt)
 code_is fault.Argument = (lit< tt, lit< tt)
 code_is fault.Size = (lit< tt, lit< tt)
 
-done_step : (old new : Device) (bytes reply : List ℕ) (value : RequestValue) (r : Tried) → request_at bytes ≡ Ok value → Keeps (Done old value) r → outcome old (function_number value) r ≡ (reply, new) → Stepped old bytes reply new
+done_step : (old new : Device) (bytes reply : List ℕ) (value : RequestValue) (r : Tried) → request_at bytes ≡ Ok value → Keeps (Done old value) r
+    → outcome old (function_number value) r ≡ (reply, new) → Stepped old bytes reply new
 done_step old new bytes reply value (Ok done) read keeps is =
     let device : done.0 ≡ new = ap (λ (p : List ℕ × Device). p.1) is in
     WasDone value read done.1 (subst (λ (d : Device). Done old value (d, done.1)) device keeps) (sym (ap (λ (p : List ℕ × Device). p.0) is))
 done_step old new bytes reply value (Err code) read keeps is =
-    WasRefused code keeps (sym (ap (λ (p : List ℕ × Device). p.1) is)) (sym (ap (λ (p : List ℕ × Device). p.0) is) ∙ ap (λ n. reply_text (Refused n code)) (function_number-first_byte bytes value read))
+    WasRefused code keeps (sym (ap (λ (p : List ℕ × Device). p.1) is)) (sym (ap (λ (p : List ℕ × Device). p.0) is)
+    ∙ ap (λ n. reply_text (Refused n code)) (function_number-first_byte bytes value read))
 
-read_step : (old new : Device) (bytes reply : List ℕ) (free : ℕ) (read : Result RequestValue RequestFault) → request_at bytes ≡ read → MayGiveTo old free read → served_by old free bytes read ≡ (reply, new) → Stepped old bytes reply new
-read_step old new bytes reply free (Ok value) read may is = done_step old new bytes reply value (tried free old value) read (tried_done free old value may) is
+read_step : (old new : Device) (bytes reply : List ℕ) (free : ℕ) (read : Result RequestValue RequestFault) → request_at bytes ≡ read
+    → MayGiveTo old free read → served_by old free bytes read ≡ (reply, new) → Stepped old bytes reply new
+read_step old new bytes reply free (Ok value) read may is =
+    done_step old new bytes reply value (tried free old value) read (tried_done free old value may) is
 read_step old new bytes reply free (Err found) read may is =
     WasRefused (fault_code found) (code_is found) (sym (ap (λ (p : List ℕ × Device). p.1) is)) (sym (ap (λ (p : List ℕ × Device). p.0) is))
 
@@ -86,16 +92,20 @@ pub changes-text : (value : RequestValue) → changes (request_text value) ≡ i
 unfolding changes
 changes-text value = ap is_change (first_byte-request_text value)
 
-pub store_kept : (old new : Device) (bytes reply : List ℕ) → changes bytes ≡ false → Stepped old bytes reply new → (new.databases ≡ old.databases) × (new.user ≡ old.user)
+pub store_kept : (old new : Device) (bytes reply : List ℕ) → changes bytes ≡ false → Stepped old bytes reply new → (new.databases ≡ old.databases)
+    × (new.user ≡ old.user)
 store_kept old new bytes reply quiet (WasRefused code is same text) = (ap (λ (d : Device). d.databases) same, ap (λ (d : Device). d.user) same)
 store_kept old new bytes reply quiet (WasDone value read answer done text) = done.quiet (sym (changes-request bytes value read) ∙ quiet)
 
-pub reads_keep : (old new : Device) (bytes reply : List ℕ) (value : RequestValue) → request_at bytes ≡ Ok value → is_change (function_number value) ≡ false → Stepped old bytes reply new → (new.databases ≡ old.databases) × (new.user ≡ old.user)
+pub reads_keep : (old new : Device) (bytes reply : List ℕ) (value : RequestValue) → request_at bytes ≡ Ok value
+    → is_change (function_number value) ≡ false → Stepped old bytes reply new → (new.databases ≡ old.databases) × (new.user ≡ old.user)
 reads_keep old new bytes reply value read quiet step = store_kept old new bytes reply (changes-request bytes value read ∙ quiet) step
 
-pub target_keeps : (old new : Device) (bytes reply name : List ℕ) → Stepped old bytes reply new → is_name name (target_of old (request_at bytes)) ≡ false → database_of name new.databases ≡ database_of name old.databases
+pub target_keeps : (old new : Device) (bytes reply name : List ℕ) → Stepped old bytes reply new
+    → is_name name (target_of old (request_at bytes)) ≡ false → database_of name new.databases ≡ database_of name old.databases
 target_keeps old new bytes reply name (WasRefused code is same text) differ = ap (λ (d : Device). database_of name d.databases) same
-target_keeps old new bytes reply name (WasDone value read answer done text) differ = done.others name (sym (ap (λ (r : Result RequestValue RequestFault). is_name name (target_of old r)) read) ∙ differ)
+target_keeps old new bytes reply name (WasDone value read answer done text) differ =
+    done.others name (sym (ap (λ (r : Result RequestValue RequestFault). is_name name (target_of old r)) read) ∙ differ)
 
 pub sound_stays : (old new : Device) (bytes reply : List ℕ) → IsDevice old → Stepped old bytes reply new → IsDevice new
 sound_stays old new bytes reply sound (WasRefused code is same text) = subst IsDevice (sym same) sound
@@ -104,9 +114,11 @@ sound_stays old new bytes reply sound (WasDone value read answer done text) = do
 request_fits : (bytes : List ℕ) (value : RequestValue) → IsBytes bytes → request_at bytes ≡ Ok value → RequestFits value
 request_fits bytes value are read = let text = request_takes bytes value are read in FieldsFit-AreFields _ value.fields text.content text.fields_text
 
-pub bounded_stays : (old new : Device) (bytes reply : List ℕ) → IsBytes bytes → IsDevice old → IsBounded old → Stepped old bytes reply new → IsBounded new
+pub bounded_stays : (old new : Device) (bytes reply : List ℕ) → IsBytes bytes → IsDevice old → IsBounded old → Stepped old bytes reply new
+    → IsBounded new
 bounded_stays old new bytes reply are sound bounded (WasRefused code is same text) = subst IsBounded (sym same) bounded
-bounded_stays old new bytes reply are sound bounded (WasDone value read answer done text) = done.bounded (request_fits bytes value are read) sound bounded
+bounded_stays old new bytes reply are sound bounded (WasDone value read answer done text) =
+    done.bounded (request_fits bytes value are read) sound bounded
 
 -- ---- replies
 
@@ -119,11 +131,19 @@ pub record IsRead (bytes reply : List ℕ) : Type 0 where
 
 read_back : (bytes reply : List ℕ) (value : ReplyValue) → Replies (first_byte bytes) value → reply ≡ reply_text value → IsRead bytes reply
 read_back bytes reply value replies text =
-    let again : ReplyText (first_byte bytes) value (reply_text value) = subst (λ n. ReplyText n value (reply_text value)) replies.function (reply_written value replies.is) in
-    record { value = value; is = replies.is; text = text; read = ap (reply_at (first_byte bytes)) text ∙ reply_again (first_byte bytes) value (reply_text value) again }
+    let again : ReplyText (first_byte bytes) value (reply_text value) =
+    subst (λ n. ReplyText n value (reply_text value)) replies.function (reply_written value replies.is) in
+    record {
+      value = value;
+      is = replies.is;
+      text = text;
+      read = ap (reply_at (first_byte bytes)) text
+          ∙ reply_again (first_byte bytes) value (reply_text value) again;
+    }
 
 pub reply_read : (old new : Device) (bytes reply : List ℕ) → IsDevice old → IsBounded old → Stepped old bytes reply new → IsRead bytes reply
-reply_read old new bytes reply sound bounded (WasRefused code is same text) = read_back bytes reply (Refused (first_byte bytes) code) (refused_reply (first_byte bytes) code is.0 is.1) text
+reply_read old new bytes reply sound bounded (WasRefused code is same text) =
+    read_back bytes reply (Refused (first_byte bytes) code) (refused_reply (first_byte bytes) code is.0 is.1) text
 reply_read old new bytes reply sound bounded (WasDone value read answer done text) =
     let replies = done.reply sound bounded in
     read_back bytes reply answer (record { is = replies.is; function = replies.function ∙ function_number-first_byte bytes value read }) text
@@ -133,18 +153,24 @@ reply_read old new bytes reply sound bounded (WasDone value read answer done tex
 -- what more exchanges give stands behind
 pub given-append : (front back : List Exchange)
     → flat_map (λ (exchange : Exchange). given_in exchange.request exchange.reply) (front ++ back)
-    ≡ flat_map (λ (exchange : Exchange). given_in exchange.request exchange.reply) front ++ flat_map (λ (exchange : Exchange). given_in exchange.request exchange.reply) back
+    ≡ flat_map (λ (exchange : Exchange). given_in exchange.request exchange.reply) front
+    ++ flat_map (λ (exchange : Exchange). given_in exchange.request exchange.reply) back
 given-append [] back = refl
 given-append (exchange ∷ front) back =
     ap (λ ids. given_in exchange.request exchange.reply ++ ids) (given-append front back)
-    ∙ sym (append_assoc (given_in exchange.request exchange.reply) (flat_map (λ (exchange : Exchange). given_in exchange.request exchange.reply) front) (flat_map (λ (exchange : Exchange). given_in exchange.request exchange.reply) back))
+    ∙ sym (append_assoc (given_in exchange.request exchange.reply)
+    (flat_map (λ (exchange : Exchange). given_in exchange.request exchange.reply) front)
+    (flat_map (λ (exchange : Exchange). given_in exchange.request exchange.reply) back))
 
-pub given-answered : (old new : Talk) (request reply : List ℕ) → WasAnswered old request reply (Some new) → given new ≡ given old ++ given_in request reply
+pub given-answered : (old new : Talk) (request reply : List ℕ) → WasAnswered old request reply (Some new) → given new ≡ given old
+    ++ given_in request reply
 given-answered old new request reply was =
     let exchange : Exchange = record { request = request; reply = reply } in
     let now : new.exchanges ≡ old.exchanges ++ exchange ∷ [] =
-    (let same : new ≡ record { device = was.device; exchanges = old.exchanges ++ exchange ∷ []; left = None } = some_is _ _ was.is in ap (λ (t : Talk). t.exchanges) same) in
-    ap (flat_map (λ (e : Exchange). given_in e.request e.reply)) now ∙ given-append old.exchanges (exchange ∷ []) ∙ ap (λ ids. given old ++ ids) (append-nil (given_in request reply))
+    (let same : new ≡ record { device = was.device; exchanges = old.exchanges ++ exchange ∷ []; left = None } = some_is _ _ was.is in
+    ap (λ (t : Talk). t.exchanges) same) in
+    ap (flat_map (λ (e : Exchange). given_in e.request e.reply)) now ∙ given-append old.exchanges (exchange ∷ [])
+    ∙ ap (λ ids. given old ++ ids) (append-nil (given_in request reply))
   where
     some_is : (one other : Talk) → ◌≡◌ {A = Option Talk} (Some one) (Some other) → one ≡ other
     some_is one other is = cc

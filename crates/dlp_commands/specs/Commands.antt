@@ -46,7 +46,8 @@ quiet_tried device quiet.EndOfSync = users.end_of_sync device
 
 -- what WriteUserInfo does
 abbrev pub marks_tried : Device → UserMarks → Tried
-marks_tried device marks = users.write_user_info device marks.user marks.viewer marks.pc marks.date marks.bits marks.name_len (option_map (λ name. name.now) marks.name)
+marks_tried device marks = users.write_user_info device marks.user marks.viewer marks.pc marks.date marks.bits marks.name_len
+    (option_map (λ name. name.now) marks.name)
 
 -- the function's byte of what may change a database or the user
 abbrev pub change_number : Change → ℕ
@@ -58,7 +59,8 @@ change_number (change.Write handle writing) = write_number (writing_value writin
 -- what it does; `free` is the id that a new record gets
 abbrev pub change_tried : ℕ → Device → Change → Tried
 change_tried free device (change.WriteUser marks) = marks_tried device marks
-change_tried free device (change.Create creator kind card flags version name) = databases.create_db device creator.0 kind.0 card flags version name.now
+change_tried free device (change.Create creator kind card flags version name) =
+    databases.create_db device creator.0 kind.0 card flags version name.now
 change_tried free device (change.Delete card name) = databases.delete_db device card name.now
 change_tried free device (change.Write handle writing) = writes free device handle (writing_value writing)
 
@@ -71,7 +73,8 @@ IsShortChange (change.Write handle writing) = IsShortWriting (writing_value writ
 
 -- a writing may give a new record this id
 abbrev pub MayGiveFor : Device → ℕ → ℕ → WritingValue → Type 0
-MayGiveFor device free handle (WriteRecord id attributes category bytes) = IfSome (base_at device handle) (λ base. id ≡ 0 → IsFree free base.database.records)
+MayGiveFor device free handle (WriteRecord id attributes category bytes) =
+    IfSome (base_at device handle) (λ base. id ≡ 0 → IsFree free base.database.records)
 MayGiveFor device free handle other = Unit {0}
 
 -- a change may give a new record this id

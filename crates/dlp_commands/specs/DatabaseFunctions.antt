@@ -35,7 +35,8 @@ read_db_list device flags card start = do
   database ← need not_found (slice_get device.databases start)
   Ok (device, reply.ReadDbList start (more_flag start (length device.databases)) ((start, listed database.head) ∷ []))
 
--- OpenDB: no such database: not found; it is open: already open; eight are open: too many open; for writing and read-only: read-only. Opens it under the least free handle
+-- OpenDB: no such database: not found; it is open: already open; eight are open: too many open; for writing and read-only:
+-- read-only. Opens it under the least free handle
 unfoldable pub open_db : Device → ℕ → ℕ → List ℕ → Tried
 open_db device card mode name = do
   right ← named card name
@@ -45,14 +46,21 @@ open_db device card mode name = do
   allowed ← check read_only (not (has_bit 0x40 mode && is_read_only database.head.attributes))
   Ok (with_handles device (with_handle handle (Some (just_opened name mode)) device.handles), reply.OpenDb handle)
 
--- CreateDB: there is one: exists; eight are open: too many open; 200 databases: limit. Makes an empty one in its place by name, and opens it with mode 0xC0
+-- CreateDB: there is one: exists; eight are open: too many open; 200 databases: limit. Makes an empty one in its place by name,
+-- and opens it with mode 0xC0
 unfoldable pub create_db : Device → List ℕ → List ℕ → ℕ → ℕ → ℕ → List ℕ → Tried
 create_db device creator kind card flags version name = do
   right ← named card name
   new ← check exists (is_none (database_of name device.databases))
   handle ← need too_many_open (free_handle device.handles)
   room ← check limit (nat_lt (length device.databases) most_databases)
-  Ok (record device { databases = with_new (empty_database (new_head name kind creator flags version)) device.databases; handles = with_handle handle (Some (just_opened name 0xC0)) device.handles }, reply.CreateDb handle)
+  Ok (
+    record device {
+      databases = with_new (empty_database (new_head name kind creator flags version)) device.databases;
+      handles = with_handle handle (Some (just_opened name 0xC0)) device.handles;
+    },
+    reply.CreateDb handle,
+  )
 
 -- CloseDB: the handle isn't open: none open. Closes it
 unfoldable pub close_db : Device → ℕ → Tried

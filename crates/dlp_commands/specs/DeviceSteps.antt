@@ -21,10 +21,12 @@ use Rattle.dlp_commands.specs.declared.reading.Reading.TheVariants as reading
 -- what a request of a form does; `free` is the id that a new record gets
 abbrev pub tried_by : ℕ → Device → (f : Form) → Fields (kinds_of f) → Tried
 tried_by free device form.ReadUserInfo none = users.read_user_info device
-tried_by free device form.WriteUserInfo (user, (viewer, (pc, (date, (bits, (name_len, (name, end))))))) = users.write_user_info device user viewer pc date bits name_len name
+tried_by free device form.WriteUserInfo (user, (viewer, (pc, (date, (bits, (name_len, (name, end))))))) =
+    users.write_user_info device user viewer pc date bits name_len name
 tried_by free device form.ReadDbList (flags, (card, (start, end))) = databases.read_db_list device flags card start
 tried_by free device form.OpenDb (card, (mode, (name, end))) = databases.open_db device card mode name
-tried_by free device form.CreateDb (creator, (kind, (card, (pad, (flags, (version, (name, end))))))) = databases.create_db device creator kind card flags version name
+tried_by free device form.CreateDb (creator, (kind, (card, (pad, (flags, (version, (name, end))))))) =
+    databases.create_db device creator kind card flags version name
 tried_by free device form.CloseDb (handle, end) = databases.close_db device handle
 tried_by free device form.DeleteDb (card, (pad, (name, end))) = databases.delete_db device card name
 tried_by free device form.ReadAppBlock (handle, (pad, (offset, (count, end)))) = reads device handle (reading.AppBlock offset count)
@@ -33,11 +35,15 @@ tried_by free device form.WriteAppBlock (handle, (pad, (bytes, end))) = writes f
 tried_by free device form.WriteSortBlock (handle, (pad, (bytes, end))) = writes free device handle (writing.SortBlock bytes)
 tried_by free device form.ReadNextModifiedRec (handle, end) = read_next_modified_rec device handle
 tried_by free device form.ReadRecordById (handle, (pad, (id, (offset, (count, end))))) = reads device handle (reading.RecordOfId id offset count)
-tried_by free device form.ReadRecordByIndex (handle, (pad, (index, (offset, (count, end))))) = reads device handle (reading.RecordAt index offset count)
-tried_by free device form.WriteRecord (handle, (flags, (id, (attributes, (category, (bytes, end)))))) = writes free device handle (writing.WriteRecord id attributes category bytes)
+tried_by free device form.ReadRecordByIndex (handle, (pad, (index, (offset, (count, end))))) =
+    reads device handle (reading.RecordAt index offset count)
+tried_by free device form.WriteRecord (handle, (flags, (id, (attributes, (category, (bytes, end)))))) =
+    writes free device handle (writing.WriteRecord id attributes category bytes)
 tried_by free device form.DeleteRecord (handle, (flags, (id, end))) = writes free device handle (writing.DeleteRecord flags id)
-tried_by free device form.ReadResourceByIndex (handle, (pad, (index, (offset, (count, end))))) = reads device handle (reading.ResourceAt index offset count)
-tried_by free device form.ReadResourceByType (handle, (pad, (kind, (id, (offset, (count, end)))))) = reads device handle (reading.ResourceOfType (record { 0 = kind }) id offset count)
+tried_by free device form.ReadResourceByIndex (handle, (pad, (index, (offset, (count, end))))) =
+    reads device handle (reading.ResourceAt index offset count)
+tried_by free device form.ReadResourceByType (handle, (pad, (kind, (id, (offset, (count, end)))))) =
+    reads device handle (reading.ResourceOfType (record { 0 = kind }) id offset count)
 tried_by free device form.WriteResource (handle, (pad, (kind, (id, (bytes, end))))) = writes free device handle (writing.WriteResource kind id bytes)
 tried_by free device form.DeleteResource (handle, (flags, (kind, (id, end)))) = writes free device handle (writing.DeleteResource flags kind id)
 tried_by free device form.CleanUpDatabase (handle, end) = writes free device handle writing.CleanUp

@@ -38,7 +38,8 @@ with_next next opened = record opened { next = next }
 
 -- another record index under a handle
 abbrev pub with_index : Device → ℕ → ℕ → Device
-with_index device handle next = with_handles device (with_handle handle (option_map (with_next next) (opened_at handle device.handles)) device.handles)
+with_index device handle next =
+    with_handles device (with_handle handle (option_map (with_next next) (opened_at handle device.handles)) device.handles)
 
 -- the first changed record from the handle's record index on, with its place
 abbrev pub next_of : Device → ℕ → Result (ℕ × ReplyValue) ℕ

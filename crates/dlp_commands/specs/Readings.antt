@@ -34,7 +34,8 @@ is_archived item = item.deleted && not (length item.content.bytes == 0)
 
 -- the attributes of a record on the wire: deleted 0x80, dirty 0x40, busy 0x20, secret 0x10, archived 0x08
 abbrev pub wire_attributes : Record → ℕ
-wire_attributes item = bit_if 0x80 item.deleted + bit_if 0x40 item.dirty + bit_if 0x20 item.busy + bit_if 0x10 item.content.secret + bit_if 0x08 (is_archived item)
+wire_attributes item = bit_if 0x80 item.deleted + bit_if 0x40 item.dirty + bit_if 0x20 item.busy + bit_if 0x10 item.content.secret + bit_if 0x08
+    (is_archived item)
 
 -- a record's bytes from an offset on, at most so many: no record at the index: not found; the offset is past its end: parameter.
 -- The size is the whole one
@@ -42,7 +43,8 @@ abbrev pub record_part : DatabaseValue → ℕ → ℕ → ℕ → Result ReplyV
 record_part database index offset count = do
   item ← need not_found (slice_get database.records index)
   within ← check parameter (nat_le offset (length item.content.bytes))
-  Ok (reply.ReadRecord item.id index (length item.content.bytes) (wire_attributes item) item.content.category (take count (drop offset item.content.bytes)))
+  Ok (reply.ReadRecord item.id index (length item.content.bytes) (wire_attributes item) item.content.category
+      (take count (drop offset item.content.bytes)))
 
 -- a resource's bytes likewise
 abbrev pub resource_part : DatabaseValue → ℕ → ℕ → ℕ → Result ReplyValue ℕ
@@ -86,10 +88,12 @@ abbrev pub read_of : Reading → DatabaseValue → Result ReplyValue ℕ
 read_of (reading.AppBlock offset count) database = block_part database.app offset count >>= λ bytes. Ok (reply.ReadAppBlock bytes)
 read_of (reading.SortBlock offset count) database = block_part database.sort offset count >>= λ bytes. Ok (reply.ReadSortBlock bytes)
 read_of reading.EntryCount database = Ok (reply.ReadOpenDbInfo (entry_count database))
-read_of (reading.RecordOfId id offset count) database = need not_found (place_of_id id database.records) >>= λ index. record_part database index offset count
+read_of (reading.RecordOfId id offset count) database = need not_found (place_of_id id database.records)
+    >>= λ index. record_part database index offset count
 read_of (reading.RecordAt index offset count) database = record_part database index offset count
 read_of (reading.RecordIds start maximum) database = Ok (reply.ReadRecordIdList (take (min maximum most_ids) (drop start (ids_of database.records))))
-read_of (reading.ResourceOfType kind id offset count) database = need not_found (place_of_resource kind.0 id database.resources) >>= λ index. resource_part database index offset count
+read_of (reading.ResourceOfType kind id offset count) database = need not_found (place_of_resource kind.0 id database.resources)
+    >>= λ index. resource_part database index offset count
 read_of (reading.ResourceAt index offset count) database = resource_part database index offset count
 
 -- the same of any database: one that doesn't hold it: not supported

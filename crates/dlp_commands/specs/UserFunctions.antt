@@ -55,7 +55,8 @@ marked user viewer pc date bits name_len name old = do
 
 -- WriteUserInfo sets what the bits say
 unfoldable pub write_user_info : Device → ℕ → ℕ → ℕ → List ℕ → ℕ → ℕ → Option (List ℕ) → Tried
-write_user_info device user viewer pc date bits name_len name = marked user viewer pc date bits name_len name device.user >>= λ known. Ok (record device { user = known }, reply.WriteUserInfo)
+write_user_info device user viewer pc date bits name_len name = marked user viewer pc date bits name_len name device.user
+    >>= λ known. Ok (record device { user = known }, reply.WriteUserInfo)
 
 -- AddSyncLogEntry keeps nothing
 abbrev pub add_sync_log_entry : Device → Tried

@@ -98,33 +98,43 @@ may_write id category items = do
 abbrev pub written_record : ℕ → ℕ → Bool → ℕ → List ℕ → DatabaseValue → Result (DatabaseValue × ReplyValue) ℕ
 written_record free id secret category bytes database = do
   allowed ← may_write id category database.records
-  Ok (with_records (records.put_record (given_id free id) (record { category = category; secret = secret; bytes = bytes }) database.records) database, reply.WriteRecord (given_id free id))
+  Ok (
+    with_records (records.put_record (given_id free id) (record { category = category; secret = secret; bytes = bytes }) database.records)
+        database,
+    reply.WriteRecord (given_id free id),
+  )
 
 -- all records of a category are gone; a category above 15: parameter
 abbrev pub without_category : ℕ → DatabaseValue → Result DatabaseValue ℕ
-without_category category database = check parameter (nat_le category 15) >>= λ sorted. Ok (with_records (records.without_category category database.records) database)
+without_category category database = check parameter (nat_le category 15)
+    >>= λ sorted. Ok (with_records (records.without_category category database.records) database)
 
 -- the record of an id is gone; none: not found
 abbrev pub without_record : ℕ → DatabaseValue → Result DatabaseValue ℕ
-without_record id database = need not_found (place_of_id id database.records) >>= λ place. Ok (with_records (records.without_record id database.records) database)
+without_record id database = need not_found (place_of_id id database.records)
+    >>= λ place. Ok (with_records (records.without_record id database.records) database)
 
 -- flag 0x80: all records are gone; flag 0x40: those of the category that is the id's low byte; else the record
 abbrev pub without_records : ℕ → ℕ → DatabaseValue → Result DatabaseValue ℕ
 without_records flags id database =
-    if has_bit 0x80 flags then Ok (with_records [] database) else if has_bit 0x40 flags then without_category (id % 256) database else without_record id database
+    if has_bit 0x80 flags then Ok (with_records [] database) else if has_bit 0x40 flags then without_category (id % 256) database else without_record
+    id database
 
 -- every record of a category gets another and becomes dirty; a category above 15: parameter
 abbrev pub with_moved : ℕ → ℕ → DatabaseValue → Result DatabaseValue ℕ
-with_moved from to database = check parameter (nat_le from 15 && nat_le to 15) >>= λ sorted. Ok (with_records (records.move_category from to database.records) database)
+with_moved from to database = check parameter (nat_le from 15 && nat_le to 15)
+    >>= λ sorted. Ok (with_records (records.move_category from to database.records) database)
 
 -- a new one and 65,535 resources: limit. The first resource of this type and id, or a new last one, gets these bytes
 abbrev pub with_resource : List ℕ → ℕ → List ℕ → DatabaseValue → Result DatabaseValue ℕ
-with_resource kind id bytes database = check limit (has_room kind id database.resources) >>= λ room. Ok (with_resources (resources.put_resource kind id bytes database.resources) database)
+with_resource kind id bytes database = check limit (has_room kind id database.resources)
+    >>= λ room. Ok (with_resources (resources.put_resource kind id bytes database.resources) database)
 
 -- flag 0x80: all resources are gone; else the first of this type and id; none: not found
 abbrev pub without_resources : ℕ → List ℕ → ℕ → DatabaseValue → Result DatabaseValue ℕ
 without_resources flags kind id database =
-    if has_bit 0x80 flags then Ok (with_resources [] database) else (need not_found (place_of_resource kind id database.resources) >>= λ place. Ok (with_resources (resources.without_resource kind id database.resources) database))
+    if has_bit 0x80 flags then Ok (with_resources [] database) else (need not_found (place_of_resource kind id database.resources)
+    >>= λ place. Ok (with_resources (resources.without_resource kind id database.resources) database))
 
 -- The database after and the reply, or the error, where the database holds it; `free` is the id that a new record of id 0 gets.
 -- No bytes remove a block; of a written record's attributes only 0x10 is looked at; cleaning up takes every record with the delete
@@ -160,10 +170,12 @@ write_reply given (DeleteResource flags kind id) = reply.DeleteResource
 
 -- an edit does what a writing asks of a database that holds what is written, or the refusal is the table's
 abbrev pub PlansHeld : WritingValue → DatabaseValue → Result Edit Refusal → Type 0
-PlansHeld asked database (Ok edit) = (free : ℕ) → written free asked database ≡ Ok (edited free edit database, write_reply (edit_given free edit) asked)
+PlansHeld asked database (Ok edit) = (free : ℕ)
+    → written free asked database ≡ Ok (edited free edit database, write_reply (edit_given free edit) asked)
 PlansHeld asked database (Err refusal) = (free : ℕ) → written free asked database ≡ Err (code_of refusal)
 
 -- the same of any database
 abbrev pub Plans : WritingValue → DatabaseValue → Result Edit Refusal → Type 0
-Plans asked database (Ok edit) = (free : ℕ) → written_in free asked database ≡ Ok (edited free edit database, write_reply (edit_given free edit) asked)
+Plans asked database (Ok edit) = (free : ℕ)
+    → written_in free asked database ≡ Ok (edited free edit database, write_reply (edit_given free edit) asked)
 Plans asked database (Err refusal) = (free : ℕ) → written_in free asked database ≡ Err (code_of refusal)

@@ -19,7 +19,8 @@ pub(crate) fn part_of(bytes: &[u8], offset: usize, count: usize) -> &[u8]
 // The bytes of a block from an offset on, at most so many.
 pub(crate) fn block_part(block: Option<&[u8]>, offset: u16, count: u16) -> Result<&[u8], Refusal>
     requires { block_length (option_copied block) ≤ 65500 }
-    ensures part { Finds (λ bytes. bytes.now) result (table.block_part (option_copied block.entry) offset count) }
+    ensures part { Finds (λ bytes. bytes.now) result
+        (table.block_part (option_copied block.entry) offset count) }
     ensures short { IfOk result (λ bytes. length bytes.now ≤ 65500) }
 {
     let Some(bytes) = block else {

@@ -68,8 +68,10 @@ impl<'a> Command<'a> {
     pub fn of(request: Request<'a>) -> Command<'a>
         requires { length (data_of (request_value request)) ≤ 65500 }
         ensures number { command_number result ≡ function_number (request_value request.entry) }
-        ensures same { (free : ℕ) (device : Device) → command_tried free device result ≡ tried free device (request_value request.entry) }
-        ensures may { (free : ℕ) (device : Device) → MayGiveIn device free result → MayGiveTo device free (Ok (request_value request.entry)) }
+        ensures same { (free : ℕ) (device : Device) → command_tried free device result
+            ≡ tried free device (request_value request.entry) }
+        ensures may { (free : ℕ) (device : Device) → MayGiveIn device free result
+            → MayGiveTo device free (Ok (request_value request.entry)) }
         ensures short { IsShortCommand result }
     {
         match request {

@@ -57,7 +57,8 @@ pub fn reading_keeps_databases()
 pub fn first_byte_tells_changes()
     ensures read { (bytes : List ℕ) (value : RequestValue)
         → request_at bytes ≡ Ok value → changes bytes ≡ is_change (function_number value) }
-    ensures written { (value : RequestValue) → changes (request_text value) ≡ is_change (function_number value) }
+    ensures written { (value : RequestValue) → changes (request_text value)
+        ≡ is_change (function_number value) }
     ensures stays { (old new : Device) (bytes reply : List ℕ) → changes bytes ≡ false
         → DeviceStep old bytes reply new → (new.databases ≡ old.databases) × (new.user ≡ old.user) }
 {}

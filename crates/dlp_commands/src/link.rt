@@ -48,21 +48,25 @@ pub trait Link {
         // The first fault is answered from then on; it went down only where the count rose.
         ensures fault { fault self.new ≡ first_fault (fault self.old) (result_err result) }
         ensures again { IfSome (fault self.old) (λ fault. result ≡ Err fault) }
-        ensures cause { WentDown (fault self.old) (downs self.old) (downs self.new) (IsErrOf result LinkFault.Down) }
+        ensures cause { WentDown (fault self.old) (downs self.old) (downs self.new)
+            (IsErrOf result LinkFault.Down) }
         ensures since { since self.old self.new };
 
     /// Sends a request and takes the reply to it. With Ok the device took exactly one step, else one or none.
     fn exchange(&mut self, request: &Message, reply: &mut Message) -> Result<(), LinkFault>
         requires { MayExchange (begun self.old) (fault self.old) }
         // One step by the request, with its reply; or the request was left without an answer, or didn't go out.
-        ensures answered { OnOk result (Answered (talk self.old) request.now reply.new (talk self.new)) }
+        ensures answered { OnOk result (Answered (talk self.old) request.now reply.new
+            (talk self.new)) }
         ensures unanswered { OnErr result (Unanswered (talk self.old) request.now (talk self.new)) }
 
         // The first fault is answered from then on, and then nothing is sent; it went down only where the count rose.
-        ensures stays { IfSome (fault self.old) (λ fault. (result ≡ Err fault) × (talk self.new ≡ talk self.old)) }
+        ensures stays { IfSome (fault self.old)
+            (λ fault. (result ≡ Err fault) × (talk self.new ≡ talk self.old)) }
         ensures begun { begun self.new ≡ begun self.old }
         ensures fault { fault self.new ≡ first_fault (fault self.old) (result_err result) }
-        ensures cause { WentDown (fault self.old) (downs self.old) (downs self.new) (IsErrOf result LinkFault.Down) }
+        ensures cause { WentDown (fault self.old) (downs self.old) (downs self.new)
+            (IsErrOf result LinkFault.Down) }
         ensures since { since self.old self.new };
 
     ghost since_itself: { (link : Self) → since link link };

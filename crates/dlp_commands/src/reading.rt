@@ -99,7 +99,8 @@ impl Reading {
         database: &Database,
         out: &mut Message,
     ) -> Result<(), AllocError>
-        ensures { OnOk result (out.new ≡ answered (read_number self.now) (read_in self.now database.now)) }
+        ensures { OnOk result (out.new ≡ answered (read_number self.now)
+            (read_in self.now database.now)) }
     {
         if !self.holds().fits(database) {
             put_refusal(out, self.number(), Refusal::NotSupported);
@@ -115,7 +116,8 @@ impl Reading {
         database: &Database,
         out: &mut Message,
     ) -> Result<(), AllocError>
-        ensures { OnOk result (out.new ≡ answered (read_number self.now) (read_of self.now database.now)) }
+        ensures { OnOk result (out.new ≡ answered (read_number self.now)
+            (read_of self.now database.now)) }
     {
         let number = self.number();
         match *self {
@@ -189,7 +191,8 @@ fn app_block(database: &Database, offset: u16, count: u16) -> Result<Reply<'_>, 
 // A part of the sort block.
 #[tactic(auto, using(crate::proofs::Fits::sort_fits))]
 fn sort_block(database: &Database, offset: u16, count: u16) -> Result<Reply<'_>, Refusal>
-    ensures part { Finds reply_value result (read_of (Reading.SortBlock offset count) database.now) }
+    ensures part { Finds reply_value result
+        (read_of (Reading.SortBlock offset count) database.now) }
     ensures writable { IfOk result (λ reply. IsWritable (reply_value reply)) }
 {
     let bytes = block_part(database.sort(), offset, count)?;
@@ -198,7 +201,8 @@ fn sort_block(database: &Database, offset: u16, count: u16) -> Result<Reply<'_>,
 
 // A part of the record of an id.
 fn record_of_id(database: &Database, id: u32, offset: u16, count: u16) -> Result<Reply<'_>, Refusal>
-    ensures part { Finds reply_value result (read_of (Reading.RecordOfId id offset count) database.now) }
+    ensures part { Finds reply_value result
+        (read_of (Reading.RecordOfId id offset count) database.now) }
     ensures writable { IfOk result (λ reply. IsWritable (reply_value reply)) }
 {
     let Some(index) = place_of_id(database.records(), id) else {
@@ -215,7 +219,8 @@ fn resource_of_type(
     offset: u16,
     count: u16,
 ) -> Result<Reply<'_>, Refusal>
-    ensures part { Finds reply_value result (read_of (Reading.ResourceOfType kind id offset count) database.now) }
+    ensures part { Finds reply_value result
+        (read_of (Reading.ResourceOfType kind id offset count) database.now) }
     ensures writable { IfOk result (λ reply. IsWritable (reply_value reply)) }
 {
     let Some(index) = place_of_resource(database.resources(), kind, id) else {

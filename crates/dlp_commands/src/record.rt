@@ -83,7 +83,8 @@ fn whole(item: &Record, place: u16) -> Reply<'_>
 
 /// The first changed record of a database of records from a record index on, whole, with its place.
 pub fn next_record(database: &Database, next: u16) -> Result<(u16, Reply<'_>), Refusal>
-    ensures found { Finds (λ found. (found.0, reply_value found.1)) result (next_in next database.now) }
+    ensures found { Finds (λ found. (found.0, reply_value found.1)) result
+        (next_in next database.now) }
     ensures within { IfOk result (λ found. found.0 < 65535) }
     ensures writable { IfOk result (λ found. IsWritable (reply_value found.1)) }
 {
@@ -115,7 +116,8 @@ pub(crate) fn may_write(
 ) -> Result<(RecordId, Category), Refusal>
     ensures allowed { Finds (λ _. tt) result (writings.may_write id category database.now.records) }
     ensures asked { IfOk result (λ asked. asked ≡ (id, category)) }
-    ensures room { OnOk result (records.is_new id database.now.records ≡ true → length database.now.records < 65535) }
+    ensures room { OnOk result (records.is_new id database.now.records ≡ true
+        → length database.now.records < 65535) }
 {
     let Some(asked) = RecordId::new(id) else {
         return Err(Refusal::Parameter);
@@ -137,7 +139,8 @@ pub fn content_of(
     bytes: &[u8],
 ) -> Result<Content, AllocError>
     requires { length bytes.now ≤ 65500 }
-    ensures { IfOk result (λ content. content ≡ record { category = category; secret = secret; bytes = bytes.now }) }
+    ensures { IfOk result (λ content. content
+        ≡ record { category = category; secret = secret; bytes = bytes.now }) }
 {
     match Content::new(category, secret, Vec::from_slice(alloc, bytes)?) {
         Ok(content) => Ok(content),

@@ -77,7 +77,8 @@ pub fn put_listed(out: &mut Message, index: u16, flags: u8, head: DbHead)
 
 /// Replies the error for bytes that are no request, under their first byte.
 pub fn put_fault(out: &mut Message, bytes: &[u8], fault: RequestFault)
-    ensures { out.new ≡ reply_text (value.Refused (steps.first_byte bytes.now) (errors.fault_code fault)) }
+    ensures { out.new ≡ reply_text (value.Refused (steps.first_byte bytes.now)
+        (errors.fault_code fault)) }
 {
     let refused = Reply::Refused {
         function: first_byte(bytes),

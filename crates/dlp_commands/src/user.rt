@@ -43,7 +43,9 @@ pub fn user_reply(user: &UserInfo) -> Reply<'_>
 
 /// What the handheld knows of its user after this was written, or why it isn't.
 pub fn marked(old: &UserInfo, marks: &UserMarks<'_>) -> Result<UserInfo, Refusal>
-    ensures { Finds (λ user. user) result (table.marked marks.now.user marks.now.viewer marks.now.pc marks.now.date marks.now.bits marks.now.name_len (option_map (λ name. name.now) marks.now.name) old.now) }
+    ensures { Finds (λ user. user) result
+        (table.marked marks.now.user marks.now.viewer marks.now.pc marks.now.date marks.now.bits
+        marks.now.name_len (option_map (λ name. name.now) marks.now.name) old.now) }
 {
     let Ok(date) = PalmDate::from_wire(marks.date) else {
         return Err(Refusal::Parameter);

@@ -164,7 +164,8 @@ fn written_record<'a>(
 ) -> Result<Edit<'a>, Refusal>
     requires records { holds_resources database.now.head.attributes ≡ false }
     requires short { length bytes.now ≤ 65500 }
-    ensures plan { PlansHeld (value.WriteRecord id attributes category bytes.now) database.now result }
+    ensures plan { PlansHeld (value.WriteRecord id attributes category bytes.now) database.now
+        result }
     ensures possible { IfOk result (IsFor database.now) }
     ensures free { IfOk result (λ edit. gives_free edit ≡ (id == 0)) }
 {

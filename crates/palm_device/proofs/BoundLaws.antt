@@ -27,23 +27,27 @@ AllByRecursion-filter P keep (x ∷ xs) each =
     let later : AllByRecursion P (filter keep xs) = AllByRecursion-filter P keep xs each.1 in
     elim (keep x) as (λ b. AllByRecursion P (cond b (x ∷ filter keep xs) (filter keep xs))) [ true ↦ (each.0, later) | false ↦ later ]
 
-pub AllByRecursion-without : {X : Type 0} (P : X → Type 0) (test : X → Bool) (xs : List X) → AllByRecursion P xs → AllByRecursion P (without_entry test xs)
+pub AllByRecursion-without : {X : Type 0} (P : X → Type 0) (test : X → Bool) (xs : List X) → AllByRecursion P xs
+    → AllByRecursion P (without_entry test xs)
 unfolding without_entry
 AllByRecursion-without P test [] each = tt
 AllByRecursion-without P test (x ∷ xs) each =
     let later : AllByRecursion P (without_entry test xs) = AllByRecursion-without P test xs each.1 in
     elim (test x) as (λ b. AllByRecursion P (cond b xs (x ∷ without_entry test xs))) [ true ↦ each.1 | false ↦ (each.0, later) ]
 
-pub AllByRecursion-map : {X : Type 0} (P : X → Type 0) (change : X → X) (xs : List X) → ((x : X) → P x → P (change x)) → AllByRecursion P xs → AllByRecursion P (map change xs)
+pub AllByRecursion-map : {X : Type 0} (P : X → Type 0) (change : X → X) (xs : List X) → ((x : X) → P x → P (change x)) → AllByRecursion P xs
+    → AllByRecursion P (map change xs)
 AllByRecursion-map P change [] keeps each = tt
 AllByRecursion-map P change (x ∷ xs) keeps each = (keeps x each.0, AllByRecursion-map P change xs keeps each.1)
 
-pub AllByRecursion-put : {X : Type 0} (P : X → Type 0) (test : X → Bool) (change : X → X) (new : X) (xs : List X) → ((x : X) → P x → P (change x)) → P new → AllByRecursion P xs → AllByRecursion P (put_entry test change new xs)
+pub AllByRecursion-put : {X : Type 0} (P : X → Type 0) (test : X → Bool) (change : X → X) (new : X) (xs : List X) → ((x : X) → P x → P (change x))
+    → P new → AllByRecursion P xs → AllByRecursion P (put_entry test change new xs)
 unfolding put_entry
 AllByRecursion-put P test change new [] keeps made each = (made, tt)
 AllByRecursion-put P test change new (x ∷ xs) keeps made each =
     let later : AllByRecursion P (put_entry test change new xs) = AllByRecursion-put P test change new xs keeps made each.1 in
-    elim (test x) as (λ b. AllByRecursion P (cond b (change x ∷ xs) (x ∷ put_entry test change new xs))) [ true ↦ (keeps x each.0, each.1) | false ↦ (each.0, later) ]
+    elim (test x) as (λ b. AllByRecursion P (cond b (change x ∷ xs) (x ∷ put_entry test change new xs)))
+    [ true ↦ (keeps x each.0, each.1) | false ↦ (each.0, later) ]
 
 pub AllByRecursion-set : {X : Type 0} (P : X → Type 0) (xs : List X) (k : ℕ) (x : X) → P x → AllByRecursion P xs → AllByRecursion P (slice_set xs k x)
 AllByRecursion-set P [] k x here each = tt
@@ -73,33 +77,39 @@ slice_get-within (y ∷ ys) (suc k) x here = let later = slice_get-within ys k x
 
 pub length-filter : {X : Type 0} (keep : X → Bool) (xs : List X) → length (filter keep xs) ≤ length xs
 length-filter keep [] = omega arith
-length-filter keep (x ∷ xs) = let rest = length-filter keep xs in elim (keep x) as (λ b. length (cond b (x ∷ filter keep xs) (filter keep xs)) ≤ length (x ∷ xs)) [ true ↦ omega arith | false ↦ omega arith ]
+length-filter keep (x ∷ xs) = let rest = length-filter keep xs in
+    elim (keep x) as (λ b. length (cond b (x ∷ filter keep xs) (filter keep xs)) ≤ length (x ∷ xs)) [ true ↦ omega arith | false ↦ omega arith ]
 
 pub length-without : {X : Type 0} (test : X → Bool) (xs : List X) → length (without_entry test xs) ≤ length xs
 unfolding without_entry
 length-without test [] = omega arith
-length-without test (x ∷ xs) = let rest = length-without test xs in elim (test x) as (λ b. length (cond b xs (x ∷ without_entry test xs)) ≤ length (x ∷ xs)) [ true ↦ omega arith | false ↦ omega arith ]
+length-without test (x ∷ xs) = let rest = length-without test xs in
+    elim (test x) as (λ b. length (cond b xs (x ∷ without_entry test xs)) ≤ length (x ∷ xs)) [ true ↦ omega arith | false ↦ omega arith ]
 
 pub length-map : {X : Type 0} (change : X → X) (xs : List X) → length (map change xs) ≡ length xs
 length-map change [] = refl
 length-map change (x ∷ xs) = ap suc (length-map change xs)
 
 -- a new one where there is room, or one in its place
-pub length-put : {X : Type 0} (test : X → Bool) (change : X → X) (new : X) (xs : List X) (limit : ℕ) → (position test xs ≡ None → length xs < limit) → length xs ≤ limit → length (put_entry test change new xs) ≤ limit
+pub length-put : {X : Type 0} (test : X → Bool) (change : X → X) (new : X) (xs : List X) (limit : ℕ) → (position test xs ≡ None → length xs < limit)
+    → length xs ≤ limit → length (put_entry test change new xs) ≤ limit
 length-put {X = X} test change new xs limit room few = by (position test xs) refl
   where
     at : (k : ℕ) (o : Option X) → position test xs ≡ Some k → slice_get xs k ≡ o → length (put_entry test change new xs) ≤ limit
     at k None found here = absurd (position_within test xs k found here)
-    at k (Some x) found here = let same : length (put_entry test change new xs) ≡ length xs = ap length (put_entry_at test change new xs k x found here) ∙ length-set xs k (change x) in omega arith
+    at k (Some x) found here = let same : length (put_entry test change new xs) ≡ length xs =
+        ap length (put_entry_at test change new xs k x found here) ∙ length-set xs k (change x) in omega arith
 
     by : (o : Option ℕ) → position test xs ≡ o → length (put_entry test change new xs) ≤ limit
-    by None none = let more : length (put_entry test change new xs) ≡ length xs + 1 = ap length (put_entry_new test change new xs none) ∙ length-append xs (new ∷ []) in let space = room none in omega arith
+    by None none = let more : length (put_entry test change new xs) ≡ length xs + 1 = ap length (put_entry_new test change new xs none)
+        ∙ length-append xs (new ∷ []) in let space = room none in omega arith
     by (Some k) found = at k (slice_get xs k) found refl
 
 -- ---- databases
 
 -- other records, where the database holds records, or none
-pub IsBoundedDatabase-records : (items : List Record) (database : DatabaseValue) → holds_resources database.head.attributes ≡ false → length items ≤ 65535 → AllByRecursion IsBoundedRecord items → IsBoundedDatabase database
+pub IsBoundedDatabase-records : (items : List Record) (database : DatabaseValue) → holds_resources database.head.attributes ≡ false
+    → length items ≤ 65535 → AllByRecursion IsBoundedRecord items → IsBoundedDatabase database
     → IsBoundedDatabase (with_records items database)
 IsBoundedDatabase-records items database holds few each bounded = record {
   whole = record {
@@ -122,7 +132,8 @@ all_short (x ∷ xs) each zero d within = each.0.short
 all_short (x ∷ xs) each (suc k) d within = all_short xs each.1 k d (omega arith)
 
 -- other resources, where it holds resources
-pub IsBoundedDatabase-resources : (items : List Resource) (database : DatabaseValue) → holds_resources database.head.attributes ≡ true → length items ≤ 65535 → AllByRecursion IsBoundedResource items → IsBoundedDatabase database
+pub IsBoundedDatabase-resources : (items : List Resource) (database : DatabaseValue) → holds_resources database.head.attributes ≡ true
+    → length items ≤ 65535 → AllByRecursion IsBoundedResource items → IsBoundedDatabase database
     → IsBoundedDatabase (with_resources items database)
 IsBoundedDatabase-resources items database holds few each bounded = record {
   whole = record {
@@ -144,7 +155,8 @@ block_short [] short = omega arith
 block_short (byte ∷ bytes) short = short
 
 -- another block
-pub IsBoundedDatabase-app : (bytes : List ℕ) (database : DatabaseValue) → length bytes ≤ 65500 → IsBoundedDatabase database → IsBoundedDatabase (with_app bytes database)
+pub IsBoundedDatabase-app : (bytes : List ℕ) (database : DatabaseValue) → length bytes ≤ 65500 → IsBoundedDatabase database
+    → IsBoundedDatabase (with_app bytes database)
 IsBoundedDatabase-app bytes database short bounded = record {
   whole = record {
     few_records = bounded.whole.few_records;
@@ -160,7 +172,8 @@ IsBoundedDatabase-app bytes database short bounded = record {
   resources = bounded.resources;
 }
 
-pub IsBoundedDatabase-sort : (bytes : List ℕ) (database : DatabaseValue) → length bytes ≤ 65500 → IsBoundedDatabase database → IsBoundedDatabase (with_sort bytes database)
+pub IsBoundedDatabase-sort : (bytes : List ℕ) (database : DatabaseValue) → length bytes ≤ 65500 → IsBoundedDatabase database
+    → IsBoundedDatabase (with_sort bytes database)
 IsBoundedDatabase-sort bytes database short bounded = record {
   whole = record {
     few_records = bounded.whole.few_records;
@@ -205,18 +218,24 @@ IsBoundedRecord-moved from to item sorted bounded =
 pub IsBoundedRecord-clean : (item : Record) → IsBoundedRecord item → IsBoundedRecord (clean item)
 IsBoundedRecord-clean item bounded = record { id = bounded.id; category = bounded.category; short = bounded.short }
 
-pub IsBoundedDatabase-put_record : (id : ℕ) (content : ContentValue) (database : DatabaseValue) → holds_resources database.head.attributes ≡ false → id ≤ 16777215 → content.category ≤ 15 → length content.bytes ≤ 65500
-    → (place_of_id id database.records ≡ None → length database.records < 65535) → IsBoundedDatabase database → IsBoundedDatabase (with_records (put_record id content database.records) database)
+pub IsBoundedDatabase-put_record : (id : ℕ) (content : ContentValue) (database : DatabaseValue) → holds_resources database.head.attributes ≡ false
+    → id ≤ 16777215 → content.category ≤ 15 → length content.bytes ≤ 65500
+    → (place_of_id id database.records ≡ None → length database.records < 65535) → IsBoundedDatabase database
+    → IsBoundedDatabase (with_records (put_record id content database.records) database)
 IsBoundedDatabase-put_record id content database holds small sorted short room bounded =
-    IsBoundedDatabase-records (put_record id content database.records) database holds (length-put (has_id id) (rewritten content) (new_record id content) database.records 65535 room bounded.whole.few_records)
+    IsBoundedDatabase-records (put_record id content database.records) database holds
+    (length-put (has_id id) (rewritten content) (new_record id content) database.records 65535 room bounded.whole.few_records)
     (AllByRecursion-put IsBoundedRecord (has_id id) (rewritten content) (new_record id content) database.records
     (λ item was. record { id = was.id; category = sorted; short = short }) (record { id = small; category = sorted; short = short }) bounded.records)
     bounded
 
-pub IsBoundedDatabase-put_resource : (kind : List ℕ) (id : ℕ) (bytes : List ℕ) (database : DatabaseValue) → holds_resources database.head.attributes ≡ true → length kind ≡ 4 → id < 2 ^ 16 → length bytes ≤ 65500
-    → (place_of_resource kind id database.resources ≡ None → length database.resources < 65535) → IsBoundedDatabase database → IsBoundedDatabase (with_resources (put_resource kind id bytes database.resources) database)
+pub IsBoundedDatabase-put_resource : (kind : List ℕ) (id : ℕ) (bytes : List ℕ) (database : DatabaseValue)
+    → holds_resources database.head.attributes ≡ true → length kind ≡ 4 → id < 2 ^ 16 → length bytes ≤ 65500
+    → (place_of_resource kind id database.resources ≡ None → length database.resources < 65535) → IsBoundedDatabase database
+    → IsBoundedDatabase (with_resources (put_resource kind id bytes database.resources) database)
 IsBoundedDatabase-put_resource kind id bytes database holds four small short room bounded =
-    IsBoundedDatabase-resources (put_resource kind id bytes database.resources) database holds (length-put (is_resource kind id) (with_bytes bytes) (new_resource kind id bytes) database.resources 65535 room bounded.whole.few_resources)
+    IsBoundedDatabase-resources (put_resource kind id bytes database.resources) database holds
+    (length-put (is_resource kind id) (with_bytes bytes) (new_resource kind id bytes) database.resources 65535 room bounded.whole.few_resources)
     (AllByRecursion-put IsBoundedResource (is_resource kind id) (with_bytes bytes) (new_resource kind id bytes) database.resources
     (λ resource was. record { kind = was.kind; id = was.id; short = short }) (record { kind = four; id = small; short = short }) bounded.resources)
     bounded

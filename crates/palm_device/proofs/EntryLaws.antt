@@ -8,7 +8,8 @@ use Rattle.palm_device.specs.Entries.{put_entry, without_entry, set_some, change
 
 -- ---- a changed entry, and a new one
 
-put_first : {X : Type 0} (test : X → Bool) (change : X → X) (new : X) (xs : List X) (k : ℕ) (x : X) → position_or_len test xs ≡ k → slice_get xs k ≡ Some x → put_entry test change new xs ≡ slice_set xs k (change x)
+put_first : {X : Type 0} (test : X → Bool) (change : X → X) (new : X) (xs : List X) (k : ℕ) (x : X) → position_or_len test xs ≡ k
+    → slice_get xs k ≡ Some x → put_entry test change new xs ≡ slice_set xs k (change x)
 unfolding put_entry
 put_first test change new [] k x first here = absurd cc
 put_first test change new (y ∷ ys) zero x first here =
@@ -20,10 +21,12 @@ put_first test change new (y ∷ ys) (suc k) x first here =
     rw later.0 (ap (λ zs. y ∷ zs) (put_first test change new ys k x later.1 here))
 
 -- where an entry passes the test, it changes in its place
-pub put_entry_at : {X : Type 0} (test : X → Bool) (change : X → X) (new : X) (xs : List X) (k : ℕ) (x : X) → position test xs ≡ Some k → slice_get xs k ≡ Some x → put_entry test change new xs ≡ slice_set xs k (change x)
+pub put_entry_at : {X : Type 0} (test : X → Bool) (change : X → X) (new : X) (xs : List X) (k : ℕ) (x : X) → position test xs ≡ Some k
+    → slice_get xs k ≡ Some x → put_entry test change new xs ≡ slice_set xs k (change x)
 put_entry_at test change new xs k x found here = put_first test change new xs k x (position_found test xs k found).0 here
 
-put_past : {X : Type 0} (test : X → Bool) (change : X → X) (new : X) (xs : List X) → length xs ≤ position_or_len test xs → put_entry test change new xs ≡ xs ++ new ∷ []
+put_past : {X : Type 0} (test : X → Bool) (change : X → X) (new : X) (xs : List X) → length xs ≤ position_or_len test xs
+    → put_entry test change new xs ≡ xs ++ new ∷ []
 unfolding put_entry
 put_past test change new [] past = refl
 put_past test change new (y ∷ ys) past =
@@ -31,12 +34,14 @@ put_past test change new (y ∷ ys) past =
     rw later.0 (ap (λ zs. y ∷ zs) (put_past test change new ys later.1))
 
 -- where none does, the new one stands behind the others
-pub put_entry_new : {X : Type 0} (test : X → Bool) (change : X → X) (new : X) (xs : List X) → position test xs ≡ None → put_entry test change new xs ≡ xs ++ new ∷ []
+pub put_entry_new : {X : Type 0} (test : X → Bool) (change : X → X) (new : X) (xs : List X) → position test xs ≡ None
+    → put_entry test change new xs ≡ xs ++ new ∷ []
 put_entry_new test change new xs none = put_past test change new xs (position_none test xs none)
 
 -- ---- an entry left out
 
-without_first : {X : Type 0} (test : X → Bool) (xs : List X) (k : ℕ) → position_or_len test xs ≡ k → k < length xs → without_entry test xs ≡ remove xs k
+without_first : {X : Type 0} (test : X → Bool) (xs : List X) (k : ℕ) → position_or_len test xs ≡ k → k < length xs
+    → without_entry test xs ≡ remove xs k
 unfolding without_entry
 without_first test [] k first within = absurd (omega arith)
 without_first test (y ∷ ys) zero first within = rw (first_here (test y) _ first) refl
@@ -66,28 +71,35 @@ and_true false b both = absurd cc
 -- ---- a list whose entries are changed or left out one after the other
 
 change_later : {X : Type 0} (change : X → X) (y : X) (ys : List X) (k : ℕ) → change_at change (suc k) (y ∷ ys) ≡ y ∷ change_at change k ys
-change_later change y ys k = elim (slice_get ys k) as (λ o. set_some (suc k) (y ∷ ys) (option_map change o) ≡ y ∷ set_some k ys (option_map change o)) [ None ↦ refl | Some x ↦ refl ]
+change_later change y ys k =
+    elim (slice_get ys k) as (λ o. set_some (suc k) (y ∷ ys) (option_map change o) ≡ y ∷ set_some k ys (option_map change o))
+    [ None ↦ refl | Some x ↦ refl ]
 
-map_next_suc : {X : Type 0} (change : X → X) (xs : List X) (k : ℕ) → change_at change k (map change (take k xs) ++ drop k xs) ≡ map change (take (suc k) xs) ++ drop (suc k) xs
+map_next_suc : {X : Type 0} (change : X → X) (xs : List X) (k : ℕ)
+    → change_at change k (map change (take k xs) ++ drop k xs) ≡ map change (take (suc k) xs) ++ drop (suc k) xs
 map_next_suc change [] zero = refl
 map_next_suc change [] (suc k) = refl
 map_next_suc change (y ∷ ys) zero = refl
-map_next_suc change (y ∷ ys) (suc k) = change_later change (change y) (map change (take k ys) ++ drop k ys) k ∙ ap (λ zs. change y ∷ zs) (map_next_suc change ys k)
+map_next_suc change (y ∷ ys) (suc k) = change_later change (change y) (map change (take k ys) ++ drop k ys) k
+    ∙ ap (λ zs. change y ∷ zs) (map_next_suc change ys k)
 
 -- the entry at a place is changed like those before it
-pub map_next : {X : Type 0} (change : X → X) (xs : List X) (k : ℕ) → change_at change k (map change (take k xs) ++ drop k xs) ≡ map change (take (k + 1) xs) ++ drop (k + 1) xs
+pub map_next : {X : Type 0} (change : X → X) (xs : List X) (k : ℕ)
+    → change_at change k (map change (take k xs) ++ drop k xs) ≡ map change (take (k + 1) xs) ++ drop (k + 1) xs
 map_next change xs k = rw add-one (map_next_suc change xs k)
 
 -- leaving out an entry that isn't kept keeps the same
-pub filter_out : {X : Type 0} (keep : X → Bool) (xs : List X) (k : ℕ) (x : X) → slice_get xs k ≡ Some x → keep x ≡ false → filter keep (remove xs k) ≡ filter keep xs
+pub filter_out : {X : Type 0} (keep : X → Bool) (xs : List X) (k : ℕ) (x : X) → slice_get xs k ≡ Some x → keep x ≡ false
+    → filter keep (remove xs k) ≡ filter keep xs
 filter_out keep [] k x here lost = absurd cc
 filter_out keep (y ∷ ys) zero x here lost =
     let same : y ≡ x = cc in
     rw (same, lost) refl
-filter_out keep (y ∷ ys) (suc k) x here lost = elim (keep y) as (λ b. cond b (y ∷ filter keep (remove ys k)) (filter keep (remove ys k)) ≡ cond b (y ∷ filter keep ys) (filter keep ys)) [
-  | true ↦ ap (λ zs. y ∷ zs) (filter_out keep ys k x here lost)
-  | false ↦ filter_out keep ys k x here lost
-]
+filter_out keep (y ∷ ys) (suc k) x here lost =
+    elim (keep y) as (λ b. cond b (y ∷ filter keep (remove ys k)) (filter keep (remove ys k)) ≡ cond b (y ∷ filter keep ys) (filter keep ys)) [
+      | true ↦ ap (λ zs. y ∷ zs) (filter_out keep ys k x here lost)
+      | false ↦ filter_out keep ys k x here lost
+    ]
 
 -- where each entry is kept, all are
 pub filter_all : {X : Type 0} (keep : X → Bool) (xs : List X) → list_all keep xs ≡ true → filter keep xs ≡ xs

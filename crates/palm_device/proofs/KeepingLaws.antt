@@ -17,7 +17,9 @@ pub record IsKeeping (keep : Record → Bool) (old now : DatabaseValue) (place :
   pub within : place ≤ length now.records
 
 -- the record at the place is taken out
-pub keeping_out : (keep : Record → Bool) (old now : DatabaseValue) (place : ℕ) (item : Record) → IsKeeping keep old now place → place < length now.records → slice_get now.records place ≡ Some item → keep item ≡ false → IsKeeping keep old (with_records (remove now.records place) now) place
+pub keeping_out : (keep : Record → Bool) (old now : DatabaseValue) (place : ℕ) (item : Record) → IsKeeping keep old now place
+    → place < length now.records → slice_get now.records place ≡ Some item → keep item ≡ false
+    → IsKeeping keep old (with_records (remove now.records place) now) place
 keeping_out keep old now place item far more here lost = record {
   same = ap (λ (d : DatabaseValue). with_records (remove now.records place) d) far.same;
   left = filter_out keep now.records place item here lost ∙ far.left;
@@ -26,7 +28,8 @@ keeping_out keep old now place item far more here lost = record {
 }
 
 -- all were seen
-pub keeping_end : (keep : Record → Bool) (old now : DatabaseValue) (place : ℕ) → IsKeeping keep old now place → length now.records ≤ place → now ≡ with_records (filter keep old.records) old
+pub keeping_end : (keep : Record → Bool) (old now : DatabaseValue) (place : ℕ) → IsKeeping keep old now place → length now.records ≤ place
+    → now ≡ with_records (filter keep old.records) old
 keeping_end keep old now place far all =
     let every : list_all keep now.records ≡ true = rw take_all at far.kept in
     far.same ∙ ap (λ (items : List Record). with_records items old) (sym (filter_all keep now.records every) ∙ far.left)

@@ -9,11 +9,14 @@ use Rattle.palm_device.specs.Records.{has_id, place_of_id, rewritten, new_record
 use Rattle.palm_device.proofs.EntryLaws.{position_within, put_entry_at, put_entry_new, without_entry_at, without_entry_none}
 
 -- in its place
-pub put_record_at : (id : ℕ) (content : ContentValue) (records : List Record) (place : ℕ) (item : Record) → place_of_id id records ≡ Some place → slice_get records place ≡ Some item → put_record id content records ≡ slice_set records place (rewritten content item)
-put_record_at id content records place item found here = put_entry_at (has_id id) (rewritten content) (new_record id content) records place item found here
+pub put_record_at : (id : ℕ) (content : ContentValue) (records : List Record) (place : ℕ) (item : Record) → place_of_id id records ≡ Some place
+    → slice_get records place ≡ Some item → put_record id content records ≡ slice_set records place (rewritten content item)
+put_record_at id content records place item found here =
+    put_entry_at (has_id id) (rewritten content) (new_record id content) records place item found here
 
 -- the same as a change at its place
-pub put_record_placed : (id : ℕ) (content : ContentValue) (records : List Record) (place : ℕ) → place_of_id id records ≡ Some place → put_record id content records ≡ change_at (rewritten content) place records
+pub put_record_placed : (id : ℕ) (content : ContentValue) (records : List Record) (place : ℕ) → place_of_id id records ≡ Some place
+    → put_record id content records ≡ change_at (rewritten content) place records
 put_record_placed id content records place found = by (slice_get records place) refl
   where
     by : (o : Option Record) → slice_get records place ≡ o → put_record id content records ≡ set_some place records (option_map (rewritten content) o)
@@ -21,11 +24,13 @@ put_record_placed id content records place found = by (slice_get records place) 
     by (Some item) here = put_record_at id content records place item found here
 
 -- a new last one
-pub put_record_new : (id : ℕ) (content : ContentValue) (records : List Record) → place_of_id id records ≡ None → put_record id content records ≡ records ++ new_record id content ∷ []
+pub put_record_new : (id : ℕ) (content : ContentValue) (records : List Record) → place_of_id id records ≡ None
+    → put_record id content records ≡ records ++ new_record id content ∷ []
 put_record_new id content records none = put_entry_new (has_id id) (rewritten content) (new_record id content) records none
 
 -- the record at its place is gone
-pub without_record_at : (id : ℕ) (records : List Record) (place : ℕ) → place_of_id id records ≡ Some place → without_record id records ≡ remove records place
+pub without_record_at : (id : ℕ) (records : List Record) (place : ℕ) → place_of_id id records ≡ Some place
+    → without_record id records ≡ remove records place
 without_record_at id records place found = without_entry_at (has_id id) records place found
 
 -- where there is none, all stay

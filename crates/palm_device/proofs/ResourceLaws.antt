@@ -7,22 +7,31 @@ use Rattle.pdb_values.specs.declared.resource.Resource.{Resource}
 use Rattle.palm_device.specs.Resources.{is_resource, place_of_resource, new_resource, put_resource, without_resource}
 use Rattle.palm_device.proofs.EntryLaws.{put_entry_at, put_entry_new, without_entry_at, without_entry_none, position_within}
 
-changed : (kind : List ℕ) (id : ℕ) (bytes : List ℕ) (resources : List Resource) (place : ℕ) (o : Option Resource) → place_of_resource kind id resources ≡ Some place → slice_get resources place ≡ o → (o ≡ None → ⊥) → put_resource kind id bytes resources ≡ values.set_some resources place (option_map (values.with_bytes bytes) o)
-changed kind id bytes resources place (Some resource) found here some = put_entry_at (is_resource kind id) (values.with_bytes bytes) (new_resource kind id bytes) resources place resource found here
+changed : (kind : List ℕ) (id : ℕ) (bytes : List ℕ) (resources : List Resource) (place : ℕ) (o : Option Resource)
+    → place_of_resource kind id resources ≡ Some place → slice_get resources place ≡ o → (o ≡ None → ⊥)
+    → put_resource kind id bytes resources ≡ values.set_some resources place (option_map (values.with_bytes bytes) o)
+changed kind id bytes resources place (Some resource) found here some =
+    put_entry_at (is_resource kind id) (values.with_bytes bytes) (new_resource kind id bytes) resources place resource found here
 changed kind id bytes resources place None found here some = absurd (some refl)
 
 -- in its place
-pub put_resource_at : (kind : List ℕ) (id : ℕ) (bytes : List ℕ) (resources : List Resource) (place : ℕ) → place_of_resource kind id resources ≡ Some place → put_resource kind id bytes resources ≡ values.with_bytes_at resources place bytes
-put_resource_at kind id bytes resources place found = changed kind id bytes resources place (slice_get resources place) found refl (position_within (is_resource kind id) resources place found)
+pub put_resource_at : (kind : List ℕ) (id : ℕ) (bytes : List ℕ) (resources : List Resource) (place : ℕ)
+    → place_of_resource kind id resources ≡ Some place → put_resource kind id bytes resources ≡ values.with_bytes_at resources place bytes
+put_resource_at kind id bytes resources place found = changed kind id bytes resources place (slice_get resources place) found refl
+    (position_within (is_resource kind id) resources place found)
 
 -- a new last one
-pub put_resource_new : (kind : List ℕ) (id : ℕ) (bytes : List ℕ) (resources : List Resource) → place_of_resource kind id resources ≡ None → put_resource kind id bytes resources ≡ resources ++ new_resource kind id bytes ∷ []
-put_resource_new kind id bytes resources none = put_entry_new (is_resource kind id) (values.with_bytes bytes) (new_resource kind id bytes) resources none
+pub put_resource_new : (kind : List ℕ) (id : ℕ) (bytes : List ℕ) (resources : List Resource) → place_of_resource kind id resources ≡ None
+    → put_resource kind id bytes resources ≡ resources ++ new_resource kind id bytes ∷ []
+put_resource_new kind id bytes resources none =
+    put_entry_new (is_resource kind id) (values.with_bytes bytes) (new_resource kind id bytes) resources none
 
 -- the resource at its place is gone
-pub without_resource_at : (kind : List ℕ) (id : ℕ) (resources : List Resource) (place : ℕ) → place_of_resource kind id resources ≡ Some place → without_resource kind id resources ≡ remove resources place
+pub without_resource_at : (kind : List ℕ) (id : ℕ) (resources : List Resource) (place : ℕ) → place_of_resource kind id resources ≡ Some place
+    → without_resource kind id resources ≡ remove resources place
 without_resource_at kind id resources place found = without_entry_at (is_resource kind id) resources place found
 
 -- where there is none, all stay
-pub without_resource_none : (kind : List ℕ) (id : ℕ) (resources : List Resource) → place_of_resource kind id resources ≡ None → without_resource kind id resources ≡ resources
+pub without_resource_none : (kind : List ℕ) (id : ℕ) (resources : List Resource) → place_of_resource kind id resources ≡ None
+    → without_resource kind id resources ≡ resources
 without_resource_none kind id resources none = without_entry_none (is_resource kind id) resources none

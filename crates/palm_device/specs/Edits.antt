@@ -13,7 +13,8 @@ use Rattle.palm_device.specs.declared.edit.Edit.TheVariants as edit
 abbrev pub edited : ℕ → Edit → DatabaseValue → DatabaseValue
 edited free (edit.AppBlock bytes) database = with_app bytes.now database
 edited free (edit.SortBlock bytes) database = with_sort bytes.now database
-edited free (edit.Record id category secret bytes) database = with_records (put_record (given_id free id) (record { category = category; secret = secret; bytes = bytes.now }) database.records) database
+edited free (edit.Record id category secret bytes) database =
+    with_records (put_record (given_id free id) (record { category = category; secret = secret; bytes = bytes.now }) database.records) database
 edited free edit.NoRecords database = with_records [] database
 edited free (edit.Keep kept) database = with_records (filter (is_kept kept) database.records) database
 edited free (edit.WithoutRecord id) database = with_records (without_record id database.records) database
@@ -37,8 +38,10 @@ gives_free other = false
 abbrev pub IsFor : DatabaseValue → Edit → Type 0
 IsFor database (edit.AppBlock bytes) = length bytes.now ≤ 65500
 IsFor database (edit.SortBlock bytes) = length bytes.now ≤ 65500
-IsFor database (edit.Record id category secret bytes) = (length bytes.now ≤ 65500) × (holds_resources database.head.attributes ≡ false) × (is_new id database.records ≡ true → length database.records < 65535)
-IsFor database (edit.Resource kind id bytes) = (length bytes.now ≤ 65500) × (holds_resources database.head.attributes ≡ true) × (has_room kind.0 id database.resources ≡ true)
+IsFor database (edit.Record id category secret bytes) = (length bytes.now ≤ 65500) × (holds_resources database.head.attributes ≡ false)
+    × (is_new id database.records ≡ true → length database.records < 65535)
+IsFor database (edit.Resource kind id bytes) = (length bytes.now ≤ 65500) × (holds_resources database.head.attributes ≡ true)
+    × (has_room kind.0 id database.resources ≡ true)
 IsFor database other = Unit {0}
 
 -- an answer says whether a database is another one than before

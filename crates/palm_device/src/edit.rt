@@ -62,7 +62,8 @@ fn content_of(
     bytes: &[u8],
 ) -> Result<Content, AllocError>
     requires { length bytes.now ≤ 65500 }
-    ensures { IfOk result (λ content. content ≡ record { category = category; secret = secret; bytes = bytes.now }) }
+    ensures { IfOk result (λ content. content
+        ≡ record { category = category; secret = secret; bytes = bytes.now }) }
 {
     match Content::new(category, secret, Vec::from_slice(alloc, bytes)?) {
         Ok(content) => Ok(content),

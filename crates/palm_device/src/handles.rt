@@ -36,7 +36,8 @@ impl Handles {
 
     /// What is open under a handle.
     pub fn opened_at(&self, handle: u8) -> Option<&Opened>
-        ensures opened { option_map (λ opened. opened.now) result ≡ handles.opened_at handle self.now }
+        ensures opened { option_map (λ opened. opened.now) result
+            ≡ handles.opened_at handle self.now }
         ensures handle { IfSome result (λ _. (0 < handle) × (handle ≤ 8)) }
     {
         if handle == 0 {

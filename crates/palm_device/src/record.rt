@@ -66,8 +66,10 @@ fn is_set(item: &Record, content: &Content) -> bool
 /// Makes the record at a place live and dirty with this content. Answers whether that makes another database.
 #[tactic(auto, using(crate::proofs::TellingLaws::tells_change, crate::proofs::TellingLaws::tells_no_change))]
 pub fn set_record(database: &mut Database, place: usize, content: Content) -> bool
-    ensures set { database.new ≡ with_records (change_at (records.rewritten content) place database.old.records) database.old }
-    ensures differs { Tells database.old (with_records (change_at (records.rewritten content) place database.old.records) database.old) result }
+    ensures set { database.new ≡ with_records
+        (change_at (records.rewritten content) place database.old.records) database.old }
+    ensures differs { Tells database.old (with_records
+        (change_at (records.rewritten content) place database.old.records) database.old) result }
 {
     match database.record_mut(place) {
         Some(item) => {
@@ -90,9 +92,12 @@ pub fn put_record(
     content: Content,
 ) -> Result<bool, AllocError>
     requires records { holds_resources database.old.head.attributes ≡ false }
-    requires room { records.place_of_id id database.old.records ≡ None → length database.old.records < 65535 }
-    ensures put { OnOk result (database.new ≡ with_records (records.put_record id content database.old.records) database.old) }
-    ensures differs { IfOk result (Tells database.old (with_records (records.put_record id content database.old.records) database.old)) }
+    requires room { records.place_of_id id database.old.records ≡ None
+        → length database.old.records < 65535 }
+    ensures put { OnOk result (database.new
+        ≡ with_records (records.put_record id content database.old.records) database.old) }
+    ensures differs { IfOk result (Tells database.old
+        (with_records (records.put_record id content database.old.records) database.old)) }
     ensures stays { OnErr result (database.new ≡ database.old) }
 {
     let Some(place) = place_of_id(database.records(), id.number()) else {
@@ -106,7 +111,8 @@ pub fn put_record(
 fn push_record(database: &mut Database, id: RecordId, content: Content) -> Result<(), AllocError>
     requires records { holds_resources database.old.head.attributes ≡ false }
     requires room { length database.old.records < 65535 }
-    ensures pushed { OnOk result (database.new ≡ with_records (database.old.records ++ records.new_record id content ∷ []) database.old) }
+    ensures pushed { OnOk result (database.new
+        ≡ with_records (database.old.records ++ records.new_record id content ∷ []) database.old) }
     ensures stays { OnErr result (database.new ≡ database.old) }
 {
     let item = Record {
@@ -125,9 +131,11 @@ fn push_record(database: &mut Database, id: RecordId, content: Content) -> Resul
 /// Takes out the record of an id. Answers whether there was one, which makes another database.
 #[tactic(auto, using(crate::proofs::RecordLaws::without_record_at, crate::proofs::RecordLaws::without_record_none, crate::proofs::TellingLaws::tells_purge))]
 pub fn purge_record(database: &mut Database, id: u32) -> bool
-    ensures purged { database.new ≡ with_records (records.without_record id database.old.records) database.old }
+    ensures purged { database.new ≡ with_records
+        (records.without_record id database.old.records) database.old }
     ensures found { result ≡ is_some (records.place_of_id id database.old.records) }
-    ensures differs { Tells database.old (with_records (records.without_record id database.old.records) database.old) result }
+    ensures differs { Tells database.old (with_records
+        (records.without_record id database.old.records) database.old) result }
 {
     let Some(place) = place_of_id(database.records(), id) else {
         return false;
@@ -154,8 +162,10 @@ fn are_kept(items: &[Record], kept: &Kept) -> bool
 /// Takes out all records but those that are kept. The others keep their order. Answers whether that makes another database.
 #[tactic(auto, using(crate::proofs::TellingLaws::tells_keep))]
 pub fn keep_records(database: &mut Database, kept: &Kept) -> bool
-    ensures left { database.new ≡ with_records (filter (is_kept kept.now) database.old.records) database.old }
-    ensures differs { Tells database.old (with_records (filter (is_kept kept.now) database.old.records) database.old) result }
+    ensures left { database.new ≡ with_records
+        (filter (is_kept kept.now) database.old.records) database.old }
+    ensures differs { Tells database.old (with_records
+        (filter (is_kept kept.now) database.old.records) database.old) result }
 {
     let all = are_kept(database.records(), kept);
     take_others_out(database, kept);
@@ -164,7 +174,8 @@ pub fn keep_records(database: &mut Database, kept: &Kept) -> bool
 
 // Takes out all records but those that are kept.
 fn take_others_out(database: &mut Database, kept: &Kept)
-    ensures { database.new ≡ with_records (filter (is_kept kept.now) database.old.records) database.old }
+    ensures { database.new ≡ with_records
+        (filter (is_kept kept.now) database.old.records) database.old }
 {
     let mut place = 0;
     while place < database.records().len() {
@@ -207,8 +218,10 @@ fn has_dirty(items: &[Record]) -> bool
 /// Clears each record's dirty bit. Answers whether that makes another database.
 #[tactic(auto, using(crate::proofs::TellingLaws::tells_flags))]
 pub fn reset_flags(database: &mut Database) -> bool
-    ensures reset { database.new ≡ with_records (records.reset_flags database.old.records) database.old }
-    ensures differs { Tells database.old (with_records (records.reset_flags database.old.records) database.old) result }
+    ensures reset { database.new ≡ with_records
+        (records.reset_flags database.old.records) database.old }
+    ensures differs { Tells database.old (with_records
+        (records.reset_flags database.old.records) database.old) result }
 {
     let some = has_dirty(database.records());
     reset_all(database);
@@ -227,7 +240,8 @@ fn reset_all(database: &mut Database)
 
 // Clears the dirty bit of the record at a place.
 fn reset_record(database: &mut Database, place: usize)
-    ensures { database.new ≡ with_records (change_at records.clean place database.old.records) database.old }
+    ensures { database.new ≡ with_records
+        (change_at records.clean place database.old.records) database.old }
 {
     if let Some(item) = database.record_mut(place) {
         item.dirty = false;
@@ -251,8 +265,10 @@ fn all_stay(items: &[Record], from: Category, to: Category) -> bool
 /// Puts each record of a category into another one and makes it dirty. Answers whether that makes another database.
 #[tactic(auto, using(crate::proofs::TellingLaws::tells_moved))]
 pub fn move_category(database: &mut Database, from: Category, to: Category) -> bool
-    ensures moved { database.new ≡ with_records (records.move_category from to database.old.records) database.old }
-    ensures differs { Tells database.old (with_records (records.move_category from to database.old.records) database.old) result }
+    ensures moved { database.new ≡ with_records
+        (records.move_category from to database.old.records) database.old }
+    ensures differs { Tells database.old (with_records
+        (records.move_category from to database.old.records) database.old) result }
 {
     let same = all_stay(database.records(), from, to);
     move_all(database, from, to);
@@ -262,7 +278,8 @@ pub fn move_category(database: &mut Database, from: Category, to: Category) -> b
 // Puts each record of a category into another one and makes it dirty.
 #[tactic(auto, using(crate::proofs::EntryLaws::map_next))]
 fn move_all(database: &mut Database, from: Category, to: Category)
-    ensures { database.new ≡ with_records (records.move_category from to database.old.records) database.old }
+    ensures { database.new ≡ with_records
+        (records.move_category from to database.old.records) database.old }
 {
     for place in 0..database.records().len() {
         move_record_at(database, place, from, to);
@@ -271,7 +288,8 @@ fn move_all(database: &mut Database, from: Category, to: Category)
 
 // Puts the record at a place into another category and makes it dirty, if it is of the first one.
 fn move_record_at(database: &mut Database, place: usize, from: Category, to: Category)
-    ensures { database.new ≡ with_records (change_at (records.moved from to) place database.old.records) database.old }
+    ensures { database.new ≡ with_records
+        (change_at (records.moved from to) place database.old.records) database.old }
 {
     if let Some(item) = database.record_mut(place) {
         move_record(item, from, to);

@@ -45,10 +45,15 @@ pub fn put_resource(
     bytes: Bytes,
 ) -> Result<bool, AllocError>
     requires resources { holds_resources database.old.head.attributes ≡ true }
-    requires room { resources.place_of_resource kind.0 id database.old.resources ≡ None → length database.old.resources < 65535 }
+    requires room { resources.place_of_resource kind.0 id database.old.resources ≡ None
+        → length database.old.resources < 65535 }
     requires short { length bytes ≤ 65500 }
-    ensures put { OnOk result (database.new ≡ with_resources (resources.put_resource kind.0 id bytes database.old.resources) database.old) }
-    ensures differs { IfOk result (Tells database.old (with_resources (resources.put_resource kind.0 id bytes database.old.resources) database.old)) }
+    ensures put { OnOk result (database.new
+        ≡ with_resources (resources.put_resource kind.0 id bytes database.old.resources)
+        database.old) }
+    ensures differs { IfOk result (Tells database.old
+        (with_resources (resources.put_resource kind.0 id bytes database.old.resources)
+        database.old)) }
     ensures stays { OnErr result (database.new ≡ database.old) }
 {
     let same = is_there(database.resources(), kind, id, &bytes);
@@ -60,9 +65,12 @@ pub fn put_resource(
 #[tactic(auto, using(crate::proofs::ResourceLaws::put_resource_at, crate::proofs::ResourceLaws::put_resource_new))]
 fn put_in(database: &mut Database, kind: FourCc, id: u16, bytes: Bytes) -> Result<(), AllocError>
     requires resources { holds_resources database.old.head.attributes ≡ true }
-    requires room { resources.place_of_resource kind.0 id database.old.resources ≡ None → length database.old.resources < 65535 }
+    requires room { resources.place_of_resource kind.0 id database.old.resources ≡ None
+        → length database.old.resources < 65535 }
     requires short { length bytes ≤ 65500 }
-    ensures put { OnOk result (database.new ≡ with_resources (resources.put_resource kind.0 id bytes database.old.resources) database.old) }
+    ensures put { OnOk result (database.new
+        ≡ with_resources (resources.put_resource kind.0 id bytes database.old.resources)
+        database.old) }
     ensures stays { OnErr result (database.new ≡ database.old) }
 {
     let Some(place) = place_of_resource(database.resources(), kind, id) else {
@@ -82,7 +90,9 @@ fn push_resource(
     requires resources { holds_resources database.old.head.attributes ≡ true }
     requires room { length database.old.resources < 65535 }
     requires short { length bytes ≤ 65500 }
-    ensures pushed { OnOk result (database.new ≡ with_resources (database.old.resources ++ resources.new_resource kind.0 id bytes ∷ []) database.old) }
+    ensures pushed { OnOk result (database.new
+        ≡ with_resources (database.old.resources ++ resources.new_resource kind.0 id bytes ∷ [])
+        database.old) }
     ensures stays { OnErr result (database.new ≡ database.old) }
 {
     match database.push_resource(Resource { kind, id, bytes }) {
@@ -94,9 +104,11 @@ fn push_resource(
 /// Takes out the first resource of a type and id. Answers whether there was one, which makes another database.
 #[tactic(auto, using(crate::proofs::ResourceLaws::without_resource_at, crate::proofs::ResourceLaws::without_resource_none, crate::proofs::TellingLaws::tells_purge_resource))]
 pub fn purge_resource(database: &mut Database, kind: FourCc, id: u16) -> bool
-    ensures purged { database.new ≡ with_resources (resources.without_resource kind.0 id database.old.resources) database.old }
+    ensures purged { database.new ≡ with_resources
+        (resources.without_resource kind.0 id database.old.resources) database.old }
     ensures found { result ≡ is_some (resources.place_of_resource kind.0 id database.old.resources) }
-    ensures differs { Tells database.old (with_resources (resources.without_resource kind.0 id database.old.resources) database.old) result }
+    ensures differs { Tells database.old (with_resources
+        (resources.without_resource kind.0 id database.old.resources) database.old) result }
 {
     let Some(place) = place_of_resource(database.resources(), kind, id) else {
         return false;

@@ -81,59 +81,73 @@ pub place_of-some : (name : List ℕ) (databases : List DatabaseValue) (found : 
     → (place : ℕ) × (place_of name databases ≡ Some place) × (slice_get databases place ≡ Some found)
 place_of-some name databases found is = by (place_of name databases) refl (sym (find-position (is_named name) databases) ∙ is)
   where
-    by : (o : Option ℕ) → place_of name databases ≡ o → option_and_then (slice_get databases) o ≡ Some found → (place : ℕ) × (place_of name databases ≡ Some place) × (slice_get databases place ≡ Some found)
+    by : (o : Option ℕ) → place_of name databases ≡ o → option_and_then (slice_get databases) o ≡ Some found → (place : ℕ)
+        × (place_of name databases ≡ Some place) × (slice_get databases place ≡ Some found)
     by None at here = absurd cc
     by (Some place) at here = (place, at, here)
 
 -- a database that was found has the name
-pub database_of-name : (name : List ℕ) (databases : List DatabaseValue) (found : DatabaseValue) → database_of name databases ≡ Some found → found.head.name ≡ name
+pub database_of-name : (name : List ℕ) (databases : List DatabaseValue) (found : DatabaseValue) → database_of name databases ≡ Some found
+    → found.head.name ≡ name
 database_of-name name [] found is = absurd cc
 database_of-name name (database ∷ databases) found is = by (is_named name database) refl is (database_of-name name databases found)
   where
-    by : (b : Bool) → is_named name database ≡ b → cond b (Some database) (database_of name databases) ≡ Some found → (database_of name databases ≡ Some found → found.head.name ≡ name) → found.head.name ≡ name
-    by true named here later = let same : database ≡ found = cc in subst (λ (d : DatabaseValue). d.head.name ≡ name) same (bytes_eq-is database.head.name name named)
+    by : (b : Bool) → is_named name database ≡ b → cond b (Some database) (database_of name databases) ≡ Some found
+        → (database_of name databases ≡ Some found → found.head.name ≡ name) → found.head.name ≡ name
+    by true named here later = let same : database ≡ found = cc in
+        subst (λ (d : DatabaseValue). d.head.name ≡ name) same (bytes_eq-is database.head.name name named)
     by false named here later = later here
 
 -- each place's database is found by its name
-pub place_of-at : (databases : List DatabaseValue) (place : ℕ) (database : DatabaseValue) → NamesRise databases → slice_get databases place ≡ Some database → place_of database.head.name databases ≡ Some place
+pub place_of-at : (databases : List DatabaseValue) (place : ℕ) (database : DatabaseValue) → NamesRise databases
+    → slice_get databases place ≡ Some database → place_of database.head.name databases ≡ Some place
 place_of-at [] place database rise here = absurd cc
 place_of-at (first ∷ databases) zero database rise here =
     let same : first ≡ database = cc in
     rw position-cons (rw (same, bytes_eq-own database.head.name) refl)
 place_of-at (first ∷ databases) (suc place) database rise here =
-    let behind : comes_before first.head.name database.head.name ≡ true = all_at (λ later. comes_before first.head.name later.head.name) databases place database rise.0 here in
+    let behind : comes_before first.head.name database.head.name ≡ true =
+    all_at (λ later. comes_before first.head.name later.head.name) databases place database rise.0 here in
     rw position-cons (rw (comes_before-differs first.head.name database.head.name behind, place_of-at databases place database rise.1 here) refl)
   where
-    all_at : (test : DatabaseValue → Bool) (others : List DatabaseValue) (k : ℕ) (d : DatabaseValue) → list_all test others ≡ true → slice_get others k ≡ Some d → test d ≡ true
+    all_at : (test : DatabaseValue → Bool) (others : List DatabaseValue) (k : ℕ) (d : DatabaseValue) → list_all test others ≡ true
+        → slice_get others k ≡ Some d → test d ≡ true
     all_at test [] k d all there = absurd cc
-    all_at test (x ∷ xs) zero d all there = let same : x ≡ d = cc in subst (λ (y : DatabaseValue). test y ≡ true) same (and_parts (test x) (list_all test xs) all).0
+    all_at test (x ∷ xs) zero d all there = let same : x ≡ d = cc in
+        subst (λ (y : DatabaseValue). test y ≡ true) same (and_parts (test x) (list_all test xs) all).0
     all_at test (x ∷ xs) (suc k) d all there = all_at test xs k d (and_parts (test x) (list_all test xs) all).1 there
 
-pub database_of-at : (databases : List DatabaseValue) (place : ℕ) (database : DatabaseValue) → NamesRise databases → slice_get databases place ≡ Some database → database_of database.head.name databases ≡ Some database
-database_of-at databases place database rise here = find-position (is_named database.head.name) databases ∙ rw (place_of-at databases place database rise here) here
+pub database_of-at : (databases : List DatabaseValue) (place : ℕ) (database : DatabaseValue) → NamesRise databases
+    → slice_get databases place ≡ Some database → database_of database.head.name databases ≡ Some database
+database_of-at databases place database rise here = find-position (is_named database.head.name) databases
+    ∙ rw (place_of-at databases place database rise here) here
 
 -- a look-up in what stands behind a name finds nothing of that name
-database_of-behind : (name : List ℕ) (databases : List DatabaseValue) → list_all (λ later. comes_before name later.head.name) databases ≡ true → database_of name databases ≡ None
+database_of-behind : (name : List ℕ) (databases : List DatabaseValue) → list_all (λ later. comes_before name later.head.name) databases ≡ true
+    → database_of name databases ≡ None
 database_of-behind name [] all = refl
 database_of-behind name (database ∷ databases) all =
     let both = and_parts (comes_before name database.head.name) (list_all (λ later. comes_before name later.head.name) databases) all in
     rw (comes_before-differs_from name database.head.name both.0) (database_of-behind name databases both.1)
 
 -- a database that is found passes each test that all pass
-found_passes : (test : DatabaseValue → Bool) (name : List ℕ) (databases : List DatabaseValue) (found : DatabaseValue) → list_all test databases ≡ true → database_of name databases ≡ Some found → test found ≡ true
+found_passes : (test : DatabaseValue → Bool) (name : List ℕ) (databases : List DatabaseValue) (found : DatabaseValue)
+    → list_all test databases ≡ true → database_of name databases ≡ Some found → test found ≡ true
 found_passes test name [] found all is = absurd cc
 found_passes test name (database ∷ databases) found all is =
     let both = and_parts (test database) (list_all test databases) all in
     by (is_named name database) is both.0 (found_passes test name databases found both.1)
   where
-    by : (b : Bool) → cond b (Some database) (database_of name databases) ≡ Some found → test database ≡ true → (database_of name databases ≡ Some found → test found ≡ true) → test found ≡ true
+    by : (b : Bool) → cond b (Some database) (database_of name databases) ≡ Some found → test database ≡ true
+        → (database_of name databases ≡ Some found → test found ≡ true) → test found ≡ true
     by true here passes later = let same : database ≡ found = cc in subst (λ (d : DatabaseValue). test d ≡ true) same passes
     by false here passes later = later here
 
 -- ---- two lists
 
 -- lists in order that answer alike by name are equal
-pub database_of-same : (xs ys : List DatabaseValue) → NamesRise xs → NamesRise ys → ((name : List ℕ) → database_of name xs ≡ database_of name ys) → xs ≡ ys
+pub database_of-same : (xs ys : List DatabaseValue) → NamesRise xs → NamesRise ys → ((name : List ℕ) → database_of name xs ≡ database_of name ys)
+    → xs ≡ ys
 database_of-same [] [] rise rise' alike = refl
 database_of-same [] (y ∷ ys) rise rise' alike =
     let none : None ≡ cond (bytes_eq y.head.name y.head.name) (Some y) (database_of y.head.name ys) = alike y.head.name in
@@ -164,10 +178,12 @@ database_of-same (x ∷ xs) (y ∷ ys) rise rise' alike =
         cc
     first_same false differ =
         let x_behind : database_of x.head.name ys ≡ Some x = sym (ap (λ b. cond b (Some y) (database_of x.head.name ys)) differ) ∙ x_found in
-        let y_first : comes_before y.head.name x.head.name ≡ true = found_passes (λ later. comes_before y.head.name later.head.name) x.head.name ys x rise'.0 x_behind in
+        let y_first : comes_before y.head.name x.head.name ≡ true =
+        found_passes (λ later. comes_before y.head.name later.head.name) x.head.name ys x rise'.0 x_behind in
         let turned : bytes_eq x.head.name y.head.name ≡ false = comes_before-differs_from y.head.name x.head.name y_first in
         let y_behind : database_of y.head.name xs ≡ Some y = sym (ap (λ b. cond b (Some x) (database_of y.head.name xs)) turned) ∙ y_found in
-        let x_first : comes_before x.head.name y.head.name ≡ true = found_passes (λ later. comes_before x.head.name later.head.name) y.head.name xs y rise.0 y_behind in
+        let x_first : comes_before x.head.name y.head.name ≡ true =
+        found_passes (λ later. comes_before x.head.name later.head.name) y.head.name xs y rise.0 y_behind in
         let itself : comes_before x.head.name x.head.name ≡ true = comes_before-trans x.head.name y.head.name x.head.name x_first y_first in
         absurd (both_ways (bytes_eq x.head.name x.head.name) (comes_before-differs x.head.name x.head.name itself) (bytes_eq-own x.head.name))
 
@@ -184,14 +200,16 @@ database_of-same (x ∷ xs) (y ∷ ys) rise rise' alike =
 -- ---- a new one
 
 -- it stands in front of the first greater name
-pub with_new-cons : (new x : DatabaseValue) (xs : List DatabaseValue) → with_new new (x ∷ xs) ≡ cond (comes_before new.head.name x.head.name) (new ∷ x ∷ xs) (x ∷ with_new new xs)
+pub with_new-cons : (new x : DatabaseValue) (xs : List DatabaseValue)
+    → with_new new (x ∷ xs) ≡ cond (comes_before new.head.name x.head.name) (new ∷ x ∷ xs) (x ∷ with_new new xs)
 with_new-cons new x xs = by (place_for new.head.name xs) (comes_before new.head.name x.head.name)
   where
     by : (n : ℕ) (b : Bool) → insert (x ∷ xs) (cond (not b) (1 + n) 0) new ≡ cond b (new ∷ x ∷ xs) (x ∷ insert xs n new)
     by n true = refl
     by n false = rw one-add refl
 
-find-with_new : (test : DatabaseValue → Bool) (new : DatabaseValue) (xs : List DatabaseValue) → (test new ≡ true → find test xs ≡ None) → find test (with_new new xs) ≡ cond (test new) (Some new) (find test xs)
+find-with_new : (test : DatabaseValue → Bool) (new : DatabaseValue) (xs : List DatabaseValue) → (test new ≡ true → find test xs ≡ None)
+    → find test (with_new new xs) ≡ cond (test new) (Some new) (find test xs)
 find-with_new test new [] alone = refl
 find-with_new test new (x ∷ xs) alone =
     rw with_new-cons (front (comes_before new.head.name x.head.name) (find-with_new test new xs (λ passes. (alone_in (test x) (alone passes)).1)))
@@ -200,13 +218,15 @@ find-with_new test new (x ∷ xs) alone =
     alone_in true none = absurd cc
     alone_in false none = (refl, none)
 
-    turn : (p n : Bool) (rest : Option DatabaseValue) → rest ≡ cond n (Some new) (find test xs) → (n ≡ true → p ≡ false) → cond p (Some x) rest ≡ cond n (Some new) (cond p (Some x) (find test xs))
+    turn : (p n : Bool) (rest : Option DatabaseValue) → rest ≡ cond n (Some new) (find test xs) → (n ≡ true → p ≡ false)
+        → cond p (Some x) rest ≡ cond n (Some new) (cond p (Some x) (find test xs))
     turn true true rest later apart = absurd (both_ways true (apart refl) refl)
     turn true false rest later apart = refl
     turn false true rest later apart = later
     turn false false rest later apart = later
 
-    front : (b : Bool) → find test (with_new new xs) ≡ cond (test new) (Some new) (find test xs) → find test (cond b (new ∷ x ∷ xs) (x ∷ with_new new xs)) ≡ cond (test new) (Some new) (cond (test x) (Some x) (find test xs))
+    front : (b : Bool) → find test (with_new new xs) ≡ cond (test new) (Some new) (find test xs)
+        → find test (cond b (new ∷ x ∷ xs) (x ∷ with_new new xs)) ≡ cond (test new) (Some new) (cond (test x) (Some x) (find test xs))
     front true later = refl
     front false later = turn (test x) (test new) (find test (with_new new xs)) later (λ passes. (alone_in (test x) (alone passes)).0)
 
@@ -217,27 +237,35 @@ database_of-with_new name new databases none =
     find-with_new (is_named name) new databases (λ same. ap (λ n. database_of n databases) (sym (bytes_eq-is new.head.name name same)) ∙ none)
 
 -- what holds of a new one and of all others
-pub AllByRecursion-with_new : (P : DatabaseValue → Type 0) (new : DatabaseValue) (databases : List DatabaseValue) → P new → AllByRecursion P databases → AllByRecursion P (with_new new databases)
+pub AllByRecursion-with_new : (P : DatabaseValue → Type 0) (new : DatabaseValue) (databases : List DatabaseValue) → P new
+    → AllByRecursion P databases → AllByRecursion P (with_new new databases)
 AllByRecursion-with_new P new [] here each = (here, tt)
-AllByRecursion-with_new P new (x ∷ xs) here each = rw with_new-cons (by (comes_before new.head.name x.head.name) (AllByRecursion-with_new P new xs here each.1))
+AllByRecursion-with_new P new (x ∷ xs) here each =
+    rw with_new-cons (by (comes_before new.head.name x.head.name) (AllByRecursion-with_new P new xs here each.1))
   where
     by : (b : Bool) → AllByRecursion P (with_new new xs) → AllByRecursion P (cond b (new ∷ x ∷ xs) (x ∷ with_new new xs))
     by true later = (here, each)
     by false later = (each.0, later)
 
-list_all-with_new : (test : DatabaseValue → Bool) (new : DatabaseValue) (databases : List DatabaseValue) → test new ≡ true → list_all test databases ≡ true → list_all test (with_new new databases) ≡ true
+list_all-with_new : (test : DatabaseValue → Bool) (new : DatabaseValue) (databases : List DatabaseValue) → test new ≡ true
+    → list_all test databases ≡ true → list_all test (with_new new databases) ≡ true
 list_all-with_new test new [] here all = rw here refl
-list_all-with_new test new (x ∷ xs) here all = let both = and_parts (test x) (list_all test xs) all in rw with_new-cons (by (comes_before new.head.name x.head.name) both.0 (list_all-with_new test new xs here both.1))
+list_all-with_new test new (x ∷ xs) here all = let both = and_parts (test x) (list_all test xs) all in
+    rw with_new-cons (by (comes_before new.head.name x.head.name) both.0 (list_all-with_new test new xs here both.1))
   where
     by : (b : Bool) → test x ≡ true → list_all test (with_new new xs) ≡ true → list_all test (cond b (new ∷ x ∷ xs) (x ∷ with_new new xs)) ≡ true
     by true first later = rw here all
     by false first later = rw first later
 
-pub NamesRise-with_new : (new : DatabaseValue) (databases : List DatabaseValue) → database_of new.head.name databases ≡ None → NamesRise databases → NamesRise (with_new new databases)
+pub NamesRise-with_new : (new : DatabaseValue) (databases : List DatabaseValue) → database_of new.head.name databases ≡ None → NamesRise databases
+    → NamesRise (with_new new databases)
 NamesRise-with_new new [] none rise = (refl, tt)
-NamesRise-with_new new (x ∷ xs) none rise = rw with_new-cons (by (bytes_eq x.head.name new.head.name) (comes_before new.head.name x.head.name) refl refl none (λ there. NamesRise-with_new new xs there rise.1))
+NamesRise-with_new new (x ∷ xs) none rise =
+    rw with_new-cons (by (bytes_eq x.head.name new.head.name) (comes_before new.head.name x.head.name) refl refl none
+    (λ there. NamesRise-with_new new xs there rise.1))
   where
-    by : (named first : Bool) → bytes_eq x.head.name new.head.name ≡ named → comes_before new.head.name x.head.name ≡ first → cond named (Some x) (database_of new.head.name xs) ≡ None
+    by : (named first : Bool) → bytes_eq x.head.name new.head.name ≡ named → comes_before new.head.name x.head.name ≡ first
+        → cond named (Some x) (database_of new.head.name xs) ≡ None
         → (database_of new.head.name xs ≡ None → NamesRise (with_new new xs)) → NamesRise (cond first (new ∷ x ∷ xs) (x ∷ with_new new xs))
     by true first same is there later = absurd cc
     by false true differ is there later = (rw is (all_behind new.head.name x.head.name xs is rise.0), rise)
@@ -255,30 +283,36 @@ length-with_new new (x ∷ xs) = rw with_new-cons (by (comes_before new.head.nam
 
 -- ---- one in place of another
 
-pub replaced-cons : (new x : DatabaseValue) (xs : List DatabaseValue) → replaced new (x ∷ xs) ≡ cond (bytes_eq x.head.name new.head.name) (new ∷ xs) (x ∷ replaced new xs)
+pub replaced-cons : (new x : DatabaseValue) (xs : List DatabaseValue)
+    → replaced new (x ∷ xs) ≡ cond (bytes_eq x.head.name new.head.name) (new ∷ xs) (x ∷ replaced new xs)
 replaced-cons new x xs = rw position-cons (by (bytes_eq x.head.name new.head.name) (place_of new.head.name xs))
   where
-    by : (b : Bool) (o : Option ℕ) → set_at (cond b (Some 0) (option_map (λ place. suc place) o)) new (x ∷ xs) ≡ cond b (new ∷ xs) (x ∷ set_at o new xs)
+    by : (b : Bool) (o : Option ℕ)
+        → set_at (cond b (Some 0) (option_map (λ place. suc place) o)) new (x ∷ xs) ≡ cond b (new ∷ xs) (x ∷ set_at o new xs)
     by true o = refl
     by false None = refl
     by false (Some place) = refl
 
 -- where none has its name, all stay
-pub replaced-none : (new : DatabaseValue) (databases : List DatabaseValue) → database_of new.head.name databases ≡ None → replaced new databases ≡ databases
+pub replaced-none : (new : DatabaseValue) (databases : List DatabaseValue) → database_of new.head.name databases ≡ None
+    → replaced new databases ≡ databases
 replaced-none new databases none = rw (place_of-none new.head.name databases none) refl
 
 -- a database in its own place changes nothing
-pub replaced-own : (database : DatabaseValue) (databases : List DatabaseValue) → database_of database.head.name databases ≡ Some database → replaced database databases ≡ databases
+pub replaced-own : (database : DatabaseValue) (databases : List DatabaseValue) → database_of database.head.name databases ≡ Some database
+    → replaced database databases ≡ databases
 replaced-own database [] here = absurd cc
 replaced-own database (x ∷ xs) here = rw replaced-cons (by (bytes_eq x.head.name database.head.name) here (replaced-own database xs))
   where
-    by : (b : Bool) → cond b (Some x) (database_of database.head.name xs) ≡ Some database → (database_of database.head.name xs ≡ Some database → replaced database xs ≡ xs)
+    by : (b : Bool) → cond b (Some x) (database_of database.head.name xs) ≡ Some database
+        → (database_of database.head.name xs ≡ Some database → replaced database xs ≡ xs)
         → cond b (database ∷ xs) (x ∷ replaced database xs) ≡ x ∷ xs
     by true found later = let same : x ≡ database = cc in ap (λ (d : DatabaseValue). d ∷ xs) (sym same)
     by false found later = ap (λ (ds : List DatabaseValue). x ∷ ds) (later found)
 
 -- the last of two in one place counts
-pub replaced-replaced : (first last : DatabaseValue) (databases : List DatabaseValue) → first.head.name ≡ last.head.name → replaced last (replaced first databases) ≡ replaced last databases
+pub replaced-replaced : (first last : DatabaseValue) (databases : List DatabaseValue) → first.head.name ≡ last.head.name
+    → replaced last (replaced first databases) ≡ replaced last databases
 replaced-replaced first last [] same = refl
 replaced-replaced first last (x ∷ xs) same =
     rw (replaced-cons first x xs) (by (bytes_eq x.head.name first.head.name) refl (replaced-replaced first last xs same))
@@ -288,14 +322,18 @@ replaced-replaced first last (x ∷ xs) same =
     by true is later =
         let here : bytes_eq first.head.name last.head.name ≡ true = ap (λ n. bytes_eq first.head.name n) (sym same) ∙ bytes_eq-own first.head.name in
         let there : bytes_eq x.head.name last.head.name ≡ true = ap (λ n. bytes_eq x.head.name n) (sym same) ∙ is in
-        let inner : replaced last (first ∷ xs) ≡ last ∷ xs = replaced-cons last first xs ∙ cond-true (bytes_eq first.head.name last.head.name) (last ∷ xs) (first ∷ replaced last xs) here in
-        let outer : replaced last (x ∷ xs) ≡ last ∷ xs = replaced-cons last x xs ∙ cond-true (bytes_eq x.head.name last.head.name) (last ∷ xs) (x ∷ replaced last xs) there in
+        let inner : replaced last (first ∷ xs) ≡ last ∷ xs = replaced-cons last first xs
+        ∙ cond-true (bytes_eq first.head.name last.head.name) (last ∷ xs) (first ∷ replaced last xs) here in
+        let outer : replaced last (x ∷ xs) ≡ last ∷ xs = replaced-cons last x xs
+        ∙ cond-true (bytes_eq x.head.name last.head.name) (last ∷ xs) (x ∷ replaced last xs) there in
         inner ∙ sym outer
     by false is later =
         let other : bytes_eq x.head.name last.head.name ≡ false = ap (λ n. bytes_eq x.head.name n) (sym same) ∙ is in
         let inner : replaced last (x ∷ replaced first xs) ≡ x ∷ replaced last (replaced first xs) =
-        replaced-cons last x (replaced first xs) ∙ cond-false (bytes_eq x.head.name last.head.name) (last ∷ replaced first xs) (x ∷ replaced last (replaced first xs)) other in
-        let outer : replaced last (x ∷ xs) ≡ x ∷ replaced last xs = replaced-cons last x xs ∙ cond-false (bytes_eq x.head.name last.head.name) (last ∷ xs) (x ∷ replaced last xs) other in
+        replaced-cons last x (replaced first xs)
+        ∙ cond-false (bytes_eq x.head.name last.head.name) (last ∷ replaced first xs) (x ∷ replaced last (replaced first xs)) other in
+        let outer : replaced last (x ∷ xs) ≡ x ∷ replaced last xs = replaced-cons last x xs
+        ∙ cond-false (bytes_eq x.head.name last.head.name) (last ∷ xs) (x ∷ replaced last xs) other in
         inner ∙ ap (λ (ds : List DatabaseValue). x ∷ ds) later ∙ sym outer
 
 -- what a look-up finds
@@ -305,7 +343,8 @@ database_of-replaced name new was [] here = absurd cc
 database_of-replaced name new was (x ∷ xs) here =
     rw (replaced-cons new x xs) (by (bytes_eq x.head.name new.head.name) refl here (database_of-replaced name new was xs))
   where
-    turn : (p n : Bool) (rest : Option DatabaseValue) → (n ≡ true → p ≡ false) → cond p (Some x) (cond n (Some new) rest) ≡ cond n (Some new) (cond p (Some x) rest)
+    turn : (p n : Bool) (rest : Option DatabaseValue) → (n ≡ true → p ≡ false)
+        → cond p (Some x) (cond n (Some new) rest) ≡ cond n (Some new) (cond p (Some x) rest)
     turn true true rest apart = absurd (both_ways true (apart refl) refl)
     turn true false rest apart = refl
     turn false n rest apart = refl
@@ -315,31 +354,39 @@ database_of-replaced name new was (x ∷ xs) here =
     over false rest = refl
 
     by : (b : Bool) → bytes_eq x.head.name new.head.name ≡ b → cond b (Some x) (database_of new.head.name xs) ≡ Some was
-        → (database_of new.head.name xs ≡ Some was → database_of name (replaced new xs) ≡ cond (bytes_eq new.head.name name) (Some new) (database_of name xs))
-        → database_of name (cond b (new ∷ xs) (x ∷ replaced new xs)) ≡ cond (bytes_eq new.head.name name) (Some new) (cond (bytes_eq x.head.name name) (Some x) (database_of name xs))
+        → (database_of new.head.name xs ≡ Some was
+        → database_of name (replaced new xs) ≡ cond (bytes_eq new.head.name name) (Some new) (database_of name xs))
+        → database_of name (cond b (new ∷ xs) (x ∷ replaced new xs)) ≡ cond (bytes_eq new.head.name name) (Some new)
+        (cond (bytes_eq x.head.name name) (Some x) (database_of name xs))
     by true is found later =
         over (bytes_eq new.head.name name) (database_of name xs)
-        ∙ ap (λ (n : List ℕ). cond (bytes_eq new.head.name name) (Some new) (cond (bytes_eq n name) (Some x) (database_of name xs))) (sym (bytes_eq-is x.head.name new.head.name is))
+        ∙ ap (λ (n : List ℕ). cond (bytes_eq new.head.name name) (Some new) (cond (bytes_eq n name) (Some x) (database_of name xs)))
+        (sym (bytes_eq-is x.head.name new.head.name is))
     by false is found later =
         ap (λ (o : Option DatabaseValue). cond (bytes_eq x.head.name name) (Some x) o) (later found)
-        ∙ turn (bytes_eq x.head.name name) (bytes_eq new.head.name name) (database_of name xs) (λ same. ap (λ n. bytes_eq x.head.name n) (sym (bytes_eq-is new.head.name name same)) ∙ is)
+        ∙ turn (bytes_eq x.head.name name) (bytes_eq new.head.name name) (database_of name xs)
+        (λ same. ap (λ n. bytes_eq x.head.name n) (sym (bytes_eq-is new.head.name name same)) ∙ is)
 
-pub AllByRecursion-replaced : (P : DatabaseValue → Type 0) (new : DatabaseValue) (databases : List DatabaseValue) → P new → AllByRecursion P databases → AllByRecursion P (replaced new databases)
+pub AllByRecursion-replaced : (P : DatabaseValue → Type 0) (new : DatabaseValue) (databases : List DatabaseValue) → P new
+    → AllByRecursion P databases → AllByRecursion P (replaced new databases)
 AllByRecursion-replaced P new [] here each = tt
-AllByRecursion-replaced P new (x ∷ xs) here each = rw (replaced-cons new x xs) (by (bytes_eq x.head.name new.head.name) (AllByRecursion-replaced P new xs here each.1))
+AllByRecursion-replaced P new (x ∷ xs) here each =
+    rw (replaced-cons new x xs) (by (bytes_eq x.head.name new.head.name) (AllByRecursion-replaced P new xs here each.1))
   where
     by : (b : Bool) → AllByRecursion P (replaced new xs) → AllByRecursion P (cond b (new ∷ xs) (x ∷ replaced new xs))
     by true later = (here, each.1)
     by false later = (each.0, later)
 
 -- a test by name
-all_replaced : (test : List ℕ → Bool) (new : DatabaseValue) (databases : List DatabaseValue) → list_all (λ later. test later.head.name) databases ≡ true → list_all (λ later. test later.head.name) (replaced new databases) ≡ true
+all_replaced : (test : List ℕ → Bool) (new : DatabaseValue) (databases : List DatabaseValue)
+    → list_all (λ later. test later.head.name) databases ≡ true → list_all (λ later. test later.head.name) (replaced new databases) ≡ true
 all_replaced test new [] all = refl
 all_replaced test new (x ∷ xs) all =
     let both = and_parts (test x.head.name) (list_all (λ later. test later.head.name) xs) all in
     rw (replaced-cons new x xs) (by (bytes_eq x.head.name new.head.name) refl both.0 both.1 (all_replaced test new xs both.1))
   where
-    by : (b : Bool) → bytes_eq x.head.name new.head.name ≡ b → test x.head.name ≡ true → list_all (λ later. test later.head.name) xs ≡ true → list_all (λ later. test later.head.name) (replaced new xs) ≡ true
+    by : (b : Bool) → bytes_eq x.head.name new.head.name ≡ b → test x.head.name ≡ true → list_all (λ later. test later.head.name) xs ≡ true
+        → list_all (λ later. test later.head.name) (replaced new xs) ≡ true
         → list_all (λ later. test later.head.name) (cond b (new ∷ xs) (x ∷ replaced new xs)) ≡ true
     by true is first rest later = and_from _ _ (ap test (sym (bytes_eq-is x.head.name new.head.name is)) ∙ first) rest
     by false is first rest later = and_from _ _ first later
@@ -349,7 +396,10 @@ NamesRise-replaced new [] rise = tt
 NamesRise-replaced new (x ∷ xs) rise = rw (replaced-cons new x xs) (by (bytes_eq x.head.name new.head.name) refl (NamesRise-replaced new xs rise.1))
   where
     by : (b : Bool) → bytes_eq x.head.name new.head.name ≡ b → NamesRise (replaced new xs) → NamesRise (cond b (new ∷ xs) (x ∷ replaced new xs))
-    by true is later = (subst (λ n. list_all (λ later. comes_before n later.head.name) xs ≡ true) (bytes_eq-is x.head.name new.head.name is) rise.0, rise.1)
+    by true is later = (
+      subst (λ n. list_all (λ later. comes_before n later.head.name) xs ≡ true) (bytes_eq-is x.head.name new.head.name is) rise.0,
+      rise.1,
+    )
     by false is later = (all_replaced (comes_before x.head.name) new xs rise.0, later)
 
 pub length-replaced : (new : DatabaseValue) (databases : List DatabaseValue) → length (replaced new databases) ≡ length databases
@@ -363,7 +413,8 @@ length-replaced new (x ∷ xs) = rw (replaced-cons new x xs) (by (bytes_eq x.hea
 -- ---- one in place of another, or a new one
 
 -- a database that is put is a new one, or one in place of another
-pub with_put-cases : (P : List DatabaseValue → Type 0) (new : DatabaseValue) (databases : List DatabaseValue) → (database_of new.head.name databases ≡ None → P (with_new new databases))
+pub with_put-cases : (P : List DatabaseValue → Type 0) (new : DatabaseValue) (databases : List DatabaseValue)
+    → (database_of new.head.name databases ≡ None → P (with_new new databases))
     → ((was : DatabaseValue) → database_of new.head.name databases ≡ Some was → P (replaced new databases)) → P (with_put new databases)
 with_put-cases P new databases if_new if_there = by (database_of new.head.name databases) refl
   where
@@ -371,25 +422,31 @@ with_put-cases P new databases if_new if_there = by (database_of new.head.name d
     by None none = rw (place_of-none new.head.name databases none) (if_new none)
     by (Some was) here =
         let at = place_of-some new.head.name databases was here in
-        let same : replaced new databases ≡ with_put new databases = ap (λ o. set_at o new databases) at.1 ∙ sym (ap (λ o. put_at o new databases) at.1) in
+        let same : replaced new databases ≡ with_put new databases = ap (λ o. set_at o new databases) at.1
+        ∙ sym (ap (λ o. put_at o new databases) at.1) in
         subst P same (if_there was here)
 
 -- what a look-up finds
-pub database_of-with_put : (name : List ℕ) (new : DatabaseValue) (databases : List DatabaseValue) → database_of name (with_put new databases) ≡ cond (bytes_eq new.head.name name) (Some new) (database_of name databases)
+pub database_of-with_put : (name : List ℕ) (new : DatabaseValue) (databases : List DatabaseValue)
+    → database_of name (with_put new databases) ≡ cond (bytes_eq new.head.name name) (Some new) (database_of name databases)
 database_of-with_put name new databases =
     with_put-cases (λ after. database_of name after ≡ cond (bytes_eq new.head.name name) (Some new) (database_of name databases)) new databases
     (λ none. database_of-with_new name new databases none) (λ was here. database_of-replaced name new was databases here)
 
 pub NamesRise-with_put : (new : DatabaseValue) (databases : List DatabaseValue) → NamesRise databases → NamesRise (with_put new databases)
-NamesRise-with_put new databases rise = with_put-cases NamesRise new databases (λ none. NamesRise-with_new new databases none rise) (λ was here. NamesRise-replaced new databases rise)
+NamesRise-with_put new databases rise = with_put-cases NamesRise new databases (λ none. NamesRise-with_new new databases none rise)
+    (λ was here. NamesRise-replaced new databases rise)
 
-pub AllByRecursion-with_put : (P : DatabaseValue → Type 0) (new : DatabaseValue) (databases : List DatabaseValue) → P new → AllByRecursion P databases → AllByRecursion P (with_put new databases)
+pub AllByRecursion-with_put : (P : DatabaseValue → Type 0) (new : DatabaseValue) (databases : List DatabaseValue) → P new
+    → AllByRecursion P databases → AllByRecursion P (with_put new databases)
 AllByRecursion-with_put P new databases here each =
-    with_put-cases (AllByRecursion P) new databases (λ none. AllByRecursion-with_new P new databases here each) (λ was there. AllByRecursion-replaced P new databases here each)
+    with_put-cases (AllByRecursion P) new databases (λ none. AllByRecursion-with_new P new databases here each)
+    (λ was there. AllByRecursion-replaced P new databases here each)
 
 -- ---- one is taken out
 
-pub without_named-cons : (name : List ℕ) (x : DatabaseValue) (xs : List DatabaseValue) → without_named name (x ∷ xs) ≡ cond (bytes_eq x.head.name name) xs (x ∷ without_named name xs)
+pub without_named-cons : (name : List ℕ) (x : DatabaseValue) (xs : List DatabaseValue)
+    → without_named name (x ∷ xs) ≡ cond (bytes_eq x.head.name name) xs (x ∷ without_named name xs)
 without_named-cons name x xs = rw position-cons (by (bytes_eq x.head.name name) (place_of name xs))
   where
     by : (b : Bool) (o : Option ℕ) → remove_at (cond b (Some 0) (option_map (λ place. suc place) o)) (x ∷ xs) ≡ cond b xs (x ∷ remove_at o xs)
@@ -398,41 +455,49 @@ without_named-cons name x xs = rw position-cons (by (bytes_eq x.head.name name) 
     by false (Some place) = refl
 
 -- where none has the name, all stay
-pub without_named-none : (name : List ℕ) (databases : List DatabaseValue) → database_of name databases ≡ None → without_named name databases ≡ databases
+pub without_named-none : (name : List ℕ) (databases : List DatabaseValue) → database_of name databases ≡ None
+    → without_named name databases ≡ databases
 without_named-none name databases none = rw (place_of-none name databases none) refl
 
 -- what a look-up finds
-pub database_of-without_named : (name gone : List ℕ) (databases : List DatabaseValue) → NamesRise databases → database_of name (without_named gone databases) ≡ cond (bytes_eq gone name) None (database_of name databases)
+pub database_of-without_named : (name gone : List ℕ) (databases : List DatabaseValue) → NamesRise databases
+    → database_of name (without_named gone databases) ≡ cond (bytes_eq gone name) None (database_of name databases)
 database_of-without_named name gone [] rise = by (bytes_eq gone name)
   where
     by : (b : Bool) → ◌≡◌ {A = Option DatabaseValue} None (cond b None None)
     by true = refl
     by false = refl
-database_of-without_named name gone (x ∷ xs) rise = rw (without_named-cons gone x xs) (by (bytes_eq x.head.name gone) refl (database_of-without_named name gone xs rise.1))
+database_of-without_named name gone (x ∷ xs) rise =
+    rw (without_named-cons gone x xs) (by (bytes_eq x.head.name gone) refl (database_of-without_named name gone xs rise.1))
   where
     here : (n : Bool) → (n ≡ true → database_of name xs ≡ None) → database_of name xs ≡ cond n None (cond n (Some x) (database_of name xs))
     here true none = none refl
     here false none = refl
 
-    turn : (p n : Bool) → (n ≡ true → p ≡ false) → cond p (Some x) (cond n None (database_of name xs)) ≡ cond n None (cond p (Some x) (database_of name xs))
+    turn : (p n : Bool) → (n ≡ true → p ≡ false)
+        → cond p (Some x) (cond n None (database_of name xs)) ≡ cond n None (cond p (Some x) (database_of name xs))
     turn true true apart = absurd (both_ways true (apart refl) refl)
     turn true false apart = refl
     turn false n apart = refl
 
     by : (b : Bool) → bytes_eq x.head.name gone ≡ b → database_of name (without_named gone xs) ≡ cond (bytes_eq gone name) None (database_of name xs)
-        → database_of name (cond b xs (x ∷ without_named gone xs)) ≡ cond (bytes_eq gone name) None (cond (bytes_eq x.head.name name) (Some x) (database_of name xs))
+        → database_of name (cond b xs (x ∷ without_named gone xs)) ≡ cond (bytes_eq gone name) None
+        (cond (bytes_eq x.head.name name) (Some x) (database_of name xs))
     by true is later =
         let named : x.head.name ≡ gone = bytes_eq-is x.head.name gone is in
-        here (bytes_eq gone name) (λ same. ap (λ n. database_of n xs) (sym (named ∙ bytes_eq-is gone name same)) ∙ database_of-behind x.head.name xs rise.0)
+        here (bytes_eq gone name) (λ same. ap (λ n. database_of n xs) (sym (named ∙ bytes_eq-is gone name same))
+        ∙ database_of-behind x.head.name xs rise.0)
         ∙ ap (λ (n : List ℕ). cond (bytes_eq gone name) None (cond (bytes_eq n name) (Some x) (database_of name xs))) (sym named)
     by false is later =
         ap (λ (o : Option DatabaseValue). cond (bytes_eq x.head.name name) (Some x) o) later
         ∙ turn (bytes_eq x.head.name name) (bytes_eq gone name) (λ same. ap (λ n. bytes_eq x.head.name n) (sym (bytes_eq-is gone name same)) ∙ is)
 
 -- any other name finds what it found, whatever the order
-pub database_of-without_other : (name gone : List ℕ) (databases : List DatabaseValue) → bytes_eq gone name ≡ false → database_of name (without_named gone databases) ≡ database_of name databases
+pub database_of-without_other : (name gone : List ℕ) (databases : List DatabaseValue) → bytes_eq gone name ≡ false
+    → database_of name (without_named gone databases) ≡ database_of name databases
 database_of-without_other name gone [] other = refl
-database_of-without_other name gone (x ∷ xs) other = rw (without_named-cons gone x xs) (by (bytes_eq x.head.name gone) refl (database_of-without_other name gone xs other))
+database_of-without_other name gone (x ∷ xs) other =
+    rw (without_named-cons gone x xs) (by (bytes_eq x.head.name gone) refl (database_of-without_other name gone xs other))
   where
     by : (b : Bool) → bytes_eq x.head.name gone ≡ b → database_of name (without_named gone xs) ≡ database_of name xs
         → database_of name (cond b xs (x ∷ without_named gone xs)) ≡ cond (bytes_eq x.head.name name) (Some x) (database_of name xs)
@@ -441,34 +506,40 @@ database_of-without_other name gone (x ∷ xs) other = rw (without_named-cons go
         sym (cond-false (bytes_eq x.head.name name) (Some x) (database_of name xs) differ)
     by false is later = ap (λ (o : Option DatabaseValue). cond (bytes_eq x.head.name name) (Some x) o) later
 
-pub AllByRecursion-without_named : (P : DatabaseValue → Type 0) (name : List ℕ) (databases : List DatabaseValue) → AllByRecursion P databases → AllByRecursion P (without_named name databases)
+pub AllByRecursion-without_named : (P : DatabaseValue → Type 0) (name : List ℕ) (databases : List DatabaseValue) → AllByRecursion P databases
+    → AllByRecursion P (without_named name databases)
 AllByRecursion-without_named P name [] each = tt
-AllByRecursion-without_named P name (x ∷ xs) each = rw (without_named-cons name x xs) (by (bytes_eq x.head.name name) (AllByRecursion-without_named P name xs each.1))
+AllByRecursion-without_named P name (x ∷ xs) each =
+    rw (without_named-cons name x xs) (by (bytes_eq x.head.name name) (AllByRecursion-without_named P name xs each.1))
   where
     by : (b : Bool) → AllByRecursion P (without_named name xs) → AllByRecursion P (cond b xs (x ∷ without_named name xs))
     by true later = each.1
     by false later = (each.0, later)
 
-list_all-without_named : (test : DatabaseValue → Bool) (name : List ℕ) (databases : List DatabaseValue) → list_all test databases ≡ true → list_all test (without_named name databases) ≡ true
+list_all-without_named : (test : DatabaseValue → Bool) (name : List ℕ) (databases : List DatabaseValue) → list_all test databases ≡ true
+    → list_all test (without_named name databases) ≡ true
 list_all-without_named test name [] all = refl
 list_all-without_named test name (x ∷ xs) all =
     let both = and_parts (test x) (list_all test xs) all in
     rw (without_named-cons name x xs) (by (bytes_eq x.head.name name) both.0 both.1 (list_all-without_named test name xs both.1))
   where
-    by : (b : Bool) → test x ≡ true → list_all test xs ≡ true → list_all test (without_named name xs) ≡ true → list_all test (cond b xs (x ∷ without_named name xs)) ≡ true
+    by : (b : Bool) → test x ≡ true → list_all test xs ≡ true → list_all test (without_named name xs) ≡ true
+        → list_all test (cond b xs (x ∷ without_named name xs)) ≡ true
     by true first rest later = rest
     by false first rest later = and_from _ _ first later
 
 pub NamesRise-without_named : (name : List ℕ) (databases : List DatabaseValue) → NamesRise databases → NamesRise (without_named name databases)
 NamesRise-without_named name [] rise = tt
-NamesRise-without_named name (x ∷ xs) rise = rw (without_named-cons name x xs) (by (bytes_eq x.head.name name) (NamesRise-without_named name xs rise.1))
+NamesRise-without_named name (x ∷ xs) rise =
+    rw (without_named-cons name x xs) (by (bytes_eq x.head.name name) (NamesRise-without_named name xs rise.1))
   where
     by : (b : Bool) → NamesRise (without_named name xs) → NamesRise (cond b xs (x ∷ without_named name xs))
     by true later = rise.1
     by false later = (list_all-without_named (λ later. comes_before x.head.name later.head.name) name xs rise.0, later)
 
 -- one less, where it was there
-pub length-without_named : (name : List ℕ) (databases : List DatabaseValue) → length (without_named name databases) + cond (is_some (database_of name databases)) 1 0 ≡ length databases
+pub length-without_named : (name : List ℕ) (databases : List DatabaseValue)
+    → length (without_named name databases) + cond (is_some (database_of name databases)) 1 0 ≡ length databases
 length-without_named name [] = refl
 length-without_named name (x ∷ xs) = rw (without_named-cons name x xs) (by (bytes_eq x.head.name name) (length-without_named name xs))
   where
@@ -480,7 +551,8 @@ length-without_named name (x ∷ xs) = rw (without_named-cons name x xs) (by (by
 -- ---- what holds of each
 
 -- a database that is found is one of them
-pub AllByRecursion-database_of : (P : DatabaseValue → Type 0) (name : List ℕ) (databases : List DatabaseValue) (found : DatabaseValue) → AllByRecursion P databases → database_of name databases ≡ Some found → P found
+pub AllByRecursion-database_of : (P : DatabaseValue → Type 0) (name : List ℕ) (databases : List DatabaseValue) (found : DatabaseValue)
+    → AllByRecursion P databases → database_of name databases ≡ Some found → P found
 AllByRecursion-database_of P name [] found each is = absurd cc
 AllByRecursion-database_of P name (x ∷ xs) found each is = by (is_named name x) is (AllByRecursion-database_of P name xs found each.1)
   where

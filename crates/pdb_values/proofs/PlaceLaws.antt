@@ -14,7 +14,8 @@ found_by first len k true below is =
 found_by first len k false below is = absurd cc
 
 -- the place that a search found is the first that passes, and lies within
-pub position_found : {X : Type 0} (test : X → Bool) (xs : List X) (k : ℕ) → position test xs ≡ Some k → (position_or_len test xs ≡ k) × (k < length xs)
+pub position_found : {X : Type 0} (test : X → Bool) (xs : List X) (k : ℕ) → position test xs ≡ Some k → (position_or_len test xs ≡ k)
+    × (k < length xs)
 position_found test xs k found = found_by (position_or_len test xs) (length xs) k (nat_lt (position_or_len test xs) (length xs)) refl found
 
 none_by : (first len : ℕ) (b : Bool) → nat_lt first len ≡ b → cond b (Some first) None ≡ None → len ≤ first
@@ -38,7 +39,8 @@ pub place_found : {X : Type 0} (test : X → Bool) (xs : List X) (k : ℕ) → p
 place_found test xs k found = (position_found test xs k found).0
 
 pub place_past : {X : Type 0} (test : X → Bool) (xs : List X) → position test xs ≡ None → position_or_len test xs ≡ length xs
-place_past test xs none = let most : position_or_len test xs ≤ length xs = prefix_len-le-length _ xs in let least = position_none test xs none in omega arith
+place_past test xs none = let most : position_or_len test xs ≤ length xs = prefix_len-le-length _ xs in let least = position_none test xs none in
+    omega arith
 
 pub first_here : (b : Bool) (n : ℕ) → cond (not b) (1 + n) 0 ≡ 0 → b ≡ true
 first_here true n is = refl
@@ -55,14 +57,18 @@ past_later false n len is = (refl, omega arith)
 -- ---- a search in a longer list
 
 -- where the first of a list passes, its place is 0, and else one more than in the rest
-pub position-cons : {X : Type 0} (test : X → Bool) (x : X) (xs : List X) → position test (x ∷ xs) ≡ cond (test x) (Some 0) (option_map (λ place. suc place) (position test xs))
+pub position-cons : {X : Type 0} (test : X → Bool) (x : X) (xs : List X)
+    → position test (x ∷ xs) ≡ cond (test x) (Some 0) (option_map (λ place. suc place) (position test xs))
 position-cons test x xs = by (test x) (position_or_len test xs) (length xs)
   where
-    later : (b : Bool) (n many : ℕ) → nat_lt n many ≡ b → cond (nat_lt (suc n) (suc many)) (Some (suc n)) None ≡ option_map (λ place. suc place) (cond b (Some n) None)
+    later : (b : Bool) (n many : ℕ) → nat_lt n many ≡ b
+        → cond (nat_lt (suc n) (suc many)) (Some (suc n)) None ≡ option_map (λ place. suc place) (cond b (Some n) None)
     later true n many below = rw (lt-ltb (suc n) (suc many) (omega (arith, ltb-true n many below))) refl
     later false n many below = rw (le-ltb (suc n) (suc many) (omega (arith, ltb-false n many below))) refl
 
-    by : (b : Bool) (n many : ℕ) → cond (nat_lt (cond (not b) (1 + n) 0) (suc many)) (Some (cond (not b) (1 + n) 0)) None ≡ cond b (Some 0) (option_map (λ place. suc place) (cond (nat_lt n many) (Some n) None))
+    by : (b : Bool) (n many : ℕ)
+        → cond (nat_lt (cond (not b) (1 + n) 0) (suc many)) (Some (cond (not b) (1 + n) 0)) None ≡ cond b (Some 0)
+        (option_map (λ place. suc place) (cond (nat_lt n many) (Some n) None))
     by true n many = rw (lt-ltb 0 (suc many) (omega arith)) refl
     by false n many = rw one-add (later (nat_lt n many) n many refl)
 
@@ -82,7 +88,8 @@ pub is_some-position : {X : Type 0} (test : X → Bool) (xs : List X) → is_som
 is_some-position test [] = refl
 is_some-position test (x ∷ xs) = rw position-cons (by (test x) (position test xs) (is_some-position test xs))
   where
-    by : (b : Bool) (o : Option ℕ) → is_some o ≡ is_some (find test xs) → is_some (cond b (Some 0) (option_map (λ place. suc place) o)) ≡ is_some (cond b (Some x) (find test xs))
+    by : (b : Bool) (o : Option ℕ) → is_some o ≡ is_some (find test xs)
+        → is_some (cond b (Some 0) (option_map (λ place. suc place) o)) ≡ is_some (cond b (Some x) (find test xs))
     by true o later = refl
     by false None later = later
     by false (Some place) later = later

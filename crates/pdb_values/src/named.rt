@@ -43,7 +43,8 @@ fn comes_before(name: &[u8], database: &Database) -> bool
 
 // Where the first database of a greater name stands.
 fn first_greater(databases: &[Database], name: &[u8]) -> Option<usize>
-    ensures place { result ≡ position (λ database. named.comes_before name.now database.head.name) databases.now }
+    ensures place { result ≡ position (λ database. named.comes_before name.now database.head.name)
+        databases.now }
     ensures within { IfSome result (λ place. place < length databases.now) }
 {
     databases
@@ -65,7 +66,8 @@ fn place_for(databases: &[Database], name: &[u8]) -> usize
 
 /// Puts a new database at its place in the order of names.
 pub fn insert_database(databases: &mut Vec<Database>, database: Database) -> Result<(), AllocError>
-    ensures inserted { OnOk result (databases.new.items ≡ named.with_new database databases.old.items) }
+    ensures inserted { OnOk result (databases.new.items
+        ≡ named.with_new database databases.old.items) }
     ensures stays { OnErr result (databases.new.items ≡ databases.old.items) }
 {
     let place = place_for(databases, database.head().name.as_bytes());

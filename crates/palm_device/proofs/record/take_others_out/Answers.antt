@@ -8,9 +8,13 @@ use Rattle.palm_device.proofs.record.take_others_out.Goals as goal
 pub loop-place-preserved : goal.loop-place-preserved
 loop-place-preserved c =
     let more : c.loop-place.place < length c.loop-place.database.records = grind (arith, common_steps) in
-    let here : slice_get c.loop-place.database.records c.loop-place.place ≡ Some c.index-records-place.result = slice_get_read _ _ _ _ refl more (rw c.records-in-loop-place.ensures.records at c.index-records-place.is) in
+    let here : slice_get c.loop-place.database.records c.loop-place.place ≡ Some c.index-records-place.result =
+    slice_get_read _ _ _ _ refl more (rw c.records-in-loop-place.ensures.records at c.index-records-place.is) in
     let lost : is_kept c.args.kept.now c.index-records-place.result ≡ false = sym c.keeps.ensures ∙ c.if-keeps.false in
-    rw c.take_out.ensures (keeping_out (is_kept c.args.kept.now) c.args.database.now c.loop-place.database c.loop-place.place c.index-records-place.result c.loop-place.invariant more here lost)
+    rw c.take_out.ensures
+    (keeping_out (is_kept c.args.kept.now) c.args.database.now c.loop-place.database c.loop-place.place c.index-records-place.result
+    c.loop-place.invariant more here lost)
 
 pub returns : goal.returns
-returns c = keeping_end (is_kept c.args.kept.now) c.args.database.now c.loop-place.database c.loop-place.place c.loop-place.invariant (grind (arith, common_steps))
+returns c = keeping_end (is_kept c.args.kept.now) c.args.database.now c.loop-place.database c.loop-place.place c.loop-place.invariant
+    (grind (arith, common_steps))

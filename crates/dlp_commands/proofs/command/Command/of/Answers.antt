@@ -39,7 +39,8 @@ unfolding tried
 returns-in-WriteAppBlock-clause-same c free device = rw (c.writes.ensures, c.in-WriteAppBlock.is) refl
 
 pub returns-in-WriteAppBlock-clause-short : goal.returns-in-WriteAppBlock-clause-short
-returns-in-WriteAppBlock-clause-short c = rw c.writes.ensures (subst (λ (r : Request). length (data_of (request_value r)) ≤ 65500) c.in-WriteAppBlock.is c.requires)
+returns-in-WriteAppBlock-clause-short c =
+    rw c.writes.ensures (subst (λ (r : Request). length (data_of (request_value r)) ≤ 65500) c.in-WriteAppBlock.is c.requires)
 
 pub returns-in-ReadSortBlock-clause-same : goal.returns-in-ReadSortBlock-clause-same
 unfolding tried
@@ -50,7 +51,8 @@ unfolding tried
 returns-in-WriteSortBlock-clause-same c free device = rw (c.writes-in-WriteSortBlock.ensures, c.in-WriteSortBlock.is) refl
 
 pub returns-in-WriteSortBlock-clause-short : goal.returns-in-WriteSortBlock-clause-short
-returns-in-WriteSortBlock-clause-short c = rw c.writes-in-WriteSortBlock.ensures (subst (λ (r : Request). length (data_of (request_value r)) ≤ 65500) c.in-WriteSortBlock.is c.requires)
+returns-in-WriteSortBlock-clause-short c =
+    rw c.writes-in-WriteSortBlock.ensures (subst (λ (r : Request). length (data_of (request_value r)) ≤ 65500) c.in-WriteSortBlock.is c.requires)
 
 pub returns-in-ReadNextModifiedRec-clause-same : goal.returns-in-ReadNextModifiedRec-clause-same
 unfolding tried
@@ -69,7 +71,8 @@ unfolding tried
 returns-in-WriteRecord-clause-same c free device = rw (c.writes-in-WriteRecord.ensures, c.in-WriteRecord.is) refl
 
 pub returns-in-WriteRecord-clause-short : goal.returns-in-WriteRecord-clause-short
-returns-in-WriteRecord-clause-short c = rw c.writes-in-WriteRecord.ensures (subst (λ (r : Request). length (data_of (request_value r)) ≤ 65500) c.in-WriteRecord.is c.requires)
+returns-in-WriteRecord-clause-short c =
+    rw c.writes-in-WriteRecord.ensures (subst (λ (r : Request). length (data_of (request_value r)) ≤ 65500) c.in-WriteRecord.is c.requires)
 
 pub returns-in-WriteRecord-clause-may : goal.returns-in-WriteRecord-clause-may
 returns-in-WriteRecord-clause-may c free device = rw (c.writes-in-WriteRecord.ensures, c.in-WriteRecord.is) (λ may. may)
@@ -91,7 +94,8 @@ unfolding tried
 returns-in-WriteResource-clause-same c free device = rw (c.writes-in-WriteResource.ensures, c.in-WriteResource.is) refl
 
 pub returns-in-WriteResource-clause-short : goal.returns-in-WriteResource-clause-short
-returns-in-WriteResource-clause-short c = rw c.writes-in-WriteResource.ensures (subst (λ (r : Request). length (data_of (request_value r)) ≤ 65500) c.in-WriteResource.is c.requires)
+returns-in-WriteResource-clause-short c =
+    rw c.writes-in-WriteResource.ensures (subst (λ (r : Request). length (data_of (request_value r)) ≤ 65500) c.in-WriteResource.is c.requires)
 
 pub returns-in-DeleteResource-clause-same : goal.returns-in-DeleteResource-clause-same
 unfolding tried
