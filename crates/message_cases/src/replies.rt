@@ -1,0 +1,185 @@
+// Replies, read.
+use crate::shown::{number_of, say, say_numbers, shown};
+use dlp_replies::{Reply, ReplyFault, read_reply};
+use std::alloc::{AllocError, Global};
+
+/// What bytes reply to a function, or why it is nothing.
+pub fn reply(alloc: Global, words: &[&str], bytes: &[u8]) -> Result<String, AllocError> {
+    match read_reply(number_of(words, 1), bytes) {
+        Ok(reply) => said(alloc, &reply),
+        Err(fault) => refused(alloc, fault),
+    }
+}
+
+fn refused(alloc: Global, fault: ReplyFault) -> Result<String, AllocError> {
+    match fault {
+        ReplyFault::Wrapper(place) => format!(in alloc; "Wrapper {place}"),
+        ReplyFault::Function(byte) => format!(in alloc; "Function {byte:x}"),
+        ReplyFault::BadId(place) => format!(in alloc; "BadId {place}"),
+        ReplyFault::BadSize(place) => format!(in alloc; "BadSize {place}"),
+        ReplyFault::Argument => String::from_str(alloc, "Argument"),
+        ReplyFault::Size => String::from_str(alloc, "Size"),
+        ReplyFault::Value(place) => format!(in alloc; "Value {place}"),
+    }
+}
+
+// What a reply says.
+fn said(alloc: Global, reply: &Reply<'_>) -> Result<String, AllocError> {
+    match reply {
+        Reply::Refused { function, code } => {
+            say_numbers(alloc, "Refused", &[*function as u64, code.0 as u64])
+        }
+        Reply::OpenDb { handle } => say_numbers(alloc, "OpenDb", &[*handle as u64]),
+        Reply::CreateDb { handle } => say_numbers(alloc, "CreateDb", &[*handle as u64]),
+        Reply::ReadAppBlock { bytes } => say(alloc, "ReadAppBlock", &[], bytes),
+        Reply::ReadSortBlock { bytes } => say(alloc, "ReadSortBlock", &[], bytes),
+        Reply::WriteRecord { id } => say_numbers(alloc, "WriteRecord", &[id.number() as u64]),
+        Reply::ReadResource {
+            kind,
+            id,
+            index,
+            size,
+            bytes,
+        } => {
+            let kind = u32::from_be_bytes(kind.0) as u64;
+            let numbers = [kind, *id as u64, *index as u64, *size as u64];
+            say(alloc, "ReadResource", &numbers, bytes)
+        }
+        Reply::ReadOpenDbInfo { count } => say_numbers(alloc, "ReadOpenDbInfo", &[*count as u64]),
+        Reply::ReadDbList {
+            last,
+            flags,
+            entries,
+        } => {
+            let numbers = [*last as u64, *flags as u64, entries.len() as u64];
+            say_numbers(alloc, "ReadDbList", &numbers)
+        }
+        Reply::ReadRecordIdList { ids } => {
+            say_numbers(alloc, "ReadRecordIdList", &[ids.len() as u64])
+        }
+        Reply::ReadUserInfo { .. } | Reply::ReadNextModifiedRec { .. } | Reply::ReadRecord { .. } =>
+            said_at_length(alloc, reply),
+        _ => said_shortly(alloc, reply),
+    }
+}
+
+// What a reply about the user or a record says.
+fn said_at_length(alloc: Global, reply: &Reply<'_>) -> Result<String, AllocError> {
+    match reply {
+        Reply::ReadUserInfo {
+            user,
+            viewer,
+            pc,
+            good,
+            last,
+            name,
+            password,
+        } => {
+            let numbers = [
+                *user as u64,
+                *viewer as u64,
+                *pc as u64,
+                good.seconds() as u64,
+                last.seconds() as u64,
+            ];
+            let said = say(alloc, "ReadUserInfo", &numbers, name)?;
+            say(alloc, &said, &[], password)
+        }
+        Reply::ReadNextModifiedRec {
+            id,
+            index,
+            size,
+            attributes,
+            category,
+            bytes,
+        } => {
+            let numbers = [
+                id.number() as u64,
+                *index as u64,
+                *size as u64,
+                *attributes as u64,
+                category.number() as u64,
+            ];
+            say(alloc, "ReadNextModifiedRec", &numbers, bytes)
+        }
+        Reply::ReadRecord {
+            id,
+            index,
+            size,
+            attributes,
+            category,
+            bytes,
+        } => {
+            let numbers = [
+                id.number() as u64,
+                *index as u64,
+                *size as u64,
+                *attributes as u64,
+                category.number() as u64,
+            ];
+            say(alloc, "ReadRecord", &numbers, bytes)
+        }
+        _ => String::from_str(alloc, "another reply"),
+    }
+}
+
+// A reply that says only that a function is done.
+fn said_shortly(alloc: Global, reply: &Reply<'_>) -> Result<String, AllocError> {
+    let name = match reply {
+        Reply::WriteUserInfo => "WriteUserInfo",
+        Reply::CloseDb => "CloseDb",
+        Reply::DeleteDb => "DeleteDb",
+        Reply::WriteAppBlock => "WriteAppBlock",
+        Reply::WriteSortBlock => "WriteSortBlock",
+        Reply::DeleteRecord => "DeleteRecord",
+        Reply::WriteResource => "WriteResource",
+        Reply::DeleteResource => "DeleteResource",
+        Reply::CleanUpDatabase => "CleanUpDatabase",
+        Reply::ResetSyncFlags => "ResetSyncFlags",
+        Reply::ResetRecordIndex => "ResetRecordIndex",
+        Reply::AddSyncLogEntry => "AddSyncLogEntry",
+        Reply::MoveCategory => "MoveCategory",
+        Reply::OpenConduit => "OpenConduit",
+        Reply::EndOfSync => "EndOfSync",
+        _ => "another reply",
+    };
+    String::from_str(alloc, name)
+}
+
+/// The databases in a reply, one by one, and whether there is a further one.
+pub fn list(alloc: Global, bytes: &[u8]) -> Result<String, AllocError> {
+    let read = read_reply(0x16, bytes);
+    let Ok(Reply::ReadDbList { entries, .. }) = &read else {
+        return String::from_str(alloc, "no list");
+    };
+    let mut text = String::from_str(alloc, "list")?;
+    for place in 0..=entries.len() {
+        if let Some((index, head)) = entries.get(place) {
+            let name = shown(alloc, head.name.as_bytes())?;
+            let numbers = [index as u64, head.version as u64, head.modnum as u64];
+            let said = say_numbers(alloc, &name, &numbers)?;
+            text.push_str(" ")?;
+            text.push_str(&said)?;
+        } else {
+            text.push_str(" none")?;
+        }
+    }
+    Ok(text)
+}
+
+/// The ids in a reply, one by one, and whether there is a further one.
+pub fn ids(alloc: Global, bytes: &[u8]) -> Result<String, AllocError> {
+    let read = read_reply(0x31, bytes);
+    let Ok(Reply::ReadRecordIdList { ids }) = &read else {
+        return String::from_str(alloc, "no ids");
+    };
+    let mut text = String::from_str(alloc, "ids")?;
+    for place in 0..=ids.len() {
+        let word = match ids.get(place) {
+            Some(id) => say_numbers(alloc, "", &[id.number() as u64])?,
+            None => String::from_str(alloc, " none")?,
+        };
+        text.push_str(&word)?;
+    }
+    Ok(text)
+}
