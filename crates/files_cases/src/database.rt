@@ -86,7 +86,7 @@ fn call(
     }
 }
 
-fn head_of(attributes: u32) -> Option<DbHead> {
+pub fn head_of(attributes: u32) -> Option<DbHead> {
     Some(DbHead {
         name: DbName::new(b"MemoDB").ok()?,
         attributes: u16::try_from(attributes).ok()?,
