@@ -1,7 +1,7 @@
 // An entry of a journal.
 
 /// A file that a change replaces, and its new bytes.
-#[derive(Debug, Drop)]
+#[derive(Drop)]
 pub struct Entry {
     /// The name of a file that a desktop keeps, at most 255 bytes.
     pub name: String,

@@ -10,7 +10,7 @@ use folder_files::is_kept_file;
 use std::alloc::{AllocError, AllocFailed, Global};
 
 // Why entries were not read.
-#[derive(Clone, Copy, Debug, PartialEq, Eq)]
+#[derive(Clone, Copy)]
 pub(crate) enum EntryFault {
     // How many bytes are left from the first bad one on.
     Left(usize),

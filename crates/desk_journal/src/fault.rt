@@ -6,7 +6,7 @@ use crate::bad_journal::BadJournal;
 use std::alloc::{AllocError, AllocFailed};
 
 /// Why no journal was read.
-#[derive(Clone, Copy, Debug, PartialEq, Eq)]
+#[derive(Clone, Copy)]
 pub enum JournalFault {
     /// The bytes are no journal.
     Bad(BadJournal),

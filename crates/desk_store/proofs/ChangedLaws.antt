@@ -3,23 +3,18 @@ use Rattle.std.proofs.Common.{◌≡◌, ◌<◌, ℕ, Bool, true, false, cond, 
 use Rattle.std.specs.Prelude.{IfSome, bytes_eq}
 use Rattle.std.specs.List.{AllByRecursion, list_all}
 use Rattle.std.specs.Option.{option_or}
-use Rattle.std.specs.Ordering.{is_eq, is_lt, nat_cmp}
-use Rattle.std.specs.declared.cmp.Ordering.{Ordering}
-use Rattle.std.specs.declared.cmp.Ordering.TheVariants.{Less, Equal, Greater}
-use Rattle.std.specs.Cmp.Lexicographic.{slice_cmp}
-use Rattle.std.proofs.lemmas.Map.Text.{is_eq-slice_cmp}
 use Rattle.pdb_values.specs.Databases.{DatabaseValue}
 use Rattle.pdb_values.specs.Heads.{holds_resources}
 use Rattle.pdb_files.specs.Files.{IsFileText, canonical}
-use Rattle.palm_device.specs.Devices.{comes_before, database_of}
-use Rattle.palm_device.specs.Soundness.{NamesRise}
 use Rattle.palm_device.proofs.EntryLaws.{and_true}
 use Rattle.desk_store.specs.declared.role.Role.{Role}
 use Rattle.desk_store.specs.declared.role.Role.TheVariants.{Rows, Base, Archive}
 use Rattle.desk_store.specs.Changes.{IsDbChange, IsDbWritten, IsOf, changed, changed_to, with_archive, with_change, with_changes}
-use Rattle.desk_store.specs.Shelves.{AreOrdered, ShelvesValue, shelf_of, with_put}
+use Rattle.desk_store.specs.Shelves.{AreOrdered, ShelvesValue, shelf_of}
 use Rattle.desk_store.specs.declared.change.DbChange.{DbChange}
-use Rattle.desk_store.proofs.OrderLaws.{bytes_is, bytes_same, database_of-put, ordered_with}
+use Rattle.desk_store.proofs.OrderLaws.{ordered_with}
+use Rattle.pdb_values.specs.NamedDatabases.{NamesRise, comes_before, database_of, with_put}
+use Rattle.pdb_values.proofs.NamedLaws.{comes_before-differs_from, bytes_eq-is, database_of-with_put}
 
 pub with_changes-append : (front : List DbChange) (change : DbChange) (shelves : ShelvesValue) → with_changes (front ++ change ∷ []) shelves ≡ with_changes front (with_change change shelves)
 with_changes-append [] change shelves = refl
@@ -37,21 +32,6 @@ ordered_changes (change ∷ changes) shelves is = ordered_archive change.archive
 
 -- ---- each name once
 
-never_both : (o : Ordering) → is_lt o ≡ true → is_eq o ≡ true → ⊥
-never_both Less less equal = cc
-never_both Equal less equal = cc
-never_both Greater less equal = cc
-
--- a name that stands behind another is another one
-pub differs_behind : (a b : List ℕ) → comes_before a b ≡ true → bytes_eq b a ≡ false
-differs_behind a b before = by (bytes_eq b a) refl
-  where
-    by : (same : Bool) → bytes_eq b a ≡ same → same ≡ false
-    by false is = refl
-    by true is =
-        let equal : is_eq (slice_cmp nat_cmp a b) ≡ true = is_eq-slice_cmp a b ∙ (ap (bytes_eq a) (bytes_is b a is) ∙ bytes_same a) in
-        absurd (never_both (slice_cmp nat_cmp a b) before equal)
-
 abbrev pub rows_of : List DbChange → List DatabaseValue
 rows_of changes = map (λ change. change.rows) changes
 
@@ -59,7 +39,7 @@ pub changed_none : (role : Role) (name : List ℕ) (changes : List DbChange) →
 changed_none role name [] behind = refl
 changed_none role name (change ∷ changes) behind =
     let both = and_true (comes_before name change.rows.head.name) (list_all (λ later. comes_before name later.head.name) (rows_of changes)) behind in
-    rw (differs_behind name change.rows.head.name both.0) (changed_none role name changes both.1)
+    rw (comes_before-differs_from name change.rows.head.name both.0) (changed_none role name changes both.1)
 
 -- ---- look-ups
 
@@ -73,8 +53,8 @@ archive_put Archive name archive shelves other = absurd (other refl)
 -- what a look-up finds once a database changed
 found_once : (role : Role) (name : List ℕ) (change : DbChange) (shelves : ShelvesValue) → IsDbChange change
     → database_of name (shelf_of (with_change change shelves) role) ≡ cond (bytes_eq change.rows.head.name name) (option_or (changed_to role change) (database_of name (shelf_of shelves role))) (database_of name (shelf_of shelves role))
-found_once Rows name change shelves is = ap (database_of name) (archive_put Rows name change.archive _ (λ e. cc)) ∙ database_of-put name change.rows shelves.rows
-found_once Base name change shelves is = ap (database_of name) (archive_put Base name change.archive _ (λ e. cc)) ∙ (database_of-put name change.base shelves.bases ∙ ap (λ (n : List ℕ). cond (bytes_eq n name) (Some change.base) (database_of name shelves.bases)) is.base.named)
+found_once Rows name change shelves is = ap (database_of name) (archive_put Rows name change.archive _ (λ e. cc)) ∙ database_of-with_put name change.rows shelves.rows
+found_once Base name change shelves is = ap (database_of name) (archive_put Base name change.archive _ (λ e. cc)) ∙ (database_of-with_put name change.base shelves.bases ∙ ap (λ (n : List ℕ). cond (bytes_eq n name) (Some change.base) (database_of name shelves.bases)) is.base.named)
 found_once Archive name change shelves is = by change.archive is.archive
   where
     by : (archive : Option DatabaseValue) → IfSome archive (λ a. IsOf change.rows.head.name a × (0 < length a.records))
@@ -85,7 +65,7 @@ found_once Archive name change shelves is = by change.archive is.archive
         same : (b : Bool) → database_of name shelves.archives ≡ cond b (database_of name shelves.archives) (database_of name shelves.archives)
         same true = refl
         same false = refl
-    by (Some archive) given = database_of-put name archive shelves.archives ∙ ap (λ (n : List ℕ). cond (bytes_eq n name) (Some archive) (database_of name shelves.archives)) given.0.named
+    by (Some archive) given = database_of-with_put name archive shelves.archives ∙ ap (λ (n : List ℕ). cond (bytes_eq n name) (Some archive) (database_of name shelves.archives)) given.0.named
 
 pub found_changed : (role : Role) (name : List ℕ) (changes : List DbChange) (shelves : ShelvesValue) → NamesRise (rows_of changes) → AllByRecursion IsDbChange changes
     → database_of name (shelf_of (with_changes changes shelves) role) ≡ option_or (changed role name changes) (database_of name (shelf_of shelves role))
@@ -98,7 +78,7 @@ found_changed role name (change ∷ changes) shelves rise each =
         → cond here (option_or (changed_to role change) now) now ≡ option_or (cond here (changed_to role change) (changed role name changes)) (database_of name (shelf_of shelves role))
     by false is now later = later
     by true is now later =
-        let none : changed role name changes ≡ None = changed_none role name changes (subst (λ (n : List ℕ). list_all (λ later. comes_before n later.head.name) (rows_of changes) ≡ true) (bytes_is _ _ is) rise.0) in
+        let none : changed role name changes ≡ None = changed_none role name changes (subst (λ (n : List ℕ). list_all (λ later. comes_before n later.head.name) (rows_of changes) ≡ true) (bytes_eq-is _ _ is) rise.0) in
         ap (option_or (changed_to role change)) (later ∙ ap (λ (o : Option DatabaseValue). option_or o (database_of name (shelf_of shelves role))) none)
 
 -- ---- what changed
@@ -123,5 +103,5 @@ changed_is role name [] database each written here = absurd cc
 changed_is role name (change ∷ changes) database each written here = by (bytes_eq change.rows.head.name name) refl here (changed_is role name changes database each.1 written.1)
   where
     by : (this : Bool) → bytes_eq change.rows.head.name name ≡ this → cond this (changed_to role change) (changed role name changes) ≡ Some database → (changed role name changes ≡ Some database → IsChanged name database) → IsChanged name database
-    by true is here later = subst (λ (n : List ℕ). IsChanged n database) (bytes_is _ _ is) (changed_to_is role change database each.0 written.0 here)
+    by true is here later = subst (λ (n : List ℕ). IsChanged n database) (bytes_eq-is _ _ is) (changed_to_is role change database each.0 written.0 here)
     by false is here later = later here

@@ -9,7 +9,6 @@ use Rattle.pdb_values.specs.Databases.{DatabaseValue}
 use Rattle.pdb_values.specs.declared.user.Marks.{Marks}
 use Rattle.pdb_files.specs.Files.{canonical}
 use Rattle.folder_files.specs.InfoFiles.{IsDesktopFile, desktop_text}
-use Rattle.palm_device.specs.Devices.{database_of}
 use Rattle.folder_files.specs.FileNames.{desktop_info_file, is_kept_file, journal_file}
 use Rattle.desk_store.specs.DeskFiles.{file_in, role_file}
 use Rattle.desk_store.specs.declared.role.Role.{Role}
@@ -23,7 +22,8 @@ use Rattle.desk_store.specs.declared.change.DeskChange.{DeskChange}
 use Rattle.desk_store.proofs.ChangedLaws.{changed_is, found_changed, ordered_changes}
 use Rattle.desk_store.proofs.FileLaws.{database_read, marks_read}
 use Rattle.desk_store.proofs.JournalLaws.{IsFile, change_files, last_database, last_marks}
-use Rattle.desk_store.proofs.OrderLaws.{bytes_is}
+use Rattle.pdb_values.specs.NamedDatabases.{database_of}
+use Rattle.pdb_values.proofs.NamedLaws.{bytes_eq-is}
 
 -- no file of a change is the journal
 last_journal : (entries : List EntryValue) → AllByRecursion IsFile entries → last_of journal_file entries ≡ None
@@ -40,7 +40,7 @@ last_good q bytes (entry ∷ entries) files there = by (last_of q entries) (same
     by : (later : Option (List ℕ)) (this : Bool) → same_name q entry.name ≡ this → option_or later (cond this (Some entry.bytes) None) ≡ Some bytes → (later ≡ Some bytes → if_bad (file_in q bytes) ≡ None) → if_bad (file_in q bytes) ≡ None
     by (Some x) this is there rest = rest there
     by None true is there rest =
-        let name : entry.name ≡ q = sym (bytes_is q entry.name (sym (same_name-is q entry.name) ∙ is)) in
+        let name : entry.name ≡ q = sym (bytes_eq-is q entry.name (sym (same_name-is q entry.name) ∙ is)) in
         let held : entry.bytes ≡ bytes = cc in
         ap (λ (n : List ℕ). if_bad (file_in n bytes)) (sym name) ∙ (ap (λ (b : List ℕ). if_bad (file_in entry.name b)) (sym held) ∙ files.0.good)
     by None false is there rest = absurd cc

@@ -15,8 +15,6 @@ use Rattle.hs_folders.specs.FileMaps.{FileMap}
 use Rattle.pdb_values.specs.Databases.{DatabaseValue}
 use Rattle.pdb_values.specs.Stems.{stem_of}
 use Rattle.pdb_values.specs.declared.user.Marks.{Marks}
-use Rattle.palm_device.specs.Devices.{comes_before, database_of}
-use Rattle.palm_device.specs.Soundness.{NamesRise}
 use Rattle.palm_device.proofs.EntryLaws.{and_true}
 use Rattle.folder_files.specs.FileNames.{has_ending, rows_file}
 use Rattle.desk_store.specs.declared.role.Role.TheVariants.{Rows}
@@ -25,20 +23,20 @@ use Rattle.desk_journal.proofs.OverlayLaws.{same_name, same_name-is, same_name-o
 use Rattle.desk_store.specs.Desks.{AreRowsOf, IsDesk}
 use Rattle.desk_store.specs.Finds.{rows_count}
 use Rattle.desk_store.specs.Shelves.{ShelvesValue}
-use Rattle.desk_store.proofs.ChangedLaws.{differs_behind}
 use Rattle.desk_store.proofs.FileLaws.{ends}
 use Rattle.desk_store.proofs.OpenLaws.{told_rows}
-use Rattle.desk_store.proofs.OrderLaws.{bytes_is, bytes_same}
+use Rattle.pdb_values.specs.NamedDatabases.{NamesRise, comes_before, database_of}
+use Rattle.pdb_values.proofs.NamedLaws.{bytes_eq-is, bytes_eq-own, comes_before-differs_from}
 
 is_true : (b : Bool) → T b → b ≡ true
 is_true true t = refl
 is_true false t = absurd t
 
 name_is : (a b : List ℕ) → same_name a b ≡ true → a ≡ b
-name_is a b e = bytes_is a b (sym (same_name-is a b) ∙ e)
+name_is a b e = bytes_eq-is a b (sym (same_name-is a b) ∙ e)
 
 name_same : (a : List ℕ) → same_name a a ≡ true
-name_same a = same_name-is a a ∙ bytes_same a
+name_same a = same_name-is a a ∙ bytes_eq-own a
 
 -- ---- files differ
 
@@ -75,7 +73,7 @@ differ_behind : (name : List ℕ) (rows : List DatabaseValue) → list_all (λ l
 differ_behind name [] behind = tt
 differ_behind name (database ∷ rows) behind =
     let both = and_true (comes_before name database.head.name) (list_all (λ later. comes_before name later.head.name) rows) behind in
-    let apart : (rows_file name ≡ rows_file database.head.name → ⊥) = λ e. (let same : name ≡ database.head.name = (same_file Rows Rows name database.head.name e).1 in let yes : bytes_eq database.head.name name ≡ true = ap (bytes_eq database.head.name) same ∙ bytes_same database.head.name in cc (sym (differs_behind name database.head.name both.0) ∙ yes)) in
+    let apart : (rows_file name ≡ rows_file database.head.name → ⊥) = λ e. (let same : name ≡ database.head.name = (same_file Rows Rows name database.head.name e).1 in let yes : bytes_eq database.head.name name ≡ true = ap (bytes_eq database.head.name) same ∙ bytes_eq-own database.head.name in cc (sym (comes_before-differs_from name database.head.name both.0) ∙ yes)) in
     (same_name-other _ _ apart, differ_behind name rows both.1)
 
 distinct_rows : (rows : List DatabaseValue) → NamesRise rows → IsDistinct same_name (files_of rows)
@@ -114,7 +112,7 @@ in_rows q (database ∷ rows) there = by (same_name q (rows_file database.head.n
 
     by : (this : Bool) → same_name q (rows_file database.head.name) ≡ this → (this || list_any (same_name q) (files_of rows)) ≡ true → (list_any (same_name q) (files_of rows) ≡ true → (name : List ℕ) × (q ≡ rows_file name) × IsSome (database_of name rows))
         → (name : List ℕ) × (q ≡ rows_file name) × IsSome (database_of name (database ∷ rows))
-    by true is there later = (database.head.name, name_is _ _ is, ap (λ (b : Bool). is_some (cond b (Some database) (database_of database.head.name rows))) (bytes_same database.head.name))
+    by true is there later = (database.head.name, name_is _ _ is, ap (λ (b : Bool). is_some (cond b (Some database) (database_of database.head.name rows))) (bytes_eq-own database.head.name))
     by false is there later = let found = later there in (found.0, found.1, either (bytes_eq database.head.name found.0) (database_of found.0 rows) found.2)
 
 into_rows : (name : List ℕ) (rows : List DatabaseValue) → IsSome (database_of name rows) → list_any (same_name (rows_file name)) (files_of rows) ≡ true
@@ -124,7 +122,7 @@ into_rows name (database ∷ rows) some = by (bytes_eq database.head.name name) 
     by : (this : Bool) → bytes_eq database.head.name name ≡ this → IsSome (cond this (Some database) (database_of name rows)) → (IsSome (database_of name rows) → list_any (same_name (rows_file name)) (files_of rows) ≡ true)
         → (same_name (rows_file name) (rows_file database.head.name) || list_any (same_name (rows_file name)) (files_of rows)) ≡ true
     by true is some later =
-        let same : same_name (rows_file name) (rows_file database.head.name) ≡ true = ap (λ (n : List ℕ). same_name (rows_file name) (rows_file n)) (bytes_is database.head.name name is) ∙ name_same (rows_file name) in
+        let same : same_name (rows_file name) (rows_file database.head.name) ≡ true = ap (λ (n : List ℕ). same_name (rows_file name) (rows_file n)) (bytes_eq-is database.head.name name is) ∙ name_same (rows_file name) in
         ap (λ (b : Bool). b || list_any (same_name (rows_file name)) (files_of rows)) same
     by false is some later = or_true _ _ (later some)
 

@@ -17,7 +17,7 @@ use Rattle.desk_store.specs.declared.file.DeskFile.TheVariants as files
 use Rattle.desk_store.specs.declared.role.Role.{Role}
 use Rattle.desk_store.specs.declared.role.Role.TheVariants.{Rows, Base, Archive}
 use Rattle.desk_store.proofs.OwnLaws.{own_file}
-use Rattle.desk_store.proofs.OrderLaws.{bytes_same}
+use Rattle.pdb_values.proofs.NamedLaws.{bytes_eq-own}
 
 -- ---- endings
 
@@ -72,7 +72,7 @@ pub database_read : (role : Role) (database : DatabaseValue) (bytes : List ℕ) 
 unfolding file_in
 database_read role database bytes records text =
     let name : List ℕ = role_file role database.head.name in
-    let own : is_own_file role name database ≡ true = rw (records, bytes_same name) refl in
+    let own : is_own_file role name database ≡ true = rw (records, bytes_eq-own name) refl in
     ap (λ (o : Option Role). by_role o name bytes) (role_of_file role database.head.name) ∙ own_file role name bytes database text own
 
 pub marks_read : (marks : Marks) (bytes : List ℕ) → IsDesktopFile marks bytes → file_in desktop_info_file bytes ≡ Ok (files.Marks marks)

@@ -14,7 +14,6 @@ use Rattle.pdb_files.specs.declared.bad_kind.BadKind.TheVariants as kinds
 use Rattle.folder_files.specs.FileNames.{desktop_info_file, journal_file}
 use Rattle.desk_journal.specs.Overlays.{bad_of}
 use Rattle.desk_journal.specs.declared.bad_journal.BadJournal.{BadJournal}
-use Rattle.palm_device.specs.Devices.{database_of}
 use Rattle.desk_store.specs.DeskFiles.{file_in, role_file}
 use Rattle.desk_store.specs.declared.file_fault.BadDeskFile.{BadDeskFile}
 use Rattle.desk_store.specs.declared.file.DeskFile.{DeskFile}
@@ -27,7 +26,9 @@ use Rattle.desk_store.specs.Shelves.{bad_at, database_at, file_at, if_bad, if_da
 use Rattle.desk_store.specs.declared.found.Found.{Found}
 use Rattle.desk_store.specs.declared.fault.DeskOpenFault.{DeskOpenFault}
 use Rattle.desk_store.specs.declared.fault.DeskOpenFault.TheVariants.{DeskFault, TooMany, BadFile, NoMemory}
-use Rattle.desk_store.proofs.OrderLaws.{bytes_is, bytes_other, bytes_same, database_of-with}
+use Rattle.desk_store.proofs.OrderLaws.{database_of-with}
+use Rattle.pdb_values.specs.NamedDatabases.{database_of}
+use Rattle.pdb_values.proofs.NamedLaws.{bytes_eq-is, bytes_eq-other, bytes_eq-own}
 
 -- ---- names
 
@@ -87,27 +88,27 @@ unchanged false true found none = none refl
 unchanged false false found none = refl
 
 get_file : (held : FileMap) (file q : List ℕ) → bytes_eq q file ≡ true → finmap.get held q ≡ finmap.get held file
-get_file held file q same = ap (finmap.get held) (bytes_is q file same)
+get_file held file q same = ap (finmap.get held) (bytes_eq-is q file same)
 
 -- what stands in the file, by what it holds
 database_there : (held : FileMap) (file bytes : List ℕ) (role : Role) (name : List ℕ) → finmap.get held file ≡ Some bytes → bytes_eq (role_file role name) file ≡ true → database_at held role name ≡ if_database (file_in file bytes)
 database_there held file bytes role name there same =
-    ap (λ (f : List ℕ). option_and_then (λ b. if_database (file_in f b)) (finmap.get held f)) (bytes_is (role_file role name) file same) ∙ ap (option_and_then (λ b. if_database (file_in file b))) there
+    ap (λ (f : List ℕ). option_and_then (λ b. if_database (file_in f b)) (finmap.get held f)) (bytes_eq-is (role_file role name) file same) ∙ ap (option_and_then (λ b. if_database (file_in file b))) there
 
 marks_there : (held : FileMap) (file bytes : List ℕ) → finmap.get held file ≡ Some bytes → bytes_eq desktop_info_file file ≡ true → marks_in held ≡ if_marks (file_in file bytes)
 marks_there held file bytes there same =
-    ap (λ (f : List ℕ). option_and_then (λ b. if_marks (file_in f b)) (finmap.get held f)) (bytes_is desktop_info_file file same) ∙ ap (option_and_then (λ b. if_marks (file_in file b))) there
+    ap (λ (f : List ℕ). option_and_then (λ b. if_marks (file_in f b)) (finmap.get held f)) (bytes_eq-is desktop_info_file file same) ∙ ap (option_and_then (λ b. if_marks (file_in file b))) there
 
 -- the file of a database, against the file of a name
 own_name : (role : Role) (file : List ℕ) (database : DatabaseValue) (name : List ℕ) → file ≡ role_file role database.head.name → bytes_eq (role_file role name) file ≡ bytes_eq database.head.name name
 own_name role file database name own = cases (bytes_eq database.head.name name) refl
   where
     cases : (b : Bool) → bytes_eq database.head.name name ≡ b → bytes_eq (role_file role name) file ≡ b
-    cases true is = ap (λ (n : List ℕ). bytes_eq (role_file role n) file) (sym (bytes_is database.head.name name is)) ∙ (ap (λ (f : List ℕ). bytes_eq f file) (sym own) ∙ bytes_same file)
-    cases false is = bytes_other (role_file role name) file (λ e. let same : database.head.name ≡ name = sym (same_file role role name database.head.name (e ∙ own)).1 in let yes : bytes_eq database.head.name name ≡ true = ap (bytes_eq database.head.name) (sym same) ∙ bytes_same database.head.name in cc (sym is ∙ yes))
+    cases true is = ap (λ (n : List ℕ). bytes_eq (role_file role n) file) (sym (bytes_eq-is database.head.name name is)) ∙ (ap (λ (f : List ℕ). bytes_eq f file) (sym own) ∙ bytes_eq-own file)
+    cases false is = bytes_eq-other (role_file role name) file (λ e. let same : database.head.name ≡ name = sym (same_file role role name database.head.name (e ∙ own)).1 in let yes : bytes_eq database.head.name name ≡ true = ap (bytes_eq database.head.name) (sym same) ∙ bytes_eq-own database.head.name in cc (sym is ∙ yes))
 
 other_role : (role other : Role) (file : List ℕ) (database : DatabaseValue) (name : List ℕ) → (other ≡ role → ⊥) → file ≡ role_file role database.head.name → bytes_eq (role_file other name) file ≡ false
-other_role role other file database name apart own = bytes_other (role_file other name) file (λ e. apart (same_file other role name database.head.name (e ∙ own)).0)
+other_role role other file database name apart own = bytes_eq-other (role_file other name) file (λ e. apart (same_file other role name database.head.name (e ∙ own)).0)
 
 -- the database that was read stands for that of the file
 on_shelf : (before here : Bool) (held_at found : Option DatabaseValue) (database : DatabaseValue) → found ≡ where_read before held_at → (here ≡ true → held_at ≡ Some database) → cond here (Some database) found ≡ where_read (before || here) held_at
@@ -160,7 +161,7 @@ or_true false = refl
 marks_now : (held : FileMap) (names : List (List ℕ)) (file bytes : List ℕ) (marks : Marks) → finmap.get held file ≡ Some bytes → file_in file bytes ≡ Ok (files.Marks marks) → (let o : Option Marks = Some marks in o) ≡ where_read (is_among (names ++ file ∷ []) desktop_info_file) (marks_in held)
 marks_now held names file bytes marks there says =
     let named : file ≡ desktop_info_file = marks_in_info file bytes marks says in
-    let same : bytes_eq desktop_info_file file ≡ true = ap (bytes_eq desktop_info_file) named ∙ bytes_same desktop_info_file in
+    let same : bytes_eq desktop_info_file file ≡ true = ap (bytes_eq desktop_info_file) named ∙ bytes_eq-own desktop_info_file in
     let among : is_among (names ++ file ∷ []) desktop_info_file ≡ true = among_more names file desktop_info_file ∙ (ap (λ (b : Bool). is_among names desktop_info_file || b) same ∙ or_true (is_among names desktop_info_file)) in
     sym (ap (λ (b : Bool). where_read b (marks_in held)) among ∙ (marks_there held file bytes there same ∙ ap if_marks says))
 
@@ -242,7 +243,7 @@ good_among held [] q good there = absurd cc
 good_among held (name ∷ names) q good there = by_name (bytes_eq q name) refl there (none_first (option_map (with_name name) (bad_at held name)) (first_bad held names) good) (good_among held names q)
   where
     by_name : (b : Bool) → bytes_eq q name ≡ b → (b || is_among names q) ≡ true → (option_map (with_name name) (bad_at held name) ≡ None) × (first_bad held names ≡ None) → (first_bad held names ≡ None → is_among names q ≡ true → bad_at held q ≡ None) → bad_at held q ≡ None
-    by_name true is among none later = ap (bad_at held) (bytes_is q name is) ∙ not_bad (bad_at held name) name none.0
+    by_name true is among none later = ap (bad_at held) (bytes_eq-is q name is) ∙ not_bad (bad_at held name) name none.0
     by_name false is among none later = later none.1 among
 
 pub good_all : (held : FileMap) → first_bad held (finmap.keys held) ≡ None → (q : List ℕ) → bad_at held q ≡ None

@@ -11,8 +11,6 @@ use Rattle.pdb_values.specs.Databases.{DatabaseValue}
 use Rattle.pdb_files.specs.Files.{canonical}
 use Rattle.folder_files.specs.InfoFiles.{IsDesktopFile, desktop_text}
 use Rattle.pdb_values.specs.declared.user.Marks.{Marks}
-use Rattle.palm_device.specs.Devices.{comes_before}
-use Rattle.palm_device.specs.Soundness.{NamesRise}
 use Rattle.folder_files.specs.FileNames.{desktop_info_file, is_kept_file}
 use Rattle.desk_journal.specs.Entries.{AreEntries, EntryValue, IsJournal, entry_values, is_named}
 use Rattle.desk_journal.specs.declared.entry.Entry.{Entry}
@@ -27,8 +25,9 @@ use Rattle.desk_store.specs.declared.change.DbChange.{DbChange}
 use Rattle.desk_store.specs.declared.change.DeskChange.{DeskChange}
 use Rattle.desk_store.proofs.ChangedLaws.{IsChanged, changed_none, changed_to_is, rows_of}
 use Rattle.desk_store.proofs.FileLaws.{database_read, file_kept, marks_read, not_info}
-use Rattle.desk_store.proofs.OrderLaws.{bytes_is, bytes_other, bytes_same}
 use Rattle.desk_store.proofs.SizeLaws.{canonical-short, file-short, marks-short}
+use Rattle.pdb_values.specs.NamedDatabases.{NamesRise, comes_before}
+use Rattle.pdb_values.proofs.NamedLaws.{bytes_eq-is, bytes_eq-other, bytes_eq-own}
 
 -- ---- each file
 
@@ -88,8 +87,8 @@ same_role : (role : Role) (name named : List ℕ) → same_name (role_file role 
 same_role role name named = by (bytes_eq named name) refl
   where
     by : (b : Bool) → bytes_eq named name ≡ b → same_name (role_file role name) (role_file role named) ≡ b
-    by true is = same_name-is (role_file role name) (role_file role named) ∙ (ap (λ (n : List ℕ). bytes_eq (role_file role name) (role_file role n)) (bytes_is named name is) ∙ bytes_same (role_file role name))
-    by false is = same_name-other (role_file role name) (role_file role named) (λ e. let same : named ≡ name = sym (same_file role role name named e).1 in let yes : bytes_eq named name ≡ true = ap (λ (n : List ℕ). bytes_eq n name) same ∙ bytes_same name in cc (sym is ∙ yes))
+    by true is = same_name-is (role_file role name) (role_file role named) ∙ (ap (λ (n : List ℕ). bytes_eq (role_file role name) (role_file role n)) (bytes_eq-is named name is) ∙ bytes_eq-own (role_file role name))
+    by false is = same_name-other (role_file role name) (role_file role named) (λ e. let same : named ≡ name = sym (same_file role role name named e).1 in let yes : bytes_eq named name ≡ true = ap (λ (n : List ℕ). bytes_eq n name) same ∙ bytes_eq-own name in cc (sym is ∙ yes))
 
 other_role : (role other : Role) (name named : List ℕ) → (role ≡ other → ⊥) → same_name (role_file role name) (role_file other named) ≡ false
 other_role role other name named apart = same_name-other _ _ (λ e. apart (same_file role other name named e).0)
@@ -135,7 +134,7 @@ last_databases role name (change ∷ changes) rise each written =
     by : (here : Bool) → bytes_eq change.rows.head.name name ≡ here
         → option_or (option_map canonical (changed role name changes)) (cond here (option_map canonical (changed_to role change)) None) ≡ option_map canonical (cond here (changed_to role change) (changed role name changes))
     by true is =
-        let none : changed role name changes ≡ None = changed_none role name changes (subst (λ (n : List ℕ). list_all (λ later. comes_before n later.head.name) (rows_of changes) ≡ true) (bytes_is _ _ is) rise.0) in
+        let none : changed role name changes ≡ None = changed_none role name changes (subst (λ (n : List ℕ). list_all (λ later. comes_before n later.head.name) (rows_of changes) ≡ true) (bytes_eq-is _ _ is) rise.0) in
         ap (λ (o : Option DatabaseValue). option_or (option_map canonical o) (option_map canonical (changed_to role change))) none
     by false is = none_behind (option_map canonical (changed role name changes))
 
@@ -148,7 +147,7 @@ last_database role name change is written =
 pub last_marks : (change : DeskChange) → last_of desktop_info_file (change_entries change) ≡ Some (desktop_text change.marks)
 last_marks change =
     last_of-append desktop_info_file (flat_map db_entries change.databases.items) (marks_entry change.marks ∷ [])
-    ∙ ap (λ (b : Bool). option_or (cond b (Some (desktop_text change.marks)) None) (last_of desktop_info_file (flat_map db_entries change.databases.items))) (same_name-is desktop_info_file desktop_info_file ∙ bytes_same desktop_info_file)
+    ∙ ap (λ (b : Bool). option_or (cond b (Some (desktop_text change.marks)) None) (last_of desktop_info_file (flat_map db_entries change.databases.items))) (same_name-is desktop_info_file desktop_info_file ∙ bytes_eq-own desktop_info_file)
 
 -- ---- no name twice
 
@@ -159,7 +158,7 @@ named_is q (entry ∷ entries) none = by (last_of q entries) (same_name q entry.
     by : (later : Option (List ℕ)) (this : Bool) → same_name q entry.name ≡ this → option_or later (cond this (Some entry.bytes) None) ≡ None → (later ≡ None → is_named entries q ≡ false) → (bytes_eq entry.name q || is_named entries q) ≡ false
     by (Some x) this is none rest = absurd cc
     by None true is none rest = absurd cc
-    by None false is none rest = rw (bytes_other entry.name q (λ e. let yes : same_name q entry.name ≡ true = same_name-is q entry.name ∙ (ap (bytes_eq q) e ∙ bytes_same q) in cc (sym is ∙ yes))) (rest refl)
+    by None false is none rest = rw (bytes_eq-other entry.name q (λ e. let yes : same_name q entry.name ≡ true = same_name-is q entry.name ∙ (ap (bytes_eq q) e ∙ bytes_eq-own q) in cc (sym is ∙ yes))) (rest refl)
 
 -- no name stands among those behind it
 abbrev pub AreApart : List EntryValue → Type 0

@@ -9,7 +9,6 @@ use Rattle.pdb_values.specs.declared.user.Marks.{Marks}
 use Rattle.pdb_files.specs.Reading.{database_in}
 use Rattle.pdb_files.specs.declared.bad_kind.BadKind.{BadKind}
 use Rattle.pdb_files.specs.declared.bad_kind.BadKind.TheVariants as kinds
-use Rattle.palm_device.specs.Devices.{database_of}
 use Rattle.folder_files.specs.FileNames.{has_ending, journal_file, rows_file}
 use Rattle.desk_store.specs.DeskFiles.{broken_rule, by_role, file_in, if_own, is_own_file, role_of}
 use Rattle.desk_store.specs.declared.file_fault.BadDeskFile.{BadDeskFile}
@@ -27,6 +26,7 @@ use Rattle.desk_store.specs.declared.fault.DeskOpenFault.{DeskOpenFault}
 use Rattle.desk_store.specs.declared.fault.DeskOpenFault.TheVariants.{DeskFault, TooMany, BadFile, NoMemory}
 use Rattle.desk_store.specs.declared.found.Found.{Found}
 use Rattle.desk_store.proofs.FindLaws.{all_databases, all_marks, good_all, no_bad_journal}
+use Rattle.pdb_values.specs.NamedDatabases.{database_of}
 
 -- a bad journal stays as it is
 bad_stays : (held : FileMap) (bad : BadJournal) → Some bad ≡ bad_of (finmap.get held journal_file) → finished held ≡ held

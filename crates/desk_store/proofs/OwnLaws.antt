@@ -30,8 +30,8 @@ both_true : (a b : Bool) → (a && b) ≡ true → (a ≡ true) × (b ≡ true)
 both_true true b e = (refl, e)
 both_true false b e = absurd cc
 
-bytes_is : (xs ys : List ℕ) → bytes_eq xs ys ≡ true → xs ≡ ys
-bytes_is xs ys e = grind (arith, e, bytes_eq-Decides xs ys)
+bytes_eq-is : (xs ys : List ℕ) → bytes_eq xs ys ≡ true → xs ≡ ys
+bytes_eq-is xs ys e = grind (arith, e, bytes_eq-Decides xs ys)
 
 no_rule : (database : DatabaseValue) (bytes : List ℕ) → IsFileText database bytes → broken_rule bytes ≡ None
 no_rule database bytes text = ap (option_and_then bad_file) (file-written database bytes text).none
@@ -55,7 +55,7 @@ own_when role name read None found database e = cases (is_own_file role name rea
         let roles : role ≡ found = cc in
         let same : read ≡ database = cc in
         let named = (both_true (not (holds_resources read.head.attributes)) (bytes_eq name (role_file role read.head.name)) is).1 in
-        bytes_is name (role_file role read.head.name) named ∙ (ap (λ (r : Role). role_file r read.head.name) roles ∙ ap (λ (d : DatabaseValue). role_file found d.head.name) same)
+        bytes_eq-is name (role_file role read.head.name) named ∙ (ap (λ (r : Role). role_file r read.head.name) roles ∙ ap (λ (d : DatabaseValue). role_file found d.head.name) same)
 
 other_no_database : (name bytes : List ℕ) (found : Role) (database : DatabaseValue) → other_in name bytes ≡ Ok (files.Database found database) → ⊥
 other_no_database name bytes found database e = by_name (bytes_eq name desktop_info_file) (bytes_eq name journal_file) (desktop_in bytes) (bad_of (Some bytes)) e
@@ -90,7 +90,7 @@ unfolding file_in
 marks_in_info name bytes marks e = by_kind (role_of name) e
   where
     by_name : (info journal : Bool) (read : Result Marks BadLine) (bad : Option BadJournal) → bytes_eq name desktop_info_file ≡ info → cond info (if_marks read) (cond journal (if_journal bad) (Ok files.Other)) ≡ Ok (files.Marks marks) → name ≡ desktop_info_file
-    by_name true journal read bad is h = bytes_is name desktop_info_file is
+    by_name true journal read bad is h = bytes_eq-is name desktop_info_file is
     by_name false true read None is h = absurd (cc h)
     by_name false true read (Some line) is h = absurd (cc h)
     by_name false false read bad is h = absurd (cc h)

@@ -5,7 +5,6 @@ use Rattle.pdb_values.specs.Databases.{DatabaseValue}
 use Rattle.pdb_values.specs.declared.user.Marks.{Marks}
 use Rattle.pdb_values.specs.Heads.{holds_resources}
 use Rattle.pdb_files.specs.Files.{IsFileText, canonical}
-use Rattle.palm_device.specs.Soundness.{NamesRise}
 use Rattle.folder_files.specs.InfoFiles.{desktop_text}
 use Rattle.folder_files.specs.FileNames.{desktop_info_file}
 use Rattle.desk_journal.specs.Entries.{EntryValue}
@@ -15,6 +14,7 @@ use Rattle.desk_store.specs.declared.role.Role.TheVariants.{Rows, Base, Archive}
 use Rattle.desk_store.specs.Shelves.{ShelvesValue, with_database}
 use Rattle.desk_store.specs.declared.change.DbChange.{DbChange}
 use Rattle.desk_store.specs.declared.change.DeskChange.{DeskChange}
+use Rattle.pdb_values.specs.NamedDatabases.{NamesRise}
 
 -- a database holds records under this name
 pub record IsOf (name : List ℕ) (database : DatabaseValue) : Type 0 where

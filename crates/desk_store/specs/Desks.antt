@@ -5,7 +5,6 @@ use Rattle.std.specs.declared.alloc.Global.{Global}
 use Rattle.hs_folders.specs.FileMaps.{FileMap}
 use Rattle.pdb_values.specs.Databases.{DatabaseValue}
 use Rattle.pdb_values.specs.declared.user.Marks.{Marks}
-use Rattle.palm_device.specs.Devices.{database_of}
 use Rattle.folder_files.specs.FileNames.{has_ending, rows_file}
 use Rattle.desk_store.specs.declared.role.Role.{Role}
 use Rattle.desk_journal.specs.Overlays.{HasNoJournal}
@@ -13,6 +12,7 @@ use Rattle.desk_store.specs.Finds.{first_bad, rows_count}
 use Rattle.desk_store.specs.Shelves.{AreOrdered, ShelvesValue, bad_at, database_at, first_marks, marks_in, shelf_of}
 use Rattle.desk_store.specs.declared.fault.DeskOpenFault.{DeskOpenFault}
 use Rattle.desk_store.specs.declared.fault.DeskOpenFault.TheVariants.{DeskFault, TooMany, BadFile, NoMemory}
+use Rattle.pdb_values.specs.NamedDatabases.{database_of}
 
 -- these are all databases and the marks of a folder, which has no journal and no bad file
 pub record IsDeskOf (held : FileMap) (marks : Marks) (shelf : Role → List DatabaseValue) : Type 0 where

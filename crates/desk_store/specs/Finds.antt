@@ -4,7 +4,6 @@ use Rattle.std.specs.List.{list_any}
 use Rattle.std.specs.Option.{option_map, option_or}
 use Rattle.std.specs.declared.alloc.Global.{Global}
 use Rattle.hs_folders.specs.FileMaps.{FileMap}
-use Rattle.palm_device.specs.Devices.{database_of}
 use Rattle.folder_files.specs.FileNames.{desktop_info_file, has_ending}
 use Rattle.desk_store.specs.DeskFiles.{role_file}
 use Rattle.desk_store.specs.declared.file_fault.BadDeskFile.{BadDeskFile}
@@ -15,6 +14,7 @@ use Rattle.desk_store.specs.Shelves.{bad_at, database_at, marks_in, shelf_of, wi
 use Rattle.desk_store.specs.declared.fault.DeskOpenFault.{DeskOpenFault}
 use Rattle.desk_store.specs.declared.fault.DeskOpenFault.TheVariants.{DeskFault, TooMany, BadFile, NoMemory}
 use Rattle.desk_store.specs.declared.found.Found.{Found}
+use Rattle.pdb_values.specs.NamedDatabases.{database_of}
 
 -- with what a file holds
 abbrev pub with_file : DeskFile → Found → Found

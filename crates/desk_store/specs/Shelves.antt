@@ -1,12 +1,10 @@
 -- What a desktop's folder holds: the database in each file, and the marks; and the databases of a desktop in byte order of their names.
-use Rattle.std.specs.Prelude.{ℕ, List, [], Option, None, Some, option_and_then, slice_set, Result, Ok, Err}
+use Rattle.std.specs.Prelude.{ℕ, List, [], Option, None, Some, option_and_then, Result, Ok, Err}
 use Rattle.std.specs.FinMap as finmap
 use Rattle.std.specs.Option.{option_map}
 use Rattle.hs_folders.specs.FileMaps.{FileMap}
 use Rattle.pdb_values.specs.Databases.{DatabaseValue}
 use Rattle.pdb_values.specs.declared.user.Marks.{Marks}
-use Rattle.palm_device.specs.Devices.{place_of, with_new}
-use Rattle.palm_device.specs.Soundness.{NamesRise}
 use Rattle.folder_files.specs.FileNames.{desktop_info_file}
 use Rattle.desk_store.specs.DeskFiles.{file_in, role_file}
 use Rattle.desk_store.specs.declared.file_fault.BadDeskFile.{BadDeskFile}
@@ -14,6 +12,7 @@ use Rattle.desk_store.specs.declared.file.DeskFile.{DeskFile}
 use Rattle.desk_store.specs.declared.file.DeskFile.TheVariants as files
 use Rattle.desk_store.specs.declared.role.Role.{Role}
 use Rattle.desk_store.specs.declared.role.Role.TheVariants.{Rows, Base, Archive}
+use Rattle.pdb_values.specs.NamedDatabases.{NamesRise, with_put}
 
 -- ---- files
 
@@ -76,16 +75,7 @@ pub record AreOrdered (shelves : ShelvesValue) : Type 0 where
   pub bases : NamesRise shelves.bases
   pub archives : NamesRise shelves.archives
 
--- the database at this place becomes another, or a new one goes to its place in the order of names
-abbrev pub put_at : Option ℕ → DatabaseValue → List DatabaseValue → List DatabaseValue
-put_at (Some place) database databases = slice_set databases place database
-put_at None database databases = with_new database databases
-
--- a database takes the place of the one of its name, or else its own
-abbrev pub with_put : DatabaseValue → List DatabaseValue → List DatabaseValue
-with_put database databases = put_at (place_of database.head.name databases) database databases
-
--- the same among those of its role
+-- a database takes the place of the one of its name, or else its own, among those of its role
 abbrev pub with_database : Role → DatabaseValue → ShelvesValue → ShelvesValue
 with_database Rows database shelves = record shelves { rows = with_put database shelves.rows }
 with_database Base database shelves = record shelves { bases = with_put database shelves.bases }

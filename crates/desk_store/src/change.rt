@@ -8,7 +8,7 @@ use pdb_values::{Database, Marks};
 use std::alloc::AllocError;
 
 /// What a desktop is to hold from now on.
-#[derive(Debug, Drop)]
+#[derive(Drop)]
 pub struct DeskChange {
     /// The marks. Their number isn't 0.
     pub marks: Marks,
@@ -17,7 +17,7 @@ pub struct DeskChange {
 }
 
 /// A database that changes. The two or three of them hold records and bear one name.
-#[derive(Debug, Drop)]
+#[derive(Drop)]
 pub struct DbChange {
     /// The rows.
     pub rows: Database,

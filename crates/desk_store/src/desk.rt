@@ -5,8 +5,6 @@ ghost use Rattle.std.specs.Option.{option_copied, option_map, option_or};
 ghost use Rattle.folder_files.specs.FileNames.{has_ending};
 ghost use Rattle.hs_folders.specs.Causes.{HasCause};
 ghost use Rattle.hs_folders.specs.Moments.{EachMomentSince};
-ghost use Rattle.palm_device.specs.Devices.{database_of};
-ghost use Rattle.palm_device.specs.Soundness.{NamesRise};
 ghost use Rattle.desk_store.specs.declared.role.Role.{Role};
 ghost use Rattle.desk_journal.specs.Overlays.{HasNoJournal, StandsAs, finished, put_all};
 ghost use Rattle.desk_store.specs.Changes.{IsDeskChange, change_entries, changed};
@@ -14,6 +12,7 @@ ghost use Rattle.desk_store.specs.Desks.{AreRowsOf, IsDesk, IsJudged, IsReadable
 ghost use Rattle.desk_store.specs.Finds.{FindsAll, rows_count};
 ghost use Rattle.desk_store.specs.Shelves.{AreOrdered, first_marks, shelf_of};
 ghost use Rattle.desk_store.specs.Views.{folder_in, shelves_of};
+ghost use Rattle.pdb_values.specs.NamedDatabases.{NamesRise, database_of};
 
 use crate::change::DeskChange;
 use crate::commit::write_change;

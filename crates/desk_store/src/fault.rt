@@ -9,7 +9,7 @@ use pdb_files::BadKind;
 use std::alloc::{AllocError, AllocFailed};
 
 /// Why a folder was not opened as a desktop.
-#[derive(Debug, Drop)]
+#[derive(Drop)]
 pub enum DeskOpenFault {
     /// The folder failed.
     DeskFault,
@@ -45,7 +45,7 @@ impl<T: Drop> From<AllocFailed<T>> for DeskOpenFault {
 }
 
 /// Why a change was not carried out, or not to its end.
-#[derive(Clone, Copy, Debug, PartialEq, Eq)]
+#[derive(Clone, Copy)]
 pub enum CommitFault {
     /// The folder failed.
     DeskFault,

@@ -4,7 +4,7 @@ use crate::role::Role;
 use pdb_values::{Database, Marks};
 
 /// What a file of a desktop holds.
-#[derive(Debug, Drop)]
+#[derive(Drop)]
 pub enum DeskFile {
     /// A database of records, and what it is to the desktop.
     Database(Role, Database),

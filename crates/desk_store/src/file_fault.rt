@@ -6,7 +6,7 @@ use pdb_files::BadKind;
 use std::alloc::AllocError;
 
 /// A file breaks a rule of its format, or stands under a name that is not its own.
-#[derive(Clone, Copy, Debug, PartialEq, Eq)]
+#[derive(Clone, Copy)]
 pub struct BadDeskFile {
     /// The first test that fails.
     pub kind: BadKind,
@@ -15,7 +15,7 @@ pub struct BadDeskFile {
 }
 
 /// Why a file of a desktop was not read.
-#[derive(Clone, Copy, Debug, PartialEq, Eq)]
+#[derive(Clone, Copy)]
 pub enum DeskFileFault {
     /// The file is bad.
     Bad(BadDeskFile),

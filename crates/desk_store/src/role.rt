@@ -7,7 +7,7 @@ use pdb_values::DbName;
 use std::alloc::{AllocError, Global};
 
 /// What a database is to a desktop. The ending of its file's name says it.
-#[derive(Clone, Copy, Debug, PartialEq, Eq)]
+#[derive(Clone, Copy)]
 pub enum Role {
     /// The rows, in `STEM.pdb`.
     Rows,

@@ -1,8 +1,8 @@
 // The databases of a desktop by what they are to it, each list in byte order of names.
 ghost use Rattle.std.specs.Prelude.{◌≡◌, [], OnErr, OnOk, bytes_eq};
-ghost use Rattle.palm_device.specs.Devices.{database_of};
-ghost use Rattle.desk_store.specs.Shelves.{AreOrdered, shelf_of, with_database, with_put};
+ghost use Rattle.desk_store.specs.Shelves.{AreOrdered, shelf_of, with_database};
 ghost use Rattle.std.specs.Option.{option_copied};
+ghost use Rattle.pdb_values.specs.NamedDatabases.{database_of, with_put};
 
 use crate::role::Role;
 use palm_device::{insert, place_of};

@@ -4,7 +4,7 @@ ghost use Rattle.std.specs.Prelude.{◌≡◌, ◌-◌, length};
 use crate::bad_line::BadLine;
 
 // How many bytes are left unread, from the first byte of a bad line on.
-#[derive(Clone, Copy, Debug, PartialEq, Eq)]
+#[derive(Clone, Copy)]
 pub(crate) struct Unread(pub(crate) usize);
 
 impl Unread {

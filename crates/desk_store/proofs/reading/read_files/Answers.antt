@@ -1,5 +1,5 @@
 -- Each file that is read adds what it holds, and the first bad one is named.
-use Rattle.std.proofs.Common.{◌≡◌, ◌<◌, ◌∙◌, ℕ, List, length, take, None, arith, refl, rules, sym, ap, subst, Err}
+use Rattle.std.proofs.Common.{◌≡◌, ◌<◌, ◌∙◌, ℕ, List, length, take, None, arith, refl, rules, sym, ap, subst}
 use Rattle.std.specs.Prelude.{map, string_bytes}
 use Rattle.std.proofs.lemmas.List.{length-map}
 use Rattle.hs_folders.proofs.CauseLaws.{cause_on, ok_is_no_fault}
