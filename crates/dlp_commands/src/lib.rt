@@ -36,9 +36,9 @@ pub use laws::{
 };
 pub use link::{Link, LinkFault};
 pub use listing::{is_writable, listed, more_flag, named};
-pub use palm_device::{Edit, given_id};
+pub use palm_device::Edit;
 pub use reading::Reading;
-pub use record::{content_of, next_record};
+pub use record::next_record;
 pub use refusal::Refusal;
 pub use reply::{put_done, put_fault, put_listed, put_refusal, put_reply};
 pub use user::{UserMarks, marked, user_reply};

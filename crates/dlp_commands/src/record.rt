@@ -14,7 +14,7 @@ use crate::holds::Holds;
 use crate::refusal::Refusal;
 use dlp_replies::Reply;
 use palm_device::{next_changed, place_of_id};
-use pdb_values::{Category, Content, Database, Record, RecordId};
+use pdb_values::{Category, Database, Record, RecordId};
 use std::alloc::{AllocError, Global};
 
 // A bit where a test holds.
@@ -129,23 +129,6 @@ pub(crate) fn may_write(
         return Err(Refusal::Limit);
     }
     Ok((asked, sorted))
-}
-
-/// A content of bytes that are short enough.
-pub fn content_of(
-    alloc: Global,
-    category: Category,
-    secret: bool,
-    bytes: &[u8],
-) -> Result<Content, AllocError>
-    requires { length bytes.now ≤ 65500 }
-    ensures { IfOk result (λ content. content
-        ≡ record { category = category; secret = secret; bytes = bytes.now }) }
-{
-    match Content::new(category, secret, Vec::from_slice(alloc, bytes)?) {
-        Ok(content) => Ok(content),
-        Err(_) => Err(AllocError),
-    }
 }
 
 // The ids of records from an index on, at most so many.

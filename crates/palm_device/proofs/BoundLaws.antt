@@ -1,12 +1,12 @@
 -- Databases within their bounds stay so where their records, resources or blocks become others.
-use Rattle.std.proofs.Common.{◌≡◌, ◌<◌, ◌≤◌, ◌+◌, ◌^◌, ◌++◌, length-append, ℕ, zero, suc, Bool, true, false, cond, List, [], ◌∷◌, map, drop, take, length, refl, ap, subst, sym, ◌∙◌, arith, Option, Some, None, slice_get, slice_set, lit≤}
+use Rattle.std.proofs.Common.{◌≡◌, ◌<◌, ◌≤◌, ◌+◌, ◌^◌, length-append, ℕ, zero, suc, Bool, true, false, cond, List, [], ◌∷◌, map, drop, take, length, refl, ap, subst, ◌∙◌, arith, Option, Some, None, slice_get, slice_set, lit≤}
 use Rattle.std.specs.Prelude.{All, filter, position}
 use Rattle.std.specs.List.{AllByRecursion}
 use Rattle.std.proofs.lemmas.Bool.{both_ways}
 use Rattle.std.proofs.lemmas.List.{length-set}
 use Rattle.pdb_values.specs.Blocks.{block_length}
 use Rattle.pdb_values.specs.Contents.{ContentValue}
-use Rattle.pdb_values.specs.Databases.{DatabaseValue, IsDatabase, IsShortResource}
+use Rattle.pdb_values.specs.Databases.{DatabaseValue, IsShortResource}
 use Rattle.pdb_values.specs.Heads.{holds_resources}
 use Rattle.pdb_values.specs.Resources.{with_bytes}
 use Rattle.pdb_values.specs.declared.head.DbHead.{DbHead}
@@ -15,8 +15,8 @@ use Rattle.pdb_values.specs.declared.resource.Resource.{Resource}
 use Rattle.palm_device.specs.Blocks.{block_or_none, empty_database, with_app, with_sort}
 use Rattle.palm_device.specs.Bounds.{IsBoundedDatabase, IsBoundedHead, IsBoundedRecord, IsBoundedResource}
 use Rattle.palm_device.specs.Entries.{put_entry, without_entry}
-use Rattle.palm_device.specs.Records.{clean, has_id, is_in, is_new, move_category, moved, new_record, place_of_id, put_record, reset_flags, rewritten, with_records, without_record}
-use Rattle.palm_device.specs.Resources.{has_room, is_resource, new_resource, place_of_resource, put_resource, with_resources, without_resource}
+use Rattle.palm_device.specs.Records.{clean, has_id, is_in, moved, new_record, place_of_id, put_record, rewritten, with_records}
+use Rattle.palm_device.specs.Resources.{is_resource, new_resource, place_of_resource, put_resource, with_resources}
 use Rattle.palm_device.proofs.EntryLaws.{position_within, put_entry_at, put_entry_new}
 
 -- ---- lists

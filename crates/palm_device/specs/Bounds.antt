@@ -1,6 +1,6 @@
 -- What the values of a device keep as their types do: widths of numbers, names, categories, ids and lengths (Palm File Format
 -- Specification).
-use Rattle.std.specs.Prelude.{◌≡◌, ◌<◌, ◌≤◌, ◌^◌, ◌==◌, ℕ, false, length, IfSome}
+use Rattle.std.specs.Prelude.{◌≡◌, ◌<◌, ◌≤◌, ◌^◌, ◌==◌, false, length, IfSome}
 use Rattle.std.specs.List.{AllByRecursion, list_any}
 use Rattle.pdb_values.specs.Databases.{DatabaseValue, IsDatabase}
 use Rattle.pdb_values.specs.Names.{IsName}
