@@ -63,7 +63,7 @@ frame_text (Refusal number code) = reply_byte number ∷ 0 ∷ to_be_bytes w16 c
 frame_text (Alone number) = (number + 0x80) ∷ 0 ∷ 0 ∷ 0 ∷ []
 frame_text (With number kinds fields) = (number + 0x80) ∷ 1 ∷ 0 ∷ 0 ∷ arg_text (record { id = 0x20; bytes = fields_text kinds fields })
 
--- the byte of the function that is answer_of
+-- the byte of the function that is answered
 abbrev pub function_byte : Frame → ℕ
 function_byte (Refusal number code) = number
 function_byte (Alone number) = number
