@@ -6,7 +6,7 @@ use Rattle.std.specs.Option.{option_or}
 use Rattle.pdb_values.specs.Databases.{DatabaseValue}
 use Rattle.pdb_values.specs.Heads.{holds_resources}
 use Rattle.pdb_files.specs.Files.{IsFileText, canonical}
-use Rattle.palm_device.proofs.EntryLaws.{and_true}
+use Rattle.std.proofs.lemmas.Bool.{and_parts}
 use Rattle.desk_store.specs.declared.role.Role.{Role}
 use Rattle.desk_store.specs.declared.role.Role.TheVariants.{Rows, Base, Archive}
 use Rattle.desk_store.specs.Changes.{IsDbChange, IsDbWritten, IsOf, changed, changed_to, with_archive, with_change, with_changes}
@@ -38,7 +38,7 @@ rows_of changes = map (λ change. change.rows) changes
 pub changed_none : (role : Role) (name : List ℕ) (changes : List DbChange) → list_all (λ later. comes_before name later.head.name) (rows_of changes) ≡ true → changed role name changes ≡ None
 changed_none role name [] behind = refl
 changed_none role name (change ∷ changes) behind =
-    let both = and_true (comes_before name change.rows.head.name) (list_all (λ later. comes_before name later.head.name) (rows_of changes)) behind in
+    let both = and_parts (comes_before name change.rows.head.name) (list_all (λ later. comes_before name later.head.name) (rows_of changes)) behind in
     rw (comes_before-differs_from name change.rows.head.name both.0) (changed_none role name changes both.1)
 
 -- ---- look-ups

@@ -15,7 +15,7 @@ use Rattle.hs_folders.specs.FileMaps.{FileMap}
 use Rattle.pdb_values.specs.Databases.{DatabaseValue}
 use Rattle.pdb_values.specs.Stems.{stem_of}
 use Rattle.pdb_values.specs.declared.user.Marks.{Marks}
-use Rattle.palm_device.proofs.EntryLaws.{and_true}
+use Rattle.std.proofs.lemmas.Bool.{and_parts}
 use Rattle.folder_files.specs.FileNames.{has_ending, rows_file}
 use Rattle.desk_store.specs.declared.role.Role.TheVariants.{Rows}
 use Rattle.desk_store.proofs.OwnLaws.{same_file}
@@ -54,7 +54,7 @@ names_of files = map (λ file. file.0) files
 differ_below : (test : List ℕ → Bool) (name : List ℕ) (files : Files) → below_all (slice_cmp nat_cmp) name files ≡ true → AllByRecursion (λ other. same_name name other ≡ false) (filter test (names_of files))
 differ_below test name [] below = tt
 differ_below test name (file ∷ files) below =
-    let both = and_true (is_lt (slice_cmp nat_cmp name file.0)) (below_all (slice_cmp nat_cmp) name files) below in
+    let both = and_parts (is_lt (slice_cmp nat_cmp name file.0)) (below_all (slice_cmp nat_cmp) name files) below in
     let later = differ_below test name files both.1 in
     elim (test file.0) as (λ b. AllByRecursion (λ other. same_name name other ≡ false) (cond b (file.0 ∷ filter test (names_of files)) (filter test (names_of files)))) [ true ↦ (less_differs _ both.0, later) | false ↦ later ]
 
@@ -62,7 +62,7 @@ distinct_files : (test : List ℕ → Bool) (files : Files) → is_sorted (slice
 unfolding IsDistinct
 distinct_files test [] sorted = tt
 distinct_files test (file ∷ files) sorted =
-    let both = and_true (below_all (slice_cmp nat_cmp) file.0 files) (is_sorted (slice_cmp nat_cmp) files) sorted in
+    let both = and_parts (below_all (slice_cmp nat_cmp) file.0 files) (is_sorted (slice_cmp nat_cmp) files) sorted in
     let later = distinct_files test files both.1 in
     elim (test file.0) as (λ b. IsDistinct same_name (cond b (file.0 ∷ filter test (names_of files)) (filter test (names_of files)))) [ true ↦ (differ_below test file.0 files both.0, later) | false ↦ later ]
 
@@ -72,7 +72,7 @@ files_of rows = map (λ database. rows_file database.head.name) rows
 differ_behind : (name : List ℕ) (rows : List DatabaseValue) → list_all (λ later. comes_before name later.head.name) rows ≡ true → AllByRecursion (λ other. same_name (rows_file name) other ≡ false) (files_of rows)
 differ_behind name [] behind = tt
 differ_behind name (database ∷ rows) behind =
-    let both = and_true (comes_before name database.head.name) (list_all (λ later. comes_before name later.head.name) rows) behind in
+    let both = and_parts (comes_before name database.head.name) (list_all (λ later. comes_before name later.head.name) rows) behind in
     let apart : (rows_file name ≡ rows_file database.head.name → ⊥) = λ e. (let same : name ≡ database.head.name = (same_file Rows Rows name database.head.name e).1 in let yes : bytes_eq database.head.name name ≡ true = ap (bytes_eq database.head.name) same ∙ bytes_eq-own database.head.name in cc (sym (comes_before-differs_from name database.head.name both.0) ∙ yes)) in
     (same_name-other _ _ apart, differ_behind name rows both.1)
 
@@ -139,7 +139,7 @@ same_members held rows are q =
     let file : IsSome (finmap.get held q) = subst (λ (n : List ℕ). IsSome (finmap.get held n)) (sym found.1) (are.each found.0 found.2) in
     any_filter (has_ending (codes ".pdb")) q (finmap.keys held) ∙ rw (ending, sym (finmap.contains_key-keys held q) ∙ file) refl
     )) (λ there. (
-    let both = and_true (has_ending (codes ".pdb") q) (list_any (same_name q) (finmap.keys held)) (sym (any_filter (has_ending (codes ".pdb")) q (finmap.keys held)) ∙ there) in
+    let both = and_parts (has_ending (codes ".pdb") q) (list_any (same_name q) (finmap.keys held)) (sym (any_filter (has_ending (codes ".pdb")) q (finmap.keys held)) ∙ there) in
     let found = are.all q both.0 (finmap.contains_key-keys held q ∙ both.1) in
     subst (λ (n : List ℕ). list_any (same_name n) (files_of rows) ≡ true) (sym found.1) (into_rows found.0 rows found.2)
     ))

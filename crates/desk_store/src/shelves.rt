@@ -1,12 +1,11 @@
 // The databases of a desktop by what they are to it, each list in byte order of names.
-ghost use Rattle.std.specs.Prelude.{◌≡◌, [], OnErr, OnOk, bytes_eq};
+ghost use Rattle.std.specs.Prelude.{◌≡◌, [], OnOk};
 ghost use Rattle.desk_store.specs.Shelves.{AreOrdered, shelf_of, with_database};
 ghost use Rattle.std.specs.Option.{option_copied};
-ghost use Rattle.pdb_values.specs.NamedDatabases.{database_of, with_put};
+ghost use Rattle.pdb_values.specs.NamedDatabases.{database_of};
 
 use crate::role::Role;
-use palm_device::{insert, place_of};
-use pdb_values::{Database, DbName};
+use pdb_values::{Database, DbName, database_of as find_database, put_database};
 use std::alloc::{AllocError, Global};
 use std::marker::Model;
 
@@ -55,37 +54,9 @@ impl Shelves {
         ensures { option_copied result ≡ database_of name.now (shelf_of self.now role) }
     {
         match role {
-            Role::Rows => find_database(&self.rows, name),
-            Role::Base => find_database(&self.bases, name),
-            Role::Archive => find_database(&self.archives, name),
+            Role::Rows => find_database(&self.rows, name.as_bytes()),
+            Role::Base => find_database(&self.bases, name.as_bytes()),
+            Role::Archive => find_database(&self.archives, name.as_bytes()),
         }
     }
-}
-
-// Puts a database in place of the one of its name, or at its own place in the order of names.
-fn put_database(databases: &mut Vec<Database>, database: Database) -> Result<(), AllocError>
-    ensures put { OnOk result (databases.new.items ≡ with_put database databases.old.items) }
-    ensures stays { OnErr result (databases.new.items ≡ databases.old.items) }
-{
-    match place_of(databases, database.head().name.as_bytes()) {
-        Some(place) => {
-            databases[place] = database;
-            Ok(())
-        }
-        None => insert(databases, database),
-    }
-}
-
-// The database of this name.
-fn find_database<'d>(databases: &'d [Database], name: &DbName) -> Option<&'d Database>
-    ensures { option_copied result ≡ database_of name.now databases.entry.now }
-{
-    databases.iter().find(|database| bears(database, name))
-}
-
-// Whether a database bears this name.
-fn bears(database: &Database, name: &DbName) -> bool
-    ensures { result ≡ bytes_eq database.now.head.name name.now }
-{
-    database.head().name.as_bytes() == name.as_bytes()
 }

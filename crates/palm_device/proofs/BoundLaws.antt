@@ -17,7 +17,8 @@ use Rattle.palm_device.specs.Bounds.{IsBoundedDatabase, IsBoundedHead, IsBounded
 use Rattle.palm_device.specs.Entries.{put_entry, without_entry}
 use Rattle.palm_device.specs.Records.{clean, has_id, is_in, moved, new_record, place_of_id, put_record, rewritten, with_records}
 use Rattle.palm_device.specs.Resources.{is_resource, new_resource, place_of_resource, put_resource, with_resources}
-use Rattle.palm_device.proofs.EntryLaws.{position_within, put_entry_at, put_entry_new}
+use Rattle.palm_device.proofs.EntryLaws.{put_entry_at, put_entry_new}
+use Rattle.pdb_values.proofs.PlaceLaws.{position_within}
 
 -- ---- lists
 

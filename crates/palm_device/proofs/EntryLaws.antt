@@ -1,9 +1,10 @@
 -- The first entry that passes a test, by its place.
 use Rattle.std.proofs.Common.{◌≡◌, ℕ, zero, suc, ◌+◌, ◌<◌, ◌≤◌, Bool, true, false, cond, List, [], ◌∷◌, ◌++◌, map, take, drop, length, refl, ap, ◌∙◌, arith, add-one, Some, None, slice_get, slice_set}
-use Rattle.std.specs.Prelude.{position, remove, filter, ◌&&◌}
+use Rattle.std.specs.Prelude.{position, remove, filter}
 use Rattle.std.specs.List.{position_or_len, list_all}
 use Rattle.std.specs.Option.{option_map}
-pub use Rattle.pdb_values.proofs.PlaceLaws.{first_here, first_later, past_later, place_found, place_past, position_found, position_none, position_within}
+use Rattle.std.proofs.lemmas.Bool.{and_parts}
+use Rattle.pdb_values.proofs.PlaceLaws.{first_here, first_later, past_later, position_found, position_none}
 use Rattle.palm_device.specs.Entries.{put_entry, without_entry, set_some, change_at}
 
 -- ---- a changed entry, and a new one
@@ -64,10 +65,6 @@ without_past test (y ∷ ys) past =
 pub without_entry_none : {X : Type 0} (test : X → Bool) (xs : List X) → position test xs ≡ None → without_entry test xs ≡ xs
 without_entry_none test xs none = without_past test xs (position_none test xs none)
 
-pub and_true : (a b : Bool) → (a && b) ≡ true → (a ≡ true) × (b ≡ true)
-and_true true b both = (refl, both)
-and_true false b both = absurd cc
-
 -- ---- a list whose entries are changed or left out one after the other
 
 change_later : {X : Type 0} (change : X → X) (y : X) (ys : List X) (k : ℕ) → change_at change (suc k) (y ∷ ys) ≡ y ∷ change_at change k ys
@@ -105,7 +102,7 @@ filter_out keep (y ∷ ys) (suc k) x here lost =
 pub filter_all : {X : Type 0} (keep : X → Bool) (xs : List X) → list_all keep xs ≡ true → filter keep xs ≡ xs
 filter_all keep [] all = refl
 filter_all keep (y ∷ ys) all =
-    let both = and_true (keep y) (list_all keep ys) all in
+    let both = and_parts (keep y) (list_all keep ys) all in
     rw both.0 (ap (λ zs. y ∷ zs) (filter_all keep ys both.1))
 
 -- what stands before a place stays when that place's entry is taken out

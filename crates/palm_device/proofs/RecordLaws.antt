@@ -6,7 +6,8 @@ use Rattle.pdb_values.specs.Contents.{ContentValue}
 use Rattle.pdb_values.specs.declared.record.Record.{Record}
 use Rattle.palm_device.specs.Entries.{change_at, set_some}
 use Rattle.palm_device.specs.Records.{has_id, place_of_id, rewritten, new_record, put_record, without_record}
-use Rattle.palm_device.proofs.EntryLaws.{position_within, put_entry_at, put_entry_new, without_entry_at, without_entry_none}
+use Rattle.pdb_values.proofs.PlaceLaws.{position_within}
+use Rattle.palm_device.proofs.EntryLaws.{put_entry_at, put_entry_new, without_entry_at, without_entry_none}
 
 -- in its place
 pub put_record_at : (id : ℕ) (content : ContentValue) (records : List Record) (place : ℕ) (item : Record) → place_of_id id records ≡ Some place

@@ -5,7 +5,8 @@ use Rattle.std.specs.Option.{option_map}
 use Rattle.pdb_values.specs.Resources as values
 use Rattle.pdb_values.specs.declared.resource.Resource.{Resource}
 use Rattle.palm_device.specs.Resources.{is_resource, place_of_resource, new_resource, put_resource, without_resource}
-use Rattle.palm_device.proofs.EntryLaws.{put_entry_at, put_entry_new, without_entry_at, without_entry_none, position_within}
+use Rattle.palm_device.proofs.EntryLaws.{put_entry_at, put_entry_new, without_entry_at, without_entry_none}
+use Rattle.pdb_values.proofs.PlaceLaws.{position_within}
 
 changed : (kind : List ℕ) (id : ℕ) (bytes : List ℕ) (resources : List Resource) (place : ℕ) (o : Option Resource)
     → place_of_resource kind id resources ≡ Some place → slice_get resources place ≡ o → (o ≡ None → ⊥)

@@ -3,7 +3,6 @@ use Rattle.std.specs.Prelude.{List, Option}
 pub use Rattle.pdb_values.specs.Bounds.{most_databases}
 use Rattle.pdb_values.specs.Databases.{DatabaseValue}
 use Rattle.pdb_values.specs.NamedDatabases.{replaced}
-pub use Rattle.pdb_values.specs.NamedDatabases.{comes_before, database_of, is_named, place_for, place_of, with_new}
 use Rattle.pdb_values.specs.declared.user.UserInfo.{UserInfo}
 use Rattle.palm_device.specs.declared.opened.Opened.{Opened}
 

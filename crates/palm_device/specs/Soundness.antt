@@ -2,7 +2,7 @@
 use Rattle.std.specs.Prelude.{◌≡◌, ◌<◌, ◌≤◌, ℕ, false, List, [], ◌∷◌, length, map}
 use Rattle.std.specs.List.{AllByRecursion}
 use Rattle.pdb_values.specs.declared.record.Record.{Record}
-pub use Rattle.pdb_values.specs.NamedDatabases.{NamesRise}
+use Rattle.pdb_values.specs.NamedDatabases.{NamesRise}
 use Rattle.palm_device.specs.Devices.{Device, most_databases}
 use Rattle.palm_device.specs.FreshIds.{is_among}
 

@@ -21,7 +21,6 @@ pub use handles::Handles;
 pub use head::{has_bit, new_head};
 pub use kept::Kept;
 pub use opened::Opened;
-pub use pdb_values::{insert_database as insert, place_of};
 pub use record::{
     clear_records, given_id, keep_records, move_category, next_changed, place_of_id, purge_record,
     put_record, reset_flags, set_record,
