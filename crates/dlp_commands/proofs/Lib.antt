@@ -7,5 +7,6 @@ pub mod NumberLaws
 pub mod ReachedLaws
 pub mod ReplyLaws
 pub mod StepLaws
+pub mod TableLaws
 pub mod TriedLaws
 pub mod WriteLaws

@@ -25,9 +25,10 @@ use Rattle.dlp_commands.specs.Errors.{fault_code}
 use Rattle.dlp_commands.specs.Reached.{Tried}
 use Rattle.dlp_commands.specs.Talks.{Talk, WasAnswered, given}
 use Rattle.dlp_commands.specs.Targets.{is_name, target_of}
-use Rattle.dlp_commands.proofs.DoneLaws.{Done, RequestFits, tried_done}
+use Rattle.dlp_commands.proofs.DoneLaws.{Done, RequestFits}
 use Rattle.dlp_commands.proofs.NumberLaws.{FieldsFit-AreFields, first_byte-request_text, function_number-first_byte}
 use Rattle.dlp_commands.proofs.ReplyLaws.{Replies, refused_reply}
+use Rattle.dlp_commands.proofs.TableLaws.{tried_done}
 use Rattle.dlp_commands.proofs.TriedLaws.{IsCode, Keeps}
 
 -- ---- runs
