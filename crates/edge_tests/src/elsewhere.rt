@@ -49,6 +49,7 @@ fn names_that_lead_elsewhere_are_refused(rt: HostRuntime) -> Result<(), Fail> {
         );
     }
     assert!(rt; folder.replace("...", b"plain").is_ok());
+    fs::remove_dir_all(&rt, "names")?;
     Ok(())
 }
 
@@ -73,5 +74,6 @@ fn a_planted_link_is_not_written_through(rt: HostRuntime) -> Result<(), Fail> {
     );
     assert!(rt; fs::symlink_metadata(&rt, "planted/desk/note")?.is_file());
     assert!(rt; !fs::exists(&rt, "planted/desk/hotsync.tmp")?);
+    fs::remove_dir_all(&rt, "planted")?;
     Ok(())
 }

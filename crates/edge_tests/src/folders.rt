@@ -21,6 +21,7 @@ fn a_folder_holds_its_files(rt: HostRuntime) -> Result<(), Fail> {
         fs::read(&rt, "holds/desk/MemoDB.pdb")?.as_slice(),
         b"new".as_slice()
     );
+    fs::remove_dir_all(&rt, "holds")?;
     Ok(())
 }
 
@@ -49,6 +50,7 @@ fn a_folder_is_listed_without_the_temporary_file(rt: HostRuntime) -> Result<(), 
         names.join(alloc, " / ")?.as_str(),
         "A b / A! / MemoDB.pdb / folder"
     );
+    fs::remove_dir_all(&rt, "lists")?;
     Ok(())
 }
 
@@ -64,6 +66,7 @@ fn a_removed_file_is_missing(rt: HostRuntime) -> Result<(), Fail> {
     assert!(rt; matches!(folder.remove("desktop.inf"), Err(FolderFault::Missing)));
     assert!(rt; matches!(folder.read(alloc, "desktop.inf"), Err(FolderFault::Missing)));
     assert!(rt; !fs::exists(&rt, "removes/desk/desktop.inf")?);
+    fs::remove_dir_all(&rt, "removes")?;
     Ok(())
 }
 
@@ -81,5 +84,6 @@ fn a_folder_behind_a_link_is_a_folder(rt: HostRuntime) -> Result<(), Fail> {
         fs::read(&rt, "links/desk/note")?.as_slice(),
         b"one".as_slice()
     );
+    fs::remove_dir_all(&rt, "links")?;
     Ok(())
 }

@@ -1,7 +1,7 @@
 //! What no clause says of `hs_folders`' objects of the system: that their calls succeed where the system does, what they
 //! leave there, and that each refusal of the system is told.
 //!
-//! Each test works in a folder of its own name, below the one that it runs in.
+//! Each test works in a folder of its own name, below the one that it runs in, and takes it away.
 #![tactic(auto)]
 
 #[cfg(test)]

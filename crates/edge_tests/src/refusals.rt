@@ -22,6 +22,7 @@ fn a_file_that_cannot_take_its_name_changes_nothing(rt: HostRuntime) -> Result<(
     assert!(rt; fs::exists(&rt, "taken/desk/hotsync.tmp")?);
     assert_eq!(rt; folder.list(alloc).map_or(0, |names| names.len()), 1);
     assert!(rt; folder.replace("file", b"file").is_ok());
+    fs::remove_dir_all(&rt, "taken")?;
     Ok(())
 }
 
@@ -35,6 +36,7 @@ fn a_temporary_file_that_stays_is_a_fault(rt: HostRuntime) -> Result<(), Fail> {
     assert!(rt; folder.open("stays/desk").is_ok());
     assert!(rt; matches!(folder.replace("note", b"new"), Err(FolderFault::Failed)));
     assert!(rt; !fs::exists(&rt, "stays/desk/note")?);
+    fs::remove_dir_all(&rt, "stays")?;
     Ok(())
 }
 
@@ -51,6 +53,7 @@ fn a_refused_removal_and_a_refused_read_are_faults(rt: HostRuntime) -> Result<()
     assert!(rt; matches!(folder.remove("folder"), Err(FolderFault::Failed)));
     assert!(rt; matches!(folder.read(alloc, "folder"), Err(FolderFault::Failed)));
     assert!(rt; matches!(folder.read(alloc, "loop"), Err(FolderFault::Failed)));
+    fs::remove_dir_all(&rt, "refuses")?;
     Ok(())
 }
 
@@ -67,6 +70,7 @@ fn a_folder_that_is_gone_is_a_fault(rt: HostRuntime) -> Result<(), Fail> {
     assert!(rt; matches!(folder.open("gone/desk"), Err(FolderFault::Failed)));
     fs::write(&rt, "gone/desk", "")?;
     assert!(rt; matches!(folder.open("gone/desk"), Err(FolderFault::Failed)));
+    fs::remove_dir_all(&rt, "gone")?;
     Ok(())
 }
 
@@ -87,6 +91,7 @@ fn a_pipe_is_refused_and_not_waited_for(rt: HostRuntime) -> Result<(), Fail> {
     let mut folder = DirFolder::new(&rt, alloc);
     assert!(rt; folder.open("pipes/desk").is_ok());
     assert!(rt; matches!(folder.read(alloc, "MemoDB.pdb"), Err(FolderFault::Failed)));
+    fs::remove_dir_all(&rt, "pipes")?;
     Ok(())
 }
 

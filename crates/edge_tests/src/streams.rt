@@ -1,5 +1,6 @@
 // Files and standard output, as streams of bytes.
 use hs_folders::{FileSink, FileSource, Sink, SinkFault, Source, SourceFault, StdoutSink};
+use std::fs;
 use std::test::Fail;
 
 #[test]
@@ -28,5 +29,6 @@ fn a_file_is_written_and_read(rt: HostRuntime) -> Result<(), Fail> {
     assert_eq!(rt; &room[..8], b"1 D ok +".as_slice());
     assert_eq!(rt; source.read(&mut room).ok(), Some(0));
     assert!(rt; matches!(sink.open("no/trace.txt"), Err(SinkFault::Failed)));
+    fs::remove_file(&rt, "trace.txt")?;
     Ok(())
 }
