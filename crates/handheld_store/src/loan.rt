@@ -50,6 +50,7 @@ impl<F: Folder> Store<F> {
             base.store.ghost_name ≡ self.entry.ghost_name) }
         ensures refusal { refusal_of result
             ≡ open_fault writes (database_of name.now self.old.databases) }
+        ensures no_fault { ¬ IsErrOf result StoreFault.KeeperFault }
         ensures store { IfOk result (λ base. base.store.now ≡ self.old) }
         ensures database { IfOk result (λ base.
             database_of name.now self.old.databases ≡ Some (database_in base)) }

@@ -54,6 +54,7 @@ pub fn lend(
     requires { AreKept databases.now }
     ensures refusal { refusal_of result
         ≡ open_fault writes (named.database_of name.now databases.now) }
+    ensures no_fault { ¬ IsErrOf result StoreFault.KeeperFault }
     ensures database { IfOk result (λ database.
         named.database_of name.now databases.now ≡ Some database) }
     ensures settled { IfOk result (λ database. are_settled database.records ≡ true) }

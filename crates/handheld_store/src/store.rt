@@ -114,7 +114,8 @@ impl<F: Folder> Store<F> {
     /// The database of a name.
     pub fn database(&self, name: &DbName) -> Option<&Database>
         requires { self.now.sound ≡ true }
-        ensures { option_copied result ≡ named.database_of name.now self.now.databases }
+        ensures database { option_copied result ≡ named.database_of name.now self.now.databases }
+        ensures kept { AreKept self.now.databases }
     {
         database_of(&self.databases, name.as_bytes())
     }
