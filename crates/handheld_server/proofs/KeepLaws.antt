@@ -1,62 +1,144 @@
--- What a lent database leaves of the store, once it is kept.
-use Rattle.std.proofs.Common.{◌≡◌, ◌∙◌, ℕ, Bool, true, false, List, Option, Some, Result, Ok, refl, ap, sym, subst}
+-- Which files a command touched.
+use Rattle.std.proofs.Common.{◌≡◌, ◌∙◌, ℕ, ◌<◌, ◌≤◌, Bool, true, false, cond, List, [], Option, Some, None, Result, Ok, Err, refl, ap, sym, subst, inl, inr, arith}
+use Rattle.std.specs.Prelude.{IfSome, OnErr, OnOk, IsErrOf}
+use Rattle.std.specs.Option.{option_map}
+use Rattle.std.specs.Str.{bytes_eq}
+use Rattle.hs_folders.proofs.MomentLaws.{no_moment}
+use Rattle.hs_folders.specs.Causes.{HasCause}
 use Rattle.hs_folders.specs.FileMaps.{FileMap}
+use Rattle.hs_folders.specs.Moments.{IsBeforeOrAfter, Moments, OneChange}
 use Rattle.pdb_values.specs.Databases.{DatabaseValue}
 use Rattle.pdb_values.specs.declared.head.DbHead.{DbHead}
-use Rattle.dlp_replies.specs.ReplyValues.{ReplyValue}
-use Rattle.palm_device.specs.Devices.{database_of}
-use Rattle.palm_device.specs.Records.{IsFree}
-use Rattle.handheld_files.proofs.ChangeLaws.{named_so}
+use Rattle.pdb_values.specs.NamedDatabases.{NamesRise, database_of, replaced, with_new, without_named}
+use Rattle.pdb_values.proofs.NamedLaws.{database_of-name, database_of-replaced, database_of-with_new, database_of-without_named, replaced-none}
 use Rattle.handheld_files.specs.Openings.{Stands}
-use Rattle.dlp_commands.specs.Errors.{read_only, ◌>>=◌, check}
-use Rattle.dlp_commands.specs.Writings.{asks_free, edit_given, edited, gives_free, write_reply, written_in}
-use Rattle.dlp_commands.specs.declared.edit.Edit.{Edit}
-use Rattle.dlp_commands.specs.declared.writing.Writing.{Writing}
-use Rattle.handheld_store.specs.Lents.{Becomes, LentValue}
-use Rattle.handheld_store.specs.Loans.{SameLoan, database_in, is_changed, store_with}
-use Rattle.handheld_store.specs.Replaced.{StoodWith, replaced}
+use Rattle.handheld_store.specs.Files.{Follows, FollowsName}
 use Rattle.handheld_store.specs.Stores.{StoreValue}
-use Rattle.handheld_store.specs.declared.open_base.Loan.{Loan}
-use Rattle.handheld_server.proofs.EditLaws.{edited_head}
-use Rattle.handheld_server.specs.Lending.{Wrote, may_write}
+use Rattle.handheld_store.specs.declared.fault.StoreFault.{StoreFault}
+use Rattle.handheld_store.specs.declared.fault.StoreFault.TheVariants.{KeeperFault}
+use Rattle.handheld_server.specs.Keeping.{Keeps, Touches, TouchesOne}
+use Rattle.handheld_server.specs.declared.fault.ServeFault.{ServeFault}
+use Rattle.handheld_server.specs.declared.fault.ServeFault.TheVariants.{Keeper, NoMemory}
 
--- what the folder stood for while the database was lent
-pub keep_stood : {F : Type 0} (contents : F → Option FileMap) (base entry : Loan F LentValue) (old : StoreValue F) (name : List ℕ) (made : DatabaseValue) → SameLoan base entry → store_with base (database_in base) ≡ old → database_of name old.databases ≡ Some (database_in base) → Becomes base.lent entry.lent made → made.head ≡ (database_in base).head → Stands (contents old.folder) old.databases old.user → StoodWith (contents entry.store.now.folder) entry.store.now.databases entry.store.now.user (is_changed entry) (database_in base) (database_in entry)
-keep_stood {F = F} contents base entry old name made same first there becomes head before =
-    let heads : (database_in entry).head ≡ (database_in base).head = ap (λ (d : DatabaseValue). d.head) becomes.database ∙ head in
-    let named : (database_in entry).head.name ≡ name = ap (λ (h : DbHead). h.name) heads ∙ named_so name old.databases (database_in base) there in
-    let lent : Stands (contents base.store.now.folder) (replaced (database_in base) base.store.now.databases) base.store.now.user = subst (λ (s : StoreValue F). Stands (contents s.folder) s.databases s.user) (sym first) before in
-    let all : replaced (database_in base) entry.store.now.databases ≡ old.databases = ap (λ (s : StoreValue F). replaced (database_in base) s.databases) same.store ∙ ap (λ (s : StoreValue F). s.databases) first in
-    record {
-      head = sym heads;
-      there = ap (λ (n : List ℕ). database_of n (replaced (database_in base) entry.store.now.databases)) named ∙ ap (database_of name) all ∙ there;
-      same = λ no_change. sym (becomes.database ∙ (becomes.unchanged no_change).1);
-      stands = subst (λ (s : StoreValue F). Stands (contents s.folder) (replaced (database_in base) s.databases) s.user) (sym same.store) lent;
-    }
+-- ---- nothing changed
 
--- the store afterwards is the one before with the changed database, but for the folder
-pub keep_changes : {F : Type 0} (base entry : Loan F LentValue) (old last : StoreValue F) (name : List ℕ) (made : DatabaseValue) → SameLoan base entry → ((database : DatabaseValue) → database.head.name ≡ name → store_with base database ≡ record old { databases = replaced database old.databases }) → Becomes base.lent entry.lent made → made.head.name ≡ name → last ≡ record (store_with entry (database_in entry)) { folder = last.folder } → last ≡ record old { databases = replaced made old.databases; folder = last.folder }
-keep_changes {F = F} base entry old last name made same others becomes named kept =
-    kept
-    ∙ ap (λ (s : StoreValue F). record s { databases = replaced (database_in entry) s.databases; folder = last.folder }) same.store
-    ∙ ap (λ (d : DatabaseValue). record (store_with base d) { folder = last.folder }) becomes.database
-    ∙ ap (λ (s : StoreValue F). record s { folder = last.folder }) (others made named)
-
-allowed_by : {X : Type 0} (b : Bool) (found : Result X ℕ) → b ≡ true → (check read_only b >>= λ allowed. found) ≡ found
-allowed_by true found is = refl
-allowed_by false found is = absurd cc
-
--- the plan of a writing was carried out
-pub wrote_plan : (mode : ℕ) (asked : Writing) (name : List ℕ) (old : List DatabaseValue) (given : ℕ) (new : List DatabaseValue) (database : DatabaseValue) (plan : Edit) → database_of name old ≡ Some database → may_write mode database ≡ true → ((free : ℕ) → written_in free asked database ≡ Ok (edited free plan database, write_reply (edit_given free plan) asked)) → edit_given given plan ≡ given → gives_free plan ≡ asks_free asked → (gives_free plan ≡ true → IsFree given database.records) → new ≡ replaced (edited given plan database) old → Wrote mode asked name old given new
-wrote_plan mode asked name old given new database plan there allowed plans is_given asks free is = record {
-  database = database;
-  there = there;
-  changed = edited given plan database;
-  written = allowed_by (may_write mode database) (written_in given asked database) allowed ∙ plans given ∙ ap (λ (n : ℕ). result_of (edited given plan database, write_reply n asked)) is_given;
-  free = λ asked_so. free (asks ∙ asked_so);
-  same_name = ap (λ head. head.name) (edited_head given plan database) ∙ named_so name old database there;
-  is = is;
+same_change : {F A E : Type 0} (contents : F → Option FileMap) (moments : F → Moments) (paths : F → Option (List (List ℕ))) (faults : F → ℕ) (folder : F) (answer : Result A E) (Faulted : Type 0) → (Faulted → ⊥) → OneChange contents moments paths faults folder folder answer Faulted
+same_change contents moments paths faults folder answer Faulted not = record {
+  contents_stay = on_err answer refl;
+  moments_stay = on_err answer refl;
+  each_moment = no_moment (IsBeforeOrAfter (contents folder) (contents folder)) (moments folder) (moments folder) refl;
+  same_paths = refl;
+  cause = record { later = omega arith; rose = λ is. absurd (not is); still = λ none. refl };
 }
   where
-    result_of : DatabaseValue × ReplyValue → Result (DatabaseValue × ReplyValue) ℕ
-    result_of pair = Ok pair
+    on_err : {A E P : Type 0} (answer : Result A E) → P → OnErr answer P
+    on_err (Ok x) holds = tt
+    on_err (Err fault) holds = holds
+
+-- there was no memory, and nothing changed
+pub keeps_same : {F A : Type 0} (contents : F → Option FileMap) (moments : F → Moments) (paths : F → Option (List (List ℕ))) (faults : F → ℕ) (old new : StoreValue F) → new ≡ old → Keeps {A = A} contents moments paths faults old new (Err NoMemory)
+keeps_same {F = F} {A = A} contents moments paths faults old new same = subst (λ (s : StoreValue F). Keeps {A = A} contents moments paths faults old s (Err NoMemory)) (sym same) (record {
+  stands = λ stands. tt;
+  sound = tt;
+  stays = λ sound. refl;
+  held = refl;
+  change = same_change contents moments paths faults old.folder (let answer : Result A ServeFault = Err NoMemory in answer) (IsErrOf (let answer : Result A ServeFault = Err NoMemory in answer) Keeper) (λ is. absurd cc);
+})
+
+-- it was done, and nothing changed
+pub keeps_done : {F A : Type 0} (contents : F → Option FileMap) (moments : F → Moments) (paths : F → Option (List (List ℕ))) (faults : F → ℕ) (old new : StoreValue F) (done : A) → new ≡ old → old.sound ≡ true → Keeps contents moments paths faults old new (Ok done)
+keeps_done {F = F} {A = A} contents moments paths faults old new done same sound = subst (λ (s : StoreValue F). Keeps contents moments paths faults old s (Ok done)) (sym same) (record {
+  stands = λ stands. stands;
+  sound = sound;
+  stays = tt;
+  held = tt;
+  change = same_change contents moments paths faults old.folder (let answer : Result A ServeFault = Ok done in answer) (IsErrOf (let answer : Result A ServeFault = Ok done in answer) Keeper) (λ is. absurd cc);
+})
+
+-- no database and not the user changed, and no file
+pub touches_none : {F : Type 0} (contents : F → Option FileMap) (old new : StoreValue F) → new ≡ old → TouchesOne contents old new
+touches_none {F = F} contents old new same = record {
+  name = [];
+  file = inl (ap (λ (s : StoreValue F). database_of [] s.databases) same, ap (λ (s : StoreValue F). contents s.folder) same);
+  others = λ other differs. ap (λ (s : StoreValue F). database_of other s.databases) same;
+  user = ap (λ (s : StoreValue F). s.user) same;
+}
+
+-- ---- one database changed
+
+others_by : (name other : List ℕ) (b : Bool) (this : Option DatabaseValue) (rest : Option DatabaseValue) → bytes_eq name other ≡ b → b ≡ false → cond b this rest ≡ rest
+others_by name other true this rest is differs = absurd cc
+others_by name other false this rest is differs = refl
+
+pub touches_new : {F : Type 0} (contents : F → Option FileMap) (old new : StoreValue F) (made : DatabaseValue) → database_of made.head.name old.databases ≡ None → new.databases ≡ with_new made old.databases → new.user ≡ old.user → FollowsName contents made.head.name old new → TouchesOne contents old new
+touches_new contents old new made none is user follows = record {
+  name = made.head.name;
+  file = follows;
+  others = λ other differs. ap (database_of other) is ∙ database_of-with_new other made old.databases none ∙ others_by made.head.name other (bytes_eq made.head.name other) (Some made) (database_of other old.databases) refl differs;
+  user = user;
+}
+
+pub touches_gone : {F : Type 0} (contents : F → Option FileMap) (old new : StoreValue F) (name : List ℕ) → NamesRise old.databases → new.databases ≡ without_named name old.databases → new.user ≡ old.user → FollowsName contents name old new → TouchesOne contents old new
+touches_gone contents old new name rise is user follows = record {
+  name = name;
+  file = follows;
+  others = λ other differs. ap (database_of other) is ∙ database_of-without_named other name old.databases rise ∙ others_by name other (bytes_eq name other) None (database_of other old.databases) refl differs;
+  user = user;
+}
+
+pub touches_replaced : {F : Type 0} (contents : F → Option FileMap) (old new : StoreValue F) (was made : DatabaseValue) → database_of made.head.name old.databases ≡ Some was → new.databases ≡ replaced made old.databases → new.user ≡ old.user → FollowsName contents made.head.name old new → TouchesOne contents old new
+touches_replaced contents old new was made here is user follows = record {
+  name = made.head.name;
+  file = follows;
+  others = λ other differs. ap (database_of other) is ∙ database_of-replaced other made was old.databases here ∙ others_by made.head.name other (bytes_eq made.head.name other) (Some made) (database_of other old.databases) refl differs;
+  user = user;
+}
+
+-- ---- a lent database that was kept
+
+change_ok : {F A B E G : Type 0} (contents : F → Option FileMap) (moments : F → Moments) (paths : F → Option (List (List ℕ))) (faults : F → ℕ) (old new : F) (x : A) (y : B) (e : E) (f : G)
+    → OneChange contents moments paths faults old new (let first : Result A E = Ok x in first) (IsErrOf (let first : Result A E = Ok x in first) e) → OneChange contents moments paths faults old new (let last : Result B G = Ok y in last) (IsErrOf (let last : Result B G = Ok y in last) f)
+change_ok contents moments paths faults old new x y e f change = record {
+  contents_stay = tt;
+  moments_stay = tt;
+  each_moment = change.each_moment;
+  same_paths = change.same_paths;
+  cause = record { later = change.cause.later; rose = λ is. absurd cc; still = λ none. change.cause.still (λ is. cc) };
+}
+
+-- the store that lent a database, the database as it was and as it became
+pub record Lent {F : Type 0} (old store : StoreValue F) (name : List ℕ) (was made database : DatabaseValue) : Type 0 where
+  pub lender : store ≡ old
+  pub became : database ≡ made
+  pub there : database_of name old.databases ≡ Some was
+  pub head : made.head ≡ was.head
+
+found_in : {F : Type 0} (old store : StoreValue F) (name : List ℕ) (was made database : DatabaseValue) → Lent old store name was made database → database_of made.head.name old.databases ≡ Some was
+found_in old store name was made database lent =
+    ap (λ n. database_of n old.databases) (ap (λ (h : DbHead). h.name) lent.head ∙ database_of-name name old.databases was lent.there) ∙ lent.there
+
+pub kept_touches : {F : Type 0} (contents : F → Option FileMap) (old store last : StoreValue F) (name : List ℕ) (was made database : DatabaseValue) → Lent old store name was made database
+    → last ≡ record store { folder = last.folder; databases = replaced database store.databases } → FollowsName contents database.head.name store last → TouchesOne contents old last
+kept_touches {F = F} contents old store last name was made database lent kept follows =
+    let is : last ≡ record old { folder = last.folder; databases = replaced made old.databases } = kept
+        ∙ ap (λ (s : StoreValue F). record s { folder = last.folder; databases = replaced database s.databases }) lent.lender
+        ∙ ap (λ (d : DatabaseValue). record old { folder = last.folder; databases = replaced d old.databases }) lent.became in
+    touches_replaced contents old last was made (found_in old store name was made database lent) (ap (λ (s : StoreValue F). s.databases) is) (ap (λ (s : StoreValue F). s.user) is)
+    (subst (λ (d : DatabaseValue). FollowsName contents d.head.name old last) lent.became (subst (λ (s : StoreValue F). FollowsName contents database.head.name s last) lent.lender follows))
+
+pub kept_keeps : {F A B : Type 0} (contents : F → Option FileMap) (moments : F → Moments) (paths : F → Option (List (List ℕ))) (faults : F → ℕ) (old store last : StoreValue F) (name : List ℕ) (was made database : DatabaseValue) (done : B) (given : A) → Lent old store name was made database → old.sound ≡ true
+    → last ≡ record store { folder = last.folder; databases = replaced database store.databases }
+    → (IfSome (database_of database.head.name store.databases) (λ (w : DatabaseValue). w.head ≡ database.head) → Stands (contents store.folder) store.databases store.user → Stands (contents last.folder) last.databases last.user)
+    → OneChange contents moments paths faults store.folder last.folder (let answer : Result B StoreFault = Ok done in answer) (IsErrOf (let answer : Result B StoreFault = Ok done in answer) KeeperFault)
+    → Keeps contents moments paths faults old last (Ok given)
+kept_keeps {F = F} contents moments paths faults old store last name was made database done given lent sound kept stands change = record {
+  stands = λ before. stands (subst (λ (o : Option DatabaseValue). IfSome o (λ (w : DatabaseValue). w.head ≡ database.head)) (sym here) (sym lent.head ∙ ap (λ (d : DatabaseValue). d.head) (sym lent.became)))
+      (subst (λ (s : StoreValue F). Stands (contents s.folder) s.databases s.user) (sym lent.lender) before);
+  sound = ap (λ (s : StoreValue F). s.sound) kept ∙ ap (λ (s : StoreValue F). s.sound) lent.lender ∙ sound;
+  stays = tt;
+  held = tt;
+  change = subst (λ (s : StoreValue F). OneChange contents moments paths faults s.folder last.folder (Ok given) (IsErrOf (Ok given) Keeper)) lent.lender (change_ok contents moments paths faults store.folder last.folder done given KeeperFault Keeper change);
+}
+  where
+    here : database_of database.head.name store.databases ≡ Some was
+    here = ap (λ (d : DatabaseValue). database_of d.head.name store.databases) lent.became ∙ ap (λ (s : StoreValue F). database_of made.head.name s.databases) lent.lender ∙ found_in old store name was made database lent

@@ -1,50 +1,48 @@
--- What a command leaves of the folder that a server keeps.
-use Rattle.std.specs.Prelude.{◌≡◌, ◌⊎◌, ℕ, true, List, Option, Some, Result, OnErr, OnOk, IsErrOf}
+-- What a request leaves of the folder that a server keeps.
+use Rattle.std.specs.Prelude.{◌≡◌, ℕ, Bool, true, false, List, [], ◌∷◌, ◌==◌, ◌&&◌, Option, Result, OnErr, OnOk, IsErrOf, MatchBool}
 use Rattle.std.specs.FinMap as finmap
 use Rattle.std.specs.Option.{option_map}
-use Rattle.hs_folders.specs.Causes.{HasCause}
+use Rattle.std.specs.Str.{bytes_eq}
 use Rattle.hs_folders.specs.FileMaps.{FileMap}
-use Rattle.hs_folders.specs.Moments.{EachMomentSince, IsBeforeOrAfter, Moments}
-use Rattle.pdb_values.specs.Databases.{DatabaseValue}
-use Rattle.pdb_files.specs.Files.{canonical}
-use Rattle.palm_device.specs.Devices.{database_of}
+use Rattle.hs_folders.specs.Moments.{Moments, OneChange}
+use Rattle.pdb_values.specs.NamedDatabases.{database_of}
 use Rattle.folder_files.specs.InfoFiles.{device_text}
-use Rattle.folder_files.specs.FileNames.{database_file, device_info_file}
+use Rattle.folder_files.specs.FileNames.{device_info_file}
 use Rattle.handheld_files.specs.Openings.{Stands}
+use Rattle.dlp_replies.specs.Frames.{reply_text}
+use Rattle.dlp_replies.specs.ReplyValues as reply
+use Rattle.dlp_commands.specs.DeviceSteps.{first_byte}
+use Rattle.handheld_store.specs.Files.{FollowsName}
+use Rattle.handheld_store.specs.Stores.{StoreValue}
 use Rattle.handheld_server.specs.declared.fault.ServeFault.{ServeFault}
 use Rattle.handheld_server.specs.declared.fault.ServeFault.TheVariants.{Keeper}
-use Rattle.handheld_store.specs.Stores.{StoreValue}
 
--- The folder stands for the databases and the user afterwards where it did before, and the store is sound; after a fault the
--- folder is as before, and the store as before or not sound. At each moment the folder is the one before or the one after.
--- A fault of the folder has its cause.
+-- The folder stands for the databases and the user afterwards where it did before, and the store is sound. After a fault the
+-- databases and the user are as before, and the whole store is, or it is not sound. The folder changed once at most.
 pub record Keeps {F A : Type 0} (contents : F → Option FileMap) (moments : F → Moments) (paths : F → Option (List (List ℕ))) (faults : F → ℕ) (old new : StoreValue F) (answer : Result A ServeFault) : Type 0 where
   pub stands : Stands (contents old.folder) old.databases old.user → OnOk answer (Stands (contents new.folder) new.databases new.user)
   pub sound : OnOk answer (new.sound ≡ true)
   pub stays : OnErr answer (new.sound ≡ true → new ≡ old)
-  pub contents_stay : OnErr answer (contents new.folder ≡ contents old.folder)
-  pub moments_stay : OnErr answer (moments new.folder ≡ moments old.folder)
-  pub each_moment : EachMomentSince (IsBeforeOrAfter (contents old.folder) (contents new.folder)) (moments old.folder) (moments new.folder)
-  pub same_paths : paths new.folder ≡ paths old.folder
-  pub cause : HasCause (faults old.folder) (faults new.folder) (IsErrOf answer Keeper)
+  pub held : OnErr answer (new ≡ record old { folder = new.folder; sound = new.sound })
+  pub change : OneChange contents moments paths faults old.folder new.folder answer (IsErrOf answer Keeper)
 
--- the file of one database holds its canonical bytes, and no other file changed
-pub record Written {F : Type 0} (contents : F → Option FileMap) (old new : StoreValue F) : Type 0 where
-  pub database : DatabaseValue
-  pub there : database_of database.head.name new.databases ≡ Some database
-  pub file : contents new.folder ≡ option_map (λ held. finmap.insert held (database_file database.head) (canonical database)) (contents old.folder)
+-- the information file says the user, and neither another file nor a database changed
+pub record TouchesUser {F : Type 0} (contents : F → Option FileMap) (old new : StoreValue F) : Type 0 where
+  pub file : contents new.folder ≡ option_map (λ (held : FileMap). finmap.insert held device_info_file (device_text new.user)) (contents old.folder)
+  pub databases : new.databases ≡ old.databases
 
--- the file of one database that was there is gone, and no other file changed
-pub record Removed {F : Type 0} (contents : F → Option FileMap) (old new : StoreValue F) : Type 0 where
-  pub database : DatabaseValue
-  pub there : database_of database.head.name old.databases ≡ Some database
-  pub file : contents new.folder ≡ option_map (λ held. finmap.remove held (database_file database.head)) (contents old.folder)
+-- One database changed at most, and its file went with it: where it has the same value all files are as before, byte for byte.
+-- Neither another file nor another database changed, nor the user.
+pub record TouchesOne {F : Type 0} (contents : F → Option FileMap) (old new : StoreValue F) : Type 0 where
+  pub name : List ℕ
+  pub file : FollowsName contents name old new
+  pub others : (other : List ℕ) → bytes_eq name other ≡ false → database_of other new.databases ≡ database_of other old.databases
+  pub user : new.user ≡ old.user
 
--- Which one file changed: none; the information file, which says the user; the file of one database, which holds it in its
--- canonical bytes; or the file of one database that was there, which is gone.
-abbrev pub Touches : {F : Type 0} → (F → Option FileMap) → StoreValue F → StoreValue F → Type 0
-Touches contents old new =
-    (contents new.folder ≡ contents old.folder)
-    ⊎ (contents new.folder ≡ option_map (λ held. finmap.insert held device_info_file (device_text new.user)) (contents old.folder))
-    ⊎ Written contents old new
-    ⊎ Removed contents old new
+-- the information file where the user was written, whether that is another one or not, and else the file of one database
+abbrev pub Touches : {F : Type 0} → (F → Option FileMap) → Bool → StoreValue F → StoreValue F → Type 0
+Touches contents written old new = MatchBool written (TouchesUser contents old new) (TouchesOne contents old new)
+
+-- a request is WriteUserInfo, and its reply says that it was done
+abbrev pub wrote_user : List ℕ → List ℕ → Bool
+wrote_user request answer = (first_byte request == 0x11) && bytes_eq answer (reply_text reply.WriteUserInfo)

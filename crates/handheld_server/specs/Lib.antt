@@ -1,3 +1,5 @@
+pub mod Faults
 pub mod Keeping
-pub mod Lending
+pub mod Next
 pub mod Servers
+pub mod Writing

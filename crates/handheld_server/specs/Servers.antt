@@ -1,7 +1,9 @@
 -- What contracts see of a server.
-use Rattle.std.specs.Prelude.{Bool, true, false, List, Option}
+use Rattle.std.specs.Prelude.{Bool, true, false, List, Option, is_ok}
 use Rattle.palm_device.specs.Devices.{Device}
 use Rattle.palm_device.specs.declared.opened.Opened.{Opened}
+use Rattle.dlp_commands.specs.Commands.{marks_tried}
+use Rattle.dlp_commands.specs.declared.command.Change.TheVariants as change
 use Rattle.dlp_commands.specs.declared.command.Command.{Command}
 use Rattle.dlp_commands.specs.declared.command.Command.TheVariants as command
 use Rattle.handheld_store.specs.Stores.{StoreValue}
@@ -24,3 +26,8 @@ device_of store handles = record { databases = store.databases; user = store.use
 abbrev pub is_quiet : Command → Bool
 is_quiet (command.Quiet asked) = true
 is_quiet (command.Change asked) = false
+
+-- a WriteUserInfo that is accepted
+abbrev pub writes_user : Device → Command → Bool
+writes_user device (command.Change (change.WriteUser marks)) = is_ok (marks_tried device marks)
+writes_user device other = false

@@ -1,17 +1,15 @@
 // What may change a database or the user.
-ghost use Rattle.std.specs.Prelude.{◌≡◌, IfOk, OnErr, OnOk, true};
+ghost use Rattle.std.specs.Prelude.{◌≡◌, IfOk, OnErr, OnOk, is_ok, true};
 ghost use Rattle.dlp_replies.specs.ReplyValues as reply;
 ghost use Rattle.dlp_commands.specs.Answers.{Does};
 ghost use Rattle.dlp_commands.specs.Commands.{Acts, IsShortChange, marks_tried};
 ghost use Rattle.dlp_commands.specs.DatabaseFunctions as databases;
 ghost use Rattle.dlp_commands.specs.DeviceSteps.{outcome};
-ghost use Rattle.dlp_commands.specs.Writings.{IsShortWriting};
-ghost use Rattle.handheld_server.specs.Keeping.{Keeps, Touches};
-ghost use Rattle.handheld_server.specs.Lending.{attributes_in, created_by, deleted_by};
-ghost use Rattle.handheld_server.specs.Servers.{store_of};
+ghost use Rattle.dlp_commands.specs.Writings.{IsShortWriting, writing_value};
+ghost use Rattle.handheld_server.specs.Keeping.{Keeps, Touches, TouchesOne};
+ghost use Rattle.handheld_server.specs.Servers.{store_of, writes_user};
 
-use crate::fault::{ServeFault, serve_fault};
-use crate::lent::attributes_of;
+use crate::fault::ServeFault;
 use crate::server::Server;
 use crate::written::write_named;
 use dlp_commands::{
@@ -28,10 +26,14 @@ impl<F: Folder> Server<F> {
     pub(crate) fn change(&mut self, asked: &Change<'_>, out: &mut Message) -> Result<(), ServeFault>
         requires sound { self.old.sound ≡ true }
         requires short { IsShortChange asked.now }
-        ensures acts { OnOk result (Acts self.old.device (Command.Change asked.now) out.new self.new.device) }
-        ensures keeps { Keeps F.contents F.moments F.paths F.faults (store_of self.old) (store_of self.new) result }
-        ensures files { OnOk result (Touches F.contents (store_of self.old) (store_of self.new)) }
-        ensures stays { OnErr result (self.new.sound ≡ true → self.new ≡ self.old) }
+        ensures acts { OnOk result (
+            Acts self.old.device (Command.Change asked.now) out.new self.new.device) }
+        ensures handles { OnErr result (self.new.device.handles ≡ self.old.device.handles) }
+        ensures keeps { Keeps F.contents F.moments F.paths F.faults
+            (store_of self.old) (store_of self.new) result }
+        ensures files { OnOk result (Touches F.contents
+            (writes_user self.old.device (Command.Change asked.now))
+            (store_of self.old) (store_of self.new)) }
     {
         match *asked {
             Change::WriteUser { marks } => self.write_user(&marks, out),
@@ -51,10 +53,13 @@ impl<F: Folder> Server<F> {
     #[tactic(auto, unfolding(dlp_commands::specs::UserFunctions::write_user_info))]
     fn write_user(&mut self, marks: &UserMarks<'_>, out: &mut Message) -> Result<(), ServeFault>
         requires { self.old.sound ≡ true }
-        ensures done { OnOk result (outcome self.old.device 0x11 (marks_tried self.old.device marks.now) ≡ (out.new, self.new.device)) }
-        ensures keeps { Keeps F.contents F.moments F.paths F.faults (store_of self.old) (store_of self.new) result }
-        ensures files { OnOk result (Touches F.contents (store_of self.old) (store_of self.new)) }
-        ensures stays { OnErr result (self.new.sound ≡ true → self.new ≡ self.old) }
+        ensures done { OnOk result (outcome self.old.device 0x11
+            (marks_tried self.old.device marks.now) ≡ (out.new, self.new.device)) }
+        ensures handles { OnErr result (self.new.device.handles ≡ self.old.device.handles) }
+        ensures keeps { Keeps F.contents F.moments F.paths F.faults
+            (store_of self.old) (store_of self.new) result }
+        ensures files { OnOk result (Touches F.contents
+            (is_ok (marks_tried self.old.device marks.now)) (store_of self.old) (store_of self.new)) }
     {
         let user = match marked(self.store.user(), marks) {
             Ok(user) => user,
@@ -68,11 +73,10 @@ impl<F: Folder> Server<F> {
                 write_reply(&Reply::WriteUserInfo, out);
                 Ok(())
             }
-            Err(fault) => Err(serve_fault(fault)),
+            Err(fault) => Err(ServeFault::from(fault)),
         }
     }
 
-    #[tactic(auto, using(crate::proofs::NameLaws::create_named))]
     fn create(
         &mut self,
         creator: FourCc,
@@ -84,10 +88,13 @@ impl<F: Folder> Server<F> {
         out: &mut Message,
     ) -> Result<(), ServeFault>
         requires { self.old.sound ≡ true }
-        ensures done { OnOk result (outcome self.old.device 0x18 (databases.create_db self.old.device creator.0 kind.0 card flags version name.now) ≡ (out.new, self.new.device)) }
-        ensures keeps { Keeps F.contents F.moments F.paths F.faults (store_of self.old) (store_of self.new) result }
-        ensures files { OnOk result (Touches F.contents (store_of self.old) (store_of self.new)) }
-        ensures stays { OnErr result (self.new.sound ≡ true → self.new ≡ self.old) }
+        ensures done { OnOk result (outcome self.old.device 0x18 (databases.create_db
+            self.old.device creator.0 kind.0 card flags version name.now)
+            ≡ (out.new, self.new.device)) }
+        ensures handles { OnErr result (self.new.device.handles ≡ self.old.device.handles) }
+        ensures keeps { Keeps F.contents F.moments F.paths F.faults
+            (store_of self.old) (store_of self.new) result }
+        ensures files { OnOk result (TouchesOne F.contents (store_of self.old) (store_of self.new)) }
     {
         match self.created(creator, kind, card, flags, version, name) {
             Ok(Ok(handle)) => {
@@ -103,6 +110,7 @@ impl<F: Folder> Server<F> {
     }
 
     // Makes a database and opens it.
+    #[tactic(auto, unfolding(dlp_commands::specs::DatabaseFunctions::create_db))]
     fn created(
         &mut self,
         creator: FourCc,
@@ -113,16 +121,19 @@ impl<F: Folder> Server<F> {
         name: &[u8],
     ) -> Result<Result<u8, Refusal>, ServeFault>
         requires { self.old.sound ≡ true }
-        ensures done { IfOk result (λ answer. Does 0x18 reply.CreateDb self.old.device self.new.device answer (created_by self.old.device creator.0 kind.0 card flags version name.now (attributes_in name.now self.old.device.databases))) }
-        ensures keeps { Keeps F.contents F.moments F.paths F.faults (store_of self.old) (store_of self.new) result }
-        ensures files { OnOk result (Touches F.contents (store_of self.old) (store_of self.new)) }
-        ensures stays { OnErr result (self.new.sound ≡ true → self.new ≡ self.old) }
+        ensures done { IfOk result (λ answer. Does 0x18 reply.CreateDb self.old.device
+            self.new.device answer (databases.create_db
+                self.old.device creator.0 kind.0 card flags version name.now)) }
+        ensures handles { OnErr result (self.new.device.handles ≡ self.old.device.handles) }
+        ensures keeps { Keeps F.contents F.moments F.paths F.faults
+            (store_of self.old) (store_of self.new) result }
+        ensures files { OnOk result (TouchesOne F.contents (store_of self.old) (store_of self.new)) }
     {
         let kept = match named(card, name) {
             Ok(kept) => kept,
             Err(refusal) => return Ok(Err(refusal)),
         };
-        if attributes_of(&mut self.store, &kept).is_some() {
+        if self.store.database(&kept).is_some() {
             return Ok(Err(Refusal::Exists));
         }
         let Some(handle) = self.handles.least_free() else {
@@ -142,17 +153,18 @@ impl<F: Folder> Server<F> {
                 Ok(Ok(handle))
             }
             Err(StoreFault::Limit) => Ok(Err(Refusal::Limit)),
-            Err(fault) => Err(serve_fault(fault)),
+            Err(fault) => Err(ServeFault::from(fault)),
         }
     }
 
-    #[tactic(auto, using(crate::proofs::NameLaws::delete_named))]
     fn delete(&mut self, card: u8, name: &[u8], out: &mut Message) -> Result<(), ServeFault>
         requires { self.old.sound ≡ true }
-        ensures done { OnOk result (outcome self.old.device 0x1A (databases.delete_db self.old.device card name.now) ≡ (out.new, self.new.device)) }
-        ensures keeps { Keeps F.contents F.moments F.paths F.faults (store_of self.old) (store_of self.new) result }
-        ensures files { OnOk result (Touches F.contents (store_of self.old) (store_of self.new)) }
-        ensures stays { OnErr result (self.new.sound ≡ true → self.new ≡ self.old) }
+        ensures done { OnOk result (outcome self.old.device 0x1A
+            (databases.delete_db self.old.device card name.now) ≡ (out.new, self.new.device)) }
+        ensures handles { OnErr result (self.new.device.handles ≡ self.old.device.handles) }
+        ensures keeps { Keeps F.contents F.moments F.paths F.faults
+            (store_of self.old) (store_of self.new) result }
+        ensures files { OnOk result (TouchesOne F.contents (store_of self.old) (store_of self.new)) }
     {
         match self.deleted(card, name) {
             Ok(Ok(())) => {
@@ -168,18 +180,21 @@ impl<F: Folder> Server<F> {
     }
 
     // Takes a database away.
+    #[tactic(auto, unfolding(dlp_commands::specs::DatabaseFunctions::delete_db))]
     fn deleted(&mut self, card: u8, name: &[u8]) -> Result<Result<(), Refusal>, ServeFault>
         requires { self.old.sound ≡ true }
-        ensures done { IfOk result (λ answer. Does 0x1A (λ _. reply.DeleteDb) self.old.device self.new.device answer (deleted_by self.old.device card name.now (attributes_in name.now self.old.device.databases))) }
-        ensures keeps { Keeps F.contents F.moments F.paths F.faults (store_of self.old) (store_of self.new) result }
-        ensures files { OnOk result (Touches F.contents (store_of self.old) (store_of self.new)) }
-        ensures stays { OnErr result (self.new.sound ≡ true → self.new ≡ self.old) }
+        ensures done { IfOk result (λ answer. Does 0x1A (λ _. reply.DeleteDb) self.old.device
+            self.new.device answer (databases.delete_db self.old.device card name.now)) }
+        ensures handles { OnErr result (self.new.device.handles ≡ self.old.device.handles) }
+        ensures keeps { Keeps F.contents F.moments F.paths F.faults
+            (store_of self.old) (store_of self.new) result }
+        ensures files { OnOk result (TouchesOne F.contents (store_of self.old) (store_of self.new)) }
     {
         let kept = match named(card, name) {
             Ok(kept) => kept,
             Err(refusal) => return Ok(Err(refusal)),
         };
-        if attributes_of(&mut self.store, &kept).is_none() {
+        if self.store.database(&kept).is_none() {
             return Ok(Err(Refusal::NotFound));
         }
         if self.handles.is_open(name) {
@@ -187,7 +202,7 @@ impl<F: Folder> Server<F> {
         }
         match self.store.delete(&kept) {
             Ok(()) => Ok(Ok(())),
-            Err(fault) => Err(serve_fault(fault)),
+            Err(fault) => Err(ServeFault::from(fault)),
         }
     }
 
@@ -200,11 +215,13 @@ impl<F: Folder> Server<F> {
         out: &mut Message,
     ) -> Result<(), ServeFault>
         requires sound { self.old.sound ≡ true }
-        requires short { IsShortWriting writing.now }
-        ensures acts { OnOk result (Acts self.old.device (Command.Change (Change.Write handle writing.now)) out.new self.new.device) }
-        ensures keeps { Keeps F.contents F.moments F.paths F.faults (store_of self.old) (store_of self.new) result }
-        ensures files { OnOk result (Touches F.contents (store_of self.old) (store_of self.new)) }
-        ensures stays { OnErr result (self.new.sound ≡ true → self.new ≡ self.old) }
+        requires short { IsShortWriting (writing_value writing.now) }
+        ensures acts { OnOk result (Acts self.old.device
+            (Command.Change (Change.Write handle writing.now)) out.new self.new.device) }
+        ensures handles { OnErr result (self.new.device.handles ≡ self.old.device.handles) }
+        ensures keeps { Keeps F.contents F.moments F.paths F.faults
+            (store_of self.old) (store_of self.new) result }
+        ensures files { OnOk result (TouchesOne F.contents (store_of self.old) (store_of self.new)) }
     {
         let number = writing.number();
         let Some(opened) = self.handles.opened_at(handle) else {

@@ -1,10 +1,11 @@
 // Why a request was not served.
 ghost use Rattle.std.specs.Prelude.{◌≡◌};
+ghost use Rattle.handheld_server.specs.Faults.{serve_fault};
 
 use handheld_store::StoreFault;
 
 /// Why a request was not served.
-#[derive(Clone, Copy, Debug, PartialEq, Eq)]
+#[derive(Clone, Copy)]
 pub enum ServeFault {
     /// The folder failed.
     Keeper,
@@ -12,13 +13,14 @@ pub enum ServeFault {
     NoMemory,
 }
 
-// What a store's fault makes of a request, where it is no refusal.
-pub fn serve_fault(fault: StoreFault) -> ServeFault
-    ensures keeper { result ≡ ServeFault.Keeper → fault ≡ StoreFault.KeeperFault }
-    ensures failed { fault ≡ StoreFault.KeeperFault → result ≡ ServeFault.Keeper }
-{
-    match fault {
-        StoreFault::KeeperFault => ServeFault::Keeper,
-        _ => ServeFault::NoMemory,
+impl From<StoreFault> for ServeFault {
+    ghost from_gives = { λ refused fault. fault ≡ serve_fault refused };
+
+    // What is refused otherwise is replied and no fault.
+    fn from(refused: StoreFault) -> ServeFault {
+        match refused {
+            StoreFault::KeeperFault => ServeFault::Keeper,
+            _ => ServeFault::NoMemory,
+        }
     }
 }

@@ -1,14 +1,13 @@
-//! The handheld's end of a HotSync over a folder: each request is one step of the device that the folder stands for, and its
-//! file is kept before its reply is there.
+//! The handheld's end of a HotSync over a folder: each request is one step of the device that the
+//! folder stands for, and its file is kept before its reply is there.
 //!
-//! A `Server` keeps a `Store` and the handles of open databases. Each function of the Desktop Link Protocol works on one
-//! database that the store lends it. What a request does is `dlp_commands`' definition of a device step.
+//! A `Server` keeps a `Store` and the handles of open databases. Each function of the Desktop Link
+//! Protocol reads one of the store's databases, or writes into one that the store lends it. What a
+//! request does is `dlp_commands`' definition of a device step.
 #![tactic(auto)]
 
 mod change;
-mod edit;
 mod fault;
-mod lent;
 mod quiet;
 mod server;
 mod written;

@@ -1,40 +1,42 @@
 // What changes no database and not the user.
-ghost use Rattle.std.specs.Prelude.{◌≡◌, IfOk, IfSome, IsSome, OnErr, OnOk, true};
+ghost use Rattle.std.specs.Prelude.{◌≡◌, ◌<◌, IfSome, IsSome, MatchOption, None, OnErr, OnOk, Some, true};
 ghost use Rattle.dlp_replies.specs.ReplyValues as reply;
-ghost use Rattle.palm_device.specs.Handles.{opened_at};
-ghost use Rattle.dlp_commands.specs.Answers.{Does};
+ghost use Rattle.palm_device.specs.Handles.{base_at, opened_at};
+ghost use Rattle.dlp_commands.specs.Answers.{Does, answer_text};
 ghost use Rattle.dlp_commands.specs.Commands.{quiet_number, quiet_tried};
 ghost use Rattle.dlp_commands.specs.DatabaseFunctions as databases;
 ghost use Rattle.dlp_commands.specs.DeviceSteps.{outcome};
-ghost use Rattle.dlp_commands.specs.Holding.{fits};
-ghost use Rattle.dlp_commands.specs.Reached.{reads, with_index};
-ghost use Rattle.dlp_commands.specs.Readings.{read_number, read_of, read_on};
-ghost use Rattle.dlp_commands.specs.RecordFunctions as records;
-ghost use Rattle.handheld_server.specs.Lending.{attributes_in, opened_by};
+ghost use Rattle.dlp_commands.specs.Reached.{read_next_modified_rec, reads, reset_record_index, with_index};
+ghost use Rattle.dlp_commands.specs.Readings.{next_in, read_number};
+ghost use Rattle.handheld_server.specs.Next.{next_text, place_in};
 ghost use Rattle.handheld_server.specs.Servers.{store_of};
 
-use crate::lent::{attributes_of, holds_records, next_named, read_named};
 use crate::server::Server;
 use dlp_commands::{
-    Message, Quiet, Reading, Refusal, Reply, listed, more_flag, named, put_done, put_listed,
-    put_refusal, user_reply, write_reply,
+    Holds, Message, Quiet, Reading, Refusal, Reply, listed, more_flag, named, next_record,
+    put_done, put_listed, put_refusal, user_reply, write_reply,
 };
 use hs_folders::Folder;
 use palm_device::{Opened, has_bit};
+use pdb_values::Database;
 use std::alloc::AllocError;
 
 impl<F: Folder> Server<F> {
     // What such a command does. Want of memory changes nothing.
     pub(crate) fn quiet(&mut self, asked: &Quiet<'_>, out: &mut Message) -> Result<(), AllocError>
         requires { self.old.sound ≡ true }
-        ensures done { OnOk result (outcome self.old.device (quiet_number asked.now) (quiet_tried self.old.device asked.now) ≡ (out.new, self.new.device)) }
+        ensures done { OnOk result (outcome self.old.device (quiet_number asked.now)
+            (quiet_tried self.old.device asked.now) ≡ (out.new, self.new.device)) }
         ensures store { store_of self.new ≡ store_of self.old }
         ensures stays { OnErr result (self.new ≡ self.old) }
     {
         match *asked {
             Quiet::ReadUser => write_reply(&user_reply(self.store.user()), out),
             Quiet::List { flags, card, start } => self.list(flags, card, start, out),
-            Quiet::Open { card, mode, name } => self.open(card, mode, name, out),
+            Quiet::Open { card, mode, name } => {
+                let answer = self.open(card, mode, name);
+                put_handle(out, answer);
+            }
             Quiet::Close { handle } => {
                 let answer = self.close(handle);
                 put_done(out, 0x19, Reply::CloseDb, answer);
@@ -58,7 +60,8 @@ impl<F: Folder> Server<F> {
     #[tactic(auto, unfolding(dlp_commands::specs::DatabaseFunctions::read_db_list))]
     fn list(&self, flags: u8, card: u8, start: u16, out: &mut Message)
         requires { self.now.sound ≡ true }
-        ensures { outcome self.now.device 0x16 (databases.read_db_list self.now.device flags card start) ≡ (out.new, self.now.device) }
+        ensures { outcome self.now.device 0x16
+            (databases.read_db_list self.now.device flags card start) ≡ (out.new, self.now.device) }
     {
         if card != 0 {
             return put_refusal(out, 0x16, Refusal::Parameter);
@@ -73,28 +76,19 @@ impl<F: Folder> Server<F> {
         put_listed(out, start, more, listed(head));
     }
 
-    #[tactic(auto, using(crate::proofs::NameLaws::open_named))]
-    fn open(&mut self, card: u8, mode: u8, name: &[u8], out: &mut Message)
-        requires { self.old.sound ≡ true }
-        ensures done { outcome self.old.device 0x17 (databases.open_db self.old.device card mode name.now) ≡ (out.new, self.new.device) }
-        ensures store { store_of self.new ≡ store_of self.old }
-    {
-        match self.opened(card, mode, name) {
-            Ok(handle) => write_reply(&Reply::OpenDb { handle }, out),
-            Err(refusal) => put_refusal(out, 0x17, refusal),
-        }
-    }
-
     // Opens the database of a name under the least free handle.
-    fn opened(&mut self, card: u8, mode: u8, name: &[u8]) -> Result<u8, Refusal>
+    #[tactic(auto, unfolding(dlp_commands::specs::DatabaseFunctions::open_db))]
+    fn open(&mut self, card: u8, mode: u8, name: &[u8]) -> Result<u8, Refusal>
         requires { self.old.sound ≡ true }
-        ensures done { Does 0x17 reply.OpenDb self.old.device self.new.device result (opened_by self.old.device card mode name.now (attributes_in name.now self.old.device.databases)) }
+        ensures done { Does 0x17 reply.OpenDb self.old.device self.new.device result
+            (databases.open_db self.old.device card mode name.now) }
         ensures store { store_of self.new ≡ store_of self.old }
     {
         let kept = named(card, name)?;
-        let Some(attributes) = attributes_of(&mut self.store, &kept) else {
+        let Some(database) = self.store.database(&kept) else {
             return Err(Refusal::NotFound);
         };
+        let attributes = database.head().attributes;
         if self.handles.is_open(name) {
             return Err(Refusal::AlreadyOpen);
         }
@@ -115,7 +109,8 @@ impl<F: Folder> Server<F> {
 
     #[tactic(auto, unfolding(dlp_commands::specs::DatabaseFunctions::close_db))]
     fn close(&mut self, handle: u8) -> Result<(), Refusal>
-        ensures done { Does 0x19 (λ _. reply.CloseDb) self.old.device self.new.device result (databases.close_db self.old.device handle) }
+        ensures done { Does 0x19 (λ _. reply.CloseDb) self.old.device self.new.device result
+            (databases.close_db self.old.device handle) }
         ensures store { store_of self.new ≡ store_of self.old }
     {
         if self.handles.opened_at(handle).is_none() {
@@ -125,51 +120,74 @@ impl<F: Folder> Server<F> {
         Ok(())
     }
 
-    // What a function reads of the database of a handle.
-    #[tactic(auto, using(crate::proofs::LendingLaws::reads_closed, crate::proofs::LendingLaws::reads_named))]
-    fn read(&mut self, handle: u8, reading: &Reading, out: &mut Message) -> Result<(), AllocError>
-        requires { self.old.sound ≡ true }
-        ensures done { OnOk result (outcome self.old.device (read_number reading.now) (reads (fits (read_on reading.now)) self.old.device handle (read_of reading.now)) ≡ (out.new, self.new.device)) }
-        ensures stays { self.new ≡ self.old }
+    // The database that a handle leads to.
+    #[tactic(auto, using(crate::proofs::HandleLaws::base_closed, crate::proofs::HandleLaws::base_nowhere, crate::proofs::HandleLaws::base_there))]
+    fn database_at(&self, handle: u8) -> Option<(&Opened, &Database)>
+        requires { self.now.sound ≡ true }
+        ensures { MatchOption result (base_at self.now.device handle ≡ None) (λ found.
+            base_at self.now.device handle
+                ≡ Some (record { opened = found.0.now; database = found.1.now })) }
     {
         let Some(opened) = self.handles.opened_at(handle) else {
-            put_refusal(out, reading.number(), Refusal::NoneOpen);
-            return Ok(());
+            return None;
         };
-        read_named(&mut self.store, &opened.name, reading, out)
+        let Some(database) = self.store.database(&opened.name) else {
+            return None;
+        };
+        Some((opened, database))
+    }
+
+    // What a function reads of the database of a handle.
+    #[tactic(auto, using(dlp_commands::proofs::ReachedLaws::reads_none, dlp_commands::proofs::ReachedLaws::reads_some))]
+    fn read(&self, handle: u8, reading: &Reading, out: &mut Message) -> Result<(), AllocError>
+        requires { self.now.sound ≡ true }
+        ensures { OnOk result (outcome self.now.device (read_number reading.now)
+            (reads self.now.device handle reading.now) ≡ (out.new, self.now.device)) }
+    {
+        match self.database_at(handle) {
+            Some((_, database)) => reading.answer(self.store.alloc(), database, out),
+            None => {
+                put_refusal(out, reading.number(), Refusal::NoneOpen);
+                Ok(())
+            }
+        }
     }
 
     // Replies the next changed record, and sets the record index behind it.
-    #[tactic(auto, unfolding(dlp_commands::specs::RecordFunctions::read_next_modified_rec), using(crate::proofs::LendingLaws::next_closed, crate::proofs::LendingLaws::next_named))]
+    #[tactic(auto, unfolding(dlp_commands::specs::Reached::read_next_modified_rec), using(dlp_commands::proofs::ReachedLaws::next_none, dlp_commands::proofs::ReachedLaws::next_some))]
     fn next(&mut self, handle: u8, out: &mut Message)
         requires { self.old.sound ≡ true }
-        ensures done { outcome self.old.device 0x1F (records.read_next_modified_rec self.old.device handle) ≡ (out.new, self.new.device) }
+        ensures done { outcome self.old.device 0x1F (read_next_modified_rec self.old.device handle)
+            ≡ (out.new, self.new.device) }
         ensures store { store_of self.new ≡ store_of self.old }
     {
-        let Some(opened) = self.handles.opened_at(handle) else {
-            return put_refusal(out, 0x1F, Refusal::NoneOpen);
+        let place = match self.database_at(handle) {
+            Some((opened, database)) => put_next(database, opened.next, out),
+            None => return put_refusal(out, 0x1F, Refusal::NoneOpen),
         };
-        if let Some(place) = next_named(&mut self.store, &opened.name, opened.next, out) {
+        if let Some(place) = place {
             self.set_index(handle, place + 1);
         }
     }
 
-    #[tactic(auto, using(crate::proofs::LendingLaws::reset_closed, crate::proofs::LendingLaws::reset_done, crate::proofs::LendingLaws::reset_refused))]
+    // The search for changed records begins anew.
+    #[tactic(auto, using(dlp_commands::proofs::ReachedLaws::reset_none, dlp_commands::proofs::ReachedLaws::reset_unfit, dlp_commands::proofs::ReachedLaws::reset_done))]
     fn reset_index(&mut self, handle: u8) -> Result<(), Refusal>
         requires { self.old.sound ≡ true }
-        ensures done { Does 0x30 (λ _. reply.ResetRecordIndex) self.old.device self.new.device result (records.reset_record_index self.old.device handle) }
+        ensures done { Does 0x30 (λ _. reply.ResetRecordIndex) self.old.device self.new.device
+            result (reset_record_index self.old.device handle) }
         ensures store { store_of self.new ≡ store_of self.old }
     {
-        let Some(opened) = self.handles.opened_at(handle) else {
-            return Err(Refusal::NoneOpen);
-        };
-        match holds_records(&mut self.store, &opened.name) {
-            Ok(()) => {
-                self.set_index(handle, 0);
-                Ok(())
+        match self.database_at(handle) {
+            Some((_, database)) => {
+                if !Holds::Records.fits(database) {
+                    return Err(Refusal::NotSupported);
+                }
             }
-            Err(refusal) => Err(refusal),
+            None => return Err(Refusal::NoneOpen),
         }
+        self.set_index(handle, 0);
+        Ok(())
     }
 
     // Sets the record index of an open handle.
@@ -187,5 +205,33 @@ impl<F: Folder> Server<F> {
             next,
         };
         self.handles.set(handle, Some(opened));
+    }
+}
+
+// Replies the handle of a database that was opened, or the error.
+fn put_handle(out: &mut Message, answer: Result<u8, Refusal>)
+    ensures { out.new ≡ answer_text 0x17 reply.OpenDb answer }
+{
+    match answer {
+        Ok(handle) => write_reply(&Reply::OpenDb { handle }, out),
+        Err(refusal) => put_refusal(out, 0x17, refusal),
+    }
+}
+
+// Replies the first changed record of a database, or the error. Gives the record's place.
+fn put_next(database: &Database, next: u16, out: &mut Message) -> Option<u16>
+    ensures place { result ≡ place_in (next_in next database.now) }
+    ensures reply { out.new ≡ next_text (next_in next database.now) }
+    ensures within { IfSome result (λ place. place < 65535) }
+{
+    match next_record(database, next) {
+        Ok((place, reply)) => {
+            write_reply(&reply, out);
+            Some(place)
+        }
+        Err(refusal) => {
+            put_refusal(out, 0x1F, refusal);
+            None
+        }
     }
 }

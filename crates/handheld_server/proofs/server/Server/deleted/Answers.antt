@@ -1,9 +1,8 @@
-use Rattle.std.proofs.Common.{rules, ◌≡◌, inr, subst, None}
-use Rattle.handheld_store.specs.Refusals.{delete_fault}
-use Rattle.handheld_store.specs.Stores.{StoreValue}
-use Rattle.handheld_server.specs.Keeping.{Removed}
+use Rattle.std.proofs.Common.{rules, ◌≡◌}
+use Rattle.pdb_values.specs.NamedDatabases.{NamesRise, without_named}
+use Rattle.handheld_store.specs.Files.{FollowsName}
+use Rattle.handheld_server.proofs.KeepLaws.{touches_gone}
 use Rattle.handheld_server.specs.Servers.{store_of}
-use Rattle.handheld_server.proofs.FileLaws.{gone_touches}
 use Rattle.handheld_server.proofs.server.Server.deleted.Goals as goal
 use Rattle.handheld_server.proofs.server.Server.deleted.Goals.{in-Ok-delete, in-Err-delete}
 
@@ -11,10 +10,11 @@ pub returns-clause-files : goal.returns-clause-files
 returns-clause-files g c =
     elim c.match-delete.branch [
       | in-Ok-delete w ↦ rw w.result-is (
-          let store = c.attributes_of.new.store in
-          let same : store ≡ store_of c.args.self.now = search rules in
-          let goes_on : delete_fault c.in-Ok.kept store.databases ≡ None = search rules in
-          inr (inr (inr (subst (λ (s : StoreValue g.row.F.Denot). Removed g.F.Folder.contents s c.delete.new.self) same
-          (gone_touches g.F.Folder.contents store c.delete.new.self c.in-Ok.kept goes_on w.in-Ok-delete.ensures.removed)))))
+          let old = store_of c.args.self.now in
+          let rise : NamesRise old.databases = search rules in
+          let gone : c.delete.new.self.databases ≡ without_named c.in-Ok.kept old.databases = search rules in
+          let user : c.delete.new.self.user ≡ old.user = search rules in
+          let follows : FollowsName g.F.Folder.contents c.in-Ok.kept old c.delete.new.self = search rules in
+          touches_gone g.F.Folder.contents old c.delete.new.self c.in-Ok.kept rise gone user follows)
       | in-Err-delete w ↦ rw w.result-is tt
     ]
