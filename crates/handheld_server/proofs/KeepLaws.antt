@@ -121,8 +121,8 @@ pub kept_touches : {F : Type 0} (contents : F → Option FileMap) (old store las
     → last ≡ record store { folder = last.folder; databases = replaced database store.databases } → FollowsName contents database.head.name store last → TouchesOne contents old last
 kept_touches {F = F} contents old store last name was made database lent kept follows =
     let is : last ≡ record old { folder = last.folder; databases = replaced made old.databases } = kept
-        ∙ ap (λ (s : StoreValue F). record s { folder = last.folder; databases = replaced database s.databases }) lent.lender
-        ∙ ap (λ (d : DatabaseValue). record old { folder = last.folder; databases = replaced d old.databases }) lent.became in
+    ∙ ap (λ (s : StoreValue F). record s { folder = last.folder; databases = replaced database s.databases }) lent.lender
+    ∙ ap (λ (d : DatabaseValue). record old { folder = last.folder; databases = replaced d old.databases }) lent.became in
     touches_replaced contents old last was made (found_in old store name was made database lent) (ap (λ (s : StoreValue F). s.databases) is) (ap (λ (s : StoreValue F). s.user) is)
     (subst (λ (d : DatabaseValue). FollowsName contents d.head.name old last) lent.became (subst (λ (s : StoreValue F). FollowsName contents database.head.name s last) lent.lender follows))
 
@@ -131,13 +131,13 @@ pub kept_keeps : {F A B : Type 0} (contents : F → Option FileMap) (moments : F
     → (IfSome (database_of database.head.name store.databases) (λ (w : DatabaseValue). w.head ≡ database.head) → Stands (contents store.folder) store.databases store.user → Stands (contents last.folder) last.databases last.user)
     → OneChange contents moments paths faults store.folder last.folder (let answer : Result B StoreFault = Ok done in answer) (IsErrOf (let answer : Result B StoreFault = Ok done in answer) KeeperFault)
     → Keeps contents moments paths faults old last (Ok given)
-kept_keeps {F = F} contents moments paths faults old store last name was made database done given lent sound kept stands change = record {
+kept_keeps {F = F} {A = A} contents moments paths faults old store last name was made database done given lent sound kept stands change = record {
   stands = λ before. stands (subst (λ (o : Option DatabaseValue). IfSome o (λ (w : DatabaseValue). w.head ≡ database.head)) (sym here) (sym lent.head ∙ ap (λ (d : DatabaseValue). d.head) (sym lent.became)))
       (subst (λ (s : StoreValue F). Stands (contents s.folder) s.databases s.user) (sym lent.lender) before);
   sound = ap (λ (s : StoreValue F). s.sound) kept ∙ ap (λ (s : StoreValue F). s.sound) lent.lender ∙ sound;
   stays = tt;
   held = tt;
-  change = subst (λ (s : StoreValue F). OneChange contents moments paths faults s.folder last.folder (Ok given) (IsErrOf (Ok given) Keeper)) lent.lender (change_ok contents moments paths faults store.folder last.folder done given KeeperFault Keeper change);
+  change = subst (λ (s : StoreValue F). OneChange contents moments paths faults s.folder last.folder (let answer : Result A ServeFault = Ok given in answer) (IsErrOf (let answer : Result A ServeFault = Ok given in answer) Keeper)) lent.lender (change_ok contents moments paths faults store.folder last.folder done given KeeperFault Keeper change);
 }
   where
     here : database_of database.head.name store.databases ≡ Some was

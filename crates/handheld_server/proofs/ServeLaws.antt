@@ -9,6 +9,7 @@ use Rattle.pdb_values.specs.declared.user.UserInfo.{UserInfo}
 use Rattle.dlp_requests.specs.RequestTexts.{RequestText}
 use Rattle.dlp_requests.specs.RequestValues.{RequestValue}
 use Rattle.dlp_replies.specs.Frames.{reply_text}
+use Rattle.dlp_replies.specs.ReplyReading.{reply_byte}
 use Rattle.dlp_replies.specs.ReplyValues as reply
 use Rattle.palm_device.specs.Devices.{Device}
 use Rattle.dlp_commands.specs.Changes.{changes, is_change}
@@ -115,11 +116,12 @@ marked_only user viewer pc date bits name_len name old =
 
 user_by : (old new : Device) (known : Result UserInfo ℕ) (answer : List ℕ) → OnlyParameter known → outcome old 0x11 (known >>= λ user. Ok (record old { user = user }, reply.WriteUserInfo)) ≡ (answer, new)
     → bytes_eq answer (reply_text reply.WriteUserInfo) ≡ is_ok (known >>= λ user. let done : Tried = Ok (record old { user = user }, reply.WriteUserInfo) in done)
+unfolding reply_byte
 user_by old new (Ok user) answer only is =
-    let same : reply_text reply.WriteUserInfo ≡ answer = cc in
+    let same : reply_text reply.WriteUserInfo ≡ answer = ap (λ (p : List ℕ × Device). p.0) is in
     ap (λ t. bytes_eq t (reply_text reply.WriteUserInfo)) (sym same)
 user_by old new (Err code) answer only is =
-    let same : reply_text (reply.Refused 0x11 code) ≡ answer = cc in
+    let same : reply_text (reply.Refused 0x11 code) ≡ answer = ap (λ (p : List ℕ × Device). p.0) is in
     ap (λ t. bytes_eq t (reply_text reply.WriteUserInfo)) (sym same) ∙ ap (λ n. bytes_eq (reply_text (reply.Refused 0x11 n)) (reply_text reply.WriteUserInfo)) (only code refl)
 
 -- by the bytes of the request and of the reply

@@ -123,7 +123,7 @@ impl<F: Folder> Server<F> {
         requires { self.old.sound ≡ true }
         ensures done { IfOk result (λ answer. Does 0x18 reply.CreateDb self.old.device
             self.new.device answer (databases.create_db
-                self.old.device creator.0 kind.0 card flags version name.now)) }
+            self.old.device creator.0 kind.0 card flags version name.now)) }
         ensures handles { OnErr result (self.new.device.handles ≡ self.old.device.handles) }
         ensures keeps { Keeps F.contents F.moments F.paths F.faults
             (store_of self.old) (store_of self.new) result }

@@ -126,7 +126,7 @@ impl<F: Folder> Server<F> {
         requires { self.now.sound ≡ true }
         ensures { MatchOption result (base_at self.now.device handle ≡ None) (λ found.
             base_at self.now.device handle
-                ≡ Some (record { opened = found.0.now; database = found.1.now })) }
+            ≡ Some (record { opened = found.0.now; database = found.1.now })) }
     {
         let Some(opened) = self.handles.opened_at(handle) else {
             return None;

@@ -41,9 +41,9 @@ impl<F: Folder> Server<F> {
     /// The server over a store, with no handle open.
     pub fn new(store: Store<F>) -> Server<F>
         ensures { result ≡ record {
-            folder = store.folder;
-            device = record { databases = store.databases; user = store.user; handles = no_handles };
-            sound = store.sound;
+          folder = store.folder;
+          device = record { databases = store.databases; user = store.user; handles = no_handles };
+          sound = store.sound;
         } }
     {
         Server {
@@ -75,10 +75,9 @@ impl<F: Folder> Server<F> {
         // One step of the device, for which the folder stands afterwards.
         ensures step { OnOk result (
             DeviceStep self.old.device request.now reply.new self.new.device) }
-        ensures stands {
-            Stands (F.contents self.old.folder) self.old.device.databases self.old.device.user
+        ensures stands { Stands (F.contents self.old.folder) self.old.device.databases self.old.device.user
             → OnOk result (Stands (F.contents self.new.folder) self.new.device.databases
-                self.new.device.user) }
+            self.new.device.user) }
         ensures sound { OnOk result (self.new.sound ≡ true) }
 
         // After a fault the device is as before, and so is the whole server, or it is not sound.

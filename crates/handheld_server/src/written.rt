@@ -57,11 +57,11 @@ fn edit_named<F: Folder>(
         (λ database. IsFor database edit.now) }
     ensures edited { IfOk result (λ given. IfSome (database_of name.now store.old.databases)
         (λ database. store.new.databases
-            ≡ replaced (edited given edit.now database) store.old.databases)) }
+        ≡ replaced (edited given edit.now database) store.old.databases)) }
     ensures given { IfOk result (λ given. edit_given given edit.now ≡ given) }
     ensures free { IfOk result (λ given. gives_free edit.now ≡ true
         → IfSome (database_of name.now store.old.databases)
-            (λ database. IsFree given database.records)) }
+        (λ database. IsFree given database.records)) }
     ensures user { OnOk result (store.new.user ≡ store.old.user) }
     ensures keeps { Keeps F.contents F.moments F.paths F.faults store.old store.new result }
     ensures files { OnOk result (TouchesOne F.contents store.old store.new) }
