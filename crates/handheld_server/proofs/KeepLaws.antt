@@ -1,22 +1,20 @@
 -- Which files a command touched.
-use Rattle.std.proofs.Common.{◌≡◌, ◌∙◌, ℕ, ◌<◌, ◌≤◌, Bool, true, false, cond, List, [], Option, Some, None, Result, Ok, Err, refl, ap, sym, subst, inl, inr, arith}
-use Rattle.std.specs.Prelude.{IfSome, OnErr, OnOk, IsErrOf}
-use Rattle.std.specs.Option.{option_map}
+use Rattle.std.proofs.Common.{◌≡◌, ◌∙◌, ℕ, Bool, true, false, cond, List, [], Option, Some, None, Result, Ok, Err, refl, ap, sym, subst, inl, arith}
+use Rattle.std.specs.Prelude.{IfSome, OnErr, IsErrOf}
 use Rattle.std.specs.Str.{bytes_eq}
 use Rattle.hs_folders.proofs.MomentLaws.{no_moment}
-use Rattle.hs_folders.specs.Causes.{HasCause}
 use Rattle.hs_folders.specs.FileMaps.{FileMap}
 use Rattle.hs_folders.specs.Moments.{IsBeforeOrAfter, Moments, OneChange}
 use Rattle.pdb_values.specs.Databases.{DatabaseValue}
 use Rattle.pdb_values.specs.declared.head.DbHead.{DbHead}
 use Rattle.pdb_values.specs.NamedDatabases.{NamesRise, database_of, replaced, with_new, without_named}
-use Rattle.pdb_values.proofs.NamedLaws.{database_of-name, database_of-replaced, database_of-with_new, database_of-without_named, replaced-none}
+use Rattle.pdb_values.proofs.NamedLaws.{database_of-name, database_of-replaced, database_of-with_new, database_of-without_named}
 use Rattle.handheld_files.specs.Openings.{Stands}
-use Rattle.handheld_store.specs.Files.{Follows, FollowsName}
+use Rattle.handheld_store.specs.Files.{FollowsName}
 use Rattle.handheld_store.specs.Stores.{StoreValue}
 use Rattle.handheld_store.specs.declared.fault.StoreFault.{StoreFault}
 use Rattle.handheld_store.specs.declared.fault.StoreFault.TheVariants.{KeeperFault}
-use Rattle.handheld_server.specs.Keeping.{Keeps, Touches, TouchesOne}
+use Rattle.handheld_server.specs.Keeping.{Keeps, TouchesOne}
 use Rattle.handheld_server.specs.declared.fault.ServeFault.{ServeFault}
 use Rattle.handheld_server.specs.declared.fault.ServeFault.TheVariants.{Keeper, NoMemory}
 

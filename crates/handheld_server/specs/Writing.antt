@@ -1,5 +1,5 @@
 -- What a command writes into the database of a name.
-use Rattle.std.specs.Prelude.{◌≡◌, ◌≤◌, ℕ, Bool, true, List, length, IfSome, Option, None, Some, Result, Ok, Err, ◌&&◌, not}
+use Rattle.std.specs.Prelude.{◌≡◌, ◌≤◌, ℕ, Bool, true, List, length, IfSome, Option, Some, Result, Ok, Err, ◌&&◌, not}
 use Rattle.pdb_values.specs.Databases.{DatabaseValue}
 use Rattle.pdb_values.specs.NamedDatabases.{database_of, replaced}
 use Rattle.dlp_replies.specs.ReplyValues.{ReplyValue}

@@ -1,4 +1,4 @@
-use Rattle.std.proofs.Common.{◌≡◌, ◌∙◌, Some, ap, false, rules, sym, true}
+use Rattle.std.proofs.Common.{◌≡◌, Some, false, rules, true}
 use Rattle.palm_device.specs.Handles.{Base, base_at}
 use Rattle.dlp_commands.proofs.ReachedLaws.{reset_done, reset_unfit}
 use Rattle.dlp_commands.specs.Holding.{on_records}

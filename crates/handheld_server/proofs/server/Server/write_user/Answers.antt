@@ -1,4 +1,4 @@
-use Rattle.std.proofs.Common.{rules, ◌≡◌, ◌∙◌, Ok, ap, refl, sym, subst, true}
+use Rattle.std.proofs.Common.{rules, ◌≡◌, ◌∙◌, ap, true}
 use Rattle.std.specs.Prelude.{is_ok}
 use Rattle.std.specs.FinMap as finmap
 use Rattle.std.specs.Option.{option_map}
@@ -8,7 +8,6 @@ use Rattle.folder_files.specs.InfoFiles.{device_text}
 use Rattle.folder_files.specs.FileNames.{device_info_file}
 use Rattle.dlp_commands.specs.Commands.{marks_tried}
 use Rattle.dlp_commands.specs.UserFunctions.{write_user_info}
-use Rattle.handheld_server.specs.Keeping.{Touches}
 use Rattle.handheld_server.proofs.server.Server.write_user.Goals as goal
 use Rattle.handheld_server.proofs.server.Server.write_user.Goals.{in-Ok-set_user, in-Err-set_user}
 
