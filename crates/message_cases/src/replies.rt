@@ -59,7 +59,7 @@ fn said(alloc: Global, reply: &Reply<'_>) -> Result<String, AllocError> {
         }
         Reply::ReadUserInfo { .. } | Reply::ReadNextModifiedRec { .. } | Reply::ReadRecord { .. } =>
             said_at_length(alloc, reply),
-        _ => said_shortly(alloc, reply),
+        _ => String::from_str(alloc, function_name(reply)),
     }
 }
 
@@ -123,9 +123,9 @@ fn said_at_length(alloc: Global, reply: &Reply<'_>) -> Result<String, AllocError
     }
 }
 
-// A reply that says only that a function is done.
-fn said_shortly(alloc: Global, reply: &Reply<'_>) -> Result<String, AllocError> {
-    let name = match reply {
+// The function of a reply that says only that it is done.
+fn function_name(reply: &Reply<'_>) -> &'static str {
+    match reply {
         Reply::WriteUserInfo => "WriteUserInfo",
         Reply::CloseDb => "CloseDb",
         Reply::DeleteDb => "DeleteDb",
@@ -142,8 +142,7 @@ fn said_shortly(alloc: Global, reply: &Reply<'_>) -> Result<String, AllocError> 
         Reply::OpenConduit => "OpenConduit",
         Reply::EndOfSync => "EndOfSync",
         _ => "another reply",
-    };
-    String::from_str(alloc, name)
+    }
 }
 
 /// The databases in a reply, one by one, and whether there is a further one.

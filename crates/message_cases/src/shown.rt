@@ -21,11 +21,9 @@ pub fn shown(alloc: Global, bytes: &[u8]) -> Result<String, AllocError> {
 
 /// A name, numbers and bytes.
 pub fn say(alloc: Global, name: &str, numbers: &[u64], bytes: &[u8]) -> Result<String, AllocError> {
-    let mut text = say_numbers(alloc, name, numbers)?;
+    let text = say_numbers(alloc, name, numbers)?;
     let word = shown(alloc, bytes)?;
-    text.push_str(" ")?;
-    text.push_str(&word)?;
-    Ok(text)
+    format!(in alloc; "{text} {word}")
 }
 
 /// A name and numbers.
