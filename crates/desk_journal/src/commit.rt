@@ -24,14 +24,18 @@ pub fn commit_files<F: Folder>(
     requires no_journal { IfSome (F.contents folder.old) HasNoJournal }
 
     // All files hold their new bytes, the others what they held, and no journal is left.
-    ensures done { OnOk result (F.contents folder.new ≡ option_map (put_all (entry_values entries.now)) (F.contents folder.old)) }
+    ensures done { OnOk result (F.contents folder.new ≡ option_map
+        (put_all (entry_values entries.now)) (F.contents folder.old)) }
     // After a refusal the folder stands for what it stood for, or for the whole change.
     ensures refused { OnErr result (StandsAs (F.contents folder.old) (F.contents folder.new)
         ⊎ StandsAs (option_map (put_all (entry_values entries.now)) (F.contents folder.old)) (F.contents folder.new)) }
     // From the first moment of the call on, at which the journal is there, it stands for the whole change.
-    ensures each_moment { EachMomentSince (StandsAs (option_map (put_all (entry_values entries.now)) (F.contents folder.old))) (F.moments folder.old) (F.moments folder.new) }
+    ensures each_moment { EachMomentSince (StandsAs
+        (option_map (put_all (entry_values entries.now)) (F.contents folder.old)))
+        (F.moments folder.old) (F.moments folder.new) }
 
-    ensures cause { HasCause (F.faults folder.old) (F.faults folder.new) (IsErrOf result FolderFault.Failed) }
+    ensures cause { HasCause (F.faults folder.old) (F.faults folder.new)
+        (IsErrOf result FolderFault.Failed) }
     ensures never_missing { ¬ IsErrOf result FolderFault.Missing }
     ensures paths { F.paths folder.new ≡ F.paths folder.old }
 {

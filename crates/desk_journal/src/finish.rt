@@ -22,15 +22,19 @@ pub fn finish_journal<F: Folder>(
     folder: &mut F,
 ) -> Result<Option<BadJournal>, FolderFault>
     // Each file of the journal holds its bytes, and no journal is left but a bad one.
-    ensures done { OnOk result (F.contents folder.new ≡ option_map finished (F.contents folder.old)) }
+    ensures done { OnOk result (F.contents folder.new ≡ option_map finished
+        (F.contents folder.old)) }
     ensures no_journal { result ≡ Ok None → IfSome (F.contents folder.new) HasNoJournal }
-    ensures bad { IfOk result (λ bad. IfSome (F.contents folder.old) (λ held. bad ≡ bad_of (finmap.get held journal_file))) }
+    ensures bad { IfOk result (λ bad. IfSome (F.contents folder.old)
+        (λ held. bad ≡ bad_of (finmap.get held journal_file))) }
 
     // The folder stands for what it stood for, at each moment and whatever the answer.
     ensures stands { StandsAs (F.contents folder.old) (F.contents folder.new) }
-    ensures each_moment { EachMomentSince (StandsAs (F.contents folder.old)) (F.moments folder.old) (F.moments folder.new) }
+    ensures each_moment { EachMomentSince (StandsAs (F.contents folder.old)) (F.moments folder.old)
+        (F.moments folder.new) }
 
-    ensures cause { HasCause (F.faults folder.old) (F.faults folder.new) (IsErrOf result FolderFault.Failed) }
+    ensures cause { HasCause (F.faults folder.old) (F.faults folder.new)
+        (IsErrOf result FolderFault.Failed) }
     ensures never_missing { ¬ IsErrOf result FolderFault.Missing }
     ensures paths { F.paths folder.new ≡ F.paths folder.old }
 {

@@ -15,11 +15,15 @@ use hs_folders::{Folder, FolderFault};
 // Carries out what the folder's journal says, and removes the journal.
 pub(crate) fn carry_out<F: Folder>(folder: &mut F, entries: &[Entry]) -> Result<(), FolderFault>
     requires form { IsJournal (entry_values entries.now) }
-    requires written { IfSome (F.contents folder.old) (λ held. finmap.get held journal_file ≡ Some (journal_text (entry_values entries.now))) }
-    ensures done { OnOk result (F.contents folder.new ≡ option_map overlay (F.contents folder.old)) }
+    requires written { IfSome (F.contents folder.old)
+        (λ held. finmap.get held journal_file ≡ Some (journal_text (entry_values entries.now))) }
+    ensures done { OnOk result (F.contents folder.new ≡ option_map overlay
+        (F.contents folder.old)) }
     ensures stands { StandsAs (F.contents folder.old) (F.contents folder.new) }
-    ensures each_moment { EachMomentSince (StandsAs (F.contents folder.old)) (F.moments folder.old) (F.moments folder.new) }
-    ensures cause { HasCause (F.faults folder.old) (F.faults folder.new) (IsErrOf result FolderFault.Failed) }
+    ensures each_moment { EachMomentSince (StandsAs (F.contents folder.old)) (F.moments folder.old)
+        (F.moments folder.new) }
+    ensures cause { HasCause (F.faults folder.old) (F.faults folder.new)
+        (IsErrOf result FolderFault.Failed) }
     ensures never_missing { ¬ IsErrOf result FolderFault.Missing }
     ensures paths { F.paths folder.new ≡ F.paths folder.old }
 {
@@ -31,11 +35,15 @@ pub(crate) fn carry_out<F: Folder>(folder: &mut F, entries: &[Entry]) -> Result<
 // Replaces the file of each entry, in their order.
 fn replace_all<F: Folder>(folder: &mut F, entries: &[Entry]) -> Result<(), FolderFault>
     requires form { IsJournal (entry_values entries.now) }
-    requires written { IfSome (F.contents folder.old) (λ held. finmap.get held journal_file ≡ Some (journal_text (entry_values entries.now))) }
-    ensures done { OnOk result (F.contents folder.new ≡ option_map (put_all (entry_values entries.now)) (F.contents folder.old)) }
+    requires written { IfSome (F.contents folder.old)
+        (λ held. finmap.get held journal_file ≡ Some (journal_text (entry_values entries.now))) }
+    ensures done { OnOk result (F.contents folder.new ≡ option_map
+        (put_all (entry_values entries.now)) (F.contents folder.old)) }
     ensures stands { StandsAs (F.contents folder.old) (F.contents folder.new) }
-    ensures each_moment { EachMomentSince (StandsAs (F.contents folder.old)) (F.moments folder.old) (F.moments folder.new) }
-    ensures cause { HasCause (F.faults folder.old) (F.faults folder.new) (IsErrOf result FolderFault.Failed) }
+    ensures each_moment { EachMomentSince (StandsAs (F.contents folder.old)) (F.moments folder.old)
+        (F.moments folder.new) }
+    ensures cause { HasCause (F.faults folder.old) (F.faults folder.new)
+        (IsErrOf result FolderFault.Failed) }
     ensures never_missing { ¬ IsErrOf result FolderFault.Missing }
     ensures paths { F.paths folder.new ≡ F.paths folder.old }
 {
@@ -47,11 +55,15 @@ fn replace_all<F: Folder>(folder: &mut F, entries: &[Entry]) -> Result<(), Folde
 
 // Removes the journal, which is there. A folder that tells nothing may say that it is missing: then it is removed.
 fn remove_journal<F: Folder>(folder: &mut F) -> Result<(), FolderFault>
-    requires there { IfSome (F.contents folder.old) (λ held. IsSome (finmap.get held journal_file)) }
-    ensures removed { OnOk result (F.contents folder.new ≡ option_map (λ held. finmap.remove held journal_file) (F.contents folder.old)) }
+    requires there { IfSome (F.contents folder.old)
+        (λ held. IsSome (finmap.get held journal_file)) }
+    ensures removed { OnOk result (F.contents folder.new ≡ option_map
+        (λ held. finmap.remove held journal_file) (F.contents folder.old)) }
     ensures contents { OnErr result (F.contents folder.new ≡ F.contents folder.old) }
-    ensures each_moment { EachMomentSince (λ told. told ≡ F.contents folder.new) (F.moments folder.old) (F.moments folder.new) }
-    ensures cause { HasCause (F.faults folder.old) (F.faults folder.new) (IsErrOf result FolderFault.Failed) }
+    ensures each_moment { EachMomentSince (λ told. told ≡ F.contents folder.new)
+        (F.moments folder.old) (F.moments folder.new) }
+    ensures cause { HasCause (F.faults folder.old) (F.faults folder.new)
+        (IsErrOf result FolderFault.Failed) }
     ensures never_missing { ¬ IsErrOf result FolderFault.Missing }
     ensures paths { F.paths folder.new ≡ F.paths folder.old }
 {

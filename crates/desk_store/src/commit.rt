@@ -28,7 +28,8 @@ pub(crate) fn write_change<F: Folder>(
     requires change { IsDeskChange change }
     requires no_journal { IfSome (F.contents folder.old) HasNoJournal }
 
-    ensures written { OnOk result (F.contents folder.new ≡ option_map (put_all (changes.change_entries change)) (F.contents folder.old)) }
+    ensures written { OnOk result (F.contents folder.new ≡ option_map
+        (put_all (changes.change_entries change)) (F.contents folder.old)) }
     ensures marks { IfOk result (λ marks. marks ≡ change.marks) }
     ensures shelves { OnOk result (shelves.new ≡ with_changes change.databases.items shelves.old) }
     ensures database_texts { OnOk result (AllByRecursion IsDbWritten change.databases.items) }
@@ -36,8 +37,11 @@ pub(crate) fn write_change<F: Folder>(
 
     ensures refused { OnErr result (StandsAs (F.contents folder.old) (F.contents folder.new)
         ⊎ StandsAs (option_map (put_all (changes.change_entries change)) (F.contents folder.old)) (F.contents folder.new)) }
-    ensures each_moment { EachMomentSince (StandsAs (option_map (put_all (changes.change_entries change)) (F.contents folder.old))) (F.moments folder.old) (F.moments folder.new) }
-    ensures cause { HasCause (F.faults folder.old) (F.faults folder.new) (IsErrOf result CommitFault.DeskFault) }
+    ensures each_moment { EachMomentSince (StandsAs
+        (option_map (put_all (changes.change_entries change)) (F.contents folder.old)))
+        (F.moments folder.old) (F.moments folder.new) }
+    ensures cause { HasCause (F.faults folder.old) (F.faults folder.new)
+        (IsErrOf result CommitFault.DeskFault) }
     ensures paths { F.paths folder.new ≡ F.paths folder.old }
 {
     let entries = change_entries(alloc, &change)?;

@@ -62,20 +62,26 @@ impl<F: Folder> Desk<F> {
     #[tactic(auto, using(crate::proofs::OpenLaws::told_desk))]
     pub fn open(alloc: Global, folder: F) -> Result<Desk<F>, (DeskOpenFault, F)>
         // The journal is finished, and the desktop has what the folder then holds.
-        ensures opened { IfOk result (λ desk. F.contents desk.folder ≡ option_map finished (F.contents folder)) }
-        ensures desk { IfOk result (λ desk. IsDesk (F.contents desk.folder) desk.marks (shelves_of desk)) }
+        ensures opened { IfOk result (λ desk. F.contents desk.folder ≡ option_map finished
+            (F.contents folder)) }
+        ensures desk { IfOk result (λ desk. IsDesk (F.contents desk.folder) desk.marks
+            (shelves_of desk)) }
 
         // Which answer comes.
         ensures readable { IfOk result (λ desk. IfSome (F.contents desk.folder) IsReadable) }
-        ensures shown { IfErr result (λ refusal. IfSome (F.contents folder) (λ held. Shows (finished held) refusal.0)) }
-        ensures cause { HasCause (F.faults folder) (F.faults (folder_in result)) (IsErrAnd result (λ refusal. refusal.0 ≡ DeskOpenFault.DeskFault)) }
+        ensures shown { IfErr result (λ refusal. IfSome (F.contents folder)
+            (λ held. Shows (finished held) refusal.0)) }
+        ensures cause { HasCause (F.faults folder) (F.faults (folder_in result))
+            (IsErrAnd result (λ refusal. refusal.0 ≡ DeskOpenFault.DeskFault)) }
 
         // What is judged is the folder once the journal is finished: it holds these files then, and no journal but a bad one.
-        ensures judged { IfErr result (λ refusal. IsJudged refusal.0 → F.contents refusal.1 ≡ option_map finished (F.contents folder)) }
+        ensures judged { IfErr result (λ refusal. IsJudged refusal.0 → F.contents refusal.1
+            ≡ option_map finished (F.contents folder)) }
 
         // What the folder stands for stays, at each moment and whatever the answer.
         ensures stands { StandsAs (F.contents folder) (F.contents (folder_in result)) }
-        ensures each_moment { EachMomentSince (StandsAs (F.contents folder)) (F.moments folder) (F.moments (folder_in result)) }
+        ensures each_moment { EachMomentSince (StandsAs (F.contents folder)) (F.moments folder)
+            (F.moments (folder_in result)) }
         ensures paths { F.paths (folder_in result) ≡ F.paths folder }
     {
         let mut folder = folder;
@@ -104,18 +110,26 @@ impl<F: Folder> Desk<F> {
         requires { IsDeskChange change }
 
         // The folder holds the files of the change, and all others as they were.
-        ensures written { IfOk result (λ desk. F.contents desk.folder ≡ option_map (put_all (change_entries change)) (F.contents self.folder)) }
+        ensures written { IfOk result (λ desk. F.contents desk.folder ≡ option_map
+            (put_all (change_entries change)) (F.contents self.folder)) }
         // The desktop is what the folder then stands for: the marks and databases of the change, and the other databases as they were.
-        ensures desk { IfOk result (λ desk. IsDesk (F.contents desk.folder) desk.marks (shelves_of desk)) }
+        ensures desk { IfOk result (λ desk. IsDesk (F.contents desk.folder) desk.marks
+            (shelves_of desk)) }
         ensures marks { IfOk result (λ desk. desk.marks ≡ change.marks) }
-        ensures databases { IfOk result (λ desk. (role : Role) (name : List ℕ) → database_of name (shelf_of (shelves_of desk) role) ≡ option_or (changed role name change.databases.items) (database_of name (shelf_of (shelves_of self) role))) }
+        ensures databases { IfOk result (λ desk. (role : Role) (name : List ℕ) → database_of name
+            (shelf_of (shelves_of desk) role) ≡ option_or
+            (changed role name change.databases.items)
+            (database_of name (shelf_of (shelves_of self) role))) }
 
         // After a refusal the folder stands for what it stood for, or for the whole change.
         ensures refused { OnErr result (StandsAs (F.contents self.folder) (F.contents (folder_in result))
             ⊎ StandsAs (option_map (put_all (change_entries change)) (F.contents self.folder)) (F.contents (folder_in result))) }
         // From the first moment of the call on it stands for the whole change.
-        ensures each_moment { EachMomentSince (StandsAs (option_map (put_all (change_entries change)) (F.contents self.folder))) (F.moments self.folder) (F.moments (folder_in result)) }
-        ensures cause { HasCause (F.faults self.folder) (F.faults (folder_in result)) (IsErrAnd result (λ refusal. refusal.0 ≡ CommitFault.DeskFault)) }
+        ensures each_moment { EachMomentSince (StandsAs
+            (option_map (put_all (change_entries change)) (F.contents self.folder)))
+            (F.moments self.folder) (F.moments (folder_in result)) }
+        ensures cause { HasCause (F.faults self.folder) (F.faults (folder_in result))
+            (IsErrAnd result (λ refusal. refusal.0 ≡ CommitFault.DeskFault)) }
         ensures paths { F.paths (folder_in result) ≡ F.paths self.folder }
     {
         let Desk {
@@ -148,7 +162,8 @@ impl<F: Folder> Desk<F> {
     #[tactic(auto, using(crate::proofs::OpenLaws::told_rows, crate::proofs::CountLaws::told_number))]
     pub fn len(&self) -> usize
         ensures count { result ≡ length self.now.rows }
-        ensures number { IfSome (F.contents self.now.folder) (λ held. result ≡ rows_count (finmap.keys held)) }
+        ensures number { IfSome (F.contents self.now.folder)
+            (λ held. result ≡ rows_count (finmap.keys held)) }
         ensures files { IfSome (F.contents self.now.folder) (λ held. AreRowsOf held self.now.rows) }
     {
         self.shelves.rows.len()
@@ -157,7 +172,8 @@ impl<F: Folder> Desk<F> {
     /// The name of a database that has rows. Names stand in rising byte order, and None is answered exactly past the last
     /// one.
     pub fn name(&self, index: usize) -> Option<&DbName>
-        ensures name { option_copied result ≡ option_map (λ database. database.head.name) (slice_get self.now.rows index) }
+        ensures name { option_copied result ≡ option_map (λ database. database.head.name)
+            (slice_get self.now.rows index) }
         ensures rise { NamesRise self.now.rows }
     {
         match self.shelves.rows.get(index) {
@@ -198,15 +214,21 @@ impl<F: Folder> Desk<F> {
 
 // Finishes the journal, and reads the files that then stand.
 fn open_files<F: Folder>(alloc: Global, folder: &mut F) -> Result<Found, DeskOpenFault>
-    ensures finished { IfOk result (λ found. F.contents folder.new ≡ option_map finished (F.contents folder.old)) }
-    ensures found { IfOk result (λ found. IfSome (F.contents folder.new) (λ held. FindsAll held (finmap.keys held) found × (rows_count (finmap.keys held) ≤ 200))) }
+    ensures finished { IfOk result (λ found. F.contents folder.new ≡ option_map finished
+        (F.contents folder.old)) }
+    ensures found { IfOk result (λ found. IfSome (F.contents folder.new)
+        (λ held. FindsAll held (finmap.keys held) found × (rows_count (finmap.keys held) ≤ 200))) }
     ensures ordered { IfOk result (λ found. AreOrdered found.shelves) }
     ensures no_journal { IfOk result (λ found. IfSome (F.contents folder.new) HasNoJournal) }
-    ensures shown { IfErr result (λ fault. IfSome (F.contents folder.old) (λ held. Shows (finished held) fault)) }
-    ensures judged { IfErr result (λ fault. IsJudged fault → F.contents folder.new ≡ option_map finished (F.contents folder.old)) }
-    ensures cause { HasCause (F.faults folder.old) (F.faults folder.new) (IsErrOf result DeskOpenFault.DeskFault) }
+    ensures shown { IfErr result (λ fault. IfSome (F.contents folder.old)
+        (λ held. Shows (finished held) fault)) }
+    ensures judged { IfErr result (λ fault. IsJudged fault → F.contents folder.new
+        ≡ option_map finished (F.contents folder.old)) }
+    ensures cause { HasCause (F.faults folder.old) (F.faults folder.new)
+        (IsErrOf result DeskOpenFault.DeskFault) }
     ensures stands { StandsAs (F.contents folder.old) (F.contents folder.new) }
-    ensures each_moment { EachMomentSince (StandsAs (F.contents folder.old)) (F.moments folder.old) (F.moments folder.new) }
+    ensures each_moment { EachMomentSince (StandsAs (F.contents folder.old)) (F.moments folder.old)
+        (F.moments folder.new) }
     ensures paths { F.paths folder.new ≡ F.paths folder.old }
 {
     finish_journal(alloc, folder)?;

@@ -18,9 +18,11 @@ use std::alloc::{AllocError, Global};
 // The files of each database in order, and then the information file.
 pub(crate) fn change_entries(alloc: Global, change: &DeskChange) -> Result<Vec<Entry>, AllocError>
     requires { change.now.marks.pc ≢ 0 }
-    ensures entries { IfOk result (λ entries. entry_values entries.items ≡ changes.change_entries change.now) }
+    ensures entries { IfOk result (λ entries. entry_values entries.items
+        ≡ changes.change_entries change.now) }
     ensures databases { IfOk result (λ _. AllByRecursion IsDbWritten change.now.databases.items) }
-    ensures marks { IfOk result (λ _. IsDesktopFile change.now.marks (desktop_text change.now.marks)) }
+    ensures marks { IfOk result (λ _. IsDesktopFile change.now.marks
+        (desktop_text change.now.marks)) }
 {
     let mut entries = Vec::new(alloc);
     for database in &change.databases {
@@ -37,7 +39,8 @@ fn push_database(
     entries: &mut Vec<Entry>,
     change: &DbChange,
 ) -> Result<(), AllocError>
-    ensures entries { OnOk result (entry_values entries.new.items ≡ entry_values entries.old.items ++ db_entries change.now) }
+    ensures entries { OnOk result (entry_values entries.new.items
+        ≡ entry_values entries.old.items ++ db_entries change.now) }
     ensures written { OnOk result (IsDbWritten change.now) }
 {
     push_entry(alloc, entries, Role::Rows, &change.rows)?;
@@ -55,7 +58,8 @@ fn push_entry(
     role: Role,
     database: &Database,
 ) -> Result<(), AllocError>
-    ensures entries { OnOk result (entry_values entries.new.items ≡ entry_values entries.old.items ++ database_entry role database.now ∷ []) }
+    ensures entries { OnOk result (entry_values entries.new.items
+        ≡ entry_values entries.old.items ++ database_entry role database.now ∷ []) }
     ensures written { OnOk result (IsFileText database.now (canonical database.now)) }
 {
     let name = role.file(alloc, &database.head().name)?;

@@ -18,10 +18,13 @@ pub(crate) fn read_files<F: Folder>(
     folder: &mut F,
     names: &[String],
 ) -> Result<Found, DeskOpenFault>
-    ensures found { IfOk result (λ found. IfSome (F.contents folder.old) (λ held. FindsAll held (map string_bytes names.now) found)) }
+    ensures found { IfOk result (λ found. IfSome (F.contents folder.old)
+        (λ held. FindsAll held (map string_bytes names.now) found)) }
     ensures ordered { IfOk result (λ found. AreOrdered found.shelves) }
-    ensures refused { IfErr result (λ fault. IfSome (F.contents folder.old) (λ held. RefusesAmong (first_bad held (map string_bytes names.now)) fault)) }
-    ensures cause { HasCause (F.faults folder.old) (F.faults folder.new) (IsErrOf result DeskOpenFault.DeskFault) }
+    ensures refused { IfErr result (λ fault. IfSome (F.contents folder.old)
+        (λ held. RefusesAmong (first_bad held (map string_bytes names.now)) fault)) }
+    ensures cause { HasCause (F.faults folder.old) (F.faults folder.new)
+        (IsErrOf result DeskOpenFault.DeskFault) }
 
     ensures contents { F.contents folder.new ≡ F.contents folder.old }
     ensures moments { F.moments folder.new ≡ F.moments folder.old }
@@ -47,10 +50,13 @@ fn read_file<F: Folder>(
     name: &str,
     found: &mut Found,
 ) -> Result<(), DeskOpenFault>
-    ensures added { OnOk result (IfSome (F.contents folder.old) (λ held. AddsAny (file_at held name.now) found.old found.new)) }
+    ensures added { OnOk result (IfSome (F.contents folder.old)
+        (λ held. AddsAny (file_at held name.now) found.old found.new)) }
     ensures ordered { AreOrdered found.old.shelves → OnOk result (AreOrdered found.new.shelves) }
-    ensures refused { IfErr result (λ fault. IfSome (F.contents folder.old) (λ held. RefusesAt name.now (bad_at held name.now) fault)) }
-    ensures cause { HasCause (F.faults folder.old) (F.faults folder.new) (IsErrOf result DeskOpenFault.DeskFault) }
+    ensures refused { IfErr result (λ fault. IfSome (F.contents folder.old)
+        (λ held. RefusesAt name.now (bad_at held name.now) fault)) }
+    ensures cause { HasCause (F.faults folder.old) (F.faults folder.new)
+        (IsErrOf result DeskOpenFault.DeskFault) }
 
     ensures contents { F.contents folder.new ≡ F.contents folder.old }
     ensures moments { F.moments folder.new ≡ F.moments folder.old }

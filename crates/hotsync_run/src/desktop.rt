@@ -19,7 +19,8 @@ use std::alloc::Global;
 pub fn open_desktop<D: Folder>(alloc: Global, desk: &mut D, path: &str) -> Result<(), Status>
     ensures empty { OnOk result (IfSome (D.contents desk.old) IsEmptyDesktop) }
     ensures not_yet { IsErrOf result Status.NotYet → IfSome (D.contents desk.old) HasDesktopFile }
-    ensures failed { IsErrOf result Status.DesktopFolder → Rose (D.faults desk.old) (D.faults desk.new) }
+    ensures failed { IsErrOf result Status.DesktopFolder → Rose (D.faults desk.old)
+        (D.faults desk.new) }
     ensures refusal { IfErr result IsDesktopRefusal }
 
     ensures contents { D.contents desk.new ≡ D.contents desk.old }
@@ -39,10 +40,13 @@ pub fn open_desktop<D: Folder>(alloc: Global, desk: &mut D, path: &str) -> Resul
 /// Writes one file of the desktop's folder.
 #[tactic(auto, using(hs_folders::proofs::MomentLaws::no_moment, hs_folders::proofs::MomentLaws::one_change))]
 pub fn write_desktop<D: Folder>(desk: &mut D, name: &str, bytes: &[u8]) -> Result<(), Status>
-    ensures written { OnOk result (D.contents desk.new ≡ option_map (λ kept. finmap.insert kept name.now bytes.now) (D.contents desk.old)) }
+    ensures written { OnOk result (D.contents desk.new ≡ option_map
+        (λ kept. finmap.insert kept name.now bytes.now) (D.contents desk.old)) }
     ensures contents { OnErr result (D.contents desk.new ≡ D.contents desk.old) }
-    ensures each_moment { EachMomentSince (IsBeforeOrAfter (D.contents desk.old) (D.contents desk.new)) (D.moments desk.old) (D.moments desk.new) }
-    ensures failed { IsErrOf result Status.DesktopFolder → Rose (D.faults desk.old) (D.faults desk.new) }
+    ensures each_moment { EachMomentSince (IsBeforeOrAfter (D.contents desk.old)
+        (D.contents desk.new)) (D.moments desk.old) (D.moments desk.new) }
+    ensures failed { IsErrOf result Status.DesktopFolder → Rose (D.faults desk.old)
+        (D.faults desk.new) }
     ensures not_yet { ¬ IsErrOf result Status.NotYet }
     ensures refusal { IfErr result IsDesktopRefusal }
 

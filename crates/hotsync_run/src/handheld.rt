@@ -22,10 +22,13 @@ pub fn read_handheld<H: Folder>(
     device: &mut H,
     path: &str,
 ) -> Result<Database, Status>
-    ensures carried { IfOk result (λ database. IfSome (H.contents device.old) (λ held. IsCarriedIn held database)) }
+    ensures carried { IfOk result (λ database. IfSome (H.contents device.old)
+        (λ held. IsCarriedIn held database)) }
     ensures records { IfOk result (λ database. holds_resources database.head.attributes ≡ false) }
-    ensures shown { IfErr result (λ refusal. IfSome (H.contents device.old) (HandheldShows refusal)) }
-    ensures failed { IsErrOf result Status.HandheldFolder → Rose (H.faults device.old) (H.faults device.new) }
+    ensures shown { IfErr result (λ refusal. IfSome (H.contents device.old)
+        (HandheldShows refusal)) }
+    ensures failed { IsErrOf result Status.HandheldFolder → Rose (H.faults device.old)
+        (H.faults device.new) }
     ensures refusal { IfErr result IsHandheldRefusal }
 
     ensures contents { H.contents device.new ≡ H.contents device.old }
@@ -41,10 +44,13 @@ pub fn read_handheld<H: Folder>(
 
 // Reads the one database of the folder.
 fn read_only_database<H: Folder>(alloc: Global, device: &mut H) -> Result<Database, Status>
-    ensures carried { IfOk result (λ database. IfSome (H.contents device.old) (λ held. IsCarriedIn held database)) }
+    ensures carried { IfOk result (λ database. IfSome (H.contents device.old)
+        (λ held. IsCarriedIn held database)) }
     ensures records { IfOk result (λ database. holds_resources database.head.attributes ≡ false) }
-    ensures shown { IfErr result (λ refusal. IfSome (H.contents device.old) (HandheldShows refusal)) }
-    ensures failed { IsErrOf result Status.HandheldFolder → Rose (H.faults device.old) (H.faults device.new) }
+    ensures shown { IfErr result (λ refusal. IfSome (H.contents device.old)
+        (HandheldShows refusal)) }
+    ensures failed { IsErrOf result Status.HandheldFolder → Rose (H.faults device.old)
+        (H.faults device.new) }
     ensures refusal { IfErr result IsHandheldRefusal }
 
     ensures contents { H.contents device.new ≡ H.contents device.old }
@@ -98,7 +104,8 @@ fn is_handheld_name(name: &str) -> bool
 
 // The one name that the handheld reads, where it is a record database's.
 fn only_database<'n>(names: &'n [String]) -> Option<&'n str>
-    ensures { option_copied result ≡ only_database_of (filter is_name_read (map string_bytes names.entry.now)) }
+    ensures { option_copied result ≡ only_database_of
+        (filter is_name_read (map string_bytes names.entry.now)) }
 {
     let name = only_name(names)?;
     if has_ending(b".pdb", name.as_bytes()) {
@@ -110,7 +117,8 @@ fn only_database<'n>(names: &'n [String]) -> Option<&'n str>
 
 // The one name that the handheld reads.
 fn only_name<'n>(names: &'n [String]) -> Option<&'n str>
-    ensures { option_copied result ≡ only_of (filter is_name_read (map string_bytes names.entry.now)) }
+    ensures { option_copied result ≡ only_of
+        (filter is_name_read (map string_bytes names.entry.now)) }
 {
     let mut only = None;
     for name in names {

@@ -45,8 +45,10 @@ fn look_into<S: Source>(
 ) -> Result<String, Status>
     ensures text { IfOk result (λ text. IsTextIn look (S.left source.old) (string_bytes text)) }
     ensures readable { OnOk result (IfSome (S.left source.old) IsReadable) }
-    ensures shown { IfErr result (λ refusal. IfSome (S.left source.old) (SourceShows file.now refusal)) }
-    ensures failed { IsErrOf result Status.SourceRead → Rose (S.faults source.old) (S.faults source.new) }
+    ensures shown { IfErr result (λ refusal. IfSome (S.left source.old)
+        (SourceShows file.now refusal)) }
+    ensures failed { IsErrOf result Status.SourceRead → Rose (S.faults source.old)
+        (S.faults source.new) }
     ensures refusal { IfErr result IsLookRefusal }
 
     ensures opened { OnOk result (Opens file.now (S.paths source.old) (S.paths source.new)) }

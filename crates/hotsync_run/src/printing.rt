@@ -20,7 +20,8 @@ const NO_MEMORY: &[u8] = b"no memory\n";
 /// Prints a line each database and then `ended`. A failing sink makes the status `OutWrite`.
 #[tactic(auto, using(crate::proofs::PrintedLaws::memory_printed))]
 pub fn print_done<O: Sink>(alloc: Global, databases: &[DbReport], out: &mut O) -> Status
-    ensures status { (result ≡ Status.Done) ⊎ (result ≡ Status.OutWrite) ⊎ (result ≡ Status.NoMemory) }
+    ensures status { (result ≡ Status.Done) ⊎ (result ≡ Status.OutWrite) ⊎
+        (result ≡ Status.NoMemory) }
     ensures printed { IsPrinted (λ text. text ≡ lines_of_done databases.now)
         (record { taken = O.taken out.old; paths = O.paths out.old; faults = O.faults out.old })
         (record { taken = O.taken out.new; paths = O.paths out.new; faults = O.faults out.new }) result }
@@ -35,7 +36,8 @@ pub fn print_done<O: Sink>(alloc: Global, databases: &[DbReport], out: &mut O) -
 /// Prints the text of what was done. A failing sink makes the status `OutWrite`.
 #[tactic(auto, using(crate::proofs::PrintedLaws::memory_printed))]
 pub fn print_text<O: Sink>(text: &str, out: &mut O) -> Status
-    ensures status { (result ≡ Status.Done) ⊎ (result ≡ Status.OutWrite) ⊎ (result ≡ Status.NoMemory) }
+    ensures status { (result ≡ Status.Done) ⊎ (result ≡ Status.OutWrite) ⊎
+        (result ≡ Status.NoMemory) }
     ensures printed { IsPrinted (λ printed. printed ≡ text.now)
         (record { taken = O.taken out.old; paths = O.paths out.old; faults = O.faults out.old })
         (record { taken = O.taken out.new; paths = O.paths out.new; faults = O.faults out.new }) result }
@@ -112,7 +114,8 @@ fn done_lines(alloc: Global, databases: &[DbReport]) -> Result<String, AllocErro
 // The line of one database.
 #[tactic(auto, unfolding(crate::specs::Lines::database_line))]
 fn database_line(alloc: Global, report: &DbReport) -> Result<String, AllocError>
-    ensures { IfOk result (λ line. string_bytes line ≡ line_of_database report.now.name report.now.did) }
+    ensures { IfOk result (λ line. string_bytes line
+        ≡ line_of_database report.now.name report.now.did) }
 {
     let Did::Synced {
         fast,
@@ -144,7 +147,8 @@ fn mode_word(fast: bool) -> &'static str
 
 // Appends a word and a number.
 fn push_count(line: &mut String, word: &str, count: u32) -> Result<(), AllocError>
-    ensures { OnOk result (string_bytes line.new ≡ string_bytes line.old ++ count_text word.now count) }
+    ensures { OnOk result (string_bytes line.new
+        ≡ string_bytes line.old ++ count_text word.now count) }
 {
     line.push_str(word)?;
     write!(line, "{count}")?;

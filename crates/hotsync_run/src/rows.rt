@@ -97,7 +97,8 @@ pub fn desktop_rows(
 ) -> Result<Database, AllocError>
     requires { holds_resources database.now.head.attributes ≡ false }
     ensures rows { IfOk result (λ desktop. AreRowsOf database.now.records desktop.records) }
-    ensures whole { IfOk result (λ desktop. desktop ≡ rows_database (head_of_rows database.now.head date) desktop.records) }
+    ensures whole { IfOk result (λ desktop. desktop ≡ rows_database
+        (head_of_rows database.now.head date) desktop.records) }
     ensures records { IfOk result (λ desktop. holds_resources desktop.head.attributes ≡ false) }
 {
     let rows = rising_rows(alloc, database.records())?;

@@ -68,21 +68,28 @@ fn run_copy<H: Folder, D: Folder>(
     ensures copied { IfOk result (λ databases. IfSome (H.contents device.old) (λ held.
         IsCopied held words.now.date (D.contents desk.old) (D.contents desk.new) databases.items)) }
     ensures shown { IfErr result (RunShows (H.contents device.old) (D.contents desk.old)) }
-    ensures handheld_failed { IsErrOf result Status.HandheldFolder → Rose (H.faults device.old) (H.faults device.new) }
-    ensures desktop_failed { IsErrOf result Status.DesktopFolder → Rose (D.faults desk.old) (D.faults desk.new) }
+    ensures handheld_failed { IsErrOf result Status.HandheldFolder → Rose (H.faults device.old)
+        (H.faults device.new) }
+    ensures desktop_failed { IsErrOf result Status.DesktopFolder → Rose (D.faults desk.old)
+        (D.faults desk.new) }
     ensures refusal { IfErr result IsRunRefusal }
-    ensures handheld_first { IfErr result (λ refusal. BlamesHandheld refusal → desk.new ≡ desk.old) }
+    ensures handheld_first { IfErr result (λ refusal. BlamesHandheld refusal → desk.new
+        ≡ desk.old) }
 
     // The handheld stays as it was. The desktop stays too where the run was refused.
     ensures handheld_stays { H.contents device.new ≡ H.contents device.old }
     ensures handheld_moments { H.moments device.new ≡ H.moments device.old }
     ensures desktop_stays { OnErr result (D.contents desk.new ≡ D.contents desk.old) }
-    ensures each_moment { EachMomentSince (IsBeforeOrAfter (D.contents desk.old) (D.contents desk.new)) (D.moments desk.old) (D.moments desk.new) }
+    ensures each_moment { EachMomentSince (IsBeforeOrAfter (D.contents desk.old)
+        (D.contents desk.new)) (D.moments desk.old) (D.moments desk.new) }
 
     // Each folder is opened at the path that the words give, or not at all.
-    ensures handheld_opened { OnOk result (Opens words.now.handheld.now (H.paths device.old) (H.paths device.new)) }
-    ensures handheld_path { OpensAtMost words.now.handheld.now (H.paths device.old) (H.paths device.new) }
-    ensures desktop_opened { OnOk result (Opens words.now.desktop.now (D.paths desk.old) (D.paths desk.new)) }
+    ensures handheld_opened { OnOk result (Opens words.now.handheld.now (H.paths device.old)
+        (H.paths device.new)) }
+    ensures handheld_path { OpensAtMost words.now.handheld.now (H.paths device.old)
+        (H.paths device.new) }
+    ensures desktop_opened { OnOk result (Opens words.now.desktop.now (D.paths desk.old)
+        (D.paths desk.new)) }
     ensures desktop_path { OpensAtMost words.now.desktop.now (D.paths desk.old) (D.paths desk.new) }
 {
     let database = read_handheld(alloc, device, words.handheld)?;
@@ -100,13 +107,16 @@ fn copy_rows<D: Folder>(
     desk: &mut D,
 ) -> Result<Vec<DbReport>, Status>
     requires { holds_resources database.now.head.attributes ≡ false }
-    ensures copied { IfOk result (λ databases. IsCopyOf database.now date (D.contents desk.old) (D.contents desk.new) databases.items) }
-    ensures failed { IsErrOf result Status.DesktopFolder → Rose (D.faults desk.old) (D.faults desk.new) }
+    ensures copied { IfOk result (λ databases. IsCopyOf database.now date (D.contents desk.old)
+        (D.contents desk.new) databases.items) }
+    ensures failed { IsErrOf result Status.DesktopFolder → Rose (D.faults desk.old)
+        (D.faults desk.new) }
     ensures not_yet { ¬ IsErrOf result Status.NotYet }
     ensures refusal { IfErr result IsDesktopRefusal }
 
     ensures stays { OnErr result (D.contents desk.new ≡ D.contents desk.old) }
-    ensures each_moment { EachMomentSince (IsBeforeOrAfter (D.contents desk.old) (D.contents desk.new)) (D.moments desk.old) (D.moments desk.new) }
+    ensures each_moment { EachMomentSince (IsBeforeOrAfter (D.contents desk.old)
+        (D.contents desk.new)) (D.moments desk.old) (D.moments desk.new) }
     ensures paths { D.paths desk.new ≡ D.paths desk.old }
     ensures count { D.faults desk.old ≤ D.faults desk.new }
 {
@@ -125,7 +135,8 @@ fn reported(
     rows: &Database,
 ) -> Result<Vec<DbReport>, AllocError>
     requires { rows.now.head.name ≡ database.now.head.name }
-    ensures { IfOk result (λ databases. databases.items ≡ report_of database.now rows.now.records ∷ []) }
+    ensures { IfOk result (λ databases. databases.items
+        ≡ report_of database.now rows.now.records ∷ []) }
 {
     let mut databases = Vec::new(alloc);
     databases.push(DbReport {

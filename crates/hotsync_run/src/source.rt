@@ -15,8 +15,10 @@ const GREATEST: usize = 67_108_864;
 pub fn read_source<S: Source>(alloc: Global, source: &mut S, path: &str) -> Result<Vec<u8>, Status>
     ensures bytes { IfOk result (λ bytes. IfSome (S.left source.old) (λ left. bytes.items ≡ left)) }
     ensures short { IfOk result (λ bytes. length bytes.items ≤ source_limit) }
-    ensures too_long { IsErrOf result Status.TooLong → IfSome (S.left source.old) (λ left. source_limit < length left) }
-    ensures failed { IsErrOf result Status.SourceRead → Rose (S.faults source.old) (S.faults source.new) }
+    ensures too_long { IsErrOf result Status.TooLong → IfSome (S.left source.old)
+        (λ left. source_limit < length left) }
+    ensures failed { IsErrOf result Status.SourceRead → Rose (S.faults source.old)
+        (S.faults source.new) }
     ensures refusal { IfErr result IsSourceRefusal }
 
     ensures opened { OnOk result (Opens path.now (S.paths source.old) (S.paths source.new)) }
@@ -32,8 +34,10 @@ pub fn read_source<S: Source>(alloc: Global, source: &mut S, path: &str) -> Resu
 fn read_all<S: Source>(alloc: Global, source: &mut S) -> Result<Vec<u8>, Status>
     ensures bytes { IfOk result (λ bytes. IfSome (S.left source.old) (λ left. bytes.items ≡ left)) }
     ensures short { IfOk result (λ bytes. length bytes.items ≤ source_limit) }
-    ensures too_long { IsErrOf result Status.TooLong → IfSome (S.left source.old) (λ left. source_limit < length left) }
-    ensures failed { IsErrOf result Status.SourceRead → Rose (S.faults source.old) (S.faults source.new) }
+    ensures too_long { IsErrOf result Status.TooLong → IfSome (S.left source.old)
+        (λ left. source_limit < length left) }
+    ensures failed { IsErrOf result Status.SourceRead → Rose (S.faults source.old)
+        (S.faults source.new) }
     ensures refusal { IfErr result IsSourceRefusal }
 
     ensures paths { S.paths source.new ≡ S.paths source.old }

@@ -61,7 +61,8 @@ pub fn read_command<'a>(words: &'a [String]) -> Option<Command<'a>>
 // The run that the words behind `run` ask for: `HANDHELD DESKTOP --date=YYYY-MM-DDTHH:MM:SS`.
 #[tactic(auto, unfolding(crate::specs::Words::run_of))]
 fn run_command<'a>(words: &'a [String]) -> Option<Command<'a>>
-    ensures { option_map task_view result ≡ option_map Sync (run_of (map string_bytes words.entry.now)) }
+    ensures { option_map task_view result ≡ option_map Sync
+        (run_of (map string_bytes words.entry.now)) }
 {
     let [handheld, desktop, date] = words else {
         return None;
@@ -80,7 +81,8 @@ fn run_command<'a>(words: &'a [String]) -> Option<Command<'a>>
 // The look at the file that stands behind `check` or `show`.
 #[tactic(auto, unfolding(crate::specs::Words::file_of))]
 fn look_command<'a>(look: Look, words: &'a [String]) -> Option<Command<'a>>
-    ensures { option_map task_view result ≡ option_map (LookAt look) (file_of (map string_bytes words.entry.now)) }
+    ensures { option_map task_view result ≡ option_map (LookAt look)
+        (file_of (map string_bytes words.entry.now)) }
 {
     let [file] = words else {
         return None;
@@ -94,7 +96,8 @@ fn look_command<'a>(look: Look, words: &'a [String]) -> Option<Command<'a>>
 // The hexadecimal behind `packet`.
 #[tactic(auto, unfolding(crate::specs::Words::packet_of))]
 fn packet_command<'a>(words: &'a [String]) -> Option<Command<'a>>
-    ensures { option_map task_view result ≡ option_map Scan (packet_of (map string_bytes words.entry.now)) }
+    ensures { option_map task_view result ≡ option_map Scan
+        (packet_of (map string_bytes words.entry.now)) }
 {
     let [hex] = words else {
         return None;
