@@ -1,5 +1,6 @@
 pub mod Faults
 pub mod Keeping
 pub mod Next
+pub mod SaidThings
 pub mod Servers
 pub mod Writing

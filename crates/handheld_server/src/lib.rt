@@ -7,10 +7,13 @@
 #![tactic(auto)]
 
 mod change;
+mod exchanged;
 mod fault;
 mod quiet;
 mod server;
+mod server_link;
 mod written;
 
 pub use fault::ServeFault;
 pub use server::Server;
+pub use server_link::ServerLink;
