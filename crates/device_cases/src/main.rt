@@ -1,0 +1,68 @@
+//! A handheld over a folder in memory, as the lines of standard input ask for it.
+//!
+//! Bytes are hexadecimal. A line that says something prints one line. `case TEXT` is printed as it is, and begins with an
+//! empty folder.
+//!
+//! - The folder: `file NAME H` puts a file into it, `many N` one of an empty database for each number below N, `full NAME
+//!   KIND` one of 65,535 empty entries: `ids` records with ids from 1, `zeros` with id 0, `sevens` with id 7, `codes`
+//!   resources; `large NAME` one of a record of 65,501 bytes. `fail N` makes its Nth call fail. `files` lists its files with their lengths, `bytes NAME` shows one,
+//!   `changes` says how often it was changed.
+//! - The store: `open` opens it, `databases` lists what it holds, `entries H` the records of one, `user N`, `create H
+//!   ATTRIBUTES`, `delete H`, `lend H MODE CHANGE..` lends a database and keeps it, `ids H N` gives ids to new records and
+//!   takes them out again, `close` hands the folder back.
+//! - The server: `serve` puts one over the store. A line of hexadecimal is a request and prints the reply; in both
+//!   `<new>` stands for the id that the last new record got. `talk H` says one over a link to the server.
+//! - A database by itself: `make H ATTRIBUTES`, then `do CHANGE..`; `insert H..` sorts databases by name, `handles` counts
+//!   them up.
+#![tactic(auto)]
+
+mod folder;
+mod handheld;
+mod linked;
+mod loan;
+mod made;
+mod said;
+mod served;
+
+use handheld::Handheld;
+use made::Made;
+use std::alloc::Global;
+use std::io;
+
+fn main(rt: HostRuntime) -> io::Result<()> {
+    let alloc = rt.alloc();
+    let mut handheld = Handheld::new(alloc)?;
+    let mut made = Made::new(alloc);
+    for line in rt.lines(alloc) {
+        let line = line?;
+        let words: Vec<&str> = line.split(' ').collect(alloc)?;
+        let said = match made.obey(&words)? {
+            Some(said) => said,
+            None => handheld.obey(line.as_str(), &words)?,
+        };
+        if !said.is_empty() {
+            println!(rt; "{said}")?;
+        }
+    }
+    Ok(())
+}
+
+// A word.
+fn word<'w>(words: &[&'w str], place: usize) -> &'w str {
+    words.get(place).copied().unwrap_or("")
+}
+
+// A part of a word, between colons.
+fn part(text: &str, place: usize) -> &str {
+    text.split(':').nth(place).unwrap_or("")
+}
+
+// The bytes of a text.
+fn bytes_in(alloc: Global, text: &str) -> Vec<u8> {
+    hex::decode(alloc, text).unwrap_or(Vec::new(alloc))
+}
+
+// The number of a text.
+fn number_in(text: &str) -> u32 {
+    text.parse().unwrap_or(0)
+}
