@@ -214,7 +214,8 @@ pub fn shown(alloc: Global, database: &Database) -> Result<String, AllocError> {
     Ok(said)
 }
 
-/// Gives ids to new records of different contents, each of which is taken out again, and says how many came twice.
+/// Gives ids to new records of different contents, each of which is taken out again, and says how
+/// many came twice.
 pub fn ids(
     alloc: Global,
     store: &mut Store<MemFolder>,

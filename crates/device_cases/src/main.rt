@@ -1,19 +1,22 @@
 //! A handheld over a folder in memory, as the lines of standard input ask for it.
 //!
-//! Bytes are hexadecimal. A line that says something prints one line. `case TEXT` is printed as it is, and begins with an
-//! empty folder.
+//! Bytes are hexadecimal. A line that says something prints one line. `case TEXT` is printed as it
+//! is, and begins with an empty folder.
 //!
-//! - The folder: `file NAME H` puts a file into it, `many N` one of an empty database for each number below N, `full NAME
-//!   KIND` one of 65,535 empty entries: `ids` records with ids from 1, `zeros` with id 0, `sevens` with id 7, `codes`
-//!   resources; `large NAME` one of a record of 65,501 bytes. `fail N` makes its Nth call fail. `files` lists its files with their lengths, `bytes NAME` shows one,
-//!   `changes` says how often it was changed.
-//! - The store: `open` opens it, `databases` lists what it holds, `entries H` the records of one, `user N`, `create H
-//!   ATTRIBUTES`, `delete H`, `lend H MODE CHANGE..` lends a database and keeps it, `ids H N` gives ids to new records and
-//!   takes them out again, `close` hands the folder back.
-//! - The server: `serve` puts one over the store. A line of hexadecimal is a request and prints the reply; in both
-//!   `<new>` stands for the id that the last new record got. `talk H` says one over a link to the server.
-//! - A database by itself: `make H ATTRIBUTES`, then `do CHANGE..`; `insert H..` sorts databases by name, `handles` counts
-//!   them up.
+//! - The folder: `file NAME H` puts a file into it, `many N` one of an empty database for each
+//!   number below N, `full NAME KIND` one of 65,535 empty entries: `ids` records with ids from 1,
+//!   `zeros` with id 0, `sevens` with id 7, `codes` resources; `large NAME` one of a record of
+//!   65,501 bytes. `fail N` makes its Nth call fail. `files` lists its files with their lengths,
+//!   `bytes NAME` shows one, `changes` says how often it was changed.
+//! - The store: `open` opens it, `databases` lists what it holds, `entries H` the records of one,
+//!   `user N`, `create H ATTRIBUTES`, `delete H`, `lend H MODE CHANGE..` lends a database and keeps
+//!   it, `ids H N` gives ids to new records and takes them out again, `close` hands the folder
+//!   back.
+//! - The server: `serve` puts one over the store. A line of hexadecimal is a request and prints the
+//!   reply; in both `<new>` stands for the id that the last new record got. `talk H` says one over
+//!   a link to the server.
+//! - A database by itself: `make H ATTRIBUTES`, then `do CHANGE..`; `insert H..` sorts databases by
+//!   name, `handles` counts them up.
 #![tactic(auto)]
 
 mod folder;
