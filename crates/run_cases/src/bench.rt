@@ -1,5 +1,5 @@
 // The objects that a call is given, and what the lines do with them.
-use hotsync_run::run_program;
+use hotsync_run::{Answer, Ended, run_program};
 use hs_folders::{Folder, FolderFault, MemFolder, MemSink, MemSource};
 use std::alloc::{AllocError, Global};
 use std::{io, mem};
@@ -62,7 +62,8 @@ impl Bench {
 
     fn fail(&mut self, rest: &str) -> Result<(), AllocError> {
         let (object, call) = rest.split_once(' ').unwrap_or((rest, ""));
-        let calls = vec![in self.alloc; number_of(call) as u32]?;
+        let call = u32::try_from(number_of(call)).unwrap_or(0);
+        let calls = vec![in self.alloc; call]?;
         match object {
             "palm" => self.palm.fail_calls(calls),
             "desk" => self.desk.fail_calls(calls),
@@ -86,10 +87,12 @@ impl Bench {
         let mut out = MemSink::new(alloc);
         out.fail_calls(self.failing_out.clone()?);
         let ended = run_program(alloc, &args, palm, desk, &mut source, &mut trace, &mut out);
-        self.palm = ended.answer.device;
-        self.desk = ended.answer.desk;
+        let Ended { code, answer } = ended;
+        let Answer { device, desk, .. } = answer;
+        self.palm = device;
+        self.desk = desk;
         let printed = String::from_utf8_lossy(alloc, out.bytes())?;
-        Ok(format!(in alloc; "status {}\n{printed}", ended.code)?)
+        Ok(format!(in alloc; "status {code}\n{printed}")?)
     }
 
     // The files of both folders: their names, and their bytes where these are asked for.
