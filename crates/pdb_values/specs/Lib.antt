@@ -10,5 +10,6 @@ pub mod Names
 pub mod PalmDates
 pub mod Records
 pub mod Resources
+pub mod Slots
 pub mod Stems
 pub mod Users

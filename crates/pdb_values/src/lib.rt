@@ -21,6 +21,7 @@ mod record;
 mod record_id;
 mod resource;
 mod short;
+mod slot;
 mod stem;
 mod user;
 
@@ -36,4 +37,5 @@ pub use named::{database_of, insert_database, place_of, put_database, remove_dat
 pub use record::{Kind, Record};
 pub use record_id::RecordId;
 pub use resource::Resource;
+pub use slot::{Slot, slot_for};
 pub use user::{Marks, Password, UserInfo, UserName};
