@@ -1,8 +1,9 @@
 //! The table of the conduit and plans, as the lines of standard input ask for them.
 //!
-//! `cell HANDHELD DESKTOP EQUAL` prints a cell of the table. `plan COUNTS|VIEW|ROWS|BASE` prints the plan of a database: COUNTS
-//! is `yes` where gone rows count, and a record is written as its id, a mark and its text: `:` for a live one, `!` for one
-//! with the delete bit, and in views `-` for a deleted one and `?` for one that wasn't read.
+//! `cell HANDHELD DESKTOP EQUAL` prints a cell of the table. `plan COUNTS ACTION|VIEW|ROWS|BASE` prints the plan of a database:
+//! COUNTS is `yes` where gone rows count, ACTION `sync`, which may be left out, `handheld` or `desktop`, and a record is written
+//! as its id, a mark and its text: `:` for a live one, `!` for one with the delete bit, and in views `-` for a deleted one and
+//! `?` for one that wasn't read.
 #![tactic(auto)]
 
 mod cells;

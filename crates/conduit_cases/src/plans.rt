@@ -1,5 +1,5 @@
 // Plans.
-use conduit_rules::{Plan, Seen, SeenState, View, plan};
+use conduit_rules::{Action, Plan, Seen, SeenState, View, plan};
 use pdb_values::{Category, Content, Record, RecordId};
 use std::alloc::{AllocError, Global};
 use std::fmt::Write;
@@ -28,8 +28,25 @@ pub fn plan_text(alloc: Global, line: &str) -> Result<String, AllocError> {
     }
     let rows = records_of(alloc, rows)?;
     let base = records_of(alloc, base)?;
-    let plan = plan(alloc, &View { seen }, &rows, &base, *counts == "yes")?;
+    let (counts, action) = counts.split_once(' ').unwrap_or((counts, "sync"));
+    let view = View { seen };
+    let plan = plan(
+        alloc,
+        &view,
+        &rows,
+        &base,
+        counts == "yes",
+        action_of(action),
+    )?;
     shown(alloc, &plan)
+}
+
+fn action_of(word: &str) -> Action {
+    match word {
+        "handheld" => Action::Handheld,
+        "desktop" => Action::Desktop,
+        _ => Action::Sync,
+    }
 }
 
 fn records_of(alloc: Global, list: &str) -> Result<Vec<Record>, AllocError> {

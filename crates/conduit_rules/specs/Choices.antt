@@ -1,13 +1,15 @@
 -- What the conduit chooses for one database.
-use Rattle.std.specs.Prelude.{ℕ, Bool, List, ◌++◌, Option, None, option_to_list, map}
+use Rattle.std.specs.Prelude.{ℕ, Bool, List, [], ◌++◌, Option, None, option_to_list, map}
 use Rattle.pdb_values.specs.Contents.{ContentValue}
 use Rattle.pdb_values.specs.declared.record.Record.{Record}
 use Rattle.conduit_rules.specs.ById.{each_id}
 use Rattle.conduit_rules.specs.Contents.{count_of}
 use Rattle.conduit_rules.specs.States.{Held, live_of, held, Based, no_base, row, gone, base_at, has_row}
-use Rattle.conduit_rules.specs.Fates.{Fate, fate}
+use Rattle.conduit_rules.specs.Fates.{Fate, fate, fate_under}
 use Rattle.conduit_rules.specs.Views.{view_held}
 use Rattle.conduit_rules.specs.News.{loose, live_contents, archived_records, unpaired}
+use Rattle.conduit_rules.specs.declared.action.Action.{Action}
+use Rattle.conduit_rules.specs.declared.action.Action.TheVariants.{Sync, Handheld, Desktop}
 use Rattle.conduit_rules.specs.declared.view.Seen.{Seen}
 
 -- one database as its base, its view and its rows show it: by id, and the rows without a base row
@@ -66,3 +68,33 @@ choice_of fates mates news archived = record {
 -- the choice of a synchronisation
 abbrev pub choice : Sides → Choice
 choice s = choice_of (fate_at s) (partners s) (offers s) s.loose_archived
+
+-- ---- by the action
+
+abbrev pub fate_for : Action → Sides → ℕ → Fate
+fate_for a s i = fate_under a (s.base i) (s.handheld i) (s.desktop i)
+
+-- new records of the handheld are paired in a synchronisation of both sides alone
+abbrev pub partner_under : Action → Based → Held → Option ContentValue
+partner_under Sync b h = partner b h
+partner_under Handheld b h = None
+partner_under Desktop b h = None
+
+abbrev pub partner_for : Action → Sides → ℕ → Option ContentValue
+partner_for a s i = partner_under a (s.base i) (s.handheld i)
+
+-- the desktop's rows without a base row count unless the handheld is gone by
+abbrev pub loose_for : {A : Type 0} → Action → List A → List A
+loose_for Sync xs = xs
+loose_for Handheld xs = []
+loose_for Desktop xs = xs
+
+abbrev pub partners_for : Action → Sides → List ContentValue
+partners_for a s = each_id (λ i. option_to_list (partner_for a s i))
+
+abbrev pub offers_for : Action → Sides → List ContentValue
+offers_for a s = loose_for a s.loose_live ++ each_id (λ i. option_to_list (fate_for a s i).news)
+
+-- the choice of an action; that of Sync is that of a synchronisation
+abbrev pub choice_for : Action → Sides → Choice
+choice_for a s = choice_of (fate_for a s) (partners_for a s) (offers_for a s) (loose_for a s.loose_archived)

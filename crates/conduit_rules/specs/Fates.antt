@@ -3,6 +3,8 @@ use Rattle.std.specs.Prelude.{Bool, true, false, List, [], ◌∷◌, ◌++◌, 
 use Rattle.pdb_values.specs.Contents.{ContentValue}
 use Rattle.conduit_rules.specs.Table.{decision}
 use Rattle.conduit_rules.specs.States.{Held, nothing, live_of, archived_of, content_of, Based, no_base, row, gone, state, equal_contents}
+use Rattle.conduit_rules.specs.declared.action.Action.{Action}
+use Rattle.conduit_rules.specs.declared.action.Action.TheVariants.{Sync, Handheld, Desktop}
 use Rattle.conduit_rules.specs.declared.table.Side.TheVariants.{Gone}
 use Rattle.conduit_rules.specs.declared.table.Keep.{Keep}
 use Rattle.conduit_rules.specs.declared.table.Keep.TheVariants.{None as KeepNone, Base as KeepBase, Handheld as KeepHandheld, Desktop as KeepDesktop}
@@ -57,3 +59,19 @@ abbrev pub fate : Based → Held → Held → Fate
 fate no_base h d = unbased h
 fate (row b) h d = cell b h d
 fate (gone b) h d = gone_cell b h
+
+-- nothing becomes of an id
+abbrev pub no_fate : Fate
+no_fate = record { keep = None; archive = []; news = None }
+
+-- what becomes of an id where the desktop is gone by: its row counts where the base has a row that isn't gone
+abbrev pub desktop_fate : Based → Held → Fate
+desktop_fate no_base d = no_fate
+desktop_fate (row b) d = unbased d
+desktop_fate (gone b) d = no_fate
+
+-- what becomes of an id by the action: by the table, by the handheld's record alone, or by the desktop's row alone
+abbrev pub fate_under : Action → Based → Held → Held → Fate
+fate_under Sync b h d = fate b h d
+fate_under Handheld b h d = unbased h
+fate_under Desktop b h d = desktop_fate b d

@@ -2,6 +2,7 @@ pub mod Borrowed
 pub mod ById
 pub mod Choices
 pub mod Contents
+pub mod Drafts
 pub mod Fates
 pub mod News
 pub mod Plans

@@ -1,9 +1,12 @@
 -- The lists of a plan, from what is chosen and what the handheld holds.
-use Rattle.std.specs.Prelude.{ℕ, Bool, true, false, if◌then◌else◌, List, [], ◌∷◌, Option, Some, None}
+use Rattle.std.specs.Prelude.{◌≡◌, ℕ, Bool, true, false, if◌then◌else◌, List, [], ◌∷◌, Option, Some, None}
 use Rattle.pdb_values.specs.Contents.{ContentValue}
 use Rattle.conduit_rules.specs.ById.{each_id, with_id}
 use Rattle.conduit_rules.specs.Contents.{same_content}
 use Rattle.conduit_rules.specs.States.{Held, nothing, live, archived, content_of}
+use Rattle.conduit_rules.specs.Choices.{Sides, choice_for}
+use Rattle.conduit_rules.specs.declared.action.Action.{Action}
+use Rattle.conduit_rules.specs.declared.planned.Plan.{Plan}
 
 -- what has to be written over a record: the content that is kept, where the record isn't live with it
 abbrev pub replacement : Option ContentValue → Held → Option ContentValue
@@ -42,3 +45,12 @@ gone_rows keep handheld = each_id (λ i. with_id i (lost (keep i) (handheld i)))
 -- the ids of the handheld's records that are deleted one by one
 abbrev pub purged_ids : (ℕ → Option ContentValue) → (ℕ → Held) → List ℕ
 purged_ids keep handheld = each_id (λ i. purged_at (keep i) (handheld i) i)
+
+-- the plan of a database: the lists of its choice, for what the handheld holds
+pub record IsPlan (a : Action) (s : Sides) (p : Plan) : Type 0 where
+  pub kept : p.kept.items ≡ kept_rows (choice_for a s).keep
+  pub replace : p.replace.items ≡ replaced_rows (choice_for a s).keep s.handheld
+  pub archive : p.archive.items ≡ (choice_for a s).archive
+  pub gone : p.gone.items ≡ gone_rows (choice_for a s).keep s.handheld
+  pub adds : p.adds.items ≡ (choice_for a s).adds
+  pub purge : p.purge.items ≡ purged_ids (choice_for a s).keep s.handheld

@@ -3,12 +3,17 @@ ghost use Rattle.std.specs.Prelude.{◌≡◌, ◌++◌, [], map, OnOk, IfOk, op
 ghost use Rattle.std.specs.Option.{option_copied};
 ghost use Rattle.conduit_rules.specs.Borrowed.{fate_of, held_of};
 ghost use Rattle.conduit_rules.specs.ById.{with_id};
-ghost use Rattle.conduit_rules.specs.Choices.{sides_of, choice, partners, offers};
-ghost use Rattle.conduit_rules.specs.Plans.{replacement, lost, purged_at, kept_rows, replaced_rows, gone_rows, purged_ids};
+ghost use Rattle.conduit_rules.specs.Choices.{Sides, sides_of};
+ghost use Rattle.conduit_rules.specs.Plans.{replacement, lost, purged_at, IsPlan};
+ghost use Rattle.conduit_rules.specs.Drafts.{IsDraft};
+ghost use Rattle.conduit_rules.specs.declared.action.Action.{Action};
 
+use crate::action::Action;
 use crate::basis::Basis;
 use crate::holding::Holding;
-use crate::loose::sort_loose;
+use crate::loose::{counted_rows, sort_loose};
+use crate::news::leave_unpaired;
+use crate::planned::Plan;
 use crate::rows::{push_archived, push_content, push_id, push_row};
 use crate::search::next_id;
 use crate::verdict::{Verdict, partner_of};
@@ -91,29 +96,50 @@ impl Draft {
         rows: &[Record],
         base: &[Record],
         gone_counts: bool,
+        action: Action,
     ) -> Result<Draft, AllocError>
-        ensures kept { IfOk result (λ draft. draft.kept.items ≡ kept_rows (choice (sides_of view.now rows.now base.now gone_counts)).keep) }
-        ensures replace { IfOk result (λ draft. let sides = sides_of view.now rows.now base.now gone_counts in
-            draft.replace.items ≡ replaced_rows (choice sides).keep sides.handheld) }
-        ensures archive { IfOk result (λ draft. draft.archive.items ≡ (choice (sides_of view.now rows.now base.now gone_counts)).archive) }
-        ensures gone { IfOk result (λ draft. let sides = sides_of view.now rows.now base.now gone_counts in
-            draft.gone.items ≡ gone_rows (choice sides).keep sides.handheld) }
-        ensures purge { IfOk result (λ draft. let sides = sides_of view.now rows.now base.now gone_counts in
-            draft.purge.items ≡ purged_ids (choice sides).keep sides.handheld) }
-        ensures partners { IfOk result (λ draft. draft.partners.items ≡ partners (sides_of view.now rows.now base.now gone_counts)) }
-        ensures offers { IfOk result (λ draft. draft.offers.items ≡ offers (sides_of view.now rows.now base.now gone_counts)) }
+        ensures { IfOk result (λ draft. IsDraft action (sides_of view.now rows.now base.now gone_counts) draft) }
     {
         let mut draft = Draft::new(alloc);
-        sort_loose(alloc, rows, base, &mut draft.offers, &mut draft.archive)?;
+        sort_loose(
+            alloc,
+            counted_rows(action, rows),
+            base,
+            &mut draft.offers,
+            &mut draft.archive,
+        )?;
         let mut next = 0;
         while let Some(id) = next_id(view, base, next) {
             let basis = Basis::in_records(base, id, gone_counts);
             let handheld = Holding::in_view(view, id);
             let desktop = Holding::in_records(rows, id);
-            let verdict = Verdict::of(basis, handheld, desktop);
-            draft.take_up(alloc, id, verdict, handheld, partner_of(basis, handheld))?;
+            let verdict = Verdict::of(action, basis, handheld, desktop);
+            let partner = partner_of(action, basis, handheld);
+            draft.take_up(alloc, id, verdict, handheld, partner)?;
             next = id.number() + 1;
         }
         Ok(draft)
+    }
+    // The plan of the database that this is the draft of.
+    pub fn finished(self, alloc: Global) -> Result<Plan, AllocError>
+        ensures { (a : Action) (s : Sides) → IsDraft a s self → IfOk result (λ plan. IsPlan a s plan) }
+    {
+        let Draft {
+            kept,
+            replace,
+            archive,
+            gone,
+            purge,
+            partners,
+            offers,
+        } = self;
+        Ok(Plan {
+            kept,
+            replace,
+            archive,
+            gone,
+            adds: leave_unpaired(alloc, partners, &offers)?,
+            purge,
+        })
     }
 }

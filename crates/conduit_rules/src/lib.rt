@@ -7,6 +7,7 @@
 //! sides know is this project's own: no change of either side is lost.
 #![tactic(auto)]
 
+mod action;
 mod basis;
 mod draft;
 mod holding;
@@ -20,6 +21,7 @@ mod table;
 mod verdict;
 mod view;
 
+pub use action::Action;
 pub use planned::Plan;
 pub use planner::plan;
 pub use table::{Archive, Keep, Outcome, Side, decide};

@@ -1,14 +1,26 @@
 // Rows of the desktop without a base row.
 ghost use Rattle.std.specs.Prelude.{◌≡◌, ◌++◌, ◌<◌, ◌&&◌, ◌||◌, not, map, take, length, slice_get, is_none, is_some, OnOk};
 ghost use Rattle.conduit_rules.specs.News.{loose, live_contents, archived_records};
+ghost use Rattle.conduit_rules.specs.Choices.{loose_for};
 ghost use Rattle.conduit_rules.specs.States.{has_row, first};
 
+use crate::action::Action;
 use crate::basis::has_base_row;
 use crate::holding::Holding;
 use crate::rows::{push_content, push_row};
 use crate::search::find_record;
 use pdb_values::{Content, Record, RecordId};
 use std::alloc::{AllocError, Global};
+
+// The rows that count where they are without a base row.
+pub fn counted_rows(action: Action, rows: &[Record]) -> &[Record]
+    ensures { result.now ≡ loose_for action rows.now }
+{
+    match action {
+        Action::Sync | Action::Desktop => rows,
+        Action::Handheld => &[],
+    }
+}
 
 // Appends the rows without a base row: the live ones to the offers, the archived ones under id 0 to the archive.
 pub fn sort_loose(

@@ -2,10 +2,11 @@
 ghost use Rattle.std.specs.Prelude.{◌≡◌};
 ghost use Rattle.std.specs.Option.{option_copied};
 ghost use Rattle.conduit_rules.specs.Borrowed.{held_of, based_of, fate_of};
-ghost use Rattle.conduit_rules.specs.Choices.{partner};
+ghost use Rattle.conduit_rules.specs.Choices.{partner_under};
 ghost use Rattle.conduit_rules.specs.Plans.{replacement, lost, is_purged};
-ghost use Rattle.conduit_rules.specs.Fates.{fate, cell, gone_cell, fate_by, unbased};
+ghost use Rattle.conduit_rules.specs.Fates.{fate, fate_under, desktop_fate, no_fate, cell, gone_cell, fate_by, unbased};
 
+use crate::action::Action;
 use crate::basis::Basis;
 use crate::holding::{Holding, is_same};
 use crate::table::{Archive, Keep, Outcome, Side, decide};
@@ -22,14 +23,52 @@ pub struct Verdict<'a> {
 }
 
 impl<'a> Verdict<'a> {
-    // What becomes of an id.
-    pub fn of(basis: Basis<'a>, handheld: Holding<'a>, desktop: Holding<'a>) -> Verdict<'a>
+    // What becomes of an id by the action.
+    pub fn of(
+        action: Action,
+        basis: Basis<'a>,
+        handheld: Holding<'a>,
+        desktop: Holding<'a>,
+    ) -> Verdict<'a>
+        ensures { fate_of result ≡ fate_under action (based_of basis.entry) (held_of handheld.entry) (held_of desktop.entry) }
+    {
+        match action {
+            Action::Sync => Verdict::of_both(basis, handheld, desktop),
+            Action::Handheld => Verdict::without_base(handheld),
+            Action::Desktop => Verdict::of_desktop(basis, desktop),
+        }
+    }
+
+    // Both sides are gone by.
+    fn of_both(basis: Basis<'a>, handheld: Holding<'a>, desktop: Holding<'a>) -> Verdict<'a>
         ensures { fate_of result ≡ fate (based_of basis.entry) (held_of handheld.entry) (held_of desktop.entry) }
     {
         match basis {
             Basis::Nothing => Verdict::without_base(handheld),
             Basis::Row(base) => Verdict::under_row(base, handheld, desktop),
             Basis::Gone(base) => Verdict::under_gone_row(base, handheld),
+        }
+    }
+
+    // The desktop is gone by: under a base row that isn't gone its row is all that counts.
+    fn of_desktop(basis: Basis<'a>, desktop: Holding<'a>) -> Verdict<'a>
+        ensures { fate_of result ≡ desktop_fate (based_of basis.entry) (held_of desktop.entry) }
+    {
+        match basis {
+            Basis::Row(_) => Verdict::without_base(desktop),
+            Basis::Nothing | Basis::Gone(_) => Verdict::nothing(),
+        }
+    }
+
+    // Nothing becomes of the id.
+    fn nothing() -> Verdict<'a>
+        ensures { fate_of result ≡ no_fate }
+    {
+        Verdict {
+            keep: None,
+            archive: None,
+            archive_too: None,
+            news: None,
         }
     }
 
@@ -127,12 +166,16 @@ impl<'a> Verdict<'a> {
     }
 }
 
-// A new record of the handheld: a live one without a base row.
-pub fn partner_of<'a>(basis: Basis<'_>, handheld: Holding<'a>) -> Option<&'a Content>
-    ensures { option_copied result ≡ partner (based_of basis.entry) (held_of handheld.entry) }
+// A new record of the handheld that is to be paired: where both sides are gone by, a live one without a base row.
+pub fn partner_of<'a>(
+    action: Action,
+    basis: Basis<'_>,
+    handheld: Holding<'a>,
+) -> Option<&'a Content>
+    ensures { option_copied result ≡ partner_under action (based_of basis.entry) (held_of handheld.entry) }
 {
-    match basis {
-        Basis::Nothing => handheld.live(),
-        Basis::Row(_) | Basis::Gone(_) => None,
+    match (action, basis) {
+        (Action::Sync, Basis::Nothing) => handheld.live(),
+        _ => None,
     }
 }
