@@ -1,2 +1,12 @@
+pub mod Fates
+pub mod Faults
+pub mod Frames
 pub mod PacketLines
 pub mod PacketLists
+pub mod Parts
+pub mod Past
+pub mod Proper
+pub mod Stories
+pub mod Talks
+pub mod Tallies
+pub mod TraceLines

@@ -5,8 +5,14 @@
 //! of all packets that stand in some bytes, and then their number.
 #![tactic(auto)]
 
+mod fate;
+mod frame;
 mod packet;
 mod packets;
+mod trace;
 
+pub use fate::Fate;
+pub use frame::{End, Frame};
 pub use packet::show_packet;
 pub use packets::show_packets;
+pub use trace::write_trace;

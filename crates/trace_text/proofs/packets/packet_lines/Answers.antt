@@ -1,7 +1,7 @@
 use Rattle.std.proofs.Common.{◌++◌, take}
-use Rattle.std.proofs.lemmas.List.{append-nil, take_rest}
+use Rattle.std.proofs.lemmas.List.{take_rest}
 use Rattle.slp_frames.proofs.StreamLaws.{piece_parts}
-use Rattle.trace_text.proofs.ListLaws.{shown-all, shown-feed}
+use Rattle.trace_text.proofs.ListLaws.{shown-feed}
 use Rattle.trace_text.proofs.packets.packet_lines.Goals as goal
 
 pub loop-rest-preserved : goal.loop-rest-preserved

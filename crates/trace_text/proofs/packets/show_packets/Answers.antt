@@ -1,5 +1,3 @@
-use Rattle.std.proofs.Common.{map}
-use Rattle.std.specs.Prelude.{string_bytes}
 use Rattle.std.proofs.lemmas.List.{length-map}
 use Rattle.trace_text.proofs.ListLaws.{shows_packets}
 use Rattle.trace_text.proofs.packets.show_packets.Goals as goal
