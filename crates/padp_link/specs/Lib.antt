@@ -1,3 +1,4 @@
+pub mod Arrivals
 pub mod Numbers
 pub mod FragmentText
 pub mod FragmentFaults

@@ -24,3 +24,10 @@ flags_place = 1
 
 abbrev pub size_place : ℕ
 size_place = 2
+
+-- the socket of the desktop link protocol, and the type of the packets that bear fragments (pi-slp.h)
+abbrev pub dlp_socket : ℕ
+dlp_socket = 3
+
+abbrev pub padp_type : ℕ
+padp_type = 2

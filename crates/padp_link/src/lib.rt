@@ -5,21 +5,26 @@
 //! of a fragment, and `read_fragment` takes exactly these. A `Sender` says which piece of a message
 //! waits for its acknowledgement, sends it again up to ten times, and goes on with the next one once it
 //! is acknowledged. A `Receiver` takes the pieces of the message that it waits for, in their order and
-//! each once, and lends the whole message. What pieces a message has is in `specs/Pieces.antt`.
+//! each once, and lends the whole message. `arrived` judges each packet that comes, for both ends. What pieces a
+//! message has is in `specs/Pieces.antt`.
 //!
 //! Only `Receiver::new` takes memory.
 #![tactic(auto)]
 
+mod arrival;
 mod fragment;
+mod judge;
 mod laws;
 mod piece;
 mod receiver;
 mod sender;
 
+pub use arrival::{Arrived, PACKET_TYPE, SOCKET};
 pub use fragment::{
     FIRST, Fragment, FragmentFault, HEADER_LEN, LAST, LONG_HEADER, MAX_DATA, MAX_FRAGMENT,
     MEMORY_ERROR, PadpKind, read_fragment, write_fragment,
 };
+pub use judge::arrived;
 pub use laws::{
     acknowledgement_is_a_fragment, keys_differ_in_a_session, neighbours_have_different_keys,
     pieces_are_fragments, pieces_by_number_have_different_keys, pieces_give_the_message,

@@ -6,8 +6,9 @@
 //!   2, 7 and 1,040 bytes, once for each length, into a shelf of nine; `refused H H`, of two pieces into a shelf of one;
 //!   `feed H`, `next`, `gap` and `tally` of one reader, `reader` a new one.
 //! - `shows H`, the packets in these bytes as text; `show ID H`, a packet with this body.
-//! - `fragment H`; `send ID LENGTH`, `current`, `ack ID FLAGS SIZE`, `timer` and `answered ID LENGTH` of one sender;
-//!   `expect ID`, `data ID H` and `whole` of one receiver, `receiver` a new one.
+//! - `fragment H`; `arrived DEST KIND ID H`, a packet with this body as an end judges it; `send ID LENGTH`, `current`,
+//!   `ack ID FLAGS SIZE`, `timer` and `answered ID LENGTH` of one sender; `expect ID`, `data ID H` and `whole` of one
+//!   receiver, `receiver` a new one.
 //! - `hello H`.
 #![tactic(auto)]
 

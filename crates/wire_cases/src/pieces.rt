@@ -1,7 +1,7 @@
 // Fragments, a sender and a receiver.
 use crate::{byte_of, bytes_of, number_of};
 use arrayvec::ArrayVec;
-use padp_link::{Key, PadpKind, Receiver, Sender, read_fragment, write_fragment};
+use padp_link::{Arrived, Key, PadpKind, Receiver, Sender, arrived, read_fragment, write_fragment};
 use std::alloc::{AllocError, Global};
 
 /// One sender and one receiver.
@@ -26,6 +26,7 @@ impl Pieces {
         let alloc = self.alloc;
         match words {
             ["fragment", ..] => fragment(alloc, words).map(Some),
+            ["arrived", ..] => judged(alloc, words).map(Some),
             ["send", ..] => {
                 self.sender = Sender::new();
                 self.sender.start(byte_of(words, 1), number_of(words, 2));
@@ -126,5 +127,25 @@ fn fragment(alloc: Global, words: &[&str]) -> Result<String, AllocError> {
             )
         }
         Err(fault) => format!(in alloc; "{fault:?}"),
+    }
+}
+
+// What a packet with these fields and this body is for an end.
+fn judged(alloc: Global, words: &[&str]) -> Result<String, AllocError> {
+    let body = bytes_of(alloc, words, 4);
+    match arrived(
+        byte_of(words, 1),
+        byte_of(words, 2),
+        byte_of(words, 3),
+        &body,
+    ) {
+        Arrived::Drop => String::from_str(alloc, "dropped"),
+        Arrived::Tickle => String::from_str(alloc, "tickle"),
+        Arrived::Stop => String::from_str(alloc, "stop"),
+        Arrived::Ack(key) => { format!(in alloc; "ack {} {:02x} {}", key.id, key.flags, key.size) }
+        Arrived::Data(id, fragment) => {
+            let data = hex::encode(alloc, fragment.bytes)?;
+            format!(in alloc; "data {id} {data}")
+        }
     }
 }
