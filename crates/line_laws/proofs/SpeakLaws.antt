@@ -1,0 +1,54 @@
+-- What an end says and hears over a pushed frame.
+use Rattle.std.proofs.Common.{◌≡◌, ℕ, Bool, false, List, ◌∷◌, length, sym, ap, subst, ◌∙◌, arith, inl, inr}
+use Rattle.std.proofs.lemmas.Bool.{cases_lt}
+use Rattle.padp_link.specs.declared.piece.Key.{Key}
+use Rattle.padp_link.specs.Receivers.{ReceiverValue}
+use Rattle.trace_text.specs.Past.{Course, Sent, is_end, first, data_of, said, acked, at, IsDataOf}
+use Rattle.trace_text.specs.declared.frame.End.{End}
+use Rattle.trace_text.specs.declared.frame.End.TheVariants.{Handheld, Desktop}
+use Rattle.line_laws.specs.Core.{Side, part_now, AllBear, Speaks, Hears, data_frame, ack_frame}
+use Rattle.line_laws.proofs.PastLaws.{at_all, at_push, keys_below}
+
+pub all_bear-push : (X : End) (frame : Sent) (past : List Sent) (bytes : List ℕ) → AllBear X past bytes → said X (frame ∷ past) ≡ said X past → (IsDataOf X frame → frame.bytes ≡ bytes) → AllBear X (frame ∷ past) bytes
+all_bear-push X frame past bytes all same now n found older inside here is newest = elim (cases_lt (length past) n) [
+  | inl new ↦ (let e : n ≡ length (frame ∷ past) = omega arith in
+      let all_of : frame ∷ past ≡ found ∷ older = sym (ap (λ (k : ℕ). at k (frame ∷ past)) e ∙ at_all (frame ∷ past)) ∙ here in
+      let it : frame ≡ found = cc in
+      subst (λ (f : Sent). f.bytes ≡ bytes) it (now (subst (λ (f : Sent). IsDataOf X f) (sym it) is)))
+  | inr old ↦ all n found older old (sym (at_push n frame past old) ∙ here) is (newest ∙ ap (λ (s : List Key). length s) same)
+]
+
+pub all_bear-new : (X : End) (key : Key) (frame : Sent) (past : List Sent) (bytes : List ℕ) → said X (frame ∷ past) ≡ key ∷ said X past → frame.bytes ≡ bytes → AllBear X (frame ∷ past) bytes
+all_bear-new X key frame past bytes more now n found older inside here is newest = elim (cases_lt (length past) n) [
+  | inl new ↦ (let e : n ≡ length (frame ∷ past) = omega arith in
+      let all_of : frame ∷ past ≡ found ∷ older = sym (ap (λ (k : ℕ). at k (frame ∷ past)) e ∙ at_all (frame ∷ past)) ∙ here in
+      let it : frame ≡ found = cc in
+      subst (λ (f : Sent). f.bytes ≡ bytes) it now)
+  | inr old ↦ (let below = keys_below (data_of X) n past in
+      let was : at n past ≡ found ∷ older = sym (at_push n frame past old) ∙ here in
+      absurd (omega (arith, below, newest, ap (λ (s : List Key). length s) more, ap (λ (p : List Sent). length (said X p)) was)))
+]
+
+pub speaks_push : (X : End) (frame : Sent) (past : List Sent) (fresh : Bool) (side : Side) → Speaks X past fresh side → said X (frame ∷ past) ≡ said X past → (IsDataOf X frame → frame.bytes ≡ (part_now side).bytes) → Speaks X (frame ∷ past) fresh side
+speaks_push X frame past fresh side speaks same now = record {
+  waits = speaks.waits;
+  newest = λ waits. ap first same ∙ speaks.newest waits;
+  newest_id = λ key is. speaks.newest_id key (ap first (sym same) ∙ is);
+  bytes = λ waits. all_bear-push X frame past _ (speaks.bytes waits) same now;
+}
+
+pub hears_push : (Y : End) (frame : Sent) (past : List Sent) (fresh : Bool) (side : Side) (receiver : ReceiverValue) → Hears Y past fresh side receiver → acked Y (frame ∷ past) ≡ acked Y past → Hears Y (frame ∷ past) fresh side receiver
+hears_push Y frame past fresh side receiver hears same = record { last_is = hears.last_is ∙ ap first (sym same); receives = hears.receives }
+
+-- an acknowledgement is no data
+pub ack_no_data : (X Y : End) (key : Key) (course : Course) → IsDataOf X (ack_frame Y key course) → ⊥
+ack_no_data Handheld Handheld key course is = cc
+ack_no_data Handheld Desktop key course is = cc
+ack_no_data Desktop Handheld key course is = cc
+ack_no_data Desktop Desktop key course is = cc
+
+pub data_no_other : (X Y : End) → is_end X Y ≡ false → (key : Key) (bytes : List ℕ) (course : Course) → IsDataOf X (data_frame Y key bytes course) → ⊥
+data_no_other Handheld Handheld apart key bytes course is = cc
+data_no_other Handheld Desktop apart key bytes course is = cc
+data_no_other Desktop Handheld apart key bytes course is = cc
+data_no_other Desktop Desktop apart key bytes course is = cc

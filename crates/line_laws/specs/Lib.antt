@@ -1,0 +1,7 @@
+pub mod Budget
+pub mod Core
+pub mod Hearing
+pub mod Line
+pub mod Progress
+pub mod Reaching
+pub mod Trace

@@ -1,0 +1,11 @@
+//! The line between the two ends of a HotSync, as definitions and laws: what holds of both ends and of the frames
+//! between them after every step, whatever becomes of a frame, and what follows for the trace.
+//!
+//! Each end sends one message after the other in pieces, and each piece up to ten times until it is acknowledged
+//! (pilot-link's `padp.c`); a frame comes, is lost or comes late. `specs/Line.antt` is what holds after every step, and
+//! `proofs/RunningLaws.antt` has a law for each step.
+#![tactic(auto)]
+
+mod laws;
+
+pub use laws::past_grows;
