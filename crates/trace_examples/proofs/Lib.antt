@@ -1,0 +1,4 @@
+pub mod Changed
+pub mod Losing
+pub mod Quiet
+pub mod Steps
