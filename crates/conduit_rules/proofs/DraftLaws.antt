@@ -1,14 +1,13 @@
 -- A plan in the making, below an id: each of its lists is what the definitions give below that id.
-use Rattle.std.proofs.Common.{◌≡◌, ℕ, ◌+◌, ◌≤◌, ◌<◌, ◌^◌, List, [], ◌++◌, ap, ◌∙◌, sym, arith, Option, Some, None, option_to_list, map, append_assoc, append-nil, subst, Bool, refl}
+use Rattle.std.proofs.Common.{◌≡◌, ℕ, ◌+◌, ◌≤◌, ◌<◌, ◌^◌, List, [], ◌++◌, ap, ◌∙◌, sym, arith, Option, None, option_to_list, map, append_assoc, Bool, refl}
 use Rattle.pdb_values.specs.Contents.{ContentValue}
 use Rattle.pdb_values.specs.declared.record.Record.{Record}
 use Rattle.conduit_rules.specs.ById.{id_bound, each_below, each_id, with_id}
-use Rattle.conduit_rules.specs.Choices.{Sides, sides_of, fate_for, partner_under, partner_for, loose_for}
-use Rattle.conduit_rules.specs.Drafts.{IsDraft}
+use Rattle.conduit_rules.specs.Choices.{Sides, fate_for, partner_under, partner_for, loose_for}
+use Rattle.conduit_rules.specs.Drafts.{IsDraft, Grew}
 use Rattle.conduit_rules.specs.Fates.{Fate, no_fate, fate_under}
-use Rattle.conduit_rules.specs.News.{loose, live_contents, archived_records}
+use Rattle.conduit_rules.specs.News.{live_contents, archived_records, found_in}
 use Rattle.conduit_rules.specs.Plans.{replacement, lost, purged_at}
-use Rattle.conduit_rules.specs.Searches.{least_from}
 use Rattle.conduit_rules.specs.States.{Held, nothing, Based, no_base, first, base_at}
 use Rattle.conduit_rules.specs.Views.{first_seen, view_held}
 use Rattle.conduit_rules.specs.declared.action.Action.{Action}
@@ -16,7 +15,6 @@ use Rattle.conduit_rules.specs.declared.action.Action.TheVariants.{Sync, Handhel
 use Rattle.conduit_rules.specs.declared.draft.Draft.{Draft}
 use Rattle.conduit_rules.specs.declared.view.Seen.{Seen}
 use Rattle.conduit_rules.proofs.ByIdLaws.{id_bound-is, each_below-next, each_below-gap, each_below-zero}
-use Rattle.conduit_rules.proofs.SearchLaws.{IsFrom, IsBefore, least_from-from, least_from-before}
 
 -- what each list gets from one id
 abbrev pub kept_at : Action → Sides → ℕ → List (ℕ × ContentValue)
@@ -45,21 +43,11 @@ pub record IsDraftBelow (a : Action) (s : Sides) (d : Draft) (n : ℕ) : Type 0 
   pub within : n ≤ 2 ^ 24
   pub kept : d.kept.items ≡ each_below (kept_at a s) n
   pub replace : d.replace.items ≡ each_below (replaced_at a s) n
-  pub archive : d.archive.items ≡ map (λ c. (0, c)) (loose_for a s.loose_archived) ++ each_below (archived_at a s) n
+  pub archive : d.archive.items ≡ each_below (archived_at a s) n
   pub gone : d.gone.items ≡ each_below (gone_at a s) n
   pub purge : d.purge.items ≡ each_below (purges_at a s) n
   pub partners : d.partners.items ≡ each_below (mates_at a s) n
-  pub offers : d.offers.items ≡ loose_for a s.loose_live ++ each_below (news_at a s) n
-
--- the lists with what one id gives: by what becomes of it, what the handheld holds, and whether that is new
-pub record Grew (d e : Draft) (i : ℕ) (f : Fate) (h : Held) (mate : Option ContentValue) : Type 0 where
-  pub kept : e.kept.items ≡ d.kept.items ++ with_id i f.keep
-  pub replace : e.replace.items ≡ d.replace.items ++ with_id i (replacement f.keep h)
-  pub archive : e.archive.items ≡ d.archive.items ++ map (λ c. (i, c)) f.archive
-  pub gone : e.gone.items ≡ d.gone.items ++ with_id i (lost f.keep h)
-  pub purge : e.purge.items ≡ d.purge.items ++ purged_at f.keep h i
-  pub partners : e.partners.items ≡ d.partners.items ++ option_to_list mate
-  pub offers : e.offers.items ≡ d.offers.items ++ option_to_list f.news
+  pub news : d.news.items ≡ each_below (news_at a s) n
 
 -- an id that neither the base nor the handheld has
 abbrev pub IsQuiet : Sides → ℕ → Type 0
@@ -94,11 +82,11 @@ draft-next a s d e n i was grew rising within quiet = record {
   within = omega arith;
   kept = grown (kept_at a s) n i [] d.kept.items e.kept.items was.kept grew.kept rising (λ j l r. ap (λ f. with_id j (Fate.keep f)) (quiet_fate a s j (quiet j l r)));
   replace = grown (replaced_at a s) n i [] d.replace.items e.replace.items was.replace grew.replace rising (λ j l r. ap {A = Fate × Held} (λ p. with_id j (replacement (Fate.keep p.0) p.1)) (quiet_both a s j (quiet j l r)));
-  archive = grown (archived_at a s) n i (map (λ c. (0, c)) (loose_for a s.loose_archived)) d.archive.items e.archive.items was.archive grew.archive rising (λ j l r. ap (λ f. map (λ c. (j, c)) (Fate.archive f)) (quiet_fate a s j (quiet j l r)));
+  archive = grown (archived_at a s) n i [] d.archive.items e.archive.items was.archive grew.archive rising (λ j l r. ap (λ f. map (λ c. (j, c)) (Fate.archive f)) (quiet_fate a s j (quiet j l r)));
   gone = grown (gone_at a s) n i [] d.gone.items e.gone.items was.gone grew.gone rising (λ j l r. ap {A = Fate × Held} (λ p. with_id j (lost (Fate.keep p.0) p.1)) (quiet_both a s j (quiet j l r)));
   purge = grown (purges_at a s) n i [] d.purge.items e.purge.items was.purge grew.purge rising (λ j l r. ap {A = Fate × Held} (λ p. purged_at (Fate.keep p.0) p.1 j) (quiet_both a s j (quiet j l r)));
   partners = grown (mates_at a s) n i [] d.partners.items e.partners.items was.partners grew.partners rising (λ j l r. ap option_to_list (quiet_partner a s j (quiet j l r)));
-  offers = grown (news_at a s) n i (loose_for a s.loose_live) d.offers.items e.offers.items was.offers grew.offers rising (λ j l r. ap (λ f. option_to_list (Fate.news f)) (quiet_fate a s j (quiet j l r)));
+  news = grown (news_at a s) n i [] d.news.items e.news.items was.news grew.news rising (λ j l r. ap (λ f. option_to_list (Fate.news f)) (quiet_fate a s j (quiet j l r)));
 }
 
 ended : {A : Type 0} (f : ℕ → List A) (n : ℕ) → n ≤ 2 ^ 24 → ((j : ℕ) → n ≤ j → f j ≡ []) → each_below f n ≡ each_id f
@@ -109,52 +97,41 @@ pub draft-end : (a : Action) (s : Sides) (d : Draft) (n : ℕ) → IsDraftBelow 
 draft-end a s d n was quiet = record {
   kept = was.kept ∙ ended (kept_at a s) n was.within (λ j l. ap (λ f. with_id j (Fate.keep f)) (quiet_fate a s j (quiet j l)));
   replace = was.replace ∙ ended (replaced_at a s) n was.within (λ j l. ap {A = Fate × Held} (λ p. with_id j (replacement (Fate.keep p.0) p.1)) (quiet_both a s j (quiet j l)));
-  archive = was.archive ∙ ap (λ ys. map (λ c. (0, c)) (loose_for a s.loose_archived) ++ ys) (ended (archived_at a s) n was.within (λ j l. ap (λ f. map (λ c. (j, c)) (Fate.archive f)) (quiet_fate a s j (quiet j l))));
+  archive = was.archive ∙ ended (archived_at a s) n was.within (λ j l. ap (λ f. map (λ c. (j, c)) (Fate.archive f)) (quiet_fate a s j (quiet j l)));
   gone = was.gone ∙ ended (gone_at a s) n was.within (λ j l. ap {A = Fate × Held} (λ p. with_id j (lost (Fate.keep p.0) p.1)) (quiet_both a s j (quiet j l)));
   purge = was.purge ∙ ended (purges_at a s) n was.within (λ j l. ap {A = Fate × Held} (λ p. purged_at (Fate.keep p.0) p.1 j) (quiet_both a s j (quiet j l)));
   partners = was.partners ∙ ended (mates_at a s) n was.within (λ j l. ap option_to_list (quiet_partner a s j (quiet j l)));
-  offers = was.offers ∙ ap (λ ys. loose_for a s.loose_live ++ ys) (ended (news_at a s) n was.within (λ j l. ap (λ f. option_to_list (Fate.news f)) (quiet_fate a s j (quiet j l))));
+  news = was.news ∙ ended (news_at a s) n was.within (λ j l. ap (λ f. option_to_list (Fate.news f)) (quiet_fate a s j (quiet j l)));
 }
 
-base_at-none : (base : List Record) (gone_counts : Bool) (j : ℕ) → first j base ≡ None → base_at base gone_counts j ≡ no_base
+pub base_at-none : (base : List Record) (gone_counts : Bool) (j : ℕ) → first j base ≡ None → base_at base gone_counts j ≡ no_base
 base_at-none base gone_counts j none = grind (arith, none)
 
-view_held-none : (view : List Seen) (j : ℕ) → first_seen j view ≡ None → view_held view j ≡ nothing
+pub view_held-none : (view : List Seen) (j : ℕ) → first_seen j view ≡ None → view_held view j ≡ nothing
 view_held-none view j none = grind (arith, none)
 
-abbrev pub next_of : List Seen → List Record → ℕ → Option ℕ
-next_of view base low = least_from (λ (r : Record). r.id) low (least_from (λ (s : Seen). s.id) low None view) base
-
--- an id before the next one that the view or the base has is quiet
-pub next-quiet : (view : List Seen) (rows base : List Record) (gone_counts : Bool) (low : ℕ) (j : ℕ) → low ≤ j → IsBefore j (next_of view base low) → IsQuiet (sides_of view rows base gone_counts) j
-next-quiet view rows base gone_counts low j above before =
-    let in_base = least_from-before (λ (r : Record). r.id) low (least_from (λ (s : Seen). s.id) low None view) base j above before in
-    let in_view = least_from-before (λ (s : Seen). s.id) low None view j above in_base.0 in
-    (base_at-none base gone_counts j in_base.1, view_held-none view j in_view.1)
-
-pub next-from : (view : List Seen) (base : List Record) (low : ℕ) → IsFrom low (next_of view base low)
-next-from view base low = least_from-from (λ (r : Record). r.id) low (least_from (λ (s : Seen). s.id) low None view) base (least_from-from (λ (s : Seen). s.id) low None view tt)
-
-pub next-some : (view : List Seen) (base : List Record) (low i : ℕ) → next_of view base low ≡ Some i → low ≤ i
-next-some view base low i e = subst (IsFrom low) e (next-from view base low)
-
 -- the lists before any id
-pub draft-start : (a : Action) (s : Sides) (d old : Draft) → d.kept.items ≡ [] → d.replace.items ≡ [] → old.archive.items ≡ [] → d.archive.items ≡ old.archive.items ++ map (λ c. (0, c)) (loose_for a s.loose_archived)
-    → d.gone.items ≡ [] → d.purge.items ≡ [] → d.partners.items ≡ [] → old.offers.items ≡ [] → d.offers.items ≡ old.offers.items ++ loose_for a s.loose_live → IsDraftBelow a s d 0
-draft-start a s d old kept replace no_archive archive gone purge partners no_offers offers = record {
+pub draft-start : (a : Action) (s : Sides) (d : Draft) → d.kept.items ≡ [] → d.replace.items ≡ [] → d.archive.items ≡ [] → d.gone.items ≡ [] → d.purge.items ≡ []
+    → d.partners.items ≡ [] → d.news.items ≡ [] → IsDraftBelow a s d 0
+draft-start a s d kept replace archive gone purge partners news = record {
   within = omega arith;
   kept = kept ∙ sym (each_below-zero (kept_at a s));
   replace = replace ∙ sym (each_below-zero (replaced_at a s));
-  archive = archive ∙ ap (λ xs. xs ++ map (λ c. (0, c)) (loose_for a s.loose_archived)) no_archive ∙ sym (ap (λ ys. map (λ c. (0, c)) (loose_for a s.loose_archived) ++ ys) (each_below-zero (archived_at a s)) ∙ append-nil _);
+  archive = archive ∙ sym (each_below-zero (archived_at a s));
   gone = gone ∙ sym (each_below-zero (gone_at a s));
   purge = purge ∙ sym (each_below-zero (purges_at a s));
   partners = partners ∙ sym (each_below-zero (mates_at a s));
-  offers = offers ∙ ap (λ xs. xs ++ loose_for a s.loose_live) no_offers ∙ sym (ap (λ ys. loose_for a s.loose_live ++ ys) (each_below-zero (news_at a s)) ∙ append-nil _);
+  news = news ∙ sym (each_below-zero (news_at a s));
 }
 
 -- the rows that count where they are without a base row
-pub loose_rows : (a : Action) (based : ℕ → Bool) (rows counted : List Record) → counted ≡ loose_for a rows
-    → (live_contents (loose based counted) ≡ loose_for a (live_contents (loose based rows))) × (archived_records (loose based counted) ≡ loose_for a (archived_records (loose based rows)))
-loose_rows Sync based rows counted is = (ap (λ xs. live_contents (loose based xs)) is, ap (λ xs. archived_records (loose based xs)) is)
-loose_rows Handheld based rows counted is = (ap (λ xs. live_contents (loose based xs)) is, ap (λ xs. archived_records (loose based xs)) is)
-loose_rows Desktop based rows counted is = (ap (λ xs. live_contents (loose based xs)) is, ap (λ xs. archived_records (loose based xs)) is)
+pub loose_counted : (a : Action) (slots counted : List (Option Record)) → counted ≡ loose_for a slots
+    → (live_contents (found_in counted) ≡ loose_for a (live_contents (found_in slots))) × (archived_records (found_in counted) ≡ loose_for a (archived_records (found_in slots)))
+loose_counted Sync slots counted is = (ap (λ xs. live_contents (found_in xs)) is, ap (λ xs. archived_records (found_in xs)) is)
+loose_counted Handheld slots counted is = (ap (λ xs. live_contents (found_in xs)) is, ap (λ xs. archived_records (found_in xs)) is)
+loose_counted Desktop slots counted is = (ap (λ xs. live_contents (found_in xs)) is, ap (λ xs. archived_records (found_in xs)) is)
+
+pub map-loose_for : {A B : Type 0} (a : Action) (f : A → B) (xs counted : List A) → counted ≡ loose_for a xs → map f counted ≡ loose_for a (map f xs)
+map-loose_for Sync f xs counted is = ap (map f) is
+map-loose_for Handheld f xs counted is = ap (map f) is
+map-loose_for Desktop f xs counted is = ap (map f) is

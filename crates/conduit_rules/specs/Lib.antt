@@ -4,9 +4,10 @@ pub mod Choices
 pub mod Contents
 pub mod Drafts
 pub mod Fates
+pub mod Fronts
 pub mod News
 pub mod Plans
-pub mod Searches
+pub mod Runs
 pub mod States
 pub mod Table
 pub mod Views

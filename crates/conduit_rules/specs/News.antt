@@ -1,5 +1,5 @@
 -- New records of the desktop, and how they are paired with equal new records of the handheld.
-use Rattle.std.specs.Prelude.{ℕ, Bool, false, ◌+◌, ◌-◌, if◌then◌else◌, ◌==◌, List, [], ◌∷◌, option_to_list, flat_map}
+use Rattle.std.specs.Prelude.{ℕ, Bool, false, ◌+◌, ◌-◌, if◌then◌else◌, ◌==◌, List, [], ◌∷◌, Option, Some, None, option_to_list, flat_map, slice_set as set}
 use Rattle.pdb_values.specs.Contents.{ContentValue}
 use Rattle.pdb_values.specs.declared.record.Record.{Record}
 use Rattle.conduit_rules.specs.ById.{put}
@@ -36,3 +36,12 @@ unpaired free (c ∷ rest) = if free c == 0 then c ∷ unpaired free rest else u
 abbrev pub without_first : ContentValue → List ContentValue → List ContentValue
 without_first c [] = []
 without_first c (x ∷ xs) = if same_content x c then xs else x ∷ without_first c xs
+
+-- the rows that stand at places
+abbrev pub found_in : List (Option Record) → List Record
+found_in slots = flat_map option_to_list slots
+
+-- the places with that of a row, which stands there if it is without a base row
+abbrev pub noted : Option (ℕ × Record) → Bool → List (Option Record) → List (Option Record)
+noted None is_loose slots = slots
+noted (Some e) is_loose slots = set slots e.0 (if is_loose then Some e.1 else None)

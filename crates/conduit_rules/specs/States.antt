@@ -67,9 +67,13 @@ abbrev pub based_where : Bool → Option Record → Based
 based_where gone_counts None = no_base
 based_where gone_counts (Some r) = if r.deleted then (if gone_counts then gone r.content else no_base) else row r.content
 
--- what base records have under an id: nothing under id 0, else the first record of the id decides
+-- nothing under id 0
+abbrev pub based_under : Bool → ℕ → Option Record → Based
+based_under gone_counts i r = if i == 0 then no_base else based_where gone_counts r
+
+-- what base records have under an id: the first record of the id decides
 abbrev pub base_at : List Record → Bool → ℕ → Based
-base_at base gone_counts i = if i == 0 then no_base else based_where gone_counts (first i base)
+base_at base gone_counts i = based_under gone_counts i (first i base)
 
 abbrev pub is_row : Based → Bool
 is_row no_base = false

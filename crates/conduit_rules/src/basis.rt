@@ -1,9 +1,9 @@
 // What the base has under an id.
-ghost use Rattle.std.specs.Prelude.{◌≡◌, false};
+ghost use Rattle.std.specs.Prelude.{◌≡◌, ◌||◌, not, false, nat_lt};
 ghost use Rattle.conduit_rules.specs.Borrowed.{based_of};
-ghost use Rattle.conduit_rules.specs.States.{base_at, based_where, has_row};
+ghost use Rattle.conduit_rules.specs.States.{based_under, is_row};
+ghost use Rattle.std.specs.Option.{option_map};
 
-use crate::search::find_record;
 use pdb_values::{Content, Record, RecordId};
 
 #[derive(Clone, Copy)]
@@ -14,27 +14,34 @@ pub enum Basis<'a> {
 }
 
 impl<'a> Basis<'a> {
-    // What base records have under an id. The id 0 names no row.
-    pub fn in_records(base: &'a [Record], id: RecordId, gone_counts: bool) -> Basis<'a>
-        ensures { based_of result ≡ base_at base.now gone_counts id }
+    // What the base has under an id, by the entry in front that bears it. The id 0 names no row.
+    pub fn in_front(id: RecordId, head: Option<(usize, &'a Record)>, gone_counts: bool) -> Basis<'a>
+        ensures { based_of result ≡ based_under gone_counts id (option_map (λ e. e.1.now) head.entry) }
     {
         if id.number() == 0 {
             return Basis::Nothing;
         }
-        match find_record(base, id) {
-            Some(item) if !item.deleted => Basis::Row(&item.content),
-            Some(item) if gone_counts => Basis::Gone(&item.content),
+        match head {
+            Some((_, item)) if !item.deleted => Basis::Row(&item.content),
+            Some((_, item)) if gone_counts => Basis::Gone(&item.content),
             _ => Basis::Nothing,
+        }
+    }
+
+    // Whether it is a row that isn't gone.
+    pub fn is_row(self) -> bool
+        ensures { result ≡ is_row (based_of self.entry) }
+    {
+        match self {
+            Basis::Row(_) => true,
+            Basis::Nothing | Basis::Gone(_) => false,
         }
     }
 }
 
-// Whether an id has a base row that isn't gone.
-pub fn has_base_row(base: &[Record], id: RecordId) -> bool
-    ensures { result ≡ has_row base.now id }
+// Whether a row in front is without a base row: its id came before, or the base has none.
+pub fn is_loose(id: RecordId, base: Option<(usize, &Record)>, next: u32) -> bool
+    ensures { result ≡ (nat_lt id next || not (is_row (based_under false id (option_map (λ e. e.1.now) base.entry)))) }
 {
-    match Basis::in_records(base, id, false) {
-        Basis::Row(_) => true,
-        Basis::Nothing | Basis::Gone(_) => false,
-    }
+    id.number() < next || !Basis::in_front(id, base, false).is_row()
 }

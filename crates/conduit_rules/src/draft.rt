@@ -1,23 +1,23 @@
 // A plan in the making.
-ghost use Rattle.std.specs.Prelude.{◌≡◌, ◌++◌, [], map, OnOk, IfOk, option_to_list};
+ghost use Rattle.std.specs.Prelude.{◌≡◌, ◌++◌, ◌<◌, ◌≤◌, [], map, OnOk, IfOk, option_to_list};
 ghost use Rattle.std.specs.Option.{option_copied};
-ghost use Rattle.conduit_rules.specs.Borrowed.{fate_of, held_of};
+ghost use Rattle.conduit_rules.specs.Borrowed.{based_of, fate_of, held_of};
 ghost use Rattle.conduit_rules.specs.ById.{with_id};
-ghost use Rattle.conduit_rules.specs.Choices.{Sides, sides_of};
+ghost use Rattle.conduit_rules.specs.Choices.{Sides, loose_for, partner_under};
 ghost use Rattle.conduit_rules.specs.Plans.{replacement, lost, purged_at, IsPlan};
-ghost use Rattle.conduit_rules.specs.Drafts.{IsDraft};
+ghost use Rattle.conduit_rules.specs.Drafts.{IsDraft, Grew};
+ghost use Rattle.conduit_rules.specs.Fates.{fate_under};
+ghost use Rattle.conduit_rules.specs.News.{live_contents, archived_records, found_in};
 ghost use Rattle.conduit_rules.specs.declared.action.Action.{Action};
 
 use crate::action::Action;
 use crate::basis::Basis;
 use crate::holding::Holding;
-use crate::loose::{counted_rows, sort_loose};
+use crate::loose::collect_loose;
 use crate::news::leave_unpaired;
 use crate::planned::Plan;
 use crate::rows::{push_archived, push_content, push_id, push_row};
-use crate::search::next_id;
 use crate::verdict::{Verdict, partner_of};
-use crate::view::Seen;
 use pdb_values::{Content, Record, RecordId};
 use std::alloc::{AllocError, Global};
 
@@ -30,19 +30,19 @@ pub struct Draft {
     pub gone: Vec<(RecordId, Content)>,
     pub purge: Vec<RecordId>,
     pub partners: Vec<Content>,
-    pub offers: Vec<Content>,
+    pub news: Vec<Content>,
 }
 
 impl Draft {
     // With no entries.
-    fn new(alloc: Global) -> Draft
+    pub fn new(alloc: Global) -> Draft
         ensures kept { result.kept.items ≡ [] }
         ensures replace { result.replace.items ≡ [] }
         ensures archive { result.archive.items ≡ [] }
         ensures gone { result.gone.items ≡ [] }
         ensures purge { result.purge.items ≡ [] }
         ensures partners { result.partners.items ≡ [] }
-        ensures offers { result.offers.items ≡ [] }
+        ensures news { result.news.items ≡ [] }
     {
         Draft {
             kept: Vec::new(alloc),
@@ -51,7 +51,7 @@ impl Draft {
             gone: Vec::new(alloc),
             purge: Vec::new(alloc),
             partners: Vec::new(alloc),
-            offers: Vec::new(alloc),
+            news: Vec::new(alloc),
         }
     }
 
@@ -75,8 +75,8 @@ impl Draft {
             ≡ self.old.purge.items ++ purged_at (fate_of verdict.entry).keep (held_of handheld.entry) id) }
         ensures partners { OnOk result (self.new.partners.items
             ≡ self.old.partners.items ++ option_to_list (option_copied partner.entry)) }
-        ensures offers { OnOk result (self.new.offers.items
-            ≡ self.old.offers.items ++ option_to_list (fate_of verdict.entry).news) }
+        ensures news { OnOk result (self.new.news.items
+            ≡ self.old.news.items ++ option_to_list (fate_of verdict.entry).news) }
     {
         push_row(alloc, &mut self.kept, id, verdict.keep)?;
         push_row(alloc, &mut self.replace, id, verdict.replacement(handheld))?;
@@ -84,55 +84,53 @@ impl Draft {
         push_row(alloc, &mut self.gone, id, verdict.lost(handheld))?;
         push_id(&mut self.purge, id, verdict.purges(handheld))?;
         push_content(alloc, &mut self.partners, partner)?;
-        push_content(alloc, &mut self.offers, verdict.news)?;
+        push_content(alloc, &mut self.news, verdict.news)?;
         Ok(())
     }
 
-    // The whole draft of one database: the rows without a base row, then each id that the view or the base has, in
-    // rising ids. Under every other id nothing is decided.
-    pub fn of(
+    // What becomes of an id goes to the ends of the lists, unless the id came before.
+    pub fn decide(
+        &mut self,
         alloc: Global,
-        view: &[Seen],
-        rows: &[Record],
-        base: &[Record],
-        gone_counts: bool,
         action: Action,
-    ) -> Result<Draft, AllocError>
-        ensures { IfOk result (λ draft. IsDraft action (sides_of view.now rows.now base.now gone_counts) draft) }
+        id: RecordId,
+        next: u32,
+        basis: Basis<'_>,
+        handheld: Holding<'_>,
+        desktop: Holding<'_>,
+    ) -> Result<(), AllocError>
+        ensures grows { OnOk result (next ≤ id → Grew self.old self.new id
+            (fate_under action (based_of basis.entry) (held_of handheld.entry) (held_of desktop.entry)) (held_of handheld.entry)
+            (partner_under action (based_of basis.entry) (held_of handheld.entry))) }
+        ensures stays { id < next → self.new ≡ self.old }
     {
-        let mut draft = Draft::new(alloc);
-        sort_loose(
-            alloc,
-            counted_rows(action, rows),
-            base,
-            &mut draft.offers,
-            &mut draft.archive,
-        )?;
-        let mut next = 0;
-        while let Some(id) = next_id(view, base, next) {
-            let basis = Basis::in_records(base, id, gone_counts);
-            let handheld = Holding::in_view(view, id);
-            let desktop = Holding::in_records(rows, id);
-            let verdict = Verdict::of(action, basis, handheld, desktop);
-            let partner = partner_of(action, basis, handheld);
-            draft.take_up(alloc, id, verdict, handheld, partner)?;
-            next = id.number() + 1;
+        if id.number() < next {
+            return Ok(());
         }
-        Ok(draft)
+        let verdict = Verdict::of(action, basis, handheld, desktop);
+        let partner = partner_of(action, basis, handheld);
+        self.take_up(alloc, id, verdict, handheld, partner)
     }
-    // The plan of the database that this is the draft of.
-    pub fn finished(self, alloc: Global) -> Result<Plan, AllocError>
-        ensures { (a : Action) (s : Sides) → IsDraft a s self → IfOk result (λ plan. IsPlan a s plan) }
+
+    // The plan of the database that this is the draft of, with its rows without a base row at their places.
+    pub fn finished(self, alloc: Global, slots: &[Option<&Record>]) -> Result<Plan, AllocError>
+        ensures { (a : Action) (s : Sides) → IsDraft a s self → live_contents (found_in (map option_copied slots.now)) ≡ loose_for a s.loose_live
+            → archived_records (found_in (map option_copied slots.now)) ≡ loose_for a s.loose_archived → IfOk result (λ plan. IsPlan a s plan) }
     {
         let Draft {
             kept,
             replace,
-            archive,
+            archive: mut known,
             gone,
             purge,
             partners,
-            offers,
+            mut news,
         } = self;
+        let mut offers = Vec::new(alloc);
+        let mut archive = Vec::new(alloc);
+        collect_loose(alloc, slots, &mut offers, &mut archive)?;
+        offers.append(&mut news)?;
+        archive.append(&mut known)?;
         Ok(Plan {
             kept,
             replace,

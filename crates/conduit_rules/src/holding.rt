@@ -1,15 +1,14 @@
 // What a side holds under an id.
 ghost use Rattle.std.specs.Prelude.{◌≡◌};
-ghost use Rattle.std.specs.Option.{option_copied};
+ghost use Rattle.std.specs.Option.{option_copied, option_map};
 ghost use Rattle.conduit_rules.specs.Borrowed.{held_of};
-ghost use Rattle.conduit_rules.specs.States.{record_held, live_of, archived_of, content_of, state, equal_contents, held};
+ghost use Rattle.conduit_rules.specs.States.{record_held, live_of, archived_of, content_of, state, equal_contents, held_where};
 ghost use Rattle.conduit_rules.specs.Contents.{same_content};
-ghost use Rattle.conduit_rules.specs.Views.{held_as, view_held};
+ghost use Rattle.conduit_rules.specs.Views.{held_as, seen_where};
 
-use crate::search::{find_record, find_seen};
 use crate::table::Side;
 use crate::view::{Seen, SeenState};
-use pdb_values::{Content, Kind, Record, RecordId};
+use pdb_values::{Content, Kind, Record};
 
 // A record that is deleted without leave to archive it is nothing.
 #[derive(Clone, Copy)]
@@ -42,22 +41,22 @@ impl<'a> Holding<'a> {
         }
     }
 
-    // What a side's records hold under an id.
-    pub fn in_records(records: &'a [Record], id: RecordId) -> Holding<'a>
-        ensures { held_of result ≡ held records.now id }
+    // What the view shows in front.
+    pub fn seen_in(head: Option<(usize, &'a Seen)>) -> Holding<'a>
+        ensures { held_of result ≡ seen_where (option_map (λ e. e.1.now) head.entry) }
     {
-        match find_record(records, id) {
-            Some(item) => Holding::of_record(item),
+        match head {
+            Some((_, seen)) => Holding::of_seen(seen),
             None => Holding::Nothing,
         }
     }
 
-    // What a view shows under an id.
-    pub fn in_view(view: &'a [Seen], id: RecordId) -> Holding<'a>
-        ensures { held_of result ≡ view_held view.now id }
+    // What the desktop's rows hold in front.
+    pub fn row_in(head: Option<(usize, &'a Record)>) -> Holding<'a>
+        ensures { held_of result ≡ held_where (option_map (λ e. e.1.now) head.entry) }
     {
-        match find_seen(view, id) {
-            Some(seen) => Holding::of_seen(seen),
+        match head {
+            Some((_, item)) => Holding::of_record(item),
             None => Holding::Nothing,
         }
     }

@@ -10,19 +10,25 @@
 mod action;
 mod basis;
 mod draft;
+mod front;
+mod has_id;
 mod holding;
 mod loose;
 mod news;
 mod planned;
 mod planner;
 mod rows;
-mod search;
+mod run;
+mod steps;
 mod table;
 mod verdict;
 mod view;
 
 pub use action::Action;
+pub use has_id::HasId;
 pub use planned::Plan;
-pub use planner::plan;
+pub use planner::{plan, plan_counted};
+pub use run::Run;
+pub use steps::Steps;
 pub use table::{Archive, Keep, Outcome, Side, decide};
 pub use view::{Seen, SeenState, View};

@@ -1,14 +1,24 @@
 // The plan of one database.
-ghost use Rattle.std.specs.Prelude.{IfOk};
+ghost use Rattle.std.specs.Prelude.{◌≡◌, ◌≤◌, ◌<◌, ◌+◌, ◌*◌, IfOk, length};
 ghost use Rattle.conduit_rules.specs.Choices.{sides_of};
+ghost use Rattle.conduit_rules.specs.Fronts.{seen_id, record_id};
 ghost use Rattle.conduit_rules.specs.Plans.{IsPlan};
+ghost use Rattle.conduit_rules.specs.Runs.{IsFresh};
 
 use crate::action::Action;
+use crate::basis::{Basis, is_loose};
 use crate::draft::Draft;
+use crate::front::Front;
+use crate::holding::Holding;
+use crate::loose::{counted, empty_slots, note_row};
 use crate::planned::Plan;
-use crate::view::View;
+use crate::run::Run;
+use crate::steps::Steps;
+use crate::view::{Seen, View};
 use pdb_values::Record;
 use std::alloc::{AllocError, Global};
+use std::marker::Brand;
+use std::sync::ledger::{Blank, Ledger};
 
 /// The plan for a handheld's view, the desktop's rows and the base rows of the last synchronisation, by an action.
 ///
@@ -30,5 +40,70 @@ pub fn plan(
 ) -> Result<Plan, AllocError>
     ensures { IfOk result (λ plan. IsPlan action (sides_of view.now.seen.items rows.now base.now gone_counts) plan) }
 {
-    Draft::of(alloc, &view.seen, rows, base, gone_counts, action)?.finished(alloc)
+    let view = Run::new(alloc, &view.seen)?;
+    let rows = Run::new(alloc, rows)?;
+    let base = Run::new(alloc, base)?;
+    plan_uncounted::<Brand>(alloc, view, rows, base, gone_counts, action, Blank::new(1))
+}
+
+/// The same in one pass over the three lists. Each look at what is in front of one and each move along one is a step,
+/// and there are at most `4 * (v + r + b) + 3`, where v, r and b are the lengths of the lists.
+pub fn plan_counted<'a, L: Ledger>(
+    alloc: Global,
+    mut view: Run<'a, Seen>,
+    mut rows: Run<'a, Record>,
+    mut base: Run<'a, Record>,
+    gone_counts: bool,
+    action: Action,
+    steps: &mut Steps<L>,
+) -> Result<Plan, AllocError>
+    requires view { IsFresh seen_id view }
+    requires rows { IsFresh record_id rows }
+    requires base { IsFresh record_id base }
+    ensures plan { IfOk result (λ plan. IsPlan action (sides_of view.entry.list rows.entry.list base.entry.list gone_counts) plan) }
+    ensures bound { steps.new ≤ steps.old + (4 * (length view.entry.list + length rows.entry.list + length base.entry.list) + 3) }
+{
+    let mut draft = Draft::new(alloc);
+    let mut slots = empty_slots(alloc, rows.len())?;
+    let mut next = 0;
+    while let Some(front) = Front::of(&view, &rows, &base, steps) {
+        let Front {
+            id,
+            seen,
+            row,
+            base: old,
+        } = front;
+        let basis = Basis::in_front(id, old, gone_counts);
+        let handheld = Holding::seen_in(seen);
+        let desktop = Holding::row_in(row);
+        draft.decide(alloc, action, id, next, basis, handheld, desktop)?;
+        note_row(&mut slots, row, is_loose(id, old, next));
+        view.pass(seen.is_some(), steps);
+        rows.pass(row.is_some(), steps);
+        base.pass(old.is_some(), steps);
+        next = next.max(id.number() + 1);
+    }
+    draft.finished(alloc, counted(action, &slots))
+}
+
+// The same, with steps that no one looks at.
+fn plan_uncounted<'a, L: Ledger>(
+    alloc: Global,
+    view: Run<'a, Seen>,
+    rows: Run<'a, Record>,
+    base: Run<'a, Record>,
+    gone_counts: bool,
+    action: Action,
+    blank: Blank,
+) -> Result<Plan, AllocError>
+    requires view { IsFresh seen_id view }
+    requires rows { IsFresh record_id rows }
+    requires base { IsFresh record_id base }
+    requires name { blank.name ≡ L.name }
+    requires parts { blank.parts ≡ L.parts }
+    requires some { 0 < blank.parts }
+    ensures { IfOk result (λ plan. IsPlan action (sides_of view.entry.list rows.entry.list base.entry.list gone_counts) plan) }
+{
+    let mut steps: Steps<L> = Steps::new(blank);
+    plan_counted(alloc, view, rows, base, gone_counts, action, &mut steps)
 }
