@@ -1,4 +1,5 @@
 pub mod Budget
+pub mod Came
 pub mod Core
 pub mod Hearing
 pub mod Line

@@ -9,7 +9,7 @@ use Rattle.trace_text.specs.declared.frame.End.TheVariants.{Handheld, Desktop}
 use Rattle.trace_text.specs.Past.{Came, Gone, Sent}
 use Rattle.trace_text.specs.Faults.{RepeatsHaveFaults}
 use Rattle.trace_text.specs.Frames.{BearsFragment, past_of}
-use Rattle.trace_text.specs.Proper.{AreNumbered, ComeInOrder, Reaches, IsKnown, EndReached, BeginInTurn, AtMostTen, SaysMessages, DataIsAcked, SpeaksProperly, IsProper}
+use Rattle.trace_text.specs.Proper.{AreNumbered, ComeInOrder, Reaches, IsKnown, EndReached, BeginInTurn, AtMostTen, SaysMessages, DataIsAcked, AcksAreFor, Numbered, SpeaksProperly, IsProper}
 use Rattle.trace_examples.specs.Examples.{talk, losing, losing_frames}
 use Rattle.trace_examples.proofs.Steps.{no, never_held, no_repeat, one_repeat, answers_at, first_message}
 
@@ -943,30 +943,128 @@ begins_H_30 = (λ d r. (λ some. known_30, answers_at Handheld came p29 6 refl e
 begins_H_31 : BeginInTurn Handheld Desktop talk came p31
 begins_H_31 = (λ d r. no d, begins_H_30)
 
+abbrev d_H_0 : List Numbered
+d_H_0 = []
+
+abbrev d_H_1 : List Numbered
+d_H_1 = record { number = 1; key = s1.key } ∷ d_H_0
+
+abbrev d_H_2 : List Numbered
+d_H_2 = record { number = 9; key = s9.key } ∷ d_H_1
+
+abbrev d_H_3 : List Numbered
+d_H_3 = record { number = 14; key = s14.key } ∷ d_H_2
+
+abbrev d_H_4 : List Numbered
+d_H_4 = record { number = 18; key = s18.key } ∷ d_H_3
+
+abbrev d_H_5 : List Numbered
+d_H_5 = record { number = 22; key = s22.key } ∷ d_H_4
+
+abbrev d_H_6 : List Numbered
+d_H_6 = record { number = 26; key = s26.key } ∷ d_H_5
+
+abbrev d_H_7 : List Numbered
+d_H_7 = record { number = 30; key = s30.key } ∷ d_H_6
+
+acks_H_0 : AcksAreFor Desktop came p0 d_H_0
+acks_H_0 = refl
+
+acks_H_1 : AcksAreFor Desktop came p1 d_H_0
+acks_H_1 = acks_H_0
+
+acks_H_2 : AcksAreFor Desktop came p2 d_H_1
+acks_H_2 = (record { number = 1; key = s1.key }, d_H_0, refl, refl, record { frame = s1; older = p0; inside = lit≤ tt; here = refl; comes = refl; free = never_held Handheld 1 p1 (lit≤ tt) refl }, acks_H_1)
+
+acks_H_3 : AcksAreFor Desktop came p3 d_H_1
+acks_H_3 = acks_H_2
+
+acks_H_4 : AcksAreFor Desktop came p4 d_H_1
+acks_H_4 = acks_H_3
+
+acks_H_5 : AcksAreFor Desktop came p5 d_H_1
+acks_H_5 = acks_H_4
+
+acks_H_6 : AcksAreFor Desktop came p6 d_H_1
+acks_H_6 = acks_H_5
+
+acks_H_7 : AcksAreFor Desktop came p7 d_H_1
+acks_H_7 = acks_H_6
+
+acks_H_8 : AcksAreFor Desktop came p8 d_H_1
+acks_H_8 = acks_H_7
+
+acks_H_9 : AcksAreFor Desktop came p9 d_H_1
+acks_H_9 = acks_H_8
+
+acks_H_10 : AcksAreFor Desktop came p10 d_H_1
+acks_H_10 = acks_H_9
+
+acks_H_11 : AcksAreFor Desktop came p11 d_H_2
+acks_H_11 = (record { number = 9; key = s9.key }, d_H_1, refl, refl, record { frame = s9; older = p8; inside = lit≤ tt; here = refl; comes = refl; free = never_held Handheld 9 p10 (lit≤ tt) refl }, acks_H_10)
+
+acks_H_12 : AcksAreFor Desktop came p12 d_H_2
+acks_H_12 = acks_H_11
+
+acks_H_13 : AcksAreFor Desktop came p13 d_H_2
+acks_H_13 = acks_H_12
+
+acks_H_14 : AcksAreFor Desktop came p14 d_H_2
+acks_H_14 = acks_H_13
+
+acks_H_15 : AcksAreFor Desktop came p15 d_H_3
+acks_H_15 = (record { number = 14; key = s14.key }, d_H_2, refl, refl, record { frame = s14; older = p13; inside = lit≤ tt; here = refl; comes = refl; free = never_held Handheld 14 p14 (lit≤ tt) refl }, acks_H_14)
+
+acks_H_16 : AcksAreFor Desktop came p16 d_H_3
+acks_H_16 = acks_H_15
+
+acks_H_17 : AcksAreFor Desktop came p17 d_H_3
+acks_H_17 = acks_H_16
+
+acks_H_18 : AcksAreFor Desktop came p18 d_H_3
+acks_H_18 = acks_H_17
+
+acks_H_19 : AcksAreFor Desktop came p19 d_H_4
+acks_H_19 = (record { number = 18; key = s18.key }, d_H_3, refl, refl, record { frame = s18; older = p17; inside = lit≤ tt; here = refl; comes = refl; free = never_held Handheld 18 p18 (lit≤ tt) refl }, acks_H_18)
+
+acks_H_20 : AcksAreFor Desktop came p20 d_H_4
+acks_H_20 = acks_H_19
+
+acks_H_21 : AcksAreFor Desktop came p21 d_H_4
+acks_H_21 = acks_H_20
+
+acks_H_22 : AcksAreFor Desktop came p22 d_H_4
+acks_H_22 = acks_H_21
+
+acks_H_23 : AcksAreFor Desktop came p23 d_H_5
+acks_H_23 = (record { number = 22; key = s22.key }, d_H_4, refl, refl, record { frame = s22; older = p21; inside = lit≤ tt; here = refl; comes = refl; free = never_held Handheld 22 p22 (lit≤ tt) refl }, acks_H_22)
+
+acks_H_24 : AcksAreFor Desktop came p24 d_H_5
+acks_H_24 = acks_H_23
+
+acks_H_25 : AcksAreFor Desktop came p25 d_H_5
+acks_H_25 = acks_H_24
+
+acks_H_26 : AcksAreFor Desktop came p26 d_H_5
+acks_H_26 = acks_H_25
+
+acks_H_27 : AcksAreFor Desktop came p27 d_H_6
+acks_H_27 = (record { number = 26; key = s26.key }, d_H_5, refl, refl, record { frame = s26; older = p25; inside = lit≤ tt; here = refl; comes = refl; free = never_held Handheld 26 p26 (lit≤ tt) refl }, acks_H_26)
+
+acks_H_28 : AcksAreFor Desktop came p28 d_H_6
+acks_H_28 = acks_H_27
+
+acks_H_29 : AcksAreFor Desktop came p29 d_H_6
+acks_H_29 = acks_H_28
+
+acks_H_30 : AcksAreFor Desktop came p30 d_H_6
+acks_H_30 = acks_H_29
+
+acks_H_31 : AcksAreFor Desktop came p31 d_H_7
+acks_H_31 = (record { number = 30; key = s30.key }, d_H_6, refl, refl, record { frame = s30; older = p29; inside = lit≤ tt; here = refl; comes = refl; free = never_held Handheld 30 p30 (lit≤ tt) refl }, acks_H_30)
+
 acked_H : DataIsAcked Handheld Desktop came p31
-acked_H =
-    inl (
-      record { key_is = refl; reaches = record { frame = s30; older = p29; inside = lit≤ tt; here = refl; comes = refl; free = never_held Handheld 30 p30 (lit≤ tt) refl } },
-      (
-        record { key_is = refl; reaches = record { frame = s26; older = p25; inside = lit≤ tt; here = refl; comes = refl; free = never_held Handheld 26 p26 (lit≤ tt) refl } },
-        (
-          record { key_is = refl; reaches = record { frame = s22; older = p21; inside = lit≤ tt; here = refl; comes = refl; free = never_held Handheld 22 p22 (lit≤ tt) refl } },
-          (
-            record { key_is = refl; reaches = record { frame = s18; older = p17; inside = lit≤ tt; here = refl; comes = refl; free = never_held Handheld 18 p18 (lit≤ tt) refl } },
-            (
-              record { key_is = refl; reaches = record { frame = s14; older = p13; inside = lit≤ tt; here = refl; comes = refl; free = never_held Handheld 14 p14 (lit≤ tt) refl } },
-              (
-                record { key_is = refl; reaches = record { frame = s9; older = p8; inside = lit≤ tt; here = refl; comes = refl; free = never_held Handheld 9 p10 (lit≤ tt) refl } },
-                (
-                  record { key_is = refl; reaches = record { frame = s1; older = p0; inside = lit≤ tt; here = refl; comes = refl; free = never_held Handheld 1 p1 (lit≤ tt) refl } },
-                  tt,
-                ),
-              ),
-            ),
-          ),
-        ),
-      ),
-    )
+acked_H = inl acks_H_31
 
 speaks_H : SpeaksProperly Handheld Desktop talk came p31
 speaks_H = record { says = says_H; ten = ten_H_31; begins = begins_H_31; acked = acked_H }
@@ -1231,33 +1329,131 @@ begins_D_30 = (λ d r. no d, begins_D_29)
 begins_D_31 : BeginInTurn Desktop Handheld talk came p31
 begins_D_31 = (λ d r. no d, begins_D_30)
 
+abbrev d_D_0 : List Numbered
+d_D_0 = []
+
+abbrev d_D_1 : List Numbered
+d_D_1 = record { number = 3; key = s3.key } ∷ d_D_0
+
+abbrev d_D_2 : List Numbered
+d_D_2 = record { number = 5; key = s5.key } ∷ d_D_1
+
+abbrev d_D_3 : List Numbered
+d_D_3 = record { number = 8; key = s8.key } ∷ d_D_2
+
+abbrev d_D_4 : List Numbered
+d_D_4 = record { number = 12; key = s12.key } ∷ d_D_3
+
+abbrev d_D_5 : List Numbered
+d_D_5 = record { number = 16; key = s16.key } ∷ d_D_4
+
+abbrev d_D_6 : List Numbered
+d_D_6 = record { number = 20; key = s20.key } ∷ d_D_5
+
+abbrev d_D_7 : List Numbered
+d_D_7 = record { number = 24; key = s24.key } ∷ d_D_6
+
+abbrev d_D_8 : List Numbered
+d_D_8 = record { number = 28; key = s28.key } ∷ d_D_7
+
+acks_D_0 : AcksAreFor Handheld came p0 d_D_0
+acks_D_0 = refl
+
+acks_D_1 : AcksAreFor Handheld came p1 d_D_0
+acks_D_1 = acks_D_0
+
+acks_D_2 : AcksAreFor Handheld came p2 d_D_0
+acks_D_2 = acks_D_1
+
+acks_D_3 : AcksAreFor Handheld came p3 d_D_0
+acks_D_3 = acks_D_2
+
+acks_D_4 : AcksAreFor Handheld came p4 d_D_1
+acks_D_4 = (record { number = 3; key = s3.key }, d_D_0, refl, refl, record { frame = s3; older = p2; inside = lit≤ tt; here = refl; comes = refl; free = never_held Desktop 3 p3 (lit≤ tt) refl }, acks_D_3)
+
+acks_D_5 : AcksAreFor Handheld came p5 d_D_1
+acks_D_5 = acks_D_4
+
+acks_D_6 : AcksAreFor Handheld came p6 d_D_2
+acks_D_6 = (record { number = 5; key = s5.key }, d_D_1, refl, refl, record { frame = s5; older = p4; inside = lit≤ tt; here = refl; comes = refl; free = never_held Desktop 5 p5 (lit≤ tt) refl }, acks_D_5)
+
+acks_D_7 : AcksAreFor Handheld came p7 d_D_2
+acks_D_7 = acks_D_6
+
+acks_D_8 : AcksAreFor Handheld came p8 d_D_2
+acks_D_8 = acks_D_7
+
+acks_D_9 : AcksAreFor Handheld came p9 d_D_2
+acks_D_9 = acks_D_8
+
+acks_D_10 : AcksAreFor Handheld came p10 d_D_3
+acks_D_10 = (record { number = 8; key = s8.key }, d_D_2, refl, refl, record { frame = s8; older = p7; inside = lit≤ tt; here = refl; comes = refl; free = never_held Desktop 8 p9 (lit≤ tt) refl }, acks_D_9)
+
+acks_D_11 : AcksAreFor Handheld came p11 d_D_3
+acks_D_11 = acks_D_10
+
+acks_D_12 : AcksAreFor Handheld came p12 d_D_3
+acks_D_12 = acks_D_11
+
+acks_D_13 : AcksAreFor Handheld came p13 d_D_4
+acks_D_13 = (record { number = 12; key = s12.key }, d_D_3, refl, refl, record { frame = s12; older = p11; inside = lit≤ tt; here = refl; comes = refl; free = never_held Desktop 12 p12 (lit≤ tt) refl }, acks_D_12)
+
+acks_D_14 : AcksAreFor Handheld came p14 d_D_4
+acks_D_14 = acks_D_13
+
+acks_D_15 : AcksAreFor Handheld came p15 d_D_4
+acks_D_15 = acks_D_14
+
+acks_D_16 : AcksAreFor Handheld came p16 d_D_4
+acks_D_16 = acks_D_15
+
+acks_D_17 : AcksAreFor Handheld came p17 d_D_5
+acks_D_17 = (record { number = 16; key = s16.key }, d_D_4, refl, refl, record { frame = s16; older = p15; inside = lit≤ tt; here = refl; comes = refl; free = never_held Desktop 16 p16 (lit≤ tt) refl }, acks_D_16)
+
+acks_D_18 : AcksAreFor Handheld came p18 d_D_5
+acks_D_18 = acks_D_17
+
+acks_D_19 : AcksAreFor Handheld came p19 d_D_5
+acks_D_19 = acks_D_18
+
+acks_D_20 : AcksAreFor Handheld came p20 d_D_5
+acks_D_20 = acks_D_19
+
+acks_D_21 : AcksAreFor Handheld came p21 d_D_6
+acks_D_21 = (record { number = 20; key = s20.key }, d_D_5, refl, refl, record { frame = s20; older = p19; inside = lit≤ tt; here = refl; comes = refl; free = never_held Desktop 20 p20 (lit≤ tt) refl }, acks_D_20)
+
+acks_D_22 : AcksAreFor Handheld came p22 d_D_6
+acks_D_22 = acks_D_21
+
+acks_D_23 : AcksAreFor Handheld came p23 d_D_6
+acks_D_23 = acks_D_22
+
+acks_D_24 : AcksAreFor Handheld came p24 d_D_6
+acks_D_24 = acks_D_23
+
+acks_D_25 : AcksAreFor Handheld came p25 d_D_7
+acks_D_25 = (record { number = 24; key = s24.key }, d_D_6, refl, refl, record { frame = s24; older = p23; inside = lit≤ tt; here = refl; comes = refl; free = never_held Desktop 24 p24 (lit≤ tt) refl }, acks_D_24)
+
+acks_D_26 : AcksAreFor Handheld came p26 d_D_7
+acks_D_26 = acks_D_25
+
+acks_D_27 : AcksAreFor Handheld came p27 d_D_7
+acks_D_27 = acks_D_26
+
+acks_D_28 : AcksAreFor Handheld came p28 d_D_7
+acks_D_28 = acks_D_27
+
+acks_D_29 : AcksAreFor Handheld came p29 d_D_8
+acks_D_29 = (record { number = 28; key = s28.key }, d_D_7, refl, refl, record { frame = s28; older = p27; inside = lit≤ tt; here = refl; comes = refl; free = never_held Desktop 28 p28 (lit≤ tt) refl }, acks_D_28)
+
+acks_D_30 : AcksAreFor Handheld came p30 d_D_8
+acks_D_30 = acks_D_29
+
+acks_D_31 : AcksAreFor Handheld came p31 d_D_8
+acks_D_31 = acks_D_30
+
 acked_D : DataIsAcked Desktop Handheld came p31
-acked_D =
-    inl (
-      record { key_is = refl; reaches = record { frame = s28; older = p27; inside = lit≤ tt; here = refl; comes = refl; free = never_held Desktop 28 p28 (lit≤ tt) refl } },
-      (
-        record { key_is = refl; reaches = record { frame = s24; older = p23; inside = lit≤ tt; here = refl; comes = refl; free = never_held Desktop 24 p24 (lit≤ tt) refl } },
-        (
-          record { key_is = refl; reaches = record { frame = s20; older = p19; inside = lit≤ tt; here = refl; comes = refl; free = never_held Desktop 20 p20 (lit≤ tt) refl } },
-          (
-            record { key_is = refl; reaches = record { frame = s16; older = p15; inside = lit≤ tt; here = refl; comes = refl; free = never_held Desktop 16 p16 (lit≤ tt) refl } },
-            (
-              record { key_is = refl; reaches = record { frame = s12; older = p11; inside = lit≤ tt; here = refl; comes = refl; free = never_held Desktop 12 p12 (lit≤ tt) refl } },
-              (
-                record { key_is = refl; reaches = record { frame = s8; older = p7; inside = lit≤ tt; here = refl; comes = refl; free = never_held Desktop 8 p9 (lit≤ tt) refl } },
-                (
-                  record { key_is = refl; reaches = record { frame = s5; older = p4; inside = lit≤ tt; here = refl; comes = refl; free = never_held Desktop 5 p5 (lit≤ tt) refl } },
-                  (
-                    record { key_is = refl; reaches = record { frame = s3; older = p2; inside = lit≤ tt; here = refl; comes = refl; free = never_held Desktop 3 p3 (lit≤ tt) refl } },
-                    tt,
-                  ),
-                ),
-              ),
-            ),
-          ),
-        ),
-      ),
-    )
+acked_D = inl acks_D_31
 
 speaks_D : SpeaksProperly Desktop Handheld talk came p31
 speaks_D = record { says = says_D; ten = ten_D_31; begins = begins_D_31; acked = acked_D }

@@ -9,7 +9,7 @@ use Rattle.trace_text.specs.declared.frame.End.TheVariants.{Handheld, Desktop}
 use Rattle.trace_text.specs.Past.{Came, Sent}
 use Rattle.trace_text.specs.Faults.{RepeatsHaveFaults}
 use Rattle.trace_text.specs.Frames.{BearsFragment, past_of}
-use Rattle.trace_text.specs.Proper.{AreNumbered, ComeInOrder, Reaches, IsKnown, EndReached, BeginInTurn, AtMostTen, SaysMessages, DataIsAcked, SpeaksProperly, IsProper}
+use Rattle.trace_text.specs.Proper.{AreNumbered, ComeInOrder, Reaches, IsKnown, EndReached, BeginInTurn, AtMostTen, SaysMessages, DataIsAcked, AcksAreFor, Numbered, SpeaksProperly, IsProper}
 use Rattle.trace_examples.specs.Examples.{talk, quiet, quiet_frames}
 use Rattle.trace_examples.proofs.Steps.{no, never_held, no_repeat, answers_at, first_message}
 
@@ -862,30 +862,119 @@ begins_H_27 = (λ d r. (λ some. known_27, answers_at Handheld came p26 6 refl e
 begins_H_28 : BeginInTurn Handheld Desktop talk came p28
 begins_H_28 = (λ d r. no d, begins_H_27)
 
+abbrev d_H_0 : List Numbered
+d_H_0 = []
+
+abbrev d_H_1 : List Numbered
+d_H_1 = record { number = 1; key = s1.key } ∷ d_H_0
+
+abbrev d_H_2 : List Numbered
+d_H_2 = record { number = 7; key = s7.key } ∷ d_H_1
+
+abbrev d_H_3 : List Numbered
+d_H_3 = record { number = 11; key = s11.key } ∷ d_H_2
+
+abbrev d_H_4 : List Numbered
+d_H_4 = record { number = 15; key = s15.key } ∷ d_H_3
+
+abbrev d_H_5 : List Numbered
+d_H_5 = record { number = 19; key = s19.key } ∷ d_H_4
+
+abbrev d_H_6 : List Numbered
+d_H_6 = record { number = 23; key = s23.key } ∷ d_H_5
+
+abbrev d_H_7 : List Numbered
+d_H_7 = record { number = 27; key = s27.key } ∷ d_H_6
+
+acks_H_0 : AcksAreFor Desktop came p0 d_H_0
+acks_H_0 = refl
+
+acks_H_1 : AcksAreFor Desktop came p1 d_H_0
+acks_H_1 = acks_H_0
+
+acks_H_2 : AcksAreFor Desktop came p2 d_H_1
+acks_H_2 = (record { number = 1; key = s1.key }, d_H_0, refl, refl, record { frame = s1; older = p0; inside = lit≤ tt; here = refl; comes = refl; free = never_held Handheld 1 p1 (lit≤ tt) refl }, acks_H_1)
+
+acks_H_3 : AcksAreFor Desktop came p3 d_H_1
+acks_H_3 = acks_H_2
+
+acks_H_4 : AcksAreFor Desktop came p4 d_H_1
+acks_H_4 = acks_H_3
+
+acks_H_5 : AcksAreFor Desktop came p5 d_H_1
+acks_H_5 = acks_H_4
+
+acks_H_6 : AcksAreFor Desktop came p6 d_H_1
+acks_H_6 = acks_H_5
+
+acks_H_7 : AcksAreFor Desktop came p7 d_H_1
+acks_H_7 = acks_H_6
+
+acks_H_8 : AcksAreFor Desktop came p8 d_H_2
+acks_H_8 = (record { number = 7; key = s7.key }, d_H_1, refl, refl, record { frame = s7; older = p6; inside = lit≤ tt; here = refl; comes = refl; free = never_held Handheld 7 p7 (lit≤ tt) refl }, acks_H_7)
+
+acks_H_9 : AcksAreFor Desktop came p9 d_H_2
+acks_H_9 = acks_H_8
+
+acks_H_10 : AcksAreFor Desktop came p10 d_H_2
+acks_H_10 = acks_H_9
+
+acks_H_11 : AcksAreFor Desktop came p11 d_H_2
+acks_H_11 = acks_H_10
+
+acks_H_12 : AcksAreFor Desktop came p12 d_H_3
+acks_H_12 = (record { number = 11; key = s11.key }, d_H_2, refl, refl, record { frame = s11; older = p10; inside = lit≤ tt; here = refl; comes = refl; free = never_held Handheld 11 p11 (lit≤ tt) refl }, acks_H_11)
+
+acks_H_13 : AcksAreFor Desktop came p13 d_H_3
+acks_H_13 = acks_H_12
+
+acks_H_14 : AcksAreFor Desktop came p14 d_H_3
+acks_H_14 = acks_H_13
+
+acks_H_15 : AcksAreFor Desktop came p15 d_H_3
+acks_H_15 = acks_H_14
+
+acks_H_16 : AcksAreFor Desktop came p16 d_H_4
+acks_H_16 = (record { number = 15; key = s15.key }, d_H_3, refl, refl, record { frame = s15; older = p14; inside = lit≤ tt; here = refl; comes = refl; free = never_held Handheld 15 p15 (lit≤ tt) refl }, acks_H_15)
+
+acks_H_17 : AcksAreFor Desktop came p17 d_H_4
+acks_H_17 = acks_H_16
+
+acks_H_18 : AcksAreFor Desktop came p18 d_H_4
+acks_H_18 = acks_H_17
+
+acks_H_19 : AcksAreFor Desktop came p19 d_H_4
+acks_H_19 = acks_H_18
+
+acks_H_20 : AcksAreFor Desktop came p20 d_H_5
+acks_H_20 = (record { number = 19; key = s19.key }, d_H_4, refl, refl, record { frame = s19; older = p18; inside = lit≤ tt; here = refl; comes = refl; free = never_held Handheld 19 p19 (lit≤ tt) refl }, acks_H_19)
+
+acks_H_21 : AcksAreFor Desktop came p21 d_H_5
+acks_H_21 = acks_H_20
+
+acks_H_22 : AcksAreFor Desktop came p22 d_H_5
+acks_H_22 = acks_H_21
+
+acks_H_23 : AcksAreFor Desktop came p23 d_H_5
+acks_H_23 = acks_H_22
+
+acks_H_24 : AcksAreFor Desktop came p24 d_H_6
+acks_H_24 = (record { number = 23; key = s23.key }, d_H_5, refl, refl, record { frame = s23; older = p22; inside = lit≤ tt; here = refl; comes = refl; free = never_held Handheld 23 p23 (lit≤ tt) refl }, acks_H_23)
+
+acks_H_25 : AcksAreFor Desktop came p25 d_H_6
+acks_H_25 = acks_H_24
+
+acks_H_26 : AcksAreFor Desktop came p26 d_H_6
+acks_H_26 = acks_H_25
+
+acks_H_27 : AcksAreFor Desktop came p27 d_H_6
+acks_H_27 = acks_H_26
+
+acks_H_28 : AcksAreFor Desktop came p28 d_H_7
+acks_H_28 = (record { number = 27; key = s27.key }, d_H_6, refl, refl, record { frame = s27; older = p26; inside = lit≤ tt; here = refl; comes = refl; free = never_held Handheld 27 p27 (lit≤ tt) refl }, acks_H_27)
+
 acked_H : DataIsAcked Handheld Desktop came p28
-acked_H =
-    inl (
-      record { key_is = refl; reaches = record { frame = s27; older = p26; inside = lit≤ tt; here = refl; comes = refl; free = never_held Handheld 27 p27 (lit≤ tt) refl } },
-      (
-        record { key_is = refl; reaches = record { frame = s23; older = p22; inside = lit≤ tt; here = refl; comes = refl; free = never_held Handheld 23 p23 (lit≤ tt) refl } },
-        (
-          record { key_is = refl; reaches = record { frame = s19; older = p18; inside = lit≤ tt; here = refl; comes = refl; free = never_held Handheld 19 p19 (lit≤ tt) refl } },
-          (
-            record { key_is = refl; reaches = record { frame = s15; older = p14; inside = lit≤ tt; here = refl; comes = refl; free = never_held Handheld 15 p15 (lit≤ tt) refl } },
-            (
-              record { key_is = refl; reaches = record { frame = s11; older = p10; inside = lit≤ tt; here = refl; comes = refl; free = never_held Handheld 11 p11 (lit≤ tt) refl } },
-              (
-                record { key_is = refl; reaches = record { frame = s7; older = p6; inside = lit≤ tt; here = refl; comes = refl; free = never_held Handheld 7 p7 (lit≤ tt) refl } },
-                (
-                  record { key_is = refl; reaches = record { frame = s1; older = p0; inside = lit≤ tt; here = refl; comes = refl; free = never_held Handheld 1 p1 (lit≤ tt) refl } },
-                  tt,
-                ),
-              ),
-            ),
-          ),
-        ),
-      ),
-    )
+acked_H = inl acks_H_28
 
 speaks_H : SpeaksProperly Handheld Desktop talk came p28
 speaks_H = record { says = says_H; ten = ten_H_28; begins = begins_H_28; acked = acked_H }
@@ -1132,30 +1221,119 @@ begins_D_27 = (λ d r. no d, begins_D_26)
 begins_D_28 : BeginInTurn Desktop Handheld talk came p28
 begins_D_28 = (λ d r. no d, begins_D_27)
 
+abbrev d_D_0 : List Numbered
+d_D_0 = []
+
+abbrev d_D_1 : List Numbered
+d_D_1 = record { number = 3; key = s3.key } ∷ d_D_0
+
+abbrev d_D_2 : List Numbered
+d_D_2 = record { number = 5; key = s5.key } ∷ d_D_1
+
+abbrev d_D_3 : List Numbered
+d_D_3 = record { number = 9; key = s9.key } ∷ d_D_2
+
+abbrev d_D_4 : List Numbered
+d_D_4 = record { number = 13; key = s13.key } ∷ d_D_3
+
+abbrev d_D_5 : List Numbered
+d_D_5 = record { number = 17; key = s17.key } ∷ d_D_4
+
+abbrev d_D_6 : List Numbered
+d_D_6 = record { number = 21; key = s21.key } ∷ d_D_5
+
+abbrev d_D_7 : List Numbered
+d_D_7 = record { number = 25; key = s25.key } ∷ d_D_6
+
+acks_D_0 : AcksAreFor Handheld came p0 d_D_0
+acks_D_0 = refl
+
+acks_D_1 : AcksAreFor Handheld came p1 d_D_0
+acks_D_1 = acks_D_0
+
+acks_D_2 : AcksAreFor Handheld came p2 d_D_0
+acks_D_2 = acks_D_1
+
+acks_D_3 : AcksAreFor Handheld came p3 d_D_0
+acks_D_3 = acks_D_2
+
+acks_D_4 : AcksAreFor Handheld came p4 d_D_1
+acks_D_4 = (record { number = 3; key = s3.key }, d_D_0, refl, refl, record { frame = s3; older = p2; inside = lit≤ tt; here = refl; comes = refl; free = never_held Desktop 3 p3 (lit≤ tt) refl }, acks_D_3)
+
+acks_D_5 : AcksAreFor Handheld came p5 d_D_1
+acks_D_5 = acks_D_4
+
+acks_D_6 : AcksAreFor Handheld came p6 d_D_2
+acks_D_6 = (record { number = 5; key = s5.key }, d_D_1, refl, refl, record { frame = s5; older = p4; inside = lit≤ tt; here = refl; comes = refl; free = never_held Desktop 5 p5 (lit≤ tt) refl }, acks_D_5)
+
+acks_D_7 : AcksAreFor Handheld came p7 d_D_2
+acks_D_7 = acks_D_6
+
+acks_D_8 : AcksAreFor Handheld came p8 d_D_2
+acks_D_8 = acks_D_7
+
+acks_D_9 : AcksAreFor Handheld came p9 d_D_2
+acks_D_9 = acks_D_8
+
+acks_D_10 : AcksAreFor Handheld came p10 d_D_3
+acks_D_10 = (record { number = 9; key = s9.key }, d_D_2, refl, refl, record { frame = s9; older = p8; inside = lit≤ tt; here = refl; comes = refl; free = never_held Desktop 9 p9 (lit≤ tt) refl }, acks_D_9)
+
+acks_D_11 : AcksAreFor Handheld came p11 d_D_3
+acks_D_11 = acks_D_10
+
+acks_D_12 : AcksAreFor Handheld came p12 d_D_3
+acks_D_12 = acks_D_11
+
+acks_D_13 : AcksAreFor Handheld came p13 d_D_3
+acks_D_13 = acks_D_12
+
+acks_D_14 : AcksAreFor Handheld came p14 d_D_4
+acks_D_14 = (record { number = 13; key = s13.key }, d_D_3, refl, refl, record { frame = s13; older = p12; inside = lit≤ tt; here = refl; comes = refl; free = never_held Desktop 13 p13 (lit≤ tt) refl }, acks_D_13)
+
+acks_D_15 : AcksAreFor Handheld came p15 d_D_4
+acks_D_15 = acks_D_14
+
+acks_D_16 : AcksAreFor Handheld came p16 d_D_4
+acks_D_16 = acks_D_15
+
+acks_D_17 : AcksAreFor Handheld came p17 d_D_4
+acks_D_17 = acks_D_16
+
+acks_D_18 : AcksAreFor Handheld came p18 d_D_5
+acks_D_18 = (record { number = 17; key = s17.key }, d_D_4, refl, refl, record { frame = s17; older = p16; inside = lit≤ tt; here = refl; comes = refl; free = never_held Desktop 17 p17 (lit≤ tt) refl }, acks_D_17)
+
+acks_D_19 : AcksAreFor Handheld came p19 d_D_5
+acks_D_19 = acks_D_18
+
+acks_D_20 : AcksAreFor Handheld came p20 d_D_5
+acks_D_20 = acks_D_19
+
+acks_D_21 : AcksAreFor Handheld came p21 d_D_5
+acks_D_21 = acks_D_20
+
+acks_D_22 : AcksAreFor Handheld came p22 d_D_6
+acks_D_22 = (record { number = 21; key = s21.key }, d_D_5, refl, refl, record { frame = s21; older = p20; inside = lit≤ tt; here = refl; comes = refl; free = never_held Desktop 21 p21 (lit≤ tt) refl }, acks_D_21)
+
+acks_D_23 : AcksAreFor Handheld came p23 d_D_6
+acks_D_23 = acks_D_22
+
+acks_D_24 : AcksAreFor Handheld came p24 d_D_6
+acks_D_24 = acks_D_23
+
+acks_D_25 : AcksAreFor Handheld came p25 d_D_6
+acks_D_25 = acks_D_24
+
+acks_D_26 : AcksAreFor Handheld came p26 d_D_7
+acks_D_26 = (record { number = 25; key = s25.key }, d_D_6, refl, refl, record { frame = s25; older = p24; inside = lit≤ tt; here = refl; comes = refl; free = never_held Desktop 25 p25 (lit≤ tt) refl }, acks_D_25)
+
+acks_D_27 : AcksAreFor Handheld came p27 d_D_7
+acks_D_27 = acks_D_26
+
+acks_D_28 : AcksAreFor Handheld came p28 d_D_7
+acks_D_28 = acks_D_27
+
 acked_D : DataIsAcked Desktop Handheld came p28
-acked_D =
-    inl (
-      record { key_is = refl; reaches = record { frame = s25; older = p24; inside = lit≤ tt; here = refl; comes = refl; free = never_held Desktop 25 p25 (lit≤ tt) refl } },
-      (
-        record { key_is = refl; reaches = record { frame = s21; older = p20; inside = lit≤ tt; here = refl; comes = refl; free = never_held Desktop 21 p21 (lit≤ tt) refl } },
-        (
-          record { key_is = refl; reaches = record { frame = s17; older = p16; inside = lit≤ tt; here = refl; comes = refl; free = never_held Desktop 17 p17 (lit≤ tt) refl } },
-          (
-            record { key_is = refl; reaches = record { frame = s13; older = p12; inside = lit≤ tt; here = refl; comes = refl; free = never_held Desktop 13 p13 (lit≤ tt) refl } },
-            (
-              record { key_is = refl; reaches = record { frame = s9; older = p8; inside = lit≤ tt; here = refl; comes = refl; free = never_held Desktop 9 p9 (lit≤ tt) refl } },
-              (
-                record { key_is = refl; reaches = record { frame = s5; older = p4; inside = lit≤ tt; here = refl; comes = refl; free = never_held Desktop 5 p5 (lit≤ tt) refl } },
-                (
-                  record { key_is = refl; reaches = record { frame = s3; older = p2; inside = lit≤ tt; here = refl; comes = refl; free = never_held Desktop 3 p3 (lit≤ tt) refl } },
-                  tt,
-                ),
-              ),
-            ),
-          ),
-        ),
-      ),
-    )
+acked_D = inl acks_D_28
 
 speaks_D : SpeaksProperly Desktop Handheld talk came p28
 speaks_D = record { says = says_D; ten = ten_D_28; begins = begins_D_28; acked = acked_D }

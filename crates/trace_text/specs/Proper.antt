@@ -1,6 +1,7 @@
 -- Proper traces: what holds of the frames of every run of two retrying ends over a line, said without timers, tries or queues.
-use Rattle.std.specs.Prelude.{◌≡◌, ◌⊎◌, ℕ, ◌+◌, ◌-◌, ◌≤◌, ◌<◌, Bool, true, false, ◌&&◌, not, List, [], ◌∷◌, ◌++◌, length, reverse, Option, Some, None, if◌then◌else◌}
-use Rattle.std.specs.List.{AllByRecursion, AllZip}
+use Rattle.std.specs.Prelude.{◌≡◌, ◌⊎◌, ℕ, ◌+◌, ◌≤◌, ◌<◌, Bool, true, false, ◌&&◌, not, List, [], ◌∷◌, ◌++◌, length, reverse, Option, Some, None, if◌then◌else◌}
+use Rattle.std.specs.Bool.{MatchBool}
+use Rattle.std.specs.List.{AllByRecursion}
 use Rattle.padp_link.specs.declared.piece.Key.{Key}
 use Rattle.trace_text.specs.declared.frame.End.{End}
 use Rattle.trace_text.specs.declared.frame.End.TheVariants.{Handheld, Desktop}
@@ -101,35 +102,33 @@ pub record Numbered : Type 0 where
   pub number : ℕ
   pub key : Key
 
--- the data frames of X that came, the newest first, and the acknowledgements by Y
+-- the data frames of X that came, the newest first
 abbrev pub data_that_came : End → (ℕ → Bool) → List Sent → List Numbered
 data_that_came X came [] = []
 data_that_came X came (frame ∷ past) =
     if is_data_of X frame && came (length past + 1) then record { number = length past + 1; key = frame.key } ∷ data_that_came X came past else data_that_came X came past
 
-abbrev pub acks_by : End → List Sent → List Numbered
-acks_by Y [] = []
-acks_by Y (frame ∷ past) =
-    if is_end Y frame.from && not frame.is_data then record { number = length past + 1; key = frame.key } ∷ acks_by Y past else acks_by Y past
+abbrev pub is_ack_of : End → Sent → Bool
+is_ack_of Y frame = is_end Y frame.from && not frame.is_data
 
--- the acknowledgement bears the key of this data frame, which reached it
-pub record IsAckFor (came : ℕ → Bool) (past : List Sent) (ack answered : Numbered) : Type 0 where
-  pub key_is : ack.key ≡ answered.key
-  pub reaches : Reaches came answered.number (at (ack.number - 1) past)
+-- The acknowledgements by Y in this past are those of these data frames, in order: each bears the key of its own, which reached it.
+abbrev pub AcksAreFor : End → (ℕ → Bool) → List Sent → List Numbered → Type 0
+AcksAreFor Y came [] answered = answered ≡ []
+AcksAreFor Y came (frame ∷ past) answered =
+    MatchBool (is_ack_of Y frame)
+    ((data_frame : Numbered) × (older : List Numbered) × (answered ≡ data_frame ∷ older) × (data_frame.key ≡ frame.key) × Reaches came data_frame.number past × AcksAreFor Y came past older)
+    (AcksAreFor Y came past answered)
 
--- The acknowledgements are those of the data frames that came, in order: of all of them, or of all but the last.
-abbrev pub AllAcked : (ℕ → Bool) → List Sent → List Numbered → List Numbered → Type 0
-AllAcked came past acks answered = AllZip (IsAckFor came past) acks answered
-
-pub record AllButLastAcked (came : ℕ → Bool) (past : List Sent) (acks answered : List Numbered) : Type 0 where
+-- of all but the last
+pub record AllButLastAcked (Y : End) (came : ℕ → Bool) (past : List Sent) (answered : List Numbered) : Type 0 where
   pub last : Numbered
   pub older : List Numbered
   pub is : answered ≡ last ∷ older
-  pub acked : AllAcked came past acks older
+  pub acked : AcksAreFor Y came past older
 
+-- The acknowledgements are those of the data frames that came: of all of them, or of all but the last.
 abbrev pub DataIsAcked : End → End → (ℕ → Bool) → List Sent → Type 0
-DataIsAcked X Y came past =
-    AllAcked came past (acks_by Y past) (data_that_came X came past) ⊎ AllButLastAcked came past (acks_by Y past) (data_that_came X came past)
+DataIsAcked X Y came past = AcksAreFor Y came past (data_that_came X came past) ⊎ AllButLastAcked Y came past (data_that_came X came past)
 
 -- all that holds of one end's frames
 pub record SpeaksProperly (X Y : End) (talk : Talk) (came : ℕ → Bool) (past : List Sent) : Type 0 where
