@@ -1,20 +1,11 @@
 -- No change is lost: what a side changed or made stands in what is kept, archived or new.
-use Rattle.std.proofs.Common.{◌≡◌, List, ◌++◌, arith, Bool, true, false, Some, option_to_list}
-use Rattle.std.specs.List.{list_any}
+use Rattle.std.proofs.Common.{◌≡◌, arith, true, false, Some}
 use Rattle.std.proofs.lemmas.Grind.{common_steps}
 use Rattle.pdb_values.specs.Contents.{ContentValue}
 use Rattle.conduit_rules.specs.Contents.{same_content}
 use Rattle.conduit_rules.specs.States.{Held, nothing, live, archived, content_of}
-use Rattle.conduit_rules.specs.Fates.{Fate, cell, gone_cell, unbased}
+use Rattle.conduit_rules.specs.Fates.{cell, gone_cell, unbased, named, stands}
 use Rattle.conduit_rules.proofs.ContentLaws.{same_content-same, same_content-is}
-
--- the contents that a fate names
-abbrev pub named : Fate → List ContentValue
-named f = option_to_list f.keep ++ (f.archive ++ option_to_list f.news)
-
--- a content stands in a list
-abbrev pub stands : ContentValue → List ContentValue → Bool
-stands c xs = list_any (λ x. same_content x c) xs
 
 -- a content that the handheld changed
 pub handheld_change_stays : (b c : ContentValue) (h d : Held) → content_of h ≡ Some c → same_content c b ≡ false → stands c (named (cell b h d)) ≡ true

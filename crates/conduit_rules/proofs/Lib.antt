@@ -1,3 +1,4 @@
+pub mod ActionLaws
 pub mod AgreedLaws
 pub mod BoundLaws
 pub mod ByIdLaws
@@ -17,6 +18,5 @@ pub mod RunLaws
 pub mod SettledLaws
 pub mod SlotLaws
 pub mod SortLaws
-pub mod StopLaws
 pub mod TableLaws
 pub mod ViewLaws

@@ -6,7 +6,7 @@ use Rattle.std.proofs.lemmas.List.Folds.{find-append}
 use Rattle.pdb_values.specs.declared.record.Record.{Record}
 use Rattle.conduit_rules.specs.ById.{id_bound, each_below}
 use Rattle.conduit_rules.specs.States.{held_where, held, record_held, first, Based, no_base, row, gone, base_at}
-use Rattle.conduit_rules.specs.Views.{first_seen, seen_where, view_held, slow_seen, slow_view, fast_seen, fast_view, unread_where}
+use Rattle.conduit_rules.specs.Views.{first_seen, seen_where, view_held, slow_seen, slow_view, fast_seen, fast_view, unread_where, IsHonestUnder, IsHonest}
 use Rattle.conduit_rules.specs.Choices.{sides_of}
 use Rattle.conduit_rules.specs.declared.view.Seen.{Seen}
 use Rattle.conduit_rules.proofs.ByIdLaws.{each_below-zero, each_below-suc}
@@ -86,11 +86,11 @@ first_seen-each_below g bears (suc n) j =
     ∙ seen_more j n (first_seen j (each_below (λ i. option_to_list (g i)) n)) g (first_seen-each_below g bears n j)
 
 -- the first record of an id bears it
-first-id : (i : ℕ) (records : List Record) (r : Record) → first i records ≡ Some r → r.id ≡ i
+pub first-id : (i : ℕ) (records : List Record) (r : Record) → first i records ≡ Some r → r.id ≡ i
 first-id i [] r e = absurd (cc)
 first-id i (x ∷ records) r e = grind (arith, nat_tests, e, first-id i records r)
 
-slow_held : (o : Option Record) → seen_where (option_map slow_seen o) ≡ held_where o
+pub slow_held : (o : Option Record) → seen_where (option_map slow_seen o) ≡ held_where o
 slow_held None = refl
 slow_held (Some r) = grind arith
 
@@ -109,22 +109,12 @@ mapped_view f records i keeps within =
 pub view_held-slow : (records : List Record) (i : ℕ) → nat_lt i id_bound ≡ true → view_held (slow_view records) i ≡ held records i
 view_held-slow records i within = ap seen_where (mapped_view slow_seen records i (λ r. refl) within) ∙ slow_held (first i records)
 
--- a record that a fast reading passes over has the content of its base row
-abbrev pub IsHonestUnder : Based → Record → Type 0
-IsHonestUnder no_base r = Unit {0}
-IsHonestUnder (row b) r = (not r.dirty && not r.deleted) ≡ true → r.content ≡ b
-IsHonestUnder (gone b) r = Unit {0}
-
--- each record that is neither dirty nor deleted and whose id has a base row has that row's content
-abbrev pub IsHonest : List Record → List Record → Type 0
-IsHonest base records = (i : ℕ) (r : Record) → first i records ≡ Some r → IsHonestUnder (base_at base false i) r
-
 unread_id : (b : Based) (r : Record) → (unread_where b r).id ≡ r.id
 unread_id no_base r = refl
 unread_id (row b) r = refl
 unread_id (gone b) r = refl
 
-fast_id : (base : List Record) (r : Record) → (fast_seen base r).id ≡ r.id
+pub fast_id : (base : List Record) (r : Record) → (fast_seen base r).id ≡ r.id
 fast_id base r = grind (arith, unread_id (base_at base false r.id) r)
 
 unread_held : (b : Based) (r : Record) → IsHonestUnder b r → (not r.dirty && not r.deleted) ≡ true → seen_where (Some (unread_where b r)) ≡ record_held r
@@ -147,7 +137,7 @@ view_held-fast base records i within honest = ap seen_where (mapped_view (fast_s
 
 -- ---- a fast reading of honest records is as good as a slow one
 
-any_view : (f : Record → Seen) (records : List Record) (i : ℕ) → ((r : Record) → (f r).id ≡ r.id)
+pub any_view : (f : Record → Seen) (records : List Record) (i : ℕ) → ((r : Record) → (f r).id ≡ r.id)
     → first_seen i (each_below (λ j. option_to_list (option_map f (first j records))) id_bound) ≡ (if nat_lt i id_bound then option_map f (first i records) else None)
 any_view f records i keeps =
     first_seen-each_below (λ j. option_map f (first j records)) (λ j s e. mapped_id f j (first j records) s keeps (first-id j records) e) id_bound i

@@ -2,9 +2,9 @@
 use Rattle.std.specs.Prelude.{ℕ, Bool, List, [], ◌++◌, Option, None, option_to_list, map}
 use Rattle.pdb_values.specs.Contents.{ContentValue}
 use Rattle.pdb_values.specs.declared.record.Record.{Record}
-use Rattle.conduit_rules.specs.ById.{each_id}
+use Rattle.conduit_rules.specs.ById.{each_id, with_id}
 use Rattle.conduit_rules.specs.Contents.{count_of}
-use Rattle.conduit_rules.specs.States.{Held, live_of, held, Based, no_base, row, gone, base_at, has_row}
+use Rattle.conduit_rules.specs.States.{Held, nothing, live_of, archived_of, held, Based, no_base, row, gone, base_at, has_row}
 use Rattle.conduit_rules.specs.Fates.{Fate, fate, fate_under}
 use Rattle.conduit_rules.specs.Views.{view_held}
 use Rattle.conduit_rules.specs.News.{loose, live_contents, archived_records, unpaired}
@@ -98,3 +98,22 @@ offers_for a s = loose_for a s.loose_live ++ each_id (λ i. option_to_list (fate
 -- the choice of an action; that of Sync is that of a synchronisation
 abbrev pub choice_for : Action → Sides → Choice
 choice_for a s = choice_of (fate_for a s) (partners_for a s) (offers_for a s) (loose_for a s.loose_archived)
+
+-- that of the handheld: each live record is kept and each archived one archived
+abbrev pub by_handheld : Sides → Choice
+by_handheld s = record { keep = λ i. live_of (s.handheld i); archive = each_id (λ i. with_id i (archived_of (s.handheld i))); adds = [] }
+
+-- the desktop's row of an id with a base row that isn't gone
+abbrev pub row_of : Based → Held → Held
+row_of no_base d = nothing
+row_of (row b) d = d
+row_of (gone b) d = nothing
+
+-- that of the desktop: each live row of an id with a base row is kept, each archived one archived, and rows without a base row are
+-- added or archived
+abbrev pub by_desktop : Sides → Choice
+by_desktop s = record {
+  keep = λ i. live_of (row_of (s.base i) (s.desktop i));
+  archive = map (λ c. (0, c)) s.loose_archived ++ each_id (λ i. with_id i (archived_of (row_of (s.base i) (s.desktop i))));
+  adds = s.loose_live;
+}

@@ -1,6 +1,8 @@
 -- What becomes of an id: the cell of the table, and the rules for an id without a base row.
 use Rattle.std.specs.Prelude.{Bool, true, false, List, [], ◌∷◌, ◌++◌, Option, Some, None, option_to_list}
+use Rattle.std.specs.List.{list_any}
 use Rattle.pdb_values.specs.Contents.{ContentValue}
+use Rattle.conduit_rules.specs.Contents.{same_content}
 use Rattle.conduit_rules.specs.Table.{decision}
 use Rattle.conduit_rules.specs.States.{Held, nothing, live_of, archived_of, content_of, Based, no_base, row, gone, state, equal_contents}
 use Rattle.conduit_rules.specs.declared.action.Action.{Action}
@@ -75,3 +77,11 @@ abbrev pub fate_under : Action → Based → Held → Held → Fate
 fate_under Sync b h d = fate b h d
 fate_under Handheld b h d = unbased h
 fate_under Desktop b h d = desktop_fate b d
+
+-- the contents that a fate names
+abbrev pub named : Fate → List ContentValue
+named f = option_to_list f.keep ++ (f.archive ++ option_to_list f.news)
+
+-- a content stands in a list
+abbrev pub stands : ContentValue → List ContentValue → Bool
+stands c xs = list_any (λ x. same_content x c) xs

@@ -1,5 +1,5 @@
 -- What a reading of a handheld's database shows: a view, slow or fast.
-use Rattle.std.specs.Prelude.{ℕ, false, not, ◌&&◌, if◌then◌else◌, ◌==◌, List, Option, Some, None, option_to_list}
+use Rattle.std.specs.Prelude.{◌≡◌, ℕ, true, false, not, ◌&&◌, if◌then◌else◌, ◌==◌, List, Option, Some, None, option_to_list}
 use Rattle.std.specs.Option.{option_map}
 use Rattle.std.specs.List.{find}
 use Rattle.pdb_values.specs.Contents.{ContentValue}
@@ -58,3 +58,13 @@ slow_view records = each_id (λ i. option_to_list (option_map slow_seen (first i
 -- the view of a fast reading
 abbrev pub fast_view : List Record → List Record → List Seen
 fast_view base records = each_id (λ i. option_to_list (option_map (fast_seen base) (first i records)))
+
+-- a record that a fast reading passes over has the content of its base row
+abbrev pub IsHonestUnder : Based → Record → Type 0
+IsHonestUnder no_base r = Unit {0}
+IsHonestUnder (row b) r = (not r.dirty && not r.deleted) ≡ true → r.content ≡ b
+IsHonestUnder (gone b) r = Unit {0}
+
+-- each record that is neither dirty nor deleted and whose id has a base row has that row's content
+abbrev pub IsHonest : List Record → List Record → Type 0
+IsHonest base records = (i : ℕ) (r : Record) → first i records ≡ Some r → IsHonestUnder (base_at base false i) r

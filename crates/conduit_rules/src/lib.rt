@@ -13,6 +13,7 @@ mod draft;
 mod front;
 mod has_id;
 mod holding;
+pub mod laws;
 mod loose;
 mod news;
 mod planned;

@@ -1,0 +1,10 @@
+pub mod AfterLaws
+pub mod AgainLaws
+pub mod ArchiveLaws
+pub mod CleanLaws
+pub mod CountLaws
+pub mod HeldLaws
+pub mod PutLaws
+pub mod SettledLaws
+pub mod ShownLaws
+pub mod StopLaws
