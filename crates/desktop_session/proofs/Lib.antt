@@ -1,0 +1,11 @@
+pub mod ActLaws
+pub mod AnswerLaws
+pub mod AskLaws
+pub mod GreetLaws
+pub mod PutLaws
+pub mod RequestFits
+pub mod RowLaws
+pub mod SaysLaws
+pub mod StopLaws
+pub mod TellLaws
+pub mod UserLaws

@@ -1,0 +1,26 @@
+-- The wake, and then a greeting.
+use Rattle.std.proofs.Common.{rules, ◌≡◌, [], ◌∷◌}
+use Rattle.std.specs.Prelude.{Err, Ok}
+use Rattle.desktop_session.specs.Acts.{text}
+use Rattle.desktop_session.specs.Requests.{beginning, reading_user}
+use Rattle.desktop_session.proofs.AskLaws.{fell_now}
+use Rattle.desktop_session.proofs.StopLaws.{stops_after_none, stops_between, stops_none}
+use Rattle.desktop_session.proofs.idle.Idle.hello.Goals as goal
+
+pub returns-in-Err-clause-stops : goal.returns-in-Err-clause-stops
+returns-in-Err-clause-stops g c =
+    stops_none g.L.Link.talk g.L.Link.since g.L.Link.fault g.L.Link.downs (text reading_user ∷ text beginning ∷ []) c.args.self.link c.hello.new.self
+    c.in-Err.ensures.talk c.in-Err.ensures.since
+    (fell_now (g.L.Link.fault c.args.self.link) (g.L.Link.fault c.hello.new.self) (g.L.Link.downs c.args.self.link) (g.L.Link.downs c.hello.new.self)
+    (Err c.in-Err.fault) c.in-Err.ensures.fault c.in-Err.ensures.cause)
+
+pub returns-in-Ok-clause-stops : goal.returns-in-Ok-clause-stops
+returns-in-Ok-clause-stops g c =
+    let begins : c.begin-linked.result.link ≡ c.hello.new.self = search rules in
+    let ends : c.greet.new.self.link ≡ c.set_user.new.self.link = search rules in
+    stops_after_none g.L.Link.talk g.L.Link.since g.L.Link.fault g.L.Link.downs g.met.L.Link.since_more (text reading_user ∷ text beginning ∷ [])
+    c.args.self.link c.hello.new.self c.set_user.new.self.link c.in_default.ensures.talk c.in_default.ensures.since
+    (fell_now (g.L.Link.fault c.args.self.link) (g.L.Link.fault c.hello.new.self) (g.L.Link.downs c.args.self.link) (g.L.Link.downs c.hello.new.self)
+    (Ok c.in_default.field-0) c.in_default.ensures.fault c.in_default.ensures.cause)
+    (stops_between g.L.Link.talk g.L.Link.since g.L.Link.fault g.L.Link.downs (text reading_user ∷ text beginning ∷ []) c.begin-linked.result.link
+    c.greet.new.self.link c.hello.new.self c.set_user.new.self.link begins ends c.in-Ok.ensures.stops)

@@ -1,0 +1,32 @@
+-- Records and resources that are lent from a reply.
+use Rattle.std.specs.Prelude.{ℕ, List, if◌then◌else◌}
+use Rattle.pdb_values.specs.Heads.{has_bit}
+use Rattle.pdb_values.specs.declared.record.Kind.{Kind}
+use Rattle.pdb_values.specs.declared.record.Kind.TheVariants.{Live, Archived, Deleted}
+use Rattle.desktop_session.specs.declared.lent.RecordLent.{RecordLent}
+use Rattle.desktop_session.specs.declared.lent.ResourceLent.{ResourceLent}
+
+-- the record's id, its attributes on the wire, its category, and its bytes
+pub record LentValue : Type 0 where
+  pub id : ℕ
+  pub attributes : ℕ
+  pub category : ℕ
+  pub bytes : List ℕ
+
+-- what a lent record says
+abbrev pub lent_value : RecordLent → LentValue
+lent_value lent = record { id = lent.id; attributes = lent.attributes; category = lent.category; bytes = lent.bytes.now }
+
+-- a resource's type, id and bytes
+pub record LentResource : Type 0 where
+  pub kind : List ℕ
+  pub id : ℕ
+  pub bytes : List ℕ
+
+-- what a lent resource says
+abbrev pub lent_resource : ResourceLent → LentResource
+lent_resource lent = record { kind = lent.kind.0; id = lent.id; bytes = lent.bytes.now }
+
+-- attribute 0x80: the user deleted it; 0x08: and wants it kept in an archive
+abbrev pub lent_kind : ℕ → Kind
+lent_kind attributes = if has_bit 0x80 attributes then (if has_bit 0x08 attributes then Archived else Deleted) else Live

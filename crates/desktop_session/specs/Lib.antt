@@ -1,0 +1,14 @@
+pub mod Acts
+pub mod Answers
+pub mod Ends
+pub mod Faults
+pub mod Greetings
+pub mod Lent
+pub mod Lists
+pub mod Puts
+pub mod Replies
+pub mod Requests
+pub mod Says
+pub mod Sessions
+pub mod Stops
+pub mod Tellings

@@ -1,0 +1,99 @@
+-- Lists that come in several replies: the databases of a handheld, and the ids of a database's records.
+use Rattle.std.specs.Prelude.{◌≡◌, ◌≤◌, ◌<◌, ℕ, zero, suc, ◌+◌, ◌-◌, ◌*◌, ◌/◌, ◌⊎◌, Bool, true, false, List, [], ◌∷◌, ◌++◌, map, Option, None, Some, IfOk, IfSome, OnOk, Result, Ok, Err}
+use Rattle.pdb_values.specs.Heads.{has_bit}
+use Rattle.pdb_values.specs.declared.head.DbHead.{DbHead}
+use Rattle.palm_device.specs.Devices.{Device}
+use Rattle.dlp_replies.specs.declared.fault.ReplyFault.{ReplyFault}
+use Rattle.dlp_replies.specs.ReplyReading.{reply_at}
+use Rattle.dlp_replies.specs.ReplyValues as reply
+use Rattle.dlp_replies.specs.ReplyValues.{ReplyValue}
+use Rattle.dlp_commands.specs.declared.link.LinkFault.{LinkFault}
+use Rattle.dlp_commands.specs.declared.link.LinkFault.TheVariants as link
+use Rattle.dlp_commands.specs.Talks.{Talk}
+use Rattle.desktop_session.specs.declared.fault.SessionFault.{SessionFault}
+use Rattle.desktop_session.specs.declared.fault.SessionFault.TheVariants as session
+use Rattle.desktop_session.specs.Acts.{Act, acted, text}
+use Rattle.desktop_session.specs.Answers.{ids_of}
+use Rattle.desktop_session.specs.Requests.{listing, listing_ids}
+use Rattle.desktop_session.specs.Stops.{Does, Stops}
+
+-- ---- databases, one request for each start from 0 on
+
+-- so many requests
+unfoldable pub listings : ℕ → List Act
+listings zero = []
+listings (suc count) = listings count ++ listing count ∷ []
+
+-- the heads in a reply; a refusal and any other reply have none
+abbrev pub heads_in : Result ReplyValue ReplyFault → List DbHead
+heads_in (Ok (reply.ReadDbList last flags entries)) = map (λ entry. entry.1) entries
+heads_in (Ok other) = []
+heads_in (Err fault) = []
+
+-- more follow behind a reply: its flag 0x80 says so
+abbrev pub has_more : Result ReplyValue ReplyFault → Bool
+has_more (Ok (reply.ReadDbList last flags entries)) = has_bit 0x80 flags
+has_more (Ok other) = false
+has_more (Err fault) = false
+
+-- the device's reply from a start on
+abbrev pub list_reply : Device → ℕ → Result ReplyValue ReplyFault
+list_reply device start = reply_at 0x16 (acted (listing start) device).0
+
+-- the heads in the replies to so many requests
+unfoldable pub heads_listed : Device → ℕ → List DbHead
+heads_listed device zero = []
+heads_listed device (suc count) = heads_listed device count ++ heads_in (list_reply device count)
+
+-- ---- ids, 8,000 a request
+
+-- so many requests
+unfoldable pub id_listings : ℕ → ℕ → List Act
+id_listings handle zero = []
+id_listings handle (suc parts) = id_listings handle parts ++ listing_ids handle (8000 * parts) ∷ []
+
+-- how many requests so many ids take
+abbrev pub id_parts : ℕ → ℕ
+id_parts count = (count + 7999) / 8000
+
+-- the ids in a reply
+abbrev pub ids_in : Result ReplyValue ReplyFault → List ℕ
+ids_in (Ok value) = ids_of value
+ids_in (Err fault) = []
+
+-- the ids in the replies to so many requests
+unfoldable pub ids_listed : Device → ℕ → ℕ → List ℕ
+ids_listed device handle zero = []
+ids_listed device handle (suc parts) = ids_listed device handle parts ++ ids_in (reply_at 0x31 (acted (listing_ids handle (8000 * parts)) device).0)
+
+-- ---- causes
+
+-- a reply that was read is this refusal
+abbrev pub Refuses : ℕ → Result ReplyValue ReplyFault → Type 0
+Refuses code (Ok (reply.Refused number other)) = other ≡ code
+Refuses code (Ok other) = ⊥
+Refuses code (Err fault) = ⊥
+
+-- the cause of a refusal, by the link's fault and the last reply
+abbrev pub HasCause : Option LinkFault → Result ReplyValue ReplyFault → SessionFault → Type 0
+HasCause fault read session.Down = fault ≡ Some link.Down
+HasCause fault read (session.Refused code) = (fault ≡ None) × Refuses code.0 read
+HasCause fault read (session.BadReply broken) = (fault ≡ None) × (read ≡ Err broken)
+HasCause fault read session.NoMemory = Unit {0}
+HasCause fault read (session.OtherUser handheld desktop) = ⊥
+HasCause fault read session.TooManyUsers = ⊥
+
+-- ---- what a list of the databases did
+
+-- Requests went out in order, each but the first where the reply before it said that more follow, and at most 65,536. Where it was
+-- done, each was answered, the heads are those in the replies, and the last one said that no more follow, unless it was the 65,536th.
+pub record Lists {L : Type 0} (talk : L → Option Talk) (since : L → L → Type 0) (fault : L → Option LinkFault) (downs : L → ℕ) (old new : L)
+    (answer : Result (List DbHead) SessionFault) : Type 0 where
+  pub count : ℕ
+  pub some : 0 < count
+  pub few : count ≤ 65536
+  pub stops : Stops talk since fault downs (map text (listings count)) old new
+  pub more : IfSome (talk old) (λ talk. (k : ℕ) → k + 1 < count → has_more (list_reply talk.device k) ≡ true)
+  pub does : OnOk answer (Does talk (listings count) old new)
+  pub heads : IfOk answer (λ heads. IfSome (talk old) (λ talk. heads ≡ heads_listed talk.device count))
+  pub last : OnOk answer (IfSome (talk old) (λ talk. (count ≡ 65536) ⊎ (has_more (list_reply talk.device (count - 1)) ≡ false)))

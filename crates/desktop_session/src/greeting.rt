@@ -1,0 +1,78 @@
+// How a session begins.
+ghost use Rattle.std.specs.Prelude.{◌≡◌, ◌≤◌, ◌∷◌, [], OnOk, length};
+ghost use Rattle.dlp_replies.specs.ReplyReading.{reply_at};
+ghost use Rattle.desktop_session.specs.Acts.{text};
+ghost use Rattle.desktop_session.specs.Answers.{answer_by, no_more, said_in, user_of};
+ghost use Rattle.desktop_session.specs.Greetings.{Greeted, user_by, user_with};
+ghost use Rattle.desktop_session.specs.Requests.{beginning, reading_user};
+ghost use Rattle.desktop_session.specs.Stops.{Asked, Does, Stops};
+ghost use Rattle.pdb_values.specs.Slots.{slot_for as slot_of};
+
+use crate::fault::SessionFault;
+use crate::linked::Linked;
+use crate::replies::{done_in, user_in};
+use dlp_commands::{Link, Request};
+use pdb_values::{Slot, UserInfo, slot_for};
+
+impl<L: Link> Linked<L> {
+    // Asks for the user, who is to have a slot.
+    #[tactic(auto, using(crate::proofs::RequestFits::user_fits, crate::proofs::AnswerLaws::answer_said, crate::proofs::AnswerLaws::answer_failed))]
+    fn ask_user(&mut self, users: &[u32], add: bool) -> Result<UserInfo, SessionFault>
+        requires some { 1 ≤ length users.now }
+        requires room { length users.now ≤ 16 }
+        ensures asked { Asked L.talk L.since L.fault L.downs reading_user self.old self.new }
+        ensures answer { result ≡ answer_by (L.fault self.new.link)
+            (user_by users.now add (said_in user_of (reply_at 0x10 self.new.reply))) }
+    {
+        self.ask(&Request::ReadUserInfo)?;
+        let user = user_in(self.reply())?;
+        with_slot(user, users, add)
+    }
+
+    // Says that the conduits begin.
+    #[tactic(auto, using(crate::proofs::RequestFits::begin_fits, crate::proofs::AnswerLaws::answer_said, crate::proofs::AnswerLaws::answer_failed))]
+    fn ask_conduits(&mut self) -> Result<(), SessionFault>
+        ensures asked { Asked L.talk L.since L.fault L.downs beginning self.old self.new }
+        ensures answer { result ≡ answer_by (L.fault self.new.link)
+            (said_in no_more (reply_at 0x2E self.new.reply)) }
+    {
+        self.ask(&Request::OpenConduit)?;
+        done_in(0x2E, self.reply())
+    }
+}
+
+// The user, who is to have a slot.
+fn with_slot(user: UserInfo, users: &[u32], add: bool) -> Result<UserInfo, SessionFault>
+    requires some { 1 ≤ length users.now }
+    requires room { length users.now ≤ 16 }
+    ensures { result ≡ user_with users.now user (slot_of users.now user.user add) }
+{
+    match slot_for(users, user.user, add) {
+        Slot::Old(_) | Slot::New => Ok(user),
+        Slot::Refused => Err(SessionFault::OtherUser {
+            handheld: user.user,
+            desktop: users[0],
+        }),
+        Slot::Full => Err(SessionFault::TooManyUsers),
+    }
+}
+
+impl<L: Link> Linked<L> {
+    // Reads the user, finds its slot, and says that the conduits begin.
+    pub(crate) fn greet(&mut self, users: &[u32], add: bool) -> Result<UserInfo, SessionFault>
+        requires some { 1 ≤ length users.now }
+        requires room { length users.now ≤ 16 }
+        ensures stops { Stops L.talk L.since L.fault L.downs (text reading_user ∷ text beginning
+            ∷ [])
+            self.old.link self.new.link }
+        ensures does { OnOk result (Does L.talk (reading_user ∷ beginning ∷ []) self.old.link
+            self.new.link) }
+        ensures greeted { Greeted users.now add (L.talk self.old.link) (L.fault
+            self.new.link) result }
+        ensures abandoned { self.new.abandoned ≡ self.old.abandoned }
+    {
+        let user = self.ask_user(users, add)?;
+        self.ask_conduits()?;
+        Ok(user)
+    }
+}

@@ -1,0 +1,29 @@
+//! The desktop's session as types: what may be sent when.
+//!
+//! A link is `Idle` until the handheld wakes it; `hello` makes it `Linked`, on which databases are listed, made, taken away and
+//! opened. An open one is an `OpenDb`, which borrows the session until it is closed or abandoned; a record or a resource that it
+//! lends borrows it in turn. So no command goes out before the greeting, while a record is lent, on a database that is not open,
+//! or after the end. What was said is told in a session's own words, acts: `specs/Requests`. The public source is pilot-link's
+//! `pi-dlp.h` and `dlp.c`.
+#![tactic(auto)]
+
+mod databases;
+mod ending;
+mod fault;
+mod greeting;
+mod idle;
+mod laws;
+mod lent;
+mod linked;
+mod open_db;
+mod reading;
+mod replies;
+mod writing;
+
+pub use ending::{Ended, Halted};
+pub use fault::SessionFault;
+pub use idle::Idle;
+pub use laws::{acts_are_steps, first_handle_is_one, replies_tell};
+pub use lent::{RecordLent, ResourceLent};
+pub use linked::Linked;
+pub use open_db::OpenDb;

@@ -1,0 +1,175 @@
+// What is read of an open database.
+ghost use Rattle.std.specs.Prelude.{◌≡◌, [], Ok};
+ghost use Rattle.std.specs.Borrow.{sem};
+ghost use Rattle.std.specs.Io.BufRead.{Rests};
+ghost use Rattle.std.specs.Option.{option_map};
+ghost use mir.Syntax.{named};
+ghost use Rattle.dlp_args.specs.Views.{Gives};
+ghost use Rattle.dlp_replies.specs.ReplyReading.{reply_at};
+ghost use Rattle.desktop_session.specs.contracts.open_db.OpenDb as open_row;
+ghost use Rattle.desktop_session.specs.Answers.{answer_by, block_of, count_of, or_none, record_of, resource_of, said_in};
+ghost use Rattle.desktop_session.specs.Lent.{lent_resource, lent_value};
+ghost use Rattle.desktop_session.specs.Requests.{counting, reading_app, reading_at, reading_next, reading_of, reading_resource, reading_sort};
+ghost use Rattle.desktop_session.specs.Stops.{Asked};
+
+use crate::fault::SessionFault;
+use crate::lent::{RecordLent, ResourceLent};
+use crate::linked::Linked;
+use crate::open_db::OpenDb;
+use crate::replies::{count_in, found_in, next_in, record_in, resource_in};
+use dlp_commands::{Link, Request};
+use pdb_values::RecordId;
+
+#[tactic(auto, using(crate::proofs::RequestFits::count_fits, crate::proofs::AnswerLaws::answer_said, crate::proofs::AnswerLaws::answer_failed))]
+impl<'s, L: Link> OpenDb<'s, L> {
+    /// How many entries it has, records or resources, deleted records included.
+    pub fn count(&mut self) -> Result<u16, SessionFault>
+        ensures same_reference { self.new.linked.ghost_name ≡ self.old.linked.ghost_name }
+        ensures same_handle { self.new.handle ≡ self.old.handle }
+        ensures asked { Asked L.talk L.since L.fault L.downs (counting self.old.handle)
+            self.old.linked.now self.new.linked.now }
+        ensures answer { result ≡ answer_by (L.fault self.new.linked.now.link)
+            (said_in count_of (reply_at 0x2B self.new.linked.now.reply)) }
+    {
+        let handle = self.handle();
+        self.linked.ask(&Request::ReadOpenDbInfo { handle })?;
+        count_in(self.linked.reply())
+    }
+}
+
+// What is asked before something is lent.
+impl<L: Link> Linked<L> {
+    #[tactic(auto, using(crate::proofs::RequestFits::at_fits))]
+    fn ask_at(&mut self, handle: u8, index: u16) -> Result<(), SessionFault>
+        ensures asked { Asked L.talk L.since L.fault L.downs (reading_at handle index) self.old
+            self.new }
+        ensures fault { result ≡ answer_by (L.fault self.new.link) (Ok tt) }
+    {
+        self.ask(&Request::ReadRecordByIndex {
+            handle,
+            index,
+            offset: 0,
+            length: 65_535,
+        })
+    }
+
+    #[tactic(auto, using(crate::proofs::RequestFits::of_fits))]
+    fn ask_of(&mut self, handle: u8, id: RecordId) -> Result<(), SessionFault>
+        ensures asked { Asked L.talk L.since L.fault L.downs (reading_of handle id) self.old
+            self.new }
+        ensures fault { result ≡ answer_by (L.fault self.new.link) (Ok tt) }
+    {
+        self.ask(&Request::ReadRecordById {
+            handle,
+            id: id.number(),
+            offset: 0,
+            length: 65_535,
+        })
+    }
+
+    #[tactic(auto, using(crate::proofs::RequestFits::next_fits))]
+    fn ask_next(&mut self, handle: u8) -> Result<(), SessionFault>
+        ensures asked { Asked L.talk L.since L.fault L.downs (reading_next handle) self.old
+            self.new }
+        ensures fault { result ≡ answer_by (L.fault self.new.link) (Ok tt) }
+    {
+        self.ask(&Request::ReadNextModifiedRec { handle })
+    }
+
+    #[tactic(auto, using(crate::proofs::RequestFits::resource_fits))]
+    fn ask_resource(&mut self, handle: u8, index: u16) -> Result<(), SessionFault>
+        ensures asked { Asked L.talk L.since L.fault L.downs (reading_resource handle index)
+            self.old self.new }
+        ensures fault { result ≡ answer_by (L.fault self.new.link) (Ok tt) }
+    {
+        self.ask(&Request::ReadResourceByIndex {
+            handle,
+            index,
+            offset: 0,
+            length: 65_535,
+        })
+    }
+}
+
+#[tactic(auto, using(crate::proofs::AnswerLaws::answer_said, crate::proofs::AnswerLaws::answer_failed, crate::proofs::AnswerLaws::gives_said, crate::proofs::AnswerLaws::gives_failed))]
+impl<'s, L: Link> OpenDb<'s, L> {
+    /// Lends the record at an index.
+    pub fn at(&mut self, index: u16) -> Result<RecordLent<'_>, SessionFault>
+        ensures* rests { sem 𝓛 (Rests (open_row.the_row
+            (record { mir = named 0; lft = [] }) L.row L.Link) self.entry
+            (λ last. (last.linked.ghost_name ≡ self.old.linked.ghost_name) × (last.handle ≡
+            self.old.handle)
+            × Asked L.talk L.since L.fault L.downs (reading_at self.old.handle index)
+            self.old.linked.now last.linked.now
+            × Gives lent_value result (answer_by (L.fault last.linked.now.link)
+            (said_in record_of (reply_at 0x20 last.linked.now.reply))))) }
+    {
+        let handle = self.handle();
+        let linked = &mut *self.linked;
+        match linked.ask_at(handle, index) {
+            Ok(()) => {}
+            Err(fault) => return Err(fault),
+        }
+        record_in(linked.reply.bytes())
+    }
+
+    /// Lends the record of an id, or nothing where there is none.
+    pub fn by_id(&mut self, id: RecordId) -> Result<Option<RecordLent<'_>>, SessionFault>
+        ensures* rests { sem 𝓛 (Rests (open_row.the_row
+            (record { mir = named 0; lft = [] }) L.row L.Link) self.entry
+            (λ last. (last.linked.ghost_name ≡ self.old.linked.ghost_name) × (last.handle ≡
+            self.old.handle)
+            × Asked L.talk L.since L.fault L.downs (reading_of self.old.handle id)
+            self.old.linked.now last.linked.now
+            × Gives (option_map lent_value) result (answer_by (L.fault last.linked.now.link)
+            (or_none (said_in record_of (reply_at 0x20 last.linked.now.reply)))))) }
+    {
+        let handle = self.handle();
+        let linked = &mut *self.linked;
+        match linked.ask_of(handle, id) {
+            Ok(()) => {}
+            Err(fault) => return Err(fault),
+        }
+        found_in(linked.reply.bytes())
+    }
+
+    /// Lends the next record that is dirty or deleted, or nothing where none is left.
+    pub fn next_changed(&mut self) -> Result<Option<RecordLent<'_>>, SessionFault>
+        ensures* rests { sem 𝓛 (Rests (open_row.the_row
+            (record { mir = named 0; lft = [] }) L.row L.Link) self.entry
+            (λ last. (last.linked.ghost_name ≡ self.old.linked.ghost_name) × (last.handle ≡
+            self.old.handle)
+            × Asked L.talk L.since L.fault L.downs (reading_next self.old.handle)
+            self.old.linked.now last.linked.now
+            × Gives (option_map lent_value) result (answer_by (L.fault last.linked.now.link)
+            (or_none (said_in record_of (reply_at 0x1F last.linked.now.reply)))))) }
+    {
+        let handle = self.handle();
+        let linked = &mut *self.linked;
+        match linked.ask_next(handle) {
+            Ok(()) => {}
+            Err(fault) => return Err(fault),
+        }
+        next_in(linked.reply.bytes())
+    }
+
+    /// Lends the resource at an index.
+    pub fn resource_at(&mut self, index: u16) -> Result<ResourceLent<'_>, SessionFault>
+        ensures* rests { sem 𝓛 (Rests (open_row.the_row
+            (record { mir = named 0; lft = [] }) L.row L.Link) self.entry
+            (λ last. (last.linked.ghost_name ≡ self.old.linked.ghost_name) × (last.handle ≡
+            self.old.handle)
+            × Asked L.talk L.since L.fault L.downs (reading_resource self.old.handle index)
+            self.old.linked.now last.linked.now
+            × Gives lent_resource result (answer_by (L.fault last.linked.now.link)
+            (said_in resource_of (reply_at 0x23 last.linked.now.reply))))) }
+    {
+        let handle = self.handle();
+        let linked = &mut *self.linked;
+        match linked.ask_resource(handle, index) {
+            Ok(()) => {}
+            Err(fault) => return Err(fault),
+        }
+        resource_in(linked.reply.bytes())
+    }
+}

@@ -1,0 +1,203 @@
+// What the replies of the handheld say.
+ghost use Rattle.std.specs.Prelude.{◌≡◌, IfOk};
+ghost use Rattle.std.specs.Option.{option_map};
+ghost use Rattle.dlp_args.specs.Views.{Gives};
+ghost use Rattle.dlp_replies.specs.ReplyReading.{reply_at};
+ghost use Rattle.dlp_replies.specs.Views.{reply_value};
+ghost use Rattle.desktop_session.specs.Answers as answers;
+ghost use Rattle.desktop_session.specs.Answers.{count_of, handle_of, id_of, no_more, record_of, resource_of, said_in, user_of};
+ghost use Rattle.desktop_session.specs.Lent.{lent_resource, lent_value};
+ghost use Rattle.desktop_session.specs.Replies.{AnswersTo};
+
+use crate::fault::SessionFault;
+use crate::lent::{RecordLent, ResourceLent};
+use dlp_commands::{ErrorCode, Reply, read_reply};
+use pdb_values::{Password, RecordId, UserInfo, UserName};
+
+// The reply to a function, which is no error.
+fn reply_in(function: u8, bytes: &[u8]) -> Result<Reply<'_>, SessionFault>
+    ensures said { Gives reply_value result (said_in (λ reply. reply)
+        (reply_at function bytes.now)) }
+    ensures own { IfOk result (λ reply. AnswersTo function (reply_value reply) bytes.now) }
+{
+    match read_reply(function, bytes) {
+        Ok(Reply::Refused { code, .. }) => Err(SessionFault::Refused(code)),
+        Ok(reply) => Ok(reply),
+        Err(fault) => Err(SessionFault::BadReply(fault)),
+    }
+}
+
+// The handle of a database that is open now.
+pub(crate) fn opened_in(bytes: &[u8]) -> Result<u8, SessionFault>
+    ensures { result ≡ said_in handle_of (reply_at 0x17 bytes.now) }
+{
+    match reply_in(0x17, bytes)? {
+        Reply::OpenDb { handle } => Ok(handle),
+        _ => unreachable!(),
+    }
+}
+
+// The handle of a database that was made.
+pub(crate) fn created_in(bytes: &[u8]) -> Result<u8, SessionFault>
+    ensures { result ≡ said_in handle_of (reply_at 0x18 bytes.now) }
+{
+    match reply_in(0x18, bytes)? {
+        Reply::CreateDb { handle } => Ok(handle),
+        _ => unreachable!(),
+    }
+}
+
+// A number of entries.
+pub(crate) fn count_in(bytes: &[u8]) -> Result<u16, SessionFault>
+    ensures { result ≡ said_in count_of (reply_at 0x2B bytes.now) }
+{
+    match reply_in(0x2B, bytes)? {
+        Reply::ReadOpenDbInfo { count } => Ok(count),
+        _ => unreachable!(),
+    }
+}
+
+// A reply that says nothing but that it was done.
+pub(crate) fn done_in(function: u8, bytes: &[u8]) -> Result<(), SessionFault>
+    ensures { result ≡ said_in no_more (reply_at function bytes.now) }
+{
+    let _reply = reply_in(function, bytes)?;
+    Ok(())
+}
+
+// Error 5 says that there is none.
+pub(crate) fn or_none<T>(answer: Result<T, SessionFault>) -> Result<Option<T>, SessionFault>
+    ensures { result ≡ answers.or_none answer }
+{
+    match answer {
+        Ok(found) => Ok(Some(found)),
+        Err(SessionFault::Refused(ErrorCode(5))) => Ok(None),
+        Err(fault) => Err(fault),
+    }
+}
+
+// The same of what says nothing more.
+pub(crate) fn or_false(answer: Result<(), SessionFault>) -> Result<bool, SessionFault>
+    ensures { result ≡ answers.or_false answer }
+{
+    match answer {
+        Ok(()) => Ok(true),
+        Err(SessionFault::Refused(ErrorCode(5))) => Ok(false),
+        Err(fault) => Err(fault),
+    }
+}
+
+// The id of a written record.
+pub(crate) fn id_in(bytes: &[u8]) -> Result<RecordId, SessionFault>
+    ensures { result ≡ said_in id_of (reply_at 0x21 bytes.now) }
+{
+    match reply_in(0x21, bytes)? {
+        Reply::WriteRecord { id } => Ok(id),
+        _ => unreachable!(),
+    }
+}
+
+// The record in a reply to ReadRecord.
+pub(crate) fn record_in(bytes: &[u8]) -> Result<RecordLent<'_>, SessionFault>
+    ensures { Gives lent_value result (said_in record_of (reply_at 0x20 bytes.now)) }
+{
+    match reply_in(0x20, bytes)? {
+        Reply::ReadRecord {
+            id,
+            attributes,
+            category,
+            bytes,
+            ..
+        } => Ok(RecordLent {
+            id: id.number(),
+            attributes,
+            category: category.number(),
+            bytes,
+        }),
+        _ => unreachable!(),
+    }
+}
+
+// The same, or nothing where there is none.
+#[tactic(auto, using(crate::proofs::AnswerLaws::gives_or_none))]
+pub(crate) fn found_in(bytes: &[u8]) -> Result<Option<RecordLent<'_>>, SessionFault>
+    ensures { Gives (option_map lent_value) result
+        (answers.or_none (said_in record_of (reply_at 0x20 bytes.now))) }
+{
+    or_none(record_in(bytes))
+}
+
+// The record in a reply to ReadNextModifiedRec.
+fn changed_in(bytes: &[u8]) -> Result<RecordLent<'_>, SessionFault>
+    ensures { Gives lent_value result (said_in record_of (reply_at 0x1F bytes.now)) }
+{
+    match reply_in(0x1F, bytes)? {
+        Reply::ReadNextModifiedRec {
+            id,
+            attributes,
+            category,
+            bytes,
+            ..
+        } => Ok(RecordLent {
+            id: id.number(),
+            attributes,
+            category: category.number(),
+            bytes,
+        }),
+        _ => unreachable!(),
+    }
+}
+
+// The same, or nothing where none is left.
+#[tactic(auto, using(crate::proofs::AnswerLaws::gives_or_none))]
+pub(crate) fn next_in(bytes: &[u8]) -> Result<Option<RecordLent<'_>>, SessionFault>
+    ensures { Gives (option_map lent_value) result
+        (answers.or_none (said_in record_of (reply_at 0x1F bytes.now))) }
+{
+    or_none(changed_in(bytes))
+}
+
+// The resource in a reply to ReadResource.
+pub(crate) fn resource_in(bytes: &[u8]) -> Result<ResourceLent<'_>, SessionFault>
+    ensures { Gives lent_resource result (said_in resource_of (reply_at 0x23 bytes.now)) }
+{
+    match reply_in(0x23, bytes)? {
+        Reply::ReadResource {
+            kind,
+            id,
+            bytes,
+            ..
+        } => Ok(ResourceLent { kind, id, bytes }),
+        _ => unreachable!(),
+    }
+}
+
+// What the handheld knows of its user.
+pub(crate) fn user_in(bytes: &[u8]) -> Result<UserInfo, SessionFault>
+    ensures { result ≡ said_in user_of (reply_at 0x10 bytes.now) }
+{
+    match reply_in(0x10, bytes)? {
+        Reply::ReadUserInfo {
+            user,
+            viewer,
+            pc,
+            good,
+            last,
+            name,
+            password,
+        } => {
+            let name = UserName::new(name).unwrap();
+            let password = Password::new(password).unwrap();
+            Ok(UserInfo {
+                user,
+                viewer,
+                pc,
+                good,
+                last,
+                name,
+                password,
+            })
+        }
+        _ => unreachable!(),
+    }
+}
