@@ -1,0 +1,10 @@
+pub mod BytesLaws
+pub mod DataLaws
+pub mod FrameLaws
+pub mod HearLaws
+pub mod HeardLaws
+pub mod HoldsLaws
+pub mod PieceLaws
+pub mod SendingLaws
+pub mod TakingLaws
+pub mod XorLaws

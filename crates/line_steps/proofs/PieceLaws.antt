@@ -1,0 +1,41 @@
+-- The waiting piece of an end.
+use Rattle.std.proofs.Common.{◌≡◌, ℕ, ◌+◌, ◌-◌, ◌≤◌, List, length, take, drop, Some, sym, ap, subst, ◌∙◌, arith}
+use Rattle.padp_link.specs.declared.fragment.PadpKind.TheVariants.{Data}
+use Rattle.padp_link.specs.declared.piece.Piece.{Piece}
+use Rattle.padp_link.specs.FragmentText.{FragmentValue, IsFragment}
+use Rattle.padp_link.specs.Pieces.{piece_of, fragment_of}
+use Rattle.padp_link.specs.Senders.{waiting}
+use Rattle.padp_link.proofs.WaitingLaws.{waiting-piece_of, waiting-fragment}
+use Rattle.line_laws.specs.Core.{part_now}
+use Rattle.line_steps.specs.declared.half.Half.{Half}
+use Rattle.line_steps.specs.Running.{IsHalf, side_of}
+
+pub record IsPiece (half : Half) (piece : Piece) : Type 0 where
+  pub is : piece ≡ piece_of half.sender.id (length half.message.items) half.sender.acknowledged
+  pub within : piece.place + piece.length ≤ length half.message.items
+  pub fragment : IsFragment (part_now (side_of half))
+  pub part_is : fragment_of half.message.items piece ≡ part_now (side_of half)
+  pub id_is : piece.key.id ≡ half.sender.id
+
+pub is_piece : (half : Half) (piece : Piece) → IsHalf half → waiting half.sender ≡ Some piece → IsPiece half piece
+is_piece half piece is_half waits =
+    let found = waiting-piece_of half.sender piece waits in
+    let parts = waiting-fragment half.sender half.message.items piece (sym is_half.length_is) waits in
+    let is : piece ≡ piece_of half.sender.id (length half.message.items) half.sender.acknowledged = found.1 ∙ ap (λ (n : ℕ). piece_of half.sender.id n half.sender.acknowledged) is_half.length_is in
+    let part : fragment_of half.message.items piece ≡ part_now (side_of half) = ap (λ (p : Piece). fragment_of half.message.items p) is in
+    record {
+      is = is;
+      within = omega (arith, parts.0, is_half.length_is);
+      fragment = subst (λ (f : FragmentValue). IsFragment f) part parts.1;
+      part_is = part;
+      id_is = ap (λ (p : Piece). p.key.id) is;
+    }
+
+-- the bytes of a piece
+pub piece_bytes : (message slice : List ℕ) (piece : Piece) (place end : ℕ) → slice ≡ message → place ≡ piece.place → end ≡ place + piece.length → take (end - place) (drop place slice) ≡ take piece.length (drop piece.place message)
+piece_bytes message slice piece place end same at to =
+    let span : end - place ≡ piece.length = omega (arith, to) in
+    ap (λ (n : ℕ). take n (drop place slice)) span ∙ ap (λ (n : ℕ). take piece.length (drop n slice)) at ∙ ap (λ (s : List ℕ). take piece.length (drop piece.place s)) same
+
+pub with_bytes : (message : List ℕ) (piece : Piece) (bytes : List ℕ) → bytes ≡ take piece.length (drop piece.place message) → record { kind = Data; flags = piece.key.flags; size = piece.key.size; bytes = bytes } ≡ fragment_of message piece
+with_bytes message piece bytes same = ap (λ (s : List ℕ). record { kind = Data; flags = piece.key.flags; size = piece.key.size; bytes = s }) same

@@ -1,0 +1,69 @@
+-- The parts of a running line: the frames so far as a past, what an end sends, and what holds of both ends and the frames after each step.
+use Rattle.std.specs.Prelude.{◌≡◌, ◌⊎◌, ℕ, ◌+◌, ◌<◌, Bool, true, false, ◌&&◌, ⊤, List, [], ◌∷◌, length, map, slice_get, Some}
+use Rattle.trace_text.specs.declared.frame.End.{End}
+use Rattle.trace_text.specs.declared.frame.Frame.{Frame}
+use Rattle.trace_text.specs.Fates.{fate_value, arrives, ends_run}
+use Rattle.trace_text.specs.Frames.{BearsFragment, sent_in, past_of}
+use Rattle.trace_text.specs.Past.{Sent, is_end}
+use Rattle.trace_text.specs.TraceLines.{FrameValue, frame_value}
+use Rattle.line_laws.specs.Core.{Apart, Side}
+use Rattle.line_laws.specs.Line.{Line}
+use Rattle.line_steps.specs.declared.half.Half.{Half}
+use Rattle.line_steps.specs.declared.half.Wire.{Wire}
+
+abbrev pub sent_of : Frame → Sent
+sent_of frame = sent_in (frame_value frame)
+
+-- the frames so far, the newest first
+abbrev pub past_now : List Frame → List Sent
+past_now frames = past_of (map frame_value frames)
+
+-- a frame of this number with which the run goes on
+pub record Goes (number : ℕ) (frame : FrameValue) : Type 0 where
+  pub number_is : frame.number ≡ number
+  pub bears : BearsFragment frame
+  pub goes_on : ends_run frame.fate frame.bytes ≡ false
+
+abbrev pub AllGo : ℕ → List Frame → Type 0
+AllGo number [] = ⊤
+AllGo number (frame ∷ later) = Goes number (frame_value frame) × AllGo (number + 1) later
+
+-- the message that an end sends, and how many of its pieces are acknowledged
+abbrev pub side_of : Half → Side
+side_of half = record { id = half.sender.id; message = half.message.items; acknowledged = half.sender.acknowledged }
+
+-- the sender sends the message, and the reader took a gap last
+pub record IsHalf (half : Half) : Type 0 where
+  pub length_is : half.sender.length ≡ length half.message.items
+  pub gap : half.reader.held ≡ []
+
+-- what holds of the wire and of both ends after each step
+pub record Holds (wire : Wire) (x y : Half) : Type 0 where
+  pub apart : Apart x.end y.end
+  pub fx : Bool
+  pub fy : Bool
+  pub go : AllGo 1 wire.frames.items
+  pub x_half : IsHalf x
+  pub y_half : IsHalf y
+  pub line : Line x.end y.end (past_now wire.frames.items) x.taken y.taken wire.released (side_of x) (side_of y) x.receiver y.receiver fx fy x.sender.tries y.sender.tries
+
+-- the frame behind so many is of this end, and comes
+pub record ComesNext (X : End) (frames : List Frame) (n : ℕ) : Type 0 where
+  pub inside : n < length frames
+  pub is : (frame : Frame) → slice_get frames n ≡ Some frame → (is_end X frame.from && arrives (fate_value frame.fate)) ≡ true
+
+-- all frames of this end are passed, or the next one comes
+abbrev pub AtHead : End → List Frame → ℕ → Type 0
+AtHead X frames n = (n ≡ length frames) ⊎ ComesNext X frames n
+
+-- the cursor alone moved
+abbrev pub Moved : Half → Half → Type 0
+Moved old new = new ≡ record old { taken = new.taken }
+
+-- the reader alone read
+abbrev pub Read : Half → Half → Type 0
+Read old new = new ≡ record old { reader = new.reader }
+
+-- the receiver took something, too
+abbrev pub Heeded : Half → Half → Type 0
+Heeded old new = new ≡ record old { receiver = new.receiver; reader = new.reader }

@@ -1,0 +1,27 @@
+//! What was sent over the line so far, and the two ends of it.
+use padp_link::{Receiver, Sender};
+use slp_frames::SlpReader;
+use trace_text::{End, Frame};
+
+/// What was sent over the line so far.
+#[derive(Drop)]
+pub struct Wire {
+    /// The frames of both ends, in the order of sending.
+    pub frames: Vec<Frame>,
+    /// How many of them had been sent at the last tick. A late frame among these is held no more.
+    pub released: usize,
+}
+
+/// An end of the line: what it sends, and what it takes.
+#[derive(Drop)]
+pub struct Half {
+    pub end: End,
+    /// Sends the message.
+    pub sender: Sender,
+    pub message: Vec<u8>,
+    pub receiver: Receiver,
+    /// Reads what arrives of the other end's frames.
+    pub reader: SlpReader,
+    /// All its own frames up to this number are taken off the line.
+    pub taken: usize,
+}

@@ -1,0 +1,51 @@
+//! The cursor of an end goes past the frames that don't come and those of the other end.
+ghost use Rattle.std.specs.Prelude.{◌≡◌};
+ghost use Rattle.trace_text.specs.Fates as fates;
+ghost use Rattle.trace_text.specs.Fates.{fate_value};
+ghost use Rattle.trace_text.specs.Past.{is_end};
+ghost use Rattle.line_steps.specs.Running.{Holds, AtHead, Moved, Read};
+
+use crate::half::{Half, Wire};
+use crate::hearing::hear_harm;
+use trace_text::{End, Fate, Frame};
+
+/// Moves the cursor of the end `x` to its next frame that comes, or past all frames. What the line left of those that don't
+/// come goes to the other end, `y`.
+pub fn skip_to_head(wire: &Wire, x: &mut Half, y: &mut Half)
+    requires { Holds wire.now x.old y.old }
+    ensures holds { Holds wire.now x.new y.new }
+    ensures head { AtHead x.old.end wire.now.frames.items x.new.taken }
+    ensures moved { Moved x.old x.new }
+    ensures read { Read y.old y.new }
+{
+    while x.taken < wire.frames.len() {
+        let frame = &wire.frames[x.taken];
+        if is_from(frame, x.end) {
+            if arrives(&frame.fate) {
+                return;
+            }
+            hear_harm(frame, y);
+        }
+        x.taken += 1;
+    }
+}
+
+/// Whether the frame is of this end.
+fn is_from(frame: &Frame, from: End) -> bool
+    ensures { result ≡ is_end from frame.now.from }
+{
+    match (from, frame.from) {
+        (End::Handheld, End::Handheld) | (End::Desktop, End::Desktop) => true,
+        (End::Handheld, End::Desktop) | (End::Desktop, End::Handheld) => false,
+    }
+}
+
+/// Whether a frame with this fate arrives.
+fn arrives(fate: &Fate) -> bool
+    ensures { result ≡ fates.arrives (fate_value fate.now) }
+{
+    match fate {
+        Fate::Ok | Fate::Late | Fate::Noise(_) => true,
+        Fate::Lost | Fate::Cut(_) | Fate::Hit(_, _) | Fate::Unplug | Fate::Abort => false,
+    }
+}

@@ -1,0 +1,96 @@
+//! An end takes the next frame of the other one.
+ghost use Rattle.std.specs.Prelude.{◌≡◌, ◌≤◌, ◌<◌, [], OnOk, false, length};
+ghost use Rattle.padp_link.specs.Pieces.{piece_count};
+ghost use Rattle.padp_link.specs.Senders.{Waits, WaitsOnLast};
+ghost use Rattle.slp_frames.specs.PacketScan.{packet_at};
+ghost use Rattle.trace_text.specs.Fates.{fate_value, ends_run};
+ghost use Rattle.trace_text.specs.Frames.{BearsFragment, fragment_in};
+ghost use Rattle.trace_text.specs.TraceLines.{frame_value};
+ghost use Rattle.line_steps.specs.Hearing.{Hears};
+ghost use Rattle.line_steps.specs.Running.{Holds, Heeded};
+ghost use Rattle.line_steps.specs.Taking.{Delivers, AckNext, DataHeard};
+
+use crate::half::{Half, Wire};
+use crate::hearing::{Heard, hear, hear_harm};
+use crate::pieces::{send_ack, send_piece};
+use crate::sending::Halt;
+use padp_link::{Key, Sender, Taken};
+use trace_text::{Fate, Frame};
+
+/// The end `y` takes the next frame of the end `x`. What it sends then, an acknowledgement or its next piece, has this fate.
+pub fn take_next(wire: &mut Wire, x: &mut Half, y: &mut Half, fate: Fate) -> Result<Heard, Halt>
+    requires holds { Holds wire.old x.old y.old }
+    requires next { Delivers x.old.end wire.old x.old.taken }
+    ensures { OnOk result (Holds wire.new x.new y.new) }
+{
+    let heard = hear_frame(&wire.frames[x.taken], y);
+    match heard {
+        Heard::Ack(key) => take_ack(wire, x, y, key, fate)?,
+        Heard::Data(key, taken) => take_data(wire, x, y, key, taken, fate)?,
+        Heard::Nothing => {}
+    }
+    Ok(heard)
+}
+
+/// Gives a frame that comes to an end, behind its noise.
+fn hear_frame(frame: &Frame, half: &mut Half) -> Heard
+    requires gap { half.old.reader.held ≡ [] }
+    requires goes { ends_run (fate_value frame.now.fate) frame.now.bytes.items ≡ false }
+    requires bears { BearsFragment (frame_value frame.now) }
+    ensures hears { Hears half.old.receiver
+        (packet_at frame.now.bytes.items).id (fragment_in
+        (frame_value frame.now)) result half.new.receiver }
+    ensures heeded { Heeded half.old half.new }
+    ensures gap { half.new.reader.held ≡ [] }
+{
+    hear_harm(frame, half);
+    hear(&mut half.reader, &mut half.receiver, frame.bytes.as_slice())
+}
+
+/// Takes an acknowledgement. The next piece goes where it is that of the waiting one, if there is one.
+fn take_ack(wire: &mut Wire, x: &mut Half, y: &mut Half, key: Key, fate: Fate) -> Result<(), Halt>
+    requires holds { Holds wire.old x.old y.old }
+    requires next { AckNext x.old.end wire.old x.old.taken key }
+    ensures { OnOk result (Holds wire.new x.new y.new) }
+{
+    x.taken += 1;
+    if !y.sender.on_ack(key) {
+        return Ok(());
+    }
+    if y.sender.current().is_none() {
+        return Ok(());
+    }
+    send_piece(wire, y, fate)
+}
+
+/// Acknowledges data that its receiver took. A piece of its own that waits was answered where the data is new.
+fn take_data(
+    wire: &mut Wire,
+    x: &mut Half,
+    y: &mut Half,
+    key: Key,
+    taken: Taken,
+    fate: Fate,
+) -> Result<(), Halt>
+    requires { DataHeard wire.old x.old y.old key taken }
+    ensures { OnOk result (Holds wire.new x.new y.new) }
+{
+    x.taken += 1;
+    match taken {
+        Taken::Dropped => return Ok(()),
+        Taken::Repeated => {}
+        Taken::Accepted | Taken::Whole => stop_waiting(&mut y.sender),
+    }
+    send_ack(wire, y.end, key, fate)
+}
+
+/// What waits was answered.
+fn stop_waiting(sender: &mut Sender)
+    requires { Waits sender.old → WaitsOnLast sender.old }
+    ensures idle { piece_count sender.new.length ≤ sender.new.acknowledged }
+    ensures rest { sender.new ≡ record sender.old { acknowledged = sender.new.acknowledged } }
+{
+    if sender.current().is_some() {
+        sender.on_answer();
+    }
+}
