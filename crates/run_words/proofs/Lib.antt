@@ -1,0 +1,6 @@
+pub mod ActionLaws
+pub mod ItemLaws
+pub mod NumberLaws
+pub mod SplitLaws
+pub mod StemLaws
+pub mod WordLaws
