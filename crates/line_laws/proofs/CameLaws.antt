@@ -8,7 +8,7 @@ use Rattle.trace_text.specs.Proper.{Reaches, IsKnown, IfAnswers, BeginInTurn, At
 use Rattle.trace_text.specs.Talks.{Talk, answered_by}
 use Rattle.trace_text.specs.declared.frame.End.{End}
 use Rattle.trace_text.specs.declared.frame.End.TheVariants.{Handheld, Desktop}
-use Rattle.line_laws.specs.Came.{is_taken, came_by, data_taken}
+use Rattle.line_laws.specs.Came.{is_taken, came_by, data_taken, AcksMatch}
 use Rattle.line_laws.proofs.PastLaws.{at_push, at_all, length-at}
 
 -- what came by one reckoning came by the other
@@ -65,10 +65,6 @@ acks-grow Y came later (frame ∷ past) answered more was = go (is_ack_of Y fram
     go false inside all was = all answered inside was
 
 -- ---- acknowledgements over the steps
-
--- what the acknowledgements by Y are for, where this was taken of X
-abbrev pub AcksMatch : End → End → (End → ℕ) → List Sent → Type 0
-AcksMatch X Y cursor past = AcksAreFor Y (came_by cursor past) past (data_taken X (at (cursor X) past))
 
 -- a frame that is no acknowledgement by Y
 pub match-push : (X Y : End) (cursor : End → ℕ) (frame : Sent) (past : List Sent) → cursor X ≤ length past → is_ack_of Y frame ≡ false → AcksMatch X Y cursor past → AcksMatch X Y cursor (frame ∷ past)

@@ -2,7 +2,7 @@
 use Rattle.std.specs.Prelude.{ℕ, ◌+◌, Bool, false, ◌&&◌, nat_le, List, [], ◌∷◌, length, if◌then◌else◌}
 use Rattle.trace_text.specs.Faults.{comes, data_comes}
 use Rattle.trace_text.specs.Past.{Sent, at}
-use Rattle.trace_text.specs.Proper.{Numbered}
+use Rattle.trace_text.specs.Proper.{AcksAreFor, Numbered}
 use Rattle.trace_text.specs.declared.frame.End.{End}
 
 -- the newest frame of this past, of number n, comes and stands at or before its end's cursor
@@ -18,3 +18,7 @@ came_by cursor past n = is_taken cursor n (at n past)
 abbrev pub data_taken : End → List Sent → List Numbered
 data_taken X [] = []
 data_taken X (frame ∷ past) = if data_comes X frame then record { number = length past + 1; key = frame.key } ∷ data_taken X past else data_taken X past
+
+-- what the acknowledgements by Y are for, where this was taken of X
+abbrev pub AcksMatch : End → End → (End → ℕ) → List Sent → Type 0
+AcksMatch X Y cursor past = AcksAreFor Y (came_by cursor past) past (data_taken X (at (cursor X) past))

@@ -5,4 +5,5 @@ pub mod Hearing
 pub mod Line
 pub mod Progress
 pub mod Reaching
+pub mod Talking
 pub mod Trace

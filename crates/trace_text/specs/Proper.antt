@@ -53,6 +53,7 @@ pub record BearsNumber (X : End) (past : List Sent) (n : ℕ) (frame : Sent) (nu
 pub record AnswersNewest (X Y : End) (talk : Talk) (past : List Sent) (n : ℕ) (frame : Sent) : Type 0 where
   pub number : ℕ
   pub answer : ℕ
+  pub asked : number < length (messages_of X talk)
   pub there : answer < length (messages_of Y talk)
   pub answers : answer_to X number ≡ Some answer
   pub newest_ends : pieces_before (messages_of X talk) (number + 1) ≡ length (said X past)

@@ -1,0 +1,50 @@
+-- What holds of the messages of both ends: which of their pieces were sent, what each end knows was taken, and the rules of a proper trace for what was sent so far.
+use Rattle.std.specs.Prelude.{◌≡◌, ℕ, ◌+◌, ◌-◌, ◌<◌, Bool, true, List, [], ◌∷◌, ◌++◌, length, Some}
+use Rattle.padp_link.specs.Pieces.{piece_count}
+use Rattle.trace_text.specs.Past.{Sent, said, acked}
+use Rattle.trace_text.specs.Proper.{Reaches, BearsNumber, IsKnown, BeginInTurn, AtMostTen}
+use Rattle.trace_text.specs.Talks.{Talk, messages_of, pieces_before, answer_to}
+use Rattle.trace_text.specs.declared.frame.End.{End}
+use Rattle.trace_text.specs.declared.frame.End.TheVariants.{Handheld, Desktop}
+use Rattle.line_laws.specs.Came.{came_by, AcksMatch}
+use Rattle.line_laws.specs.Core.{Side, Waiting}
+
+-- how many pieces of its message an end hasn't begun yet
+abbrev pub left : Side → ℕ
+left side = piece_count (length side.message) - (side.acknowledged + 1)
+
+-- how many messages an end began
+abbrev pub count_messages : End → Talk → ℕ
+count_messages X talk = length (messages_of X talk)
+
+-- an end begins a message
+abbrev pub say : End → List ℕ → Talk → Talk
+say Handheld message talk = record { handheld = talk.handheld ++ message ∷ []; desktop = talk.desktop }
+say Desktop message talk = record { handheld = talk.handheld; desktop = talk.desktop ++ message ∷ [] }
+
+-- a frame with the newest fragment of X that Y took
+pub record TookNewest (X Y : End) (came : ℕ → Bool) (past : List Sent) : Type 0 where
+  pub n : ℕ
+  pub reaches : Reaches came n past
+  pub bears : BearsNumber X past n reaches.frame (length (acked Y past))
+
+-- what X sent
+pub record Speech (X Y : End) (talk : Talk) (cursor : End → ℕ) (past : List Sent) (x : Side) : Type 0 where
+  pub begun : length (said X past) + left x ≡ pieces_before (messages_of X talk) (count_messages X talk)
+  pub current : 0 < count_messages X talk → pieces_before (messages_of X talk) (count_messages X talk) ≡ pieces_before (messages_of X talk) (count_messages X talk - 1) + piece_count (length x.message)
+  pub begins : BeginInTurn X Y talk (came_by cursor past) past
+  pub ten : AtMostTen X past
+  pub acks : AcksMatch X Y cursor past
+  pub known : (Waiting x → ⊥) → 0 < length (said X past) → IsKnown X Y talk (came_by cursor past) past
+  pub took : 0 < length (acked Y past) → TookNewest X Y (came_by cursor past) past
+
+-- where both wait, the message of X, whose first piece waits, answers that of Y
+abbrev pub AnswersIt : End → End → Talk → Bool → Side → Side → Type 0
+AnswersIt X Y talk fresh x y =
+    fresh ≡ true → x.acknowledged ≡ 0 → Waiting y → (0 < count_messages X talk) × (0 < count_messages Y talk) × (answer_to Y (count_messages Y talk - 1) ≡ Some (count_messages X talk - 1))
+
+pub record Talking (X Y : End) (talk : Talk) (cursor : End → ℕ) (past : List Sent) (x y : Side) (fx fy : Bool) : Type 0 where
+  pub x_speech : Speech X Y talk cursor past x
+  pub y_speech : Speech Y X talk cursor past y
+  pub x_answers : AnswersIt X Y talk fx x y
+  pub y_answers : AnswersIt Y X talk fy y x
