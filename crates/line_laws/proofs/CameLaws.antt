@@ -29,11 +29,11 @@ came-moves cursor later past more n inside came = taken-moves cursor later more 
 
 -- ---- the rules stay
 
-pub reaches-grows : (came later : ℕ → Bool) (n : ℕ) (past : List Sent) → Grows came later past → Reaches came n past → Reaches later n past
+unfoldable pub reaches-grows : (came later : ℕ → Bool) (n : ℕ) (past : List Sent) → Grows came later past → Reaches came n past → Reaches later n past
 reaches-grows came later n past more was =
     record { frame = was.frame; older = was.older; inside = was.inside; here = was.here; comes = more n was.inside was.comes; free = was.free }
 
-known-grows : (X Y : End) (talk : Talk) (came later : ℕ → Bool) (past : List Sent) → Grows came later past → IsKnown X Y talk came past → IsKnown X Y talk later past
+pub known-grows : (X Y : End) (talk : Talk) (came later : ℕ → Bool) (past : List Sent) → Grows came later past → IsKnown X Y talk came past → IsKnown X Y talk later past
 unfolding reaches-grows
 known-grows X Y talk came later past more was = record { n = was.n; reaches = reaches-grows came later was.n past more was.reaches; cause = was.cause }
 
