@@ -1,20 +1,25 @@
 -- What an end sent, over each kind of step.
-use Rattle.std.proofs.Common.{◌≡◌, ◌⊎◌, ℕ, suc, ◌+◌, ◌-◌, ◌<◌, ◌≤◌, Bool, true, false, ◌&&◌, List, [], ◌∷◌, length, Some, refl, sym, ap, subst, ◌∙◌, arith, inl, inr}
-use Rattle.std.proofs.lemmas.Bool.{cases_lt, both_ways}
+use Rattle.std.proofs.Common.{◌≡◌, ◌⊎◌, ℕ, ◌+◌, ◌-◌, ◌<◌, ◌≤◌, Bool, true, false, List, ◌∷◌, ◌++◌, length, sym, ap, subst, ◌∙◌, arith, inl, inr}
+use Rattle.std.specs.Prelude.{reverse}
+use Rattle.std.proofs.lemmas.Bool.{cases_lt, both_ways, cond-false}
+use Rattle.std.proofs.lemmas.List.{append-nil}
+use Rattle.padp_link.specs.Neighbours.{session_id}
 use Rattle.padp_link.specs.declared.piece.Key.{Key}
 use Rattle.padp_link.specs.Pieces.{piece_count}
 use Rattle.trace_text.specs.Faults.{data_comes, IsHeldIn}
+use Rattle.trace_text.specs.Parts.{Part, spoken, message_parts, session_parts}
 use Rattle.trace_text.specs.Past.{Sent, is_end, first, said, acked, at, is_data_of, is_repeat, run}
-use Rattle.trace_text.specs.Proper.{Reaches, AcksNewest, AnswersNewest, IsKnown, EndReached, IfAnswers, AnswersReached, BeginInTurn, BearsNumber, is_ack_of}
-use Rattle.trace_text.specs.Talks.{Talk, Turn, messages_of, pieces_before, answered_by}
+use Rattle.trace_text.specs.Proper.{Reaches, AcksNewest, AnswersNewest, IsKnown, IfAnswers, AnswersReached, BeginInTurn, is_ack_of}
+use Rattle.trace_text.specs.Talks.{Talk, messages_of, pieces_before, answered_by}
 use Rattle.trace_text.specs.declared.frame.End.{End}
-use Rattle.line_laws.specs.Came.{came_by, data_taken, AcksMatch}
-use Rattle.line_laws.specs.Core.{Side, Waiting}
-use Rattle.line_laws.specs.Talking.{left, count_messages, say, TookNewest, Speech}
+use Rattle.line_laws.specs.Came.{came_by, data_taken}
+use Rattle.line_laws.specs.Core.{Side}
+use Rattle.line_laws.specs.Talking.{left, part_at, unsaid, count_messages, say, TookNewest, Speech}
 use Rattle.line_laws.proofs.PastLaws.{at_push}
 use Rattle.line_laws.proofs.TraceLaws.{newest_repeat-grows}
 use Rattle.line_laws.proofs.CameLaws.{Grows, came-push, came-moves, reaches-grows, known-grows, begins-grow, match-push, match-moves, match-taken, ten-run}
-use Rattle.line_laws.proofs.MessageLaws.{some_pieces, pieces-grow, pieces-more, longer-say, Longer, count-say, pieces-say, messages-other, known-longer, begins-longer, new-says}
+use Rattle.line_laws.proofs.UnsaidLaws.{unsaid-next, unsaid-first, unsaid-none, said-one, parts-say}
+use Rattle.line_laws.proofs.MessageLaws.{some_pieces, pieces-grow, pieces-more, longer-say, count-say, pieces-say, messages-other, known-longer, begins-longer, new-says}
 
 -- ---- a frame is pushed
 
@@ -84,6 +89,10 @@ begins-one X Y talk cursor frame past known answers was = (
   begins-grow X Y talk (came_by cursor past) (came_by cursor (frame ∷ past)) past (came-push cursor frame past) was,
 )
 
+-- what was said stays
+spoken_still : (X : End) (frame : Sent) (past : List Sent) (x : Side) (talk : Talk) → spoken X (frame ∷ past) ≡ spoken X past → reverse (spoken X past) ++ unsaid x ≡ session_parts 0 (messages_of X talk) → reverse (spoken X (frame ∷ past)) ++ unsaid x ≡ session_parts 0 (messages_of X talk)
+spoken_still X frame past x talk same was = ap (λ (parts : List Part). reverse parts ++ unsaid x) same ∙ was
+
 -- ---- steps that begin nothing
 
 -- cursors move, and no data of X comes by that
@@ -93,6 +102,7 @@ speech-moves X Y talk cursor later past x more same was =
     record {
       begun = was.begun;
       current = was.current;
+      says = was.says;
       begins = begins-grow X Y talk (came_by cursor past) (came_by later past) past grows was.begins;
       ten = was.ten;
       acks = match-moves X Y cursor later past more same was.acks;
@@ -109,6 +119,7 @@ speech-push X Y talk cursor frame past x no_data no_ack same none runs inside wa
     record {
       begun = omega (arith, was.begun, len);
       current = was.current;
+      says = spoken_still X frame past x talk (cond-false _ _ _ no_data) was.says;
       begins = begins-none X Y talk cursor frame past (λ is new. both_ways _ no_data is) was.begins;
       ten = (omega (arith, runs, ten-run X past was.ten), was.ten);
       acks = match-push X Y cursor frame past inside no_ack was.acks;
@@ -117,14 +128,15 @@ speech-push X Y talk cursor frame past x no_data no_ack same none runs inside wa
     }
 
 -- X sends its newest fragment again
-pub speech-again : (X Y : End) (talk : Talk) (cursor : End → ℕ) (frame : Sent) (past : List Sent) (x : Side) → is_repeat X frame past ≡ true → is_ack_of Y frame ≡ false → said X (frame ∷ past) ≡ said X past → acked Y (frame ∷ past) ≡ acked Y past → run X (frame ∷ past) ≤ 10 → cursor X ≤ length past
+pub speech-again : (X Y : End) (talk : Talk) (cursor : End → ℕ) (frame : Sent) (past : List Sent) (x : Side) → is_repeat X frame past ≡ true → is_ack_of Y frame ≡ false → said X (frame ∷ past) ≡ said X past → acked Y (frame ∷ past) ≡ acked Y past → run X (frame ∷ past) ≤ 10 → spoken X (frame ∷ past) ≡ spoken X past → cursor X ≤ length past
     → Speech X Y talk cursor past x → Speech X Y talk cursor (frame ∷ past) x
-speech-again X Y talk cursor frame past x repeats no_ack same none few inside was =
+speech-again X Y talk cursor frame past x repeats no_ack same none few spoken_same inside was =
     let len = ap (λ (s : List Key). length s) same in
     let acks_len = ap (λ (s : List Key). length s) none in
     record {
       begun = omega (arith, was.begun, len);
       current = was.current;
+      says = spoken_still X frame past x talk spoken_same was.says;
       begins = begins-none X Y talk cursor frame past (λ is new. both_ways _ new repeats) was.begins;
       ten = (few, was.ten);
       acks = match-push X Y cursor frame past inside no_ack was.acks;
@@ -142,6 +154,7 @@ speech-taken X Y talk cursor later ack past cx frame x more is_cx is_later insid
     record {
       begun = omega (arith, was.begun, len);
       current = was.current;
+      says = spoken_still X ack past x talk (cond-false _ _ _ no_data) was.says;
       begins = begins-none X Y talk later ack past (λ is new. both_ways _ no_data is) (begins-grow X Y talk (came_by cursor past) (came_by later past) past grows was.begins);
       ten = (omega (arith, runs, ten-run X past was.ten), was.ten);
       acks = match-taken X Y cursor later ack past cx frame more is_cx is_later inside here comes mine is_ack key free was.acks;
@@ -154,6 +167,7 @@ pub speech-ends : (X Y : End) (talk : Talk) (cursor : End → ℕ) (past : List 
 speech-ends X Y talk cursor past x k none idle known was = record {
   begun = omega (arith, was.begun, none, idle);
   current = was.current;
+  says = ap (λ (rest : List Part). reverse (spoken X past) ++ rest) (unsaid-none (record x { acknowledged = k }) (omega (arith, idle)) ∙ sym (unsaid-none x none)) ∙ was.says;
   begins = was.begins;
   ten = was.ten;
   acks = was.acks;
@@ -170,14 +184,16 @@ inside_message X talk came past x begun current more number less begins =
     absurd (omega (arith, begun, current, more, begins, pieces-grow (messages_of X talk) number (count_messages X talk - 1) (omega arith)))
 
 -- the next piece of its message
-pub speech-next : (X Y : End) (talk : Talk) (cursor : End → ℕ) (frame : Sent) (past : List Sent) (x : Side) → x.acknowledged + 1 < piece_count (length x.message) → is_data_of X frame ≡ true → is_repeat X frame past ≡ false → is_ack_of Y frame ≡ false → acked Y (frame ∷ past) ≡ acked Y past → run X (frame ∷ past) ≡ 1 → cursor X ≤ length past
+pub speech-next : (X Y : End) (talk : Talk) (cursor : End → ℕ) (frame : Sent) (past : List Sent) (x : Side) → x.acknowledged + 1 < piece_count (length x.message) → is_data_of X frame ≡ true → is_repeat X frame past ≡ false → is_ack_of Y frame ≡ false → acked Y (frame ∷ past) ≡ acked Y past → run X (frame ∷ past) ≡ 1 → spoken X (frame ∷ past) ≡ part_at x.id x.message (x.acknowledged + 1) ∷ spoken X past → cursor X ≤ length past
     → (0 < length (said X past) → IsKnown X Y talk (came_by cursor past) past) → 0 < count_messages X talk → Speech X Y talk cursor past x → Speech X Y talk cursor (frame ∷ past) (record x { acknowledged = x.acknowledged + 1 })
-speech-next X Y talk cursor frame past x more is_data new no_ack none runs inside known some_message was =
+speech-next X Y talk cursor frame past x more is_data new no_ack none runs spoken_is inside known some_message was =
     let len = new-says X frame past is_data new in
     let acks_len = ap (λ (s : List Key). length s) none in
     record {
       begun = omega (arith, was.begun, len, more);
       current = was.current;
+      says = ap (λ (parts : List Part). reverse parts ++ unsaid (record x { acknowledged = x.acknowledged + 1 })) spoken_is
+          ∙ (said-one (part_at x.id x.message (x.acknowledged + 1)) (spoken X past) (unsaid (record x { acknowledged = x.acknowledged + 1 })) ∙ (ap (λ (rest : List Part). reverse (spoken X past) ++ rest) (sym (unsaid-next x more)) ∙ was.says));
       begins = begins-one X Y talk cursor frame past known (inside_message X talk (came_by cursor (frame ∷ past)) past x was.begun (was.current some_message) (omega (arith, more))) was.begins;
       ten = (omega (arith, runs), was.ten);
       acks = match-push X Y cursor frame past inside no_ack was.acks;
@@ -195,9 +211,9 @@ first_piece X message talk came past all answers number less begins = elim (case
 ]
 
 -- X begins a message: it knows that its newest fragment was taken, and took what this message answers
-pub speech-starts : (X Y : End) (talk : Talk) (cursor : End → ℕ) (frame : Sent) (past : List Sent) (x begun : Side) → left x ≡ 0 → begun.acknowledged ≡ 0 → is_data_of X frame ≡ true → is_repeat X frame past ≡ false → is_ack_of Y frame ≡ false → acked Y (frame ∷ past) ≡ acked Y past → run X (frame ∷ past) ≡ 1 → cursor X ≤ length past
+pub speech-starts : (X Y : End) (talk : Talk) (cursor : End → ℕ) (frame : Sent) (past : List Sent) (x begun : Side) → left x ≡ 0 → begun.acknowledged ≡ 0 → is_data_of X frame ≡ true → is_repeat X frame past ≡ false → is_ack_of Y frame ≡ false → acked Y (frame ∷ past) ≡ acked Y past → run X (frame ∷ past) ≡ 1 → spoken X (frame ∷ past) ≡ part_at begun.id begun.message 0 ∷ spoken X past → begun.id ≡ session_id (count_messages X talk) → cursor X ≤ length past
     → (0 < length (said X past) → IsKnown X Y talk (came_by cursor past) past) → IfAnswers (answered_by X (count_messages X talk)) (say X (begun.message) talk) (came_by cursor (frame ∷ past)) past → Speech X Y talk cursor past x → Speech X Y (say X (begun.message) talk) cursor (frame ∷ past) begun
-speech-starts X Y talk cursor frame past x begun none first_one is_data new no_ack acks_none runs inside known answers was =
+speech-starts X Y talk cursor frame past x begun none first_one is_data new no_ack acks_none runs spoken_is id_is inside known answers was =
     let later = say X (begun.message) talk in
     let longer = longer-say X (begun.message) talk in
     let len = new-says X frame past is_data new in
@@ -205,14 +221,19 @@ speech-starts X Y talk cursor frame past x begun none first_one is_data new no_a
     let all : length (said X past) ≡ pieces_before (messages_of X talk) (count_messages X talk) = omega (arith, was.begun, none) in
     let count = count-say X (begun.message) talk in
     let total : pieces_before (messages_of X later) (count_messages X later) ≡ pieces_before (messages_of X talk) (count_messages X talk) + piece_count (length begun.message) =
-        ap (pieces_before (messages_of X later)) count ∙ pieces-say X (begun.message) talk in
+    ap (pieces_before (messages_of X later)) count ∙ pieces-say X (begun.message) talk in
     let before : pieces_before (messages_of X later) (count_messages X later - 1) ≡ pieces_before (messages_of X talk) (count_messages X talk) =
-        (let k : count_messages X later - 1 ≡ count_messages X talk = omega (arith, count) in ap (pieces_before (messages_of X later)) k) ∙ longer.stays X (count_messages X talk) (omega arith) in
+    (let k : count_messages X later - 1 ≡ count_messages X talk = omega (arith, count) in ap (pieces_before (messages_of X later)) k) ∙ longer.stays X (count_messages X talk) (omega arith) in
     record {
       begun = omega (arith, all, len, total, first_one, some_pieces (length begun.message));
       current = λ some. omega (arith, total, before);
+      says = ap (λ (parts : List Part). reverse parts ++ unsaid begun) spoken_is
+          ∙ (said-one (part_at begun.id begun.message 0) (spoken X past) (unsaid begun)
+          ∙ (ap (λ (rest : List Part). reverse (spoken X past) ++ rest) (sym (unsaid-first begun first_one) ∙ ap (λ (id : ℕ). message_parts id begun.message) id_is)
+          ∙ (ap (λ (parts : List Part). parts ++ message_parts (session_id (count_messages X talk)) begun.message) (sym (append-nil (reverse (spoken X past))) ∙ (ap (λ (rest : List Part). reverse (spoken X past) ++ rest) (sym (unsaid-none x none)) ∙ was.says))
+          ∙ sym (parts-say X (begun.message) talk))));
       begins = begins-one X Y later cursor frame past (λ some. known-longer X Y talk later (came_by cursor past) past longer (known some)) (first_piece X (begun.message) talk (came_by cursor (frame ∷ past)) past all answers)
-        (begins-longer X Y talk later (came_by cursor past) past longer (omega (arith, all)) was.begins);
+          (begins-longer X Y talk later (came_by cursor past) past longer (omega (arith, all)) was.begins);
       ten = (omega (arith, runs), was.ten);
       acks = match-push X Y cursor frame past inside no_ack was.acks;
       known = λ idle some. absurd (idle (omega (arith, first_one, some_pieces (length begun.message))));
@@ -228,6 +249,7 @@ speech-longer X Y talk cursor past x message apart was =
     record {
       begun = was.begun ∙ sym (ap (λ (ms : List (List ℕ)). pieces_before ms (length ms)) same);
       current = λ some. ap (λ (ms : List (List ℕ)). pieces_before ms (length ms)) same ∙ (was.current (omega (arith, some, ap (λ (ms : List (List ℕ)). length ms) same)) ∙ sym (ap (λ (ms : List (List ℕ)). pieces_before ms (length ms - 1) + piece_count (length x.message)) same));
+      says = was.says ∙ sym (ap (session_parts 0) same);
       begins = begins-longer X Y talk later (came_by cursor past) past longer (omega (arith, was.begun)) was.begins;
       ten = was.ten;
       acks = was.acks;

@@ -1,6 +1,7 @@
 -- What holds of the messages of both ends: which of their pieces were sent, what each end knows was taken, and the rules of a proper trace for what was sent so far.
-use Rattle.std.specs.Prelude.{◌≡◌, ℕ, ◌+◌, ◌-◌, ◌<◌, Bool, true, List, [], ◌∷◌, ◌++◌, length, Some}
-use Rattle.padp_link.specs.Pieces.{piece_count}
+use Rattle.std.specs.Prelude.{◌≡◌, ℕ, ◌+◌, ◌-◌, ◌<◌, Bool, true, List, [], ◌∷◌, ◌++◌, length, drop, reverse, Some}
+use Rattle.padp_link.specs.Pieces.{piece_count, piece_of, fragment_of}
+use Rattle.trace_text.specs.Parts.{Part, spoken, message_parts, session_parts}
 use Rattle.trace_text.specs.Past.{Sent, said, acked}
 use Rattle.trace_text.specs.Proper.{Reaches, BearsNumber, IsKnown, BeginInTurn, AtMostTen}
 use Rattle.trace_text.specs.Talks.{Talk, messages_of, pieces_before, answer_to}
@@ -12,6 +13,14 @@ use Rattle.line_laws.specs.Core.{Side, Waiting}
 -- how many pieces of its message an end hasn't begun yet
 abbrev pub left : Side → ℕ
 left side = piece_count (length side.message) - (side.acknowledged + 1)
+
+-- the part of this number of a message
+abbrev pub part_at : ℕ → List ℕ → ℕ → Part
+part_at id message number = record { key = (piece_of id (length message) number).key; bytes = (fragment_of message (piece_of id (length message) number)).bytes }
+
+-- the parts that it hasn't begun
+abbrev pub unsaid : Side → List Part
+unsaid side = drop (piece_count (length side.message) - left side) (message_parts side.id side.message)
 
 -- how many messages an end began
 abbrev pub count_messages : End → Talk → ℕ
@@ -32,6 +41,7 @@ pub record TookNewest (X Y : End) (came : ℕ → Bool) (past : List Sent) : Typ
 pub record Speech (X Y : End) (talk : Talk) (cursor : End → ℕ) (past : List Sent) (x : Side) : Type 0 where
   pub begun : length (said X past) + left x ≡ pieces_before (messages_of X talk) (count_messages X talk)
   pub current : 0 < count_messages X talk → pieces_before (messages_of X talk) (count_messages X talk) ≡ pieces_before (messages_of X talk) (count_messages X talk - 1) + piece_count (length x.message)
+  pub says : reverse (spoken X past) ++ unsaid x ≡ session_parts 0 (messages_of X talk)
   pub begins : BeginInTurn X Y talk (came_by cursor past) past
   pub ten : AtMostTen X past
   pub acks : AcksMatch X Y cursor past
