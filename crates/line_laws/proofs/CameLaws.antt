@@ -37,7 +37,7 @@ pub known-grows : (X Y : End) (talk : Talk) (came later : ℕ → Bool) (past : 
 unfolding reaches-grows
 known-grows X Y talk came later past more was = record { n = was.n; reaches = reaches-grows came later was.n past more was.reaches; cause = was.cause }
 
-answers-grow : (turn : _) (talk : Talk) (came later : ℕ → Bool) (past : List Sent) → Grows came later past → IfAnswers turn talk came past → IfAnswers turn talk later past
+pub answers-grow : (turn : _) (talk : Talk) (came later : ℕ → Bool) (past : List Sent) → Grows came later past → IfAnswers turn talk came past → IfAnswers turn talk later past
 unfolding reaches-grows
 answers-grow None talk came later past more was = tt
 answers-grow (Some turn) talk came later past more was =

@@ -98,7 +98,7 @@ known-longer X Y talk later came past longer was = record { n = was.n; reaches =
       bears = record { is = answer.bears.is; number_is = answer.bears.number_is ∙ ap (λ (k : ℕ). k + 1) (sym (longer.stays Y answer.answer (omega (arith, answer.there)))) };
     })
 
-answers-longer : (turn : Option Turn) (talk later : Talk) (came : ℕ → Bool) (past : List Sent) → Longer talk later → IfAnswers turn talk came past → IfAnswers turn later came past
+pub answers-longer : (turn : Option Turn) (talk later : Talk) (came : ℕ → Bool) (past : List Sent) → Longer talk later → IfAnswers turn talk came past → IfAnswers turn later came past
 answers-longer None talk later came past longer was = tt
 answers-longer (Some turn) talk later came past longer was = record {
   n = was.n;

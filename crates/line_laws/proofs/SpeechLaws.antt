@@ -23,7 +23,7 @@ use Rattle.line_laws.proofs.MessageLaws.{some_pieces, pieces-grow, pieces-more, 
 
 -- ---- a frame is pushed
 
-held-back : (X : End) (n : ℕ) (frame : Sent) (past : List Sent) → n ≤ length past → IsHeldIn X n (frame ∷ past) → IsHeldIn X n past
+pub held-back : (X : End) (n : ℕ) (frame : Sent) (past : List Sent) → n ≤ length past → IsHeldIn X n (frame ∷ past) → IsHeldIn X n past
 held-back X n frame past inside held = record {
   late = held.late;
   frame = held.frame;
@@ -35,7 +35,7 @@ held-back X n frame past inside held = record {
   no_repeat = omega (arith, held.no_repeat, newest_repeat-grows frame past);
 }
 
-pub reaches-push : (cursor : End → ℕ) (n : ℕ) (frame : Sent) (past : List Sent) → Reaches (came_by cursor past) n past → Reaches (came_by cursor (frame ∷ past)) n (frame ∷ past)
+unfoldable pub reaches-push : (cursor : End → ℕ) (n : ℕ) (frame : Sent) (past : List Sent) → Reaches (came_by cursor past) n past → Reaches (came_by cursor (frame ∷ past)) n (frame ∷ past)
 reaches-push cursor n frame past was = record {
   frame = was.frame;
   older = was.older;

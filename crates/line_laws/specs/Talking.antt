@@ -58,3 +58,8 @@ pub record Talking (X Y : End) (talk : Talk) (cursor : End → ℕ) (past : List
   pub y_speech : Speech Y X talk cursor past y
   pub x_answers : AnswersIt X Y talk fx x y
   pub y_answers : AnswersIt Y X talk fy y x
+
+-- the cursor of X moves past one frame, and that of Y doesn't
+pub record Moves (X Y : End) (cursor later : End → ℕ) : Type 0 where
+  pub moved : later X ≡ cursor X + 1
+  pub kept : later Y ≡ cursor Y
