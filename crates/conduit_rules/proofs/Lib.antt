@@ -1,6 +1,7 @@
 pub mod ActionLaws
 pub mod AgreedLaws
 pub mod BoundLaws
+pub mod BucketLaws
 pub mod ByIdLaws
 pub mod ChoiceLaws
 pub mod ContentLaws

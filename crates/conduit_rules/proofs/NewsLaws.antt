@@ -1,9 +1,8 @@
 -- Pairing: what is left without a partner, and how often.
-use Rattle.std.proofs.Common.{◌≡◌, ◌≢◌, ℕ, suc, ◌+◌, ◌<◌, ◌≤◌, ◌==◌, List, [], ◌∷◌, ◌++◌, refl, ap, ◌∙◌, sym, arith, true, false, Bool, not, Some, None, if◌then◌else◌, length, drop, append_assoc, get_or}
+use Rattle.std.proofs.Common.{◌≡◌, ◌≢◌, ℕ, suc, ◌<◌, ◌≤◌, ◌==◌, List, [], ◌∷◌, refl, ap, ◌∙◌, sym, arith, true, false, Bool, not, Some, None, length}
 use Rattle.std.specs.List.{position, position_or_len, remove}
 use Rattle.std.proofs.lemmas.Grind.{common_steps}
 use Rattle.std.proofs.lemmas.Bool.Decides.{nat_tests}
-use Rattle.std.proofs.lemmas.List.{at_drop_more}
 use Rattle.pdb_values.specs.Contents.{ContentValue}
 use Rattle.conduit_rules.specs.Contents.{same_content, count_of}
 use Rattle.conduit_rules.specs.News.{less_one, unpaired, without_first}
@@ -60,25 +59,3 @@ unpaired-same free other (x ∷ xs) same = grind (arith, common_steps, same x, u
 pub count-without_first : (o : ContentValue) (xs : List ContentValue) (c : ContentValue) → count_of c (without_first o xs) ≡ less_one (λ x. count_of x xs) o c
 count-without_first o [] c = grind (arith, common_steps)
 count-without_first o (x ∷ xs) c = grind (arith, common_steps, same_content-same, same_content-is x o, same_content-is o c, count-without_first o xs c)
-
-zero_less : (free : ContentValue → ℕ) (o c : ContentValue) → free o ≡ 0 → less_one free o c ≡ free c
-zero_less free o c none = grind (arith, none, same_content-is o c)
-
--- one offer
-pub unpaired-step : (free : List ContentValue) (o : ContentValue) (rest : List ContentValue)
-    → unpaired (λ c. count_of c free) (o ∷ rest) ≡ (if not (count_of o free == 0) then [] else o ∷ []) ++ unpaired (λ c. count_of c (without_first o free)) rest
-unpaired-step free o rest = grind (
-  arith,
-  nat_tests,
-  unpaired-same (less_one (λ c. count_of c free) o) (λ c. count_of c (without_first o free)) rest (λ c. sym (count-without_first o free c)),
-  λ (none : count_of o free ≡ 0). unpaired-same (λ c. count_of c free) (λ c. count_of c (without_first o free)) rest (λ c. sym (zero_less (λ x. count_of x free) o c none) ∙ sym (count-without_first o free c)),
-)
-
-abbrev counts : List ContentValue → ContentValue → ℕ
-counts free c = count_of c free
-
--- the step of the loop over the offers
-pub unpaired-next : (adds free : List ContentValue) (offers : List ContentValue) (k : ℕ) (o : ContentValue) → k < length offers → o ≡ get_or offers k o
-    → adds ++ unpaired (counts free) (drop k offers) ≡ (adds ++ (if not (count_of o free == 0) then [] else o ∷ [])) ++ unpaired (counts (without_first o free)) (drop (k + 1) offers)
-unpaired-next adds free offers k o within is =
-    ap (λ ys. adds ++ ys) (at_drop_more (unpaired (counts free)) offers k o within ∙ ap (λ x. unpaired (counts free) (x ∷ drop (k + 1) offers)) (sym is) ∙ unpaired-step free o (drop (k + 1) offers)) ∙ sym (append_assoc adds _ _)

@@ -1,4 +1,5 @@
 pub mod Borrowed
+pub mod Buckets
 pub mod ById
 pub mod Choices
 pub mod Contents

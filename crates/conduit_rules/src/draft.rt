@@ -136,7 +136,7 @@ impl Draft {
             replace,
             archive,
             gone,
-            adds: leave_unpaired(alloc, partners, &offers)?,
+            adds: leave_unpaired(alloc, &partners, &offers)?,
             purge,
         })
     }

@@ -9,6 +9,7 @@
 
 mod action;
 mod basis;
+mod buckets;
 mod draft;
 mod front;
 mod has_id;

@@ -3,6 +3,7 @@ ghost use Rattle.std.specs.Prelude.{◌≡◌, ◌==◌, not, position, IfOk};
 ghost use Rattle.conduit_rules.specs.Contents.{count_of, same_content};
 ghost use Rattle.conduit_rules.specs.News.{unpaired, without_first};
 
+use crate::buckets::{buckets_of, take_equal};
 use crate::holding::is_same;
 use pdb_values::Content;
 use std::alloc::{AllocError, Global};
@@ -10,15 +11,15 @@ use std::alloc::{AllocError, Global};
 // The contents that find no partner among these: the first ones take them.
 pub fn leave_unpaired(
     alloc: Global,
-    partners: Vec<Content>,
+    partners: &[Content],
     offers: &[Content],
 ) -> Result<Vec<Content>, AllocError>
-    ensures { IfOk result (λ adds. adds.items ≡ unpaired (λ c. count_of c partners.items) offers.now) }
+    ensures { IfOk result (λ adds. adds.items ≡ unpaired (λ c. count_of c partners.now) offers.now) }
 {
-    let mut free = partners;
+    let mut free = buckets_of(alloc, partners)?;
     let mut adds = Vec::new(alloc);
     for offer in offers {
-        if !take_partner(&mut free, offer) {
+        if !take_equal(&mut free, offer) {
             adds.push(offer.copy(alloc)?)?;
         }
     }
@@ -26,7 +27,7 @@ pub fn leave_unpaired(
 }
 
 // Takes the first partner that is equal to the content, where there is one.
-fn take_partner(free: &mut Vec<Content>, content: &Content) -> bool
+pub fn take_partner(free: &mut Vec<Content>, content: &Content) -> bool
     ensures taken { result ≡ not (count_of content.now free.old.items == 0) }
     ensures left { free.new.items ≡ without_first content.now free.old.items }
 {

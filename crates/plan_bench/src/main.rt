@@ -1,5 +1,6 @@
-//! Plans a database in which the handheld, the desktop and the base agree, and prints what was planned: `kept N`. The words are
-//! how many records each of them has, and how often it is planned.
+//! Plans a database, and prints what was planned: `kept N`. The words are `agreed`, where the handheld, the desktop and the base
+//! have the same records, or `new`, where the handheld and the desktop have and the base has none; how many records; and how
+//! often it is planned.
 #![tactic(auto)]
 
 use conduit_rules::{Action, Seen, SeenState, View, plan};
@@ -10,10 +11,11 @@ use std::{env, io};
 fn main(rt: HostRuntime) -> io::Result<()> {
     let alloc = rt.alloc();
     let mut words = env::args(&rt)?.skip(1);
+    let is_new = words.next().is_some_and(|word| word.as_str() == "new");
     let count = words.next().map_or(1, |word| count_of(word.as_str()));
     let view = view_of(alloc, count)?;
     let rows = records(alloc, count)?;
-    let base = records(alloc, count)?;
+    let base = records(alloc, if is_new { 0 } else { count })?;
     let times = words.next().map_or(1, |word| count_of(word.as_str()));
     let mut kept = 0;
     for _ in 0..times {

@@ -27,6 +27,6 @@ returns c = λ a s is live archived.
       archive = put_away;
       gone = is.gone;
       adds = c.in_ok-leave_unpaired.ensures
-          ∙ ap {A = List ContentValue × List ContentValue} (λ p. unpaired (λ x. count_of x p.0) p.1) (λ k. (is.partners k, (c.deref.ensures.value ∙ offered) k));
+          ∙ ap {A = List ContentValue × List ContentValue} (λ p. unpaired (λ x. count_of x p.0) p.1) (λ k. ((c.deref.ensures.value ∙ is.partners) k, (c.deref-2.ensures.value ∙ offered) k));
       purge = is.purge;
     }
