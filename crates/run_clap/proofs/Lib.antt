@@ -1,0 +1,5 @@
+pub mod CommandLaws
+pub mod FormLaws
+pub mod PlainLaws
+pub mod TaskLaws
+pub mod WalkLaws

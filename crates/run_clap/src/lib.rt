@@ -1,0 +1,13 @@
+//! The words of a command line, read by `clap`: one simple command for each command word.
+//!
+//! Which words are in the form says `run_words`. What words in the form ask for is read out of the matches of `clap`, which
+//! refuses them only for want of memory.
+#![tactic(auto)]
+
+mod argument;
+mod plain;
+mod read;
+mod run;
+
+pub use read::{WordsFault, read_command};
+pub use run_words::{Command, Look, LookWords, MakeWords, PacketWords, RunWords};
