@@ -1,9 +1,11 @@
 pub mod Budget
 pub mod Came
 pub mod Core
+pub mod Framing
 pub mod Hearing
 pub mod Line
 pub mod Progress
+pub mod Promises
 pub mod Reaching
 pub mod Talking
 pub mod Trace

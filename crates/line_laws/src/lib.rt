@@ -8,4 +8,4 @@
 
 mod laws;
 
-pub use laws::past_grows;
+pub use laws::{a_dead_line_has_ten_faults, a_running_line_has_a_proper_trace, past_grows};
