@@ -2,6 +2,10 @@ pub mod ActLaws
 pub mod AnswerLaws
 pub mod AskLaws
 pub mod GreetLaws
+pub mod GrowLaws
+pub mod IdListLaws
+pub mod ListLaws
+pub mod ListedLaws
 pub mod PutLaws
 pub mod RequestFits
 pub mod RowLaws

@@ -15,6 +15,7 @@ mod idle;
 mod laws;
 mod lent;
 mod linked;
+mod lists;
 mod open_db;
 mod reading;
 mod replies;

@@ -1,18 +1,21 @@
 // What the replies of the handheld say.
-ghost use Rattle.std.specs.Prelude.{◌≡◌, IfOk};
+ghost use Rattle.std.specs.Prelude.{◌≡◌, ◌++◌, ◌∷◌, [], IfErr, IfOk, None, OnOk};
 ghost use Rattle.std.specs.Option.{option_map};
 ghost use Rattle.dlp_args.specs.Views.{Gives};
 ghost use Rattle.dlp_replies.specs.ReplyReading.{reply_at};
 ghost use Rattle.dlp_replies.specs.Views.{reply_value};
 ghost use Rattle.desktop_session.specs.Answers as answers;
-ghost use Rattle.desktop_session.specs.Answers.{count_of, handle_of, id_of, no_more, record_of, resource_of, said_in, user_of};
+ghost use Rattle.desktop_session.specs.Answers.{count_of, handle_of, id_of, ids_of, list_of, no_more};
+ghost use Rattle.desktop_session.specs.Answers.{record_of, resource_of, said_in, user_of};
 ghost use Rattle.desktop_session.specs.Lent.{lent_resource, lent_value};
+ghost use Rattle.desktop_session.specs.Lists as lists;
 ghost use Rattle.desktop_session.specs.Replies.{AnswersTo};
 
 use crate::fault::SessionFault;
 use crate::lent::{RecordLent, ResourceLent};
-use dlp_commands::{ErrorCode, Reply, read_reply};
-use pdb_values::{Password, RecordId, UserInfo, UserName};
+use dlp_commands::{Entries, ErrorCode, Ids, Reply, read_reply};
+use pdb_values::{DbHead, Password, RecordId, UserInfo, UserName};
+use std::alloc::AllocError;
 
 // The reply to a function, which is no error.
 fn reply_in(function: u8, bytes: &[u8]) -> Result<Reply<'_>, SessionFault>
@@ -200,4 +203,65 @@ pub(crate) fn user_in(bytes: &[u8]) -> Result<UserInfo, SessionFault>
         }
         _ => unreachable!(),
     }
+}
+
+// The entries in a reply to ReadDBList.
+fn entries_in(bytes: &[u8]) -> Result<(u8, Entries<'_>), SessionFault>
+    ensures { Gives (λ found. found) result (said_in list_of (reply_at 0x16 bytes.now)) }
+{
+    match reply_in(0x16, bytes)? {
+        Reply::ReadDbList { flags, entries, .. } => Ok((flags, entries)),
+        _ => unreachable!(),
+    }
+}
+
+// The ids in a reply to ReadRecordIDList.
+fn ids_in(bytes: &[u8]) -> Result<Ids<'_>, SessionFault>
+    ensures { Gives (λ ids. ids) result (said_in ids_of (reply_at 0x31 bytes.now)) }
+{
+    match reply_in(0x31, bytes)? {
+        Reply::ReadRecordIdList { ids } => Ok(ids),
+        _ => unreachable!(),
+    }
+}
+
+// Appends the heads in a reply to ReadDBList, and answers whether more follow. Error 5 says that none is left.
+pub(crate) fn add_heads(bytes: &[u8], heads: &mut Vec<DbHead>) -> Result<bool, SessionFault>
+    ensures heads { OnOk result (heads.new.items ≡ heads.old.items ++ lists.heads_in
+        (reply_at 0x16 bytes.now)) }
+    ensures more { IfOk result (λ more. more ≡ lists.has_more (reply_at 0x16 bytes.now)) }
+    ensures cause { IfErr result (lists.HasCause None (reply_at 0x16 bytes.now)) }
+{
+    let Some((flags, entries)) = or_none(entries_in(bytes))? else {
+        return Ok(false);
+    };
+    for place in 0..entries.len() {
+        let entry = entries.get(place).unwrap();
+        let (_, head) = entry;
+        push(heads, head)?;
+    }
+    Ok(flags & 0x80 != 0)
+}
+
+// Appends the ids in a reply to ReadRecordIDList.
+pub(crate) fn add_ids(bytes: &[u8], all: &mut Vec<RecordId>) -> Result<(), SessionFault>
+    ensures ids { OnOk result (all.new.items ≡ all.old.items ++ lists.ids_in
+        (reply_at 0x31 bytes.now)) }
+    ensures cause { IfErr result (lists.HasCause None (reply_at 0x31 bytes.now)) }
+{
+    let ids = ids_in(bytes)?;
+    for place in 0..ids.len() {
+        let id = ids.get(place).unwrap();
+        push(all, id)?;
+    }
+    Ok(())
+}
+
+// Appends one more.
+fn push<T: Drop>(items: &mut Vec<T>, item: T) -> Result<(), SessionFault>
+    ensures items { OnOk result (items.new.items ≡ items.old.items ++ item ∷ []) }
+    ensures memory { IfErr result (λ fault. fault ≡ SessionFault.NoMemory) }
+{
+    items.push(item).map_err(AllocError::from)?;
+    Ok(())
 }

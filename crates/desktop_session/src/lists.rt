@@ -1,0 +1,137 @@
+// Lists that come in several replies.
+ghost use Rattle.std.specs.Prelude.{◌≡◌, ◌++◌, IfErr, IfOk, IfSome, None, OnOk, false, map};
+ghost use Rattle.dlp_replies.specs.ReplyReading.{reply_at};
+ghost use Rattle.desktop_session.specs.Acts.{text};
+ghost use Rattle.desktop_session.specs.Answers.{mapped};
+ghost use Rattle.desktop_session.specs.Lists.{HasCause, Lists, has_more, heads_in, id_listings, id_parts, ids_in, ids_listed};
+ghost use Rattle.desktop_session.specs.Requests.{listing, listing_ids};
+ghost use Rattle.desktop_session.specs.Stops.{Asked, Does, Stops};
+
+use crate::fault::SessionFault;
+use crate::linked::Linked;
+use crate::open_db::OpenDb;
+use crate::replies::{add_heads, add_ids};
+use dlp_commands::{Link, Request};
+use pdb_values::{DbHead, RecordId};
+use std::alloc::Global;
+
+impl<L: Link> Linked<L> {
+    // Asks for the databases from an index on, appends their heads, and answers whether more follow.
+    #[tactic(auto, using(crate::proofs::RequestFits::list_fits, crate::proofs::AnswerLaws::cause_of_link, crate::proofs::AnswerLaws::cause_of_reply, crate::proofs::AnswerLaws::fault_none))]
+    fn list_from(&mut self, start: u16, heads: &mut Vec<DbHead>) -> Result<bool, SessionFault>
+        ensures asked { Asked L.talk L.since L.fault L.downs (listing start) self.old self.new }
+        ensures none { OnOk result (L.fault self.new.link ≡ None) }
+        ensures heads { OnOk result (heads.new.items ≡ heads.old.items ++ heads_in (reply_at 0x16
+            self.new.reply)) }
+        ensures more { IfOk result (λ more. more ≡ has_more (reply_at 0x16 self.new.reply)) }
+        ensures cause { IfErr result (HasCause (L.fault self.new.link) (reply_at 0x16
+            self.new.reply)) }
+    {
+        self.ask(&Request::ReadDbList {
+            flags: 0x80,
+            card: 0,
+            start,
+        })?;
+        add_heads(self.reply(), heads)
+    }
+
+    // Asks for at most 8,000 ids from an index on and appends them.
+    #[tactic(auto, using(crate::proofs::RequestFits::ids_fit, crate::proofs::AnswerLaws::cause_of_link, crate::proofs::AnswerLaws::cause_of_reply, crate::proofs::AnswerLaws::fault_none))]
+    fn ids_from(
+        &mut self,
+        handle: u8,
+        start: u16,
+        ids: &mut Vec<RecordId>,
+    ) -> Result<(), SessionFault>
+        ensures asked { Asked L.talk L.since L.fault L.downs (listing_ids handle start) self.old
+            self.new }
+        ensures none { OnOk result (L.fault self.new.link ≡ None) }
+        ensures ids { OnOk result (ids.new.items ≡ ids.old.items ++ ids_in (reply_at 0x31
+            self.new.reply)) }
+        ensures cause { IfErr result (HasCause (L.fault self.new.link) (reply_at 0x31
+            self.new.reply)) }
+    {
+        self.ask(&Request::ReadRecordIdList {
+            handle,
+            flags: 0,
+            start,
+            maximum: 8_000,
+        })?;
+        add_ids(self.reply(), ids)
+    }
+}
+
+impl<L: Link> Linked<L> {
+    /// The heads of the handheld's databases, without their seeds. One request goes out for each
+    /// index from 0 on, until no
+    /// more follow or 65,536 went out.
+    pub fn list(&mut self, alloc: Global) -> Result<Vec<DbHead>, SessionFault>
+        requires { self.old.abandoned ≡ false }
+        ensures lists { Lists L.talk L.since L.fault L.downs self.old.link self.new.link
+            (mapped (λ heads. heads.items) result) }
+        ensures cause { IfErr result (HasCause (L.fault self.new.link) (reply_at 0x16
+            self.new.reply)) }
+        ensures rest { (self.new.user ≡ self.old.user) × (self.new.abandoned ≡ self.old.abandoned) }
+    {
+        let mut heads = Vec::new(alloc);
+        let mut start = 0;
+        'start: loop {
+            let more = self.list_from(start, &mut heads)?;
+            if !more {
+                return Ok(heads);
+            }
+            if start == u16::MAX {
+                return Ok(heads);
+            }
+            start += 1;
+        }
+    }
+
+    // The ids of an open database that has so many records.
+    fn ids_of(
+        &mut self,
+        alloc: Global,
+        handle: u8,
+        count: u16,
+    ) -> Result<Vec<RecordId>, SessionFault>
+        ensures stops { Stops L.talk L.since L.fault L.downs (map text (id_listings handle
+            (id_parts count)))
+            self.old.link self.new.link }
+        ensures does { OnOk result (Does L.talk (id_listings handle (id_parts count))
+            self.old.link self.new.link) }
+        ensures ids { IfOk result (λ ids. IfSome (L.talk self.old.link)
+            (λ talk. ids.items ≡ ids_listed talk.device handle (id_parts count))) }
+        ensures cause { IfErr result (HasCause (L.fault self.new.link) (reply_at 0x31
+            self.new.reply)) }
+        ensures rest { (self.new.user ≡ self.old.user) × (self.new.abandoned ≡ self.old.abandoned) }
+    {
+        let mut ids = Vec::new(alloc);
+        for part in 0..count.div_ceil(8_000) {
+            self.ids_from(handle, 8_000 * part, &mut ids)?;
+        }
+        Ok(ids)
+    }
+}
+
+impl<'s, L: Link> OpenDb<'s, L> {
+    /// The ids of the records, in their order, where there are so many: 8,000 in each request, and
+    /// none for no record.
+    pub fn ids(&mut self, alloc: Global, count: u16) -> Result<Vec<RecordId>, SessionFault>
+        ensures same_reference { self.new.linked.ghost_name ≡ self.old.linked.ghost_name }
+        ensures same_handle { self.new.handle ≡ self.old.handle }
+        ensures stops { Stops L.talk L.since L.fault L.downs
+            (map text (id_listings self.old.handle (id_parts count)))
+            self.old.linked.now.link self.new.linked.now.link }
+        ensures does { OnOk result (Does L.talk (id_listings self.old.handle (id_parts count))
+            self.old.linked.now.link self.new.linked.now.link) }
+        ensures ids { IfOk result (λ ids. IfSome (L.talk self.old.linked.now.link)
+            (λ talk. ids.items ≡ ids_listed talk.device self.old.handle (id_parts count))) }
+        ensures cause { IfErr result (HasCause (L.fault self.new.linked.now.link)
+            (reply_at 0x31 self.new.linked.now.reply)) }
+        ensures rest { (self.new.linked.now.user ≡ self.old.linked.now.user)
+            × (self.new.linked.now.abandoned ≡ self.old.linked.now.abandoned) }
+    {
+        let handle = self.handle();
+        self.linked.ids_of(alloc, handle, count)
+    }
+}
