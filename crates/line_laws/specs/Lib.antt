@@ -4,6 +4,7 @@ pub mod Core
 pub mod Framing
 pub mod Hearing
 pub mod Line
+pub mod Measure
 pub mod Progress
 pub mod Promises
 pub mod Reaching
