@@ -1,6 +1,8 @@
 pub mod AfterLaws
 pub mod AgainLaws
 pub mod ArchiveLaws
+pub mod BothLaws
+pub mod BoundLaws
 pub mod CleanLaws
 pub mod CountLaws
 pub mod HeldLaws

@@ -1,5 +1,5 @@
 -- A database that was merged is settled: the next session chooses the same rows, and archives and adds nothing.
-use Rattle.std.proofs.Common.{◌≡◌, ⊎_elim, inl, ℕ, ◌==◌, List, [], ◌∷◌, ◌++◌, refl, ap, ◌∙◌, sym, subst, arith, true, false, Bool, Option, Some, None, is_some, map, if◌then◌else◌, nat_lt}
+use Rattle.std.proofs.Common.{◌≡◌, ⊎_elim, inl, ℕ, ◌==◌, List, [], ◌∷◌, refl, ap, ◌∙◌, sym, arith, true, false, Bool, Option, Some, None, is_some, map, if◌then◌else◌}
 use Rattle.std.specs.Option.{option_or, option_map}
 use Rattle.std.proofs.lemmas.Bool.Decides.{nat_tests}
 use Rattle.std.proofs.lemmas.List.Folds.{find-append}
@@ -7,20 +7,16 @@ use Rattle.pdb_values.specs.Contents.{ContentValue}
 use Rattle.pdb_values.specs.declared.record.Record.{Record}
 use Rattle.palm_device.specs.Soundness.{ids_of, AreIds}
 use Rattle.conduit_rules.specs.ById.{id_bound, each_id, with_id, at}
-use Rattle.conduit_rules.specs.News.{loose, live_contents, archived_records}
-use Rattle.conduit_rules.specs.States.{Held, nothing, live_of, Based, no_base, row, gone, is_row, first, held, held_where, base_at, based_where, has_row}
-use Rattle.conduit_rules.specs.Views.{view_held}
-use Rattle.conduit_rules.specs.Choices.{Choice, choice, sides_of}
-use Rattle.conduit_rules.specs.Plans.{gone_rows, replaced_rows}
-use Rattle.conduit_rules.specs.declared.view.Seen.{Seen}
+use Rattle.conduit_rules.specs.News.{loose}
+use Rattle.conduit_rules.specs.States.{Held, Based, no_base, row, gone, is_row, first, base_at, based_where, has_row}
+use Rattle.conduit_rules.specs.Choices.{Choice}
+use Rattle.conduit_rules.specs.Plans.{gone_rows}
 use Rattle.conduit_rules.proofs.AgreedLaws.{IsIn, RowsDiffer, loose-none}
 use Rattle.conduit_rules.proofs.PlanLaws.{kept_rise, at-each_below}
-use Rattle.conduit_rules.proofs.SettledLaws.{IsSettled, choice-settled}
-use Rattle.conduit_merge.specs.Writes.{after, numbered, replaces, giving, clearing, AreFree}
-use Rattle.conduit_merge.specs.Merging.{row_at, settled_record, gone_record, merged_rows, merged_base, AreBounded, row_under}
+use Rattle.conduit_rules.proofs.SettledLaws.{IsSettled}
+use Rattle.conduit_merge.specs.Merging.{row_at, settled_record, gone_record, merged_rows, merged_base, row_under}
 use Rattle.conduit_merge.proofs.PutLaws.{Apart}
 use Rattle.conduit_merge.proofs.AfterLaws.{apart-rising}
-use Rattle.conduit_merge.proofs.HeldLaws.{held-merged, held-rows, at-bounded}
 use Rattle.conduit_rules.proofs.BoundLaws.{live_or}
 
 first-settled : (es : List (ℕ × ContentValue)) (i : ℕ) → first i (map settled_record es) ≡ option_map (λ c. settled_record (i, c)) (at i es)
@@ -56,7 +52,7 @@ based-merged ch h given g i = ap (λ b. if i == 0 then no_base else b)
     ∙ ap {A = Option Record × Option Record} (λ p. option_or p.0 p.1) (λ k. ((first-settled (each_id (λ j. with_id j (row_at ch given j))) i ∙ ap (option_map (λ c. settled_record (i, c))) (at-each_below (row_at ch given) id_bound i)) k, first-gone (gone_rows ch.keep h) i k)))
     ∙ two g i (row_under ch given i) (at i (gone_rows ch.keep h)))
 
-settled_by : (zero : Bool) (g : Bool) (k o : Option ContentValue) (h d : Held) → (zero ≡ true → k ≡ None) → h ≡ live_or k → d ≡ live_or k → IsSettled k (if zero then no_base else based_two g k o) h d
+pub settled_by : (zero : Bool) (g : Bool) (k o : Option ContentValue) (h d : Held) → (zero ≡ true → k ≡ None) → h ≡ live_or k → d ≡ live_or k → IsSettled k (if zero then no_base else based_two g k o) h d
 settled_by true g None o h d none is_h is_d = is_h
 settled_by true g (Some c) o h d none is_h is_d = absurd (let e : Some c ≡ None = none refl in cc)
 settled_by false g (Some c) o h d none is_h is_d = (refl, is_h, is_d)
@@ -81,10 +77,10 @@ row_by zero None o none some = absurd (cc)
 row_by true (Some c) o none some = absurd (let e : Some c ≡ None = none refl in cc)
 row_by false (Some c) o none some = refl
 
-at_zero : (ch : Choice) (given : List ℕ) (i : ℕ) → row_under ch given 0 ≡ None → (i == 0) ≡ true → row_under ch given i ≡ None
+pub at_zero : (ch : Choice) (given : List ℕ) (i : ℕ) → row_under ch given 0 ≡ None → (i == 0) ≡ true → row_under ch given i ≡ None
 at_zero ch given i none is = let same : i ≡ 0 = grind (arith, nat_tests, is) in ap (row_under ch given) same ∙ none
 
-none_loose : (ch : Choice) (h : ℕ → Held) (given : List ℕ) → row_under ch given 0 ≡ None → loose (has_row (merged_base ch h given)) (merged_rows ch given) ≡ []
+pub none_loose : (ch : Choice) (h : ℕ → Held) (given : List ℕ) → row_under ch given 0 ≡ None → loose (has_row (merged_base ch h given)) (merged_rows ch given) ≡ []
 none_loose ch h given none =
     let rows = each_id (λ j. with_id j (row_at ch given j)) in
     loose-none (has_row (merged_base ch h given)) (merged_rows ch given) (differ-settled rows (apart-rising 0 id_bound rows (kept_rise (row_at ch given))))
@@ -93,36 +89,8 @@ none_loose ch h given none =
 
 -- ---- the whole
 
--- a session after one that was carried out whole chooses its rows again
-pub choice-merged : (ch : Choice) (h : ℕ → Held) (given : List ℕ) (records : List Record) (view : List Seen) (gone_counts : Bool) → RowsDiffer records → AreBounded records → ((i : ℕ) → h i ≡ held records i)
-    → AreFree (numbered given ch.adds) (after (replaces (replaced_rows ch.keep h)) records) → row_under ch given 0 ≡ None
-    → ((i : ℕ) → view_held view i ≡ held (after (giving ch h given ++ clearing ch h) records) i)
-    → choice (sides_of view (merged_rows ch given) (merged_base ch h given) gone_counts) ≡ record { keep = row_under ch given; archive = []; adds = [] }
-choice-merged ch h given records view gone_counts differ bounded shows free none then_shows =
-    choice-settled (sides_of view (merged_rows ch given) (merged_base ch h given) gone_counts) (row_under ch given)
-    (λ i. subst (λ b. IsSettled (row_under ch given i) b (view_held view i) (held (merged_rows ch given) i)) (sym (based-merged ch h given gone_counts i))
-    (settled_by (i == 0) gone_counts (row_under ch given i) (at i (gone_rows ch.keep h)) (view_held view i) (held (merged_rows ch given) i) (at_zero ch given i none)
-    (then_shows i ∙ held-merged ch h given records differ bounded shows free i) (held-rows ch given i)))
-    (ap live_contents (none_loose ch h given none)) (ap archived_records (none_loose ch h given none))
-
 -- ---- no row under id 0
 
-first-zero : (records : List Record) → AreIds (ids_of records) → first 0 records ≡ None
+pub first-zero : (records : List Record) → AreIds (ids_of records) → first 0 records ≡ None
 first-zero [] ids = refl
 first-zero (r ∷ records) ids = grind (arith, nat_tests, ids.0, first-zero records ids.2)
-
-zero_by : (b : Bool) (k a : Option ContentValue) → k ≡ None → a ≡ None → (if b then option_or k a else None) ≡ None
-zero_by true k a none too = grind (arith, none, too)
-zero_by false k a none too = refl
-
--- a synchronisation keeps no row under id 0
-pub no_zero : (view : List Seen) (rows base records now : List Record) (gone_counts : Bool) (given : List ℕ) → AreIds (ids_of records) → ((i : ℕ) → view_held view i ≡ held records i)
-    → AreFree (numbered given (choice (sides_of view rows base gone_counts)).adds) now → row_under (choice (sides_of view rows base gone_counts)) given 0 ≡ None
-no_zero view rows base records now gone_counts given ids shows free =
-    let ch = choice (sides_of view rows base gone_counts) in
-    let held_zero : view_held view 0 ≡ nothing = shows 0 ∙ ap held_where (first-zero records ids) in
-    zero_by (nat_lt 0 id_bound) (ch.keep 0) (at 0 (numbered given ch.adds)) (ap live_of held_zero) (by (at 0 (numbered given ch.adds)) refl)
-  where
-    by : (o : Option ContentValue) → at 0 (numbered given (choice (sides_of view rows base gone_counts)).adds) ≡ o → o ≡ None
-    by None e = refl
-    by (Some c) e = let l = at-bounded (numbered given (choice (sides_of view rows base gone_counts)).adds) now 0 c free e in absurd (omega (arith, l.0))

@@ -6,7 +6,9 @@ use Rattle.pdb_values.specs.declared.record.Record.{Record}
 use Rattle.palm_device.specs.Records.{put_record}
 use Rattle.conduit_rules.specs.ById.{id_bound, put}
 use Rattle.conduit_rules.specs.States.{Held, nothing, live, archived, held, held_where}
-use Rattle.conduit_rules.specs.Choices.{Choice, Sides, choice, sides_of}
+use Rattle.conduit_rules.specs.Choices.{Choice, Sides, choice, choice_for, sides_of}
+use Rattle.conduit_rules.specs.declared.action.Action.TheVariants.{Handheld, Desktop}
+use Rattle.conduit_rules.proofs.ActionLaws.{handheld-is, handheld-unwritten}
 use Rattle.conduit_rules.specs.Contents.{same_content}
 use Rattle.conduit_rules.specs.Plans.{replacement, replaced_rows}
 use Rattle.conduit_rules.specs.Views.{view_held}
@@ -143,3 +145,19 @@ choice-stopped n v w rows base records gone_counts given none shows free then_sh
     let of : AreOf ws (choice s) s = of-take n (giving (choice s) (view_held v) given) (choice s) s (giving-of s given records none shows free) in
     ap choice (sides-again v w ws rows base records gone_counts (writes-of ws (choice s) s of) shows then_shows)
     ∙ choice-after ws (choice s) s refl of
+
+-- ---- one side alone
+
+-- a session that goes by the handheld gives it nothing
+pub handheld-given : (s : Sides) (given : List ℕ) → giving (choice_for Handheld s) s.handheld given ≡ []
+handheld-given s given =
+    ap {A = List (ℕ × ContentValue) × List ContentValue} (λ p. replaces p.0 ++ adding (numbered given p.1)) (λ k. ((handheld-unwritten s).0 k, ap (λ x. Choice.adds x) (handheld-is s) k))
+    ∙ ap adding (none_given given)
+  where
+    none_given : (given : List ℕ) → numbered given [] ≡ []
+    none_given [] = refl
+    none_given (g ∷ gs) = refl
+
+-- one that goes by the desktop chooses the same, whatever the handheld has
+pub desktop-again : (v w : List Seen) (rows base : List Record) (gone_counts : Bool) → choice_for Desktop (sides_of w rows base gone_counts) ≡ choice_for Desktop (sides_of v rows base gone_counts)
+desktop-again v w rows base gone_counts = refl

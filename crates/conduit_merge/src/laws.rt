@@ -4,16 +4,18 @@ ghost use Rattle.std.specs.Prelude.{◌≡◌, ◌+◌, ◌++◌, ℕ, List, [],
 ghost use Rattle.pdb_values.specs.Contents.{ContentValue};
 ghost use Rattle.pdb_values.specs.declared.record.Record.{Record};
 ghost use Rattle.palm_device.specs.Soundness.{ids_of, AreIds};
-ghost use Rattle.conduit_rules.specs.ById.{each_id, with_id};
-ghost use Rattle.conduit_rules.specs.Choices.{Choice, choice, sides_of};
+ghost use Rattle.conduit_rules.specs.ById.{id_bound, each_id, with_id};
+ghost use Rattle.conduit_rules.specs.Choices.{Choice, Sides, choice, choice_for, sides_of};
 ghost use Rattle.conduit_rules.specs.Plans.{kept_rows};
 ghost use Rattle.conduit_rules.specs.States.{Held, held};
 ghost use Rattle.conduit_rules.specs.Views.{view_held, slow_view, fast_view, IsHonest};
+ghost use Rattle.conduit_rules.specs.declared.action.Action.{Action};
+ghost use Rattle.conduit_rules.specs.declared.action.Action.TheVariants.{Handheld, Desktop};
 ghost use Rattle.conduit_rules.specs.declared.view.Seen.{Seen};
 ghost use Rattle.conduit_merge.specs.Merging.{row_at, row_under, merged_rows, merged_base, merged_records};
-ghost use Rattle.conduit_merge.specs.Merging.{merged_archive, is_archived, AreBounded};
+ghost use Rattle.conduit_merge.specs.Merging.{merged_archive, is_archived, AreBounded, AreNew};
 ghost use Rattle.conduit_merge.specs.Stops.{NoBase, rest_of};
-ghost use Rattle.conduit_merge.specs.Writes.{after, numbered, giving, whole, GotFreeIds};
+ghost use Rattle.conduit_merge.specs.Writes.{after, numbered, adding, giving, whole, GotFreeIds};
 
 /// The writes of a session make the merged records, whichever way the database was read.
 pub fn the_writes_make_the_merge()
@@ -51,9 +53,11 @@ pub fn each_row_is_kept_or_added()
         ≡ sum_by w (kept_rows ch.keep) + sum_by w (numbered given ch.adds) }
 {}
 
-/// A session that stops among its replacements and adds leaves the next one the rest of them.
+/// A session of both sides that stops among its replacements and adds leaves the next one the rest of
+/// them. One that goes by the handheld gives it nothing, and one that goes by the desktop is begun anew by
+/// the next one.
 pub fn a_stopped_session_is_taken_up()
-    ensures { (n : ℕ) (v w : List Seen) (rows base records : List Record) (gone_counts : Bool)
+    ensures both { (n : ℕ) (v w : List Seen) (rows base records : List Record) (gone_counts : Bool)
         (given : List ℕ)
         → let s = sides_of v rows base gone_counts in
         let done = take n (giving (choice s) (view_held v) given) in
@@ -61,18 +65,32 @@ pub fn a_stopped_session_is_taken_up()
         → GotFreeIds (choice s) (view_held v) given records
         → ((i : ℕ) → view_held w i ≡ held (after done records) i)
         → choice (sides_of w rows base gone_counts) ≡ rest_of done (choice s) }
+    ensures handheld { (s : Sides) (given : List ℕ)
+        → giving (choice_for Handheld s) s.handheld given ≡ [] }
+    ensures desktop { (v w : List Seen) (rows base : List Record) (gone_counts : Bool)
+        → choice_for Desktop (sides_of w rows base gone_counts)
+        ≡ choice_for Desktop (sides_of v rows base gone_counts) }
 {}
 
-/// A database that was synchronised is synchronised to the same: its rows are kept, and nothing is
-/// archived or added.
+/// What a stopped session added stands in the merge of the next one under the ids that it got, and what is
+/// added then under those that are given then.
+pub fn rows_stand_under_the_ids_of_both_sessions()
+    ensures { (ch : Choice) (given later : List ℕ) (i : ℕ)
+        → AreNew ch.keep (numbered given ch.adds) id_bound
+        → row_at (rest_of (adding (numbered given ch.adds)) ch) later i ≡ row_at ch (given ++ later) i }
+{}
+
+/// A database that was merged is merged to the same again, whichever sides both sessions go by: its
+/// rows are kept, and nothing is archived or added.
 pub fn a_merged_database_stays()
-    ensures { (rows base records : List Record) (gone_counts then_counts : Bool) (given : List ℕ)
+    ensures { (a then_a : Action) (rows base records : List Record) (gone_counts then_counts : Bool)
+        (given : List ℕ)
         → AreIds (ids_of records) → AreBounded records
-        → (ch : Choice) → ch ≡ choice (sides_of (slow_view records) rows base gone_counts)
+        → (ch : Choice) → ch ≡ choice_for a (sides_of (slow_view records) rows base gone_counts)
         → let shown = view_held (slow_view records) in
         let then_records = after (whole ch shown given) records in
         GotFreeIds ch shown given records
-        → choice (sides_of (slow_view then_records) (merged_rows ch given)
+        → choice_for then_a (sides_of (slow_view then_records) (merged_rows ch given)
         (merged_base ch shown given) then_counts)
         ≡ record { keep = row_under ch given; archive = []; adds = [] } }
 {}
