@@ -449,6 +449,17 @@ actions_pass : (actions : List NamedAction) → AreActions actions → is_action
 actions_pass [] h = absurd (omega (arith, h.some))
 actions_pass (x ∷ xs) h = ap are_items (slice_split-actions_text x xs) ∙ items_pass (x ∷ xs) h.names h.apart
 
+items_read : (actions : List NamedAction) → AllByRecursion (λ action. IsNameOfBytes action.name) actions → filter_map item_of (map item_text actions) ≡ actions
+items_read [] names = refl
+items_read (x ∷ xs) names =
+    let says = item_of-item_text x names.0 in
+    rw says (ap (λ more. x ∷ more) (items_read xs names.1))
+
+-- the text of actions has no others
+pub actions_in-actions_text : (actions : List NamedAction) → AreActions actions → actions_in (actions_text actions) ≡ actions
+actions_in-actions_text [] h = absurd (omega (arith, h.some))
+actions_in-actions_text (x ∷ xs) h = ap (filter_map item_of) (slice_split-actions_text x xs) ∙ items_read (x ∷ xs) h.names
+
 -- the test and its meaning
 pub is_actions-means : (text : List ℕ) → (is_actions_text text ≡ true) ↔ IsActionsText text
 is_actions-means text = ((λ e. let read = text_is_read text e in (actions_in text, read.0, read.1)), (λ h. ap is_actions_text h.2 ∙ actions_pass h.0 h.1))

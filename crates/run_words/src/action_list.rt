@@ -1,5 +1,5 @@
 // The actions of `--actions=L`.
-ghost use Rattle.std.specs.Prelude.{◌≡◌, ◌↔◌, ◌<◌, ◌∷◌, IfOk, IfSome, Some, length, option_copied, true};
+ghost use Rattle.std.specs.Prelude.{◌≡◌, ◌↔◌, ◌<◌, ◌∷◌, IfOk, IfSome, List, Some, length, option_copied, true};
 ghost use Rattle.run_words.specs.Actions.{IsActionsText, AreActions, actions_in, actions_text, has_stem as items_have_stem, is_actions_text, is_next as is_next_item, items_of, stem_in as stem_in_item};
 
 use crate::action::{NamedAction, item_in};
@@ -75,11 +75,13 @@ fn are_actions(text: &str) -> bool
     true
 }
 
-/// The actions of a text, in its order. A text that passes `is_actions` is that of the actions given.
+/// The actions of a text, in its order. A text that passes `is_actions` is that of the actions given, and of no others.
 pub fn read_actions(alloc: Global, text: &str) -> Result<Vec<NamedAction>, AllocError>
     ensures actions { IfOk result (λ actions. actions.items ≡ actions_in text.now) }
     ensures written { is_actions_text text.now ≡ true → IfOk result (λ actions.
         AreActions actions.items × (text.now ≡ actions_text actions.items)) }
+    ensures only { (others : List NamedAction) → AreActions others
+        → text.now ≡ actions_text others → IfOk result (λ actions. actions.items ≡ others) }
 {
     let actions = items_in(alloc, text)?;
     Ok(actions)
