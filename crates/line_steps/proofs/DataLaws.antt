@@ -1,6 +1,6 @@
 -- The step in which an end takes data, over the values of the program.
 use Rattle.std.proofs.Common.{◌≡◌, ◌⊎◌, ℕ, ◌+◌, ◌<◌, ◌≤◌, Bool, true, false, ◌&&◌, List, ◌∷◌, length, Some, None, refl, sym, ap, subst, ◌∙◌, arith, inl, inr}
-use Rattle.std.proofs.lemmas.Bool.{both_ways, and_parts}
+use Rattle.std.proofs.lemmas.Bool.{both_ways, and_parts, eqb-true}
 use Rattle.padp_link.specs.declared.fragment.PadpKind.{PadpKind}
 use Rattle.padp_link.specs.declared.fragment.PadpKind.TheVariants.{Data, Ack, Tickle, Abort}
 use Rattle.padp_link.specs.declared.piece.Key.{Key}
@@ -19,7 +19,7 @@ use Rattle.trace_text.specs.Past.{Sent, is_end, first, said, acked, at, data_of}
 use Rattle.trace_text.specs.TraceLines.{frame_value}
 use Rattle.line_laws.specs.Core.{Side, Follows, Core, ack_frame}
 use Rattle.line_laws.specs.Line.{Line}
-use Rattle.line_laws.proofs.PastLaws.{keys_apart}
+use Rattle.line_laws.proofs.PastLaws.{keys_apart, at_push, said_ack}
 use Rattle.line_laws.proofs.CountLaws.{IsCopy, IsNewest, pending_data}
 use Rattle.line_laws.proofs.TakeLaws.{AfterData, Accepting, take_data}
 use Rattle.line_laws.proofs.RunningLaws.{running_copy, running_newest}
@@ -30,7 +30,9 @@ use Rattle.line_steps.specs.Sending.{Sends, ack_fragment}
 use Rattle.line_steps.specs.Taking.{DataHeard}
 use Rattle.line_steps.proofs.HoldsLaws.{moved, going}
 use Rattle.line_steps.proofs.SendingLaws.{extends, lined}
+use Rattle.line_steps.specs.Turning.{Settled, Turn, TurnAfter}
 use Rattle.line_steps.proofs.TakingLaws.{head}
+use Rattle.line_steps.proofs.TurnLaws.{settled_turned, settled_holds}
 
 -- ---- a copy is one of what was taken last
 
@@ -128,7 +130,7 @@ copied wire new x y key given heard sends released =
 accepted : (wire new : Wire) (x y : Half) (key : Key) (taken : Taken) (whole : Bool) (given : FateValue) (sender : SenderValue) → (heard : DataHeard wire x y key taken)
     → Accepting x.end y.end (past_now wire.frames.items) y.taken (x.taken + 1) (side_of x) (side_of y) x.receiver heard.before (sent_of heard.next.frame).key (sent_of heard.next.frame).bytes taken whole
     → sender ≡ record y.sender { acknowledged = sender.acknowledged } → piece_count sender.length ≤ sender.acknowledged
-    → Sends wire.frames.items y.end key.id (ack_fragment key) given None new.frames.items → new.released ≡ wire.released → Holds new (moved x) (record y { sender = sender })
+    → Sends wire.frames.items y.end key.id (ack_fragment key) given None new.frames.items → new.released ≡ wire.released → Settled new (moved x) (record y { sender = sender })
 accepted wire new x y key taken whole given sender heard accepting rest idle sends released =
     let holds = heard.holds in
     let sent = sent_of heard.next.frame in
@@ -139,23 +141,41 @@ accepted wire new x y key taken whole given sender heard accepting rest idle sen
     let over : piece_count (length y.message.items) ≤ k = subst (λ (n : ℕ). piece_count n ≤ k) (ap (λ (s : SenderValue). s.length) rest ∙ holds.y_half.length_is) idle in
     let line = running_newest x.end y.end past x.taken y.taken wire.released (side_of x) (side_of y) x.receiver heard.before holds.fx holds.fy x.sender.tries y.sender.tries k (course_of given) sent taken whole holds.apart holds.line at_head.inside at_head.here at_head.late heard.is heard.next.comes_here accepting over in
     let keyed = subst (λ (key : Key). Line x.end y.end (ack_frame y.end key (course_of given) ∷ past) (x.taken + 1) y.taken wire.released (side_of x) (record (side_of y) { acknowledged = k }) x.receiver (after_answer heard.before key.id (data_fragment key sent.bytes) taken) false false x.sender.tries y.sender.tries) heard.key_is line in
-    subst (λ (s : SenderValue). Holds new (moved x) (record y { sender = s })) (sym rest)
-    (subst (λ (r : ReceiverValue). Holds new (moved x) (record y { sender = record y.sender { acknowledged = k }; receiver = r })) (sym heard.after) (record {
+    subst (λ (s : SenderValue). Settled new (moved x) (record y { sender = s })) (sym rest)
+    (subst (λ (r : ReceiverValue). Settled new (moved x) (record y { sender = record y.sender { acknowledged = k }; receiver = r })) (sym heard.after) (record {
       apart = holds.apart;
-      fx = false;
-      fy = false;
       go = longer.go;
       x_half = record { length_is = holds.x_half.length_is; gap = holds.x_half.gap };
       y_half = record { length_is = holds.y_half.length_is; gap = holds.y_half.gap };
       line = lined x.end y.end wire new (ack_frame y.end key (course_of given)) (x.taken + 1) y.taken (side_of x) (record (side_of y) { acknowledged = k }) x.receiver (after_answer heard.before key.id (data_fragment key sent.bytes) taken) false false x.sender.tries y.sender.tries longer keyed;
     }))
 
+-- where the message is whole, it is the turn of the end that took it
+pub turns : (wire new : Wire) (x y : Half) (key : Key) (given : FateValue) (sender : SenderValue) → (heard : DataHeard wire x y key Whole) → sender ≡ record y.sender { acknowledged = sender.acknowledged } → piece_count sender.length ≤ sender.acknowledged
+    → Sends wire.frames.items y.end key.id (ack_fragment key) given None new.frames.items → new.released ≡ wire.released → Turn new (record y { sender = sender }) (moved x)
+turns wire new x y key given sender heard rest idle sends released =
+    let accepting = (after_heard wire x y key Whole heard).1 in
+    let holds = heard.holds in
+    let past = past_now wire.frames.items in
+    let at_head = head x.end wire x.taken holds.go heard.next in
+    let longer = extends wire new y.end key.id (ack_fragment key) given holds.go sends tt released in
+    let settled = accepted wire new x y key Whole true given sender heard accepting rest idle sends released in
+    let ack = ack_frame y.end key (course_of given) in
+    let said_is : said y.end (past_now new.frames.items) ≡ said y.end past = ap (λ (p : List Sent). said y.end p) longer.past ∙ said_ack y.end y.end key (course_of given) past in
+    let at_is : at (x.taken + 1) (past_now new.frames.items) ≡ at (x.taken + 1) past = ap (λ (p : List Sent). at (x.taken + 1) p) longer.past ∙ at_push (x.taken + 1) ack past (omega (arith, at_head.inside)) in
+    record {
+      settled = settled_turned new (moved x) (record y { sender = sender }) settled;
+      knows = omega (arith, accepting.knows, ap (λ (s : List Key). length s) said_is, ap (λ (p : List Sent). length (acked x.end p)) at_is);
+      idle = subst (λ (n : ℕ). piece_count n ≤ sender.acknowledged) (ap (λ (s : SenderValue). s.length) rest ∙ holds.y_half.length_is) idle;
+      last = omega (arith, eqb-true _ _ accepting.whole_is);
+    }
+
 pub took_data : (wire new : Wire) (x y : Half) (key : Key) (taken : Taken) (given : FateValue) (sender : SenderValue) → DataHeard wire x y key taken → NewSender taken y.sender sender → Sends wire.frames.items y.end key.id (ack_fragment key) given None new.frames.items → new.released ≡ wire.released
     → Holds new (moved x) (record y { sender = sender })
 took_data wire new x y key Repeated given sender heard same sends released =
     subst (λ (s : SenderValue). Holds new (moved x) (record y { sender = s })) (sym same) (copied wire new x y key given heard sends released)
-took_data wire new x y key Accepted given sender heard idle sends released = accepted wire new x y key Accepted false given sender heard ((after_heard wire x y key Accepted heard).1) (idle.0) (idle.1) sends released
-took_data wire new x y key Whole given sender heard idle sends released = accepted wire new x y key Whole true given sender heard ((after_heard wire x y key Whole heard).1) (idle.0) (idle.1) sends released
+took_data wire new x y key Accepted given sender heard idle sends released = settled_holds new (moved x) (record y { sender = sender }) (accepted wire new x y key Accepted false given sender heard ((after_heard wire x y key Accepted heard).1) (idle.0) (idle.1) sends released)
+took_data wire new x y key Whole given sender heard idle sends released = settled_holds new (moved x) (record y { sender = sender }) (accepted wire new x y key Whole true given sender heard ((after_heard wire x y key Whole heard).1) (idle.0) (idle.1) sends released)
 took_data wire new x y key Dropped given sender heard none sends released = absurd none
 
 pub is_new_data : (taken : Taken) → (taken ≡ Accepted) ⊎ (taken ≡ Whole) → taken ≡ Repeated → ⊥

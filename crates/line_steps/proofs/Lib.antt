@@ -1,10 +1,14 @@
 pub mod BytesLaws
 pub mod DataLaws
+pub mod DeliveredLaws
 pub mod FrameLaws
 pub mod HearLaws
 pub mod HeardLaws
 pub mod HoldsLaws
 pub mod PieceLaws
+pub mod RestingLaws
 pub mod SendingLaws
+pub mod StartingLaws
 pub mod TakingLaws
+pub mod TurnLaws
 pub mod XorLaws

@@ -144,3 +144,6 @@ none_waits sender none = elim (cases_lt sender.acknowledged (piece_count sender.
   | inl waits ↦ absurd (let n : is_some (waiting sender) ≡ true = ap is_some (waiting_is sender waits) in both_ways _ none n)
   | inr over ↦ over
 ]
+
+pub waits_not : (sender : SenderValue) → is_some (waiting sender) ≡ false → sender.acknowledged < piece_count sender.length → ⊥
+waits_not sender none waits = omega (arith, waits, none_waits sender none)

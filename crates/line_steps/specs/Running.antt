@@ -67,3 +67,10 @@ Read old new = new ≡ record old { reader = new.reader }
 -- the receiver took something, too
 abbrev pub Heeded : Half → Half → Type 0
 Heeded old new = new ≡ record old { receiver = new.receiver; reader = new.reader }
+
+-- it is the same end with the same message
+pub record Stays (old new : Half) : Type 0 where
+  pub end_is : new.end ≡ old.end
+  pub message_is : new.message ≡ old.message
+  pub taken_is : new.taken ≡ old.taken
+  pub id_is : new.sender.id ≡ old.sender.id

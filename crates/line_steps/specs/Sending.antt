@@ -11,7 +11,7 @@ use Rattle.trace_text.specs.Frames.{padp_packet}
 use Rattle.line_steps.specs.declared.harm.Stop.{Stop}
 use Rattle.line_steps.specs.declared.harm.Stop.TheVariants.{Unplugged, Aborted, Undetected}
 use Rattle.line_steps.specs.declared.sending.Halt.{Halt}
-use Rattle.line_steps.specs.declared.sending.Halt.TheVariants.{NoMemory, Stopped}
+use Rattle.line_steps.specs.declared.sending.Halt.TheVariants.{NoMemory, Stopped, Down}
 
 -- the run ends with a frame of this fate and these bytes, for this reason, or goes on
 abbrev pub StopsBy : FateValue → List ℕ → Option Stop → Type 0
@@ -49,3 +49,4 @@ pub record Sends (old : List Frame) (from : End) (id : ℕ) (fragment : Fragment
 abbrev pub Halts : List Frame → End → ℕ → FragmentValue → FateValue → Halt → List Frame → Type 0
 Halts old from id fragment given NoMemory new = new ≡ old
 Halts old from id fragment given (Stopped stop) new = Sends old from id fragment given (Some stop) new
+Halts old from id fragment given (Down end) new = ⊥

@@ -7,14 +7,20 @@
 mod half;
 mod harm;
 mod hearing;
+mod line;
 mod pieces;
 mod sending;
 mod skipping;
+mod starting;
 mod taking;
+mod ticking;
 
 pub use half::{Half, Wire};
 pub use harm::Stop;
 pub use hearing::{Heard, hear};
+pub use line::Line;
 pub use sending::Halt;
 pub use skipping::skip_to_head;
+pub use starting::{expect, start};
 pub use taking::take_next;
+pub use ticking::{delivers, tick};

@@ -21,6 +21,8 @@ pub enum Halt {
     NoMemory,
     /// The run ends with the frame that was sent.
     Stopped(Stop),
+    /// A piece of this end was sent as often as a piece is.
+    Down(End),
 }
 
 impl<T: Drop> From<AllocFailed<T>> for Halt {

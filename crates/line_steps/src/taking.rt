@@ -1,5 +1,5 @@
 //! An end takes the next frame of the other one.
-ghost use Rattle.std.specs.Prelude.{◌≡◌, ◌≤◌, ◌<◌, [], OnOk, false, length};
+ghost use Rattle.std.specs.Prelude.{◌≡◌, ◌+◌, ◌≤◌, ◌<◌, [], OnOk, IfOk, false, length};
 ghost use Rattle.padp_link.specs.Pieces.{piece_count};
 ghost use Rattle.padp_link.specs.Senders.{Waits, WaitsOnLast};
 ghost use Rattle.slp_frames.specs.PacketScan.{packet_at};
@@ -7,8 +7,9 @@ ghost use Rattle.trace_text.specs.Fates.{fate_value, ends_run};
 ghost use Rattle.trace_text.specs.Frames.{BearsFragment, fragment_in};
 ghost use Rattle.trace_text.specs.TraceLines.{frame_value};
 ghost use Rattle.line_steps.specs.Hearing.{Hears};
-ghost use Rattle.line_steps.specs.Running.{Holds, Heeded};
+ghost use Rattle.line_steps.specs.Running.{Holds, Heeded, Stays};
 ghost use Rattle.line_steps.specs.Taking.{Delivers, AckNext, DataHeard};
+ghost use Rattle.line_steps.specs.Turning.{TurnAfter, TurnBehind};
 
 use crate::half::{Half, Wire};
 use crate::hearing::{Heard, hear, hear_harm};
@@ -21,7 +22,10 @@ use trace_text::{Fate, Frame};
 pub fn take_next(wire: &mut Wire, x: &mut Half, y: &mut Half, fate: Fate) -> Result<Heard, Halt>
     requires holds { Holds wire.old x.old y.old }
     requires next { Delivers x.old.end wire.old x.old.taken }
-    ensures { OnOk result (Holds wire.new x.new y.new) }
+    ensures holds { OnOk result (Holds wire.new x.new y.new) }
+    ensures turn { IfOk result (λ heard. TurnBehind heard wire.new y.new x.new) }
+    ensures moved { OnOk result (x.new ≡ record x.old { taken = x.old.taken + 1 }) }
+    ensures stays { OnOk result (Stays y.old y.new) }
 {
     let heard = hear_frame(&wire.frames[x.taken], y);
     match heard {
@@ -51,7 +55,9 @@ fn hear_frame(frame: &Frame, half: &mut Half) -> Heard
 fn take_ack(wire: &mut Wire, x: &mut Half, y: &mut Half, key: Key, fate: Fate) -> Result<(), Halt>
     requires holds { Holds wire.old x.old y.old }
     requires next { AckNext x.old.end wire.old x.old.taken key }
-    ensures { OnOk result (Holds wire.new x.new y.new) }
+    ensures holds { OnOk result (Holds wire.new x.new y.new) }
+    ensures moved { x.new ≡ record x.old { taken = x.old.taken + 1 } }
+    ensures stays { Stays y.old y.new }
 {
     x.taken += 1;
     if !y.sender.on_ack(key) {
@@ -73,7 +79,10 @@ fn take_data(
     fate: Fate,
 ) -> Result<(), Halt>
     requires { DataHeard wire.old x.old y.old key taken }
-    ensures { OnOk result (Holds wire.new x.new y.new) }
+    ensures holds { OnOk result (Holds wire.new x.new y.new) }
+    ensures turn { OnOk result (TurnAfter taken wire.new y.new x.new) }
+    ensures moved { x.new ≡ record x.old { taken = x.old.taken + 1 } }
+    ensures stays { Stays y.old y.new }
 {
     x.taken += 1;
     match taken {

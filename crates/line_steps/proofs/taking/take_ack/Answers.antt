@@ -12,22 +12,22 @@ use Rattle.line_steps.proofs.HoldsLaws.{moved}
 use Rattle.line_steps.proofs.TakingLaws.{some_waits, none_waits, ack_other, ack_last, ack_more}
 use Rattle.line_steps.proofs.taking.take_ack.Goals as goal
 
-pub returns-then-not-on_ack : goal.returns-then-not-on_ack
-returns-then-not-on_ack c =
+pub returns-then-not-on_ack-clause-holds : goal.returns-then-not-on_ack-clause-holds
+returns-then-not-on_ack-clause-holds c =
     let same = c.on_ack.ensures.stays c.if-not-on_ack.true in
     subst (λ (s : SenderValue). Holds c.args.wire.now (moved c.args.x.now) (record c.args.y.now { sender = s })) (sym same)
     (ack_other c.args.wire.now c.args.x.now c.args.y.now c.args.key c.requires.holds c.requires.next (λ is. both_ways _ c.if-not-on_ack.true (c.on_ack.ensures.taken.1 is)))
 
-pub returns-then-is_none : goal.returns-then-is_none
-returns-then-is_none c =
+pub returns-then-is_none-clause-holds : goal.returns-then-is_none-clause-holds
+returns-then-is_none-clause-holds c =
     let next = c.on_ack.ensures.next c.if-not-on_ack.false in
     let over = none_waits c.on_ack.new.self (ap is_some (sym c.current.ensures.piece) ∙ c.if-is_none.ensures) in
     let last : piece_count c.args.y.now.sender.length ≤ c.args.y.now.sender.acknowledged + 1 = subst (λ (s : SenderValue). piece_count s.length ≤ s.acknowledged) next over in
     subst (λ (s : SenderValue). Holds c.args.wire.now (moved c.args.x.now) (record c.args.y.now { sender = s })) (sym next)
     (ack_last c.args.wire.now c.args.x.now c.args.y.now c.args.key c.requires.holds c.requires.next (c.on_ack.ensures.taken.0 c.if-not-on_ack.false) last)
 
-pub returns : goal.returns
-returns c =
+pub returns-clause-holds : goal.returns-clause-holds
+returns-clause-holds c =
     let y = c.args.y.now in
     let next = c.on_ack.ensures.next c.if-not-on_ack.false in
     let waits = some_waits c.on_ack.new.self (ap is_some (sym c.current.ensures.piece) ∙ c.if-is_none.ensures) in

@@ -4,11 +4,12 @@ use Rattle.trace_text.specs.Fates.{fate_value}
 use Rattle.line_steps.specs.declared.half.Half.{Half}
 use Rattle.line_steps.specs.Sending.{Sends, ack_fragment}
 use Rattle.line_steps.proofs.DataLaws.{never_dropped, answers_wait, ack_fits, took_data, is_new_data, same_sender, idle_sender}
+use Rattle.line_steps.proofs.DeliveredLaws.{turned_after}
 use Rattle.line_steps.proofs.taking.take_data.Goals.{in-Repeated, in-Accepted}
 use Rattle.line_steps.proofs.taking.take_data.Goals as goal
 
-pub returns-in-Dropped : goal.returns-in-Dropped
-returns-in-Dropped c = absurd (never_dropped c.args.wire.now c.args.x.now c.args.y.now c.args.key c.args.taken c.requires c.in-Dropped.is)
+pub returns-in-Dropped-clause-holds : goal.returns-in-Dropped-clause-holds
+returns-in-Dropped-clause-holds c = absurd (never_dropped c.args.wire.now c.args.x.now c.args.y.now c.args.key c.args.taken c.requires c.in-Dropped.is)
 
 pub send_ack-requires : goal.send_ack-requires
 send_ack-requires c = λ small. ack_fits c.args.wire.now c.args.x.now c.args.y.now c.args.key c.args.taken c.requires small
@@ -16,8 +17,8 @@ send_ack-requires c = λ small. ack_fits c.args.wire.now c.args.x.now c.args.y.n
 pub stop_waiting-requires : goal.stop_waiting-requires
 stop_waiting-requires c = λ waits. answers_wait c.args.wire.now c.args.x.now c.args.y.now c.args.key c.args.taken c.requires (is_new_data c.args.taken c.in-Accepted.is) waits
 
-pub returns : goal.returns
-returns c =
+pub returns-clause-holds : goal.returns-clause-holds
+returns-clause-holds c =
     let wire = c.args.wire.now in
     let new = c.send_ack.new.wire in
     let x = c.args.x.now in
@@ -28,6 +29,22 @@ returns c =
       | in-Repeated w ↦ on_ok_weaker c.send_ack.result (λ sends. rw w.y-is (took_data wire new x y key taken (fate_value c.args.fate) y.sender c.requires (same_sender taken y.sender w.in-Repeated.is)
           (subst (λ (h : Half). Sends wire.frames.items h.end key.id (ack_fragment key) (fate_value c.args.fate) None new.frames.items) w.y-is sends) c.send_ack.ensures.released)) c.send_ack.ensures.ok
       | in-Accepted w ↦ on_ok_weaker c.send_ack.result (λ sends. rw w.y-is (took_data wire new x y key taken (fate_value c.args.fate) w.stop_waiting.new.sender c.requires
+          (idle_sender taken y.sender w.stop_waiting.new.sender w.in-Accepted.is w.stop_waiting.ensures.rest w.stop_waiting.ensures.idle)
+          (subst (λ (h : Half). Sends wire.frames.items h.end key.id (ack_fragment key) (fate_value c.args.fate) None new.frames.items) w.y-is sends) c.send_ack.ensures.released)) c.send_ack.ensures.ok
+    ]
+
+pub returns-clause-turn : goal.returns-clause-turn
+returns-clause-turn c =
+    let wire = c.args.wire.now in
+    let new = c.send_ack.new.wire in
+    let x = c.args.x.now in
+    let y = c.args.y.now in
+    let key = c.args.key in
+    let taken = c.args.taken in
+    elim c.match-taken.branch [
+      | in-Repeated w ↦ on_ok_weaker c.send_ack.result (λ sends. rw w.y-is (turned_after wire new x y key taken (fate_value c.args.fate) y.sender c.requires (same_sender taken y.sender w.in-Repeated.is)
+          (subst (λ (h : Half). Sends wire.frames.items h.end key.id (ack_fragment key) (fate_value c.args.fate) None new.frames.items) w.y-is sends) c.send_ack.ensures.released)) c.send_ack.ensures.ok
+      | in-Accepted w ↦ on_ok_weaker c.send_ack.result (λ sends. rw w.y-is (turned_after wire new x y key taken (fate_value c.args.fate) w.stop_waiting.new.sender c.requires
           (idle_sender taken y.sender w.stop_waiting.new.sender w.in-Accepted.is w.stop_waiting.ensures.rest w.stop_waiting.ensures.idle)
           (subst (λ (h : Half). Sends wire.frames.items h.end key.id (ack_fragment key) (fate_value c.args.fate) None new.frames.items) w.y-is sends) c.send_ack.ensures.released)) c.send_ack.ensures.ok
     ]

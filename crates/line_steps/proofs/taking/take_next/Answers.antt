@@ -42,8 +42,15 @@ take_data-requires c =
     heard_data c.args.wire.now c.args.x.now c.args.y.now c.hear_frame-heard.new.half c.index.result.now c.in-Data.key c.in-Data.taken c.requires.holds c.requires.next here c.in-Data.ensures.hears c.in-Data.ensures.heeded c.in-Data.ensures.gap
 
 -- src/taking.rt:21:1
-pub returns-in-Nothing : goal.returns-in-Nothing
-returns-in-Nothing c =
+pub returns-in-Nothing-clause-holds : goal.returns-in-Nothing-clause-holds
+returns-in-Nothing-clause-holds c =
+    let frames = c.args.wire.now.frames.items in
+    let n = c.args.x.now.taken in
+    let here = slice_get_read frames _ n c.index.result.now refl (slice_get_within frames n c.requires.next.frame c.requires.next.here) c.index.ensures in
+    absurd (heard_something _ c.index.result.now c.args.y.now.receiver c.hear_frame-heard.new.half.receiver (going c.args.wire.now c.args.x.now c.args.y.now n c.index.result.now c.requires.holds here) c.in-Nothing.ensures.hears)
+
+pub returns-in-Nothing-clause-moved : goal.returns-in-Nothing-clause-moved
+returns-in-Nothing-clause-moved c =
     let frames = c.args.wire.now.frames.items in
     let n = c.args.x.now.taken in
     let here = slice_get_read frames _ n c.index.result.now refl (slice_get_within frames n c.requires.next.frame c.requires.next.here) c.index.ensures in

@@ -1,0 +1,38 @@
+-- Whose turn it is: an end may begin its next message.
+use Rattle.std.specs.Prelude.{Some, ◌≡◌, ◌+◌, ◌≤◌, false, ⊤, length}
+use Rattle.padp_link.specs.Pieces.{piece_count}
+use Rattle.padp_link.specs.Receivers.{whole_of}
+use Rattle.padp_link.specs.declared.receiver.Taken.{Taken}
+use Rattle.padp_link.specs.declared.receiver.Taken.TheVariants.{Whole}
+use Rattle.trace_text.specs.Past.{said, acked, at}
+use Rattle.line_laws.specs.Core.{Apart}
+use Rattle.line_laws.specs.Line.{Line}
+use Rattle.line_steps.specs.declared.half.Half.{Half}
+use Rattle.line_steps.specs.declared.half.Wire.{Wire}
+use Rattle.line_steps.specs.declared.hearing.Heard.{Heard}
+use Rattle.line_steps.specs.declared.hearing.Heard.TheVariants.{Data}
+use Rattle.line_steps.specs.Running.{past_now, AllGo, side_of, IsHalf}
+
+-- what holds of the line where all that was said is taken
+pub record Settled (wire : Wire) (x y : Half) : Type 0 where
+  pub apart : Apart x.end y.end
+  pub go : AllGo 1 wire.frames.items
+  pub x_half : IsHalf x
+  pub y_half : IsHalf y
+  pub line : Line x.end y.end (past_now wire.frames.items) x.taken y.taken wire.released (side_of x) (side_of y) x.receiver y.receiver false false x.sender.tries y.sender.tries
+
+-- x may begin its next message: it waits for nothing and knows that all its own was taken, and the other end's message is whole
+pub record Turn (wire : Wire) (x y : Half) : Type 0 where
+  pub settled : Settled wire x y
+  pub knows : length (said x.end (past_now wire.frames.items)) ≤ length (acked y.end (at y.taken (past_now wire.frames.items)))
+  pub idle : piece_count (length x.message.items) ≤ x.sender.acknowledged
+  pub last : piece_count (length y.message.items) ≤ y.sender.acknowledged + 1
+
+-- behind data that made a message whole it is the turn of x, which took it, and has the message
+abbrev pub TurnAfter : Taken → Wire → Half → Half → Type 0
+TurnAfter Whole wire x y = Turn wire x y × (whole_of x.receiver.pieces ≡ Some y.message.items)
+TurnAfter taken wire x y = ⊤
+
+abbrev pub TurnBehind : Heard → Wire → Half → Half → Type 0
+TurnBehind (Data key taken) wire x y = TurnAfter taken wire x y
+TurnBehind heard wire x y = ⊤

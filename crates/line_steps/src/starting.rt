@@ -1,0 +1,45 @@
+//! A message begins.
+ghost use Rattle.std.specs.Prelude.{◌≡◌, ◌≤◌, ◌<◌, [], OnOk, IfErr, Some, length};
+ghost use Rattle.padp_link.specs.Receivers.{ReceiverValue};
+ghost use Rattle.line_steps.specs.declared.half.Half.{Half as HalfValue};
+ghost use Rattle.line_steps.specs.declared.half.Wire.{Wire as WireValue};
+ghost use Rattle.line_steps.specs.Running.{Holds};
+ghost use Rattle.line_steps.specs.Turning.{Turn};
+
+use crate::half::{Half, Wire};
+use crate::pieces::send_piece;
+use crate::sending::Halt;
+use trace_text::Fate;
+
+/// Begins the next message of the end `x`, of this transaction, which the other end waits for. Its first piece has this fate.
+pub fn start(
+    wire: &mut Wire,
+    x: &mut Half,
+    y: &Half,
+    id: u8,
+    message: Vec<u8>,
+    fate: Fate,
+) -> Result<(), Halt>
+    requires turn { Turn wire.old x.old y.now }
+    requires other { ¬ (id ≡ x.old.sender.id) }
+    requires awaited { y.now.receiver.awaited ≡ Some id }
+    requires none { y.now.receiver.pieces ≡ [] }
+    requires short { length message.items < 65536 }
+    ensures { OnOk result (Holds wire.new x.new y.now) }
+{
+    x.sender.start(id, message.len() as u16);
+    x.message = message;
+    send_piece(wire, x, fate)
+}
+
+/// Lets an end wait for the next message of the other one, of this transaction.
+pub fn expect(half: &mut Half, id: u8)
+    ensures receiver { half.new ≡ record half.old {
+        receiver = record { awaited = Some id; pieces = []; last = half.old.receiver.last } } }
+    ensures other { (wire : WireValue) (x : HalfValue) →
+        Turn wire x half.old → Turn wire x half.new }
+    ensures own { (wire : WireValue) (y : HalfValue) →
+        Turn wire half.old y → Turn wire half.new y }
+{
+    half.receiver.expect(id);
+}
