@@ -86,10 +86,18 @@ asked_matches words (Make seed count) found a rows =
     let one = number_is_plain a.1 seed a.4 in
     let two = count_is_plain a.2 count a.5 in
     let same = rows ∙ ap (matches_of make_app) a.3 in
-    record { one = a.1; two = a.2; held = seed_matches a.0 a.1 a.2 found one two same; held_too = count_matches a.0 a.1 a.2 found one two same; number = a.4; counted = a.5 }
+    record {
+      one = a.1;
+      two = a.2;
+      held = seed_matches a.0 a.1 a.2 found one two same;
+      held_too = count_matches a.0 a.1 a.2 found one two same;
+      number = a.4;
+      counted = a.5;
+    }
 
 pub task_takes : (words : List Text) (task : Task) → task_of words ≡ Some task → takes (task_app task) words ≡ true
 task_takes words task e = asked_takes words task (words_ask words task e)
 
-pub task_matches : (words : List Text) (task : Task) (found : Found) → task_of words ≡ Some task → rows_of found ≡ matches_of (task_app task) words → HoldsTask found task
+pub task_matches : (words : List Text) (task : Task) (found : Found) → task_of words ≡ Some task → rows_of found ≡ matches_of (task_app task) words
+    → HoldsTask found task
 task_matches words task found e rows = asked_matches words task found (words_ask words task e) rows

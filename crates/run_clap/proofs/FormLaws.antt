@@ -56,7 +56,8 @@ plain-is [] e = cc
 plain-is (x ∷ xs) e = record { first = x; rest = xs; is = refl; no_dash = grind (arith, nat_tests, e) }
 
 chain : (word : Text) (a b c d : Option Text) (s u p : Bool)
-    → ((v : Text) → a ≡ Some v → word ≡ codes "--date=" ++ v) → ((v : Text) → b ≡ Some v → word ≡ codes "--script=" ++ v) → ((v : Text) → c ≡ Some v → word ≡ codes "--trace=" ++ v)
+    → ((v : Text) → a ≡ Some v → word ≡ codes "--date=" ++ v) → ((v : Text) → b ≡ Some v → word ≡ codes "--script=" ++ v)
+    → ((v : Text) → c ≡ Some v → word ≡ codes "--trace=" ++ v)
     → ((v : Text) → d ≡ Some v → word ≡ codes "--actions=" ++ v)
     → (s ≡ true → word ≡ codes "--slow") → (u ≡ true → word ≡ codes "--add-user") → (p ≡ true → IsPlain word)
     → IsOfKind (or_kind (option_map date_value a) (or_kind (option_map script_value b) (or_kind (option_map trace_value c) (or_kind (option_map actions_value d)
@@ -75,7 +76,8 @@ unfolding kind_of
 kind-is word =
     chain word (after (codes "--date=") word) (after (codes "--script=") word) (after (codes "--trace=") word) (after (codes "--actions=") word)
     (bytes_eq word (codes "--slow")) (bytes_eq word (codes "--add-user")) (is_plain word)
-    (λ v. after-is (codes "--date=") word v) (λ v. after-is (codes "--script=") word v) (λ v. after-is (codes "--trace=") word v) (λ v. after-is (codes "--actions=") word v)
+    (λ v. after-is (codes "--date=") word v) (λ v. after-is (codes "--script=") word v) (λ v. after-is (codes "--trace=") word v)
+    (λ v. after-is (codes "--actions=") word v)
     (λ e. (bytes_eq-Decides word (codes "--slow")).0 e) (λ e. (bytes_eq-Decides word (codes "--add-user")).0 e) (plain-is word)
 
 -- ---- what a word gave
@@ -88,7 +90,8 @@ some_of : (b : Bool) (one more : Given) → cond b None (Some one) ≡ Some more
 some_of true one more e = cc
 some_of false one more e = cc
 
-once-is : (slot : Option Text) (value : Text) (f : Option Text → Given) (more : Given) → option_map f (once slot value) ≡ Some more → (slot ≡ None) × (f (Some value) ≡ more)
+once-is : (slot : Option Text) (value : Text) (f : Option Text → Given) (more : Given) → option_map f (once slot value) ≡ Some more
+    → (slot ≡ None) × (f (Some value) ≡ more)
 once-is None value f more e = (refl, some_of (length value == 0) (f (Some value)) more (over (length value == 0) (Some value) f ∙ e))
 once-is (Some x) value f more e = cc
 
@@ -100,15 +103,18 @@ some_when : (b : Bool) (one more : Given) → cond b (Some one) None ≡ Some mo
 some_when true one more e = cc
 some_when false one more e = cc
 
-actions-is : (slot : Option Text) (value : Text) (f : Option Text → Given) (more : Given) → option_map f (actions_once slot value) ≡ Some more → (slot ≡ None) × (f (Some value) ≡ more)
+actions-is : (slot : Option Text) (value : Text) (f : Option Text → Given) (more : Given) → option_map f (actions_once slot value) ≡ Some more
+    → (slot ≡ None) × (f (Some value) ≡ more)
 actions-is None value f more e = (refl, some_when (is_actions_text value) (f (Some value)) more (sym (under (is_actions_text value) (Some value) f) ∙ e))
 actions-is (Some x) value f more e = cc
 
-read-is : (o : Option ℕ) (f : Option ℕ → Given) (more : Given) → option_map f (option_map (λ seconds. Some seconds) o) ≡ Some more → (seconds : ℕ) × (o ≡ Some seconds) × (f (Some seconds) ≡ more)
+read-is : (o : Option ℕ) (f : Option ℕ → Given) (more : Given) → option_map f (option_map (λ seconds. Some seconds) o) ≡ Some more
+    → (seconds : ℕ) × (o ≡ Some seconds) × (f (Some seconds) ≡ more)
 read-is None f more e = cc
 read-is (Some seconds) f more e = (seconds, refl, cc)
 
-date-is : (slot : Option ℕ) (value : Text) (f : Option ℕ → Given) (more : Given) → option_map f (date_once slot value) ≡ Some more → (slot ≡ None) × ((seconds : ℕ) × (read_text value ≡ Some seconds) × (f (Some seconds) ≡ more))
+date-is : (slot : Option ℕ) (value : Text) (f : Option ℕ → Given) (more : Given) → option_map f (date_once slot value) ≡ Some more
+    → (slot ≡ None) × ((seconds : ℕ) × (read_text value ≡ Some seconds) × (f (Some seconds) ≡ more))
 date-is None value f more e = (refl, read-is (read_text value) f more e)
 date-is (Some x) value f more e = cc
 
@@ -116,13 +122,15 @@ slow-is : (given more : Given) (b : Bool) → cond b None (Some (record given { 
 slow-is given more true e = cc
 slow-is given more false e = (refl, cc)
 
-add_user-is : (given more : Given) (b : Bool) → cond b None (Some (record given { add_user = true })) ≡ Some more → (b ≡ false) × (record given { add_user = true } ≡ more)
+add_user-is : (given more : Given) (b : Bool) → cond b None (Some (record given { add_user = true })) ≡ Some more
+    → (b ≡ false) × (record given { add_user = true } ≡ more)
 add_user-is given more true e = cc
 add_user-is given more false e = (refl, cc)
 
 -- ---- one word
 
-plain_turns : (given more : Given) (word : Text) (place : ℕ) (h : Held) (a b : Option Text) → Fits given place h → IsPlain word → given.handheld ≡ a → given.desktop ≡ b → with_plain given a b word ≡ Some more → Turns word more place h
+plain_turns : (given more : Given) (word : Text) (place : ℕ) (h : Held) (a b : Option Text) → Fits given place h → IsPlain word → given.handheld ≡ a
+    → given.desktop ≡ b → with_plain given a b word ≡ Some more → Turns word more place h
 plain_turns given more word place h None b f plain handheld desktop e =
     let same : record given { handheld = Some word } ≡ more = cc in
     let turns = handheld_turns given plain.first plain.rest place h f plain.no_dash handheld in
@@ -133,32 +141,39 @@ plain_turns given more word place h (Some first) None f plain handheld desktop e
     subst (λ g. Turns word g place h) same (subst (λ w. Turns w (record given { desktop = Some w }) place h) (sym plain.is) turns)
 plain_turns given more word place h (Some first) (Some second) f plain handheld desktop e = cc
 
-kind_turns : (given more : Given) (word : Text) (place : ℕ) (h : Held) → Fits given place h → (k : Kind) → IsOfKind k word → with_word given k ≡ Some more → Turns word more place h
+kind_turns : (given more : Given) (word : Text) (place : ℕ) (h : Held) → Fits given place h → (k : Kind) → IsOfKind k word
+    → with_word given k ≡ Some more → Turns word more place h
 unfolding with_word
 kind_turns given more word place h f (plain_word same) is e =
     plain_turns given more word place h given.handheld given.desktop f is.1 refl refl (rw is.0 at e)
 kind_turns given more word place h f (date_value value) is e =
     let parts = date-is given.date value (λ slot. record given { date = slot }) more e in
     let text = text_is_date_text value parts.1.0 parts.1.1 in
-    subst (λ g. Turns word g place h) parts.1.2 (subst (λ w. Turns w (record given { date = Some parts.1.0 }) place h) (sym is) (date_turns given parts.1.0 value place h f parts.0 text.0 (ap read_text (sym text.0) ∙ parts.1.1)))
+    subst (λ g. Turns word g place h) parts.1.2 (subst (λ w. Turns w (record given { date = Some parts.1.0 }) place h) (sym is)
+    (date_turns given parts.1.0 value place h f parts.0 text.0 (ap read_text (sym text.0) ∙ parts.1.1)))
 kind_turns given more word place h f (script_value value) is e =
     let parts = once-is given.script value (λ slot. record given { script = slot }) more e in
-    subst (λ g. Turns word g place h) parts.1 (subst (λ w. Turns w (record given { script = Some value }) place h) (sym is) (script_turns given value place h f parts.0))
+    subst (λ g. Turns word g place h) parts.1 (subst (λ w. Turns w (record given { script = Some value }) place h) (sym is)
+    (script_turns given value place h f parts.0))
 kind_turns given more word place h f (trace_value value) is e =
     let parts = once-is given.trace value (λ slot. record given { trace = slot }) more e in
-    subst (λ g. Turns word g place h) parts.1 (subst (λ w. Turns w (record given { trace = Some value }) place h) (sym is) (trace_turns given value place h f parts.0))
+    subst (λ g. Turns word g place h) parts.1 (subst (λ w. Turns w (record given { trace = Some value }) place h) (sym is)
+    (trace_turns given value place h f parts.0))
 kind_turns given more word place h f (actions_value value) is e =
     let parts = actions-is given.actions value (λ slot. record given { actions = slot }) more e in
-    subst (λ g. Turns word g place h) parts.1 (subst (λ w. Turns w (record given { actions = Some value }) place h) (sym is) (actions_turns given value place h f parts.0))
+    subst (λ g. Turns word g place h) parts.1 (subst (λ w. Turns w (record given { actions = Some value }) place h) (sym is)
+    (actions_turns given value place h f parts.0))
 kind_turns given more word place h f add_user_word is e =
     let parts = add_user-is given more given.add_user e in
-    subst (λ g. Turns word g place h) parts.1 (subst (λ w. Turns w (record given { add_user = true }) place h) (sym is) (add_user_turns given place h f parts.0))
+    subst (λ g. Turns word g place h) parts.1 (subst (λ w. Turns w (record given { add_user = true }) place h) (sym is)
+    (add_user_turns given place h f parts.0))
 kind_turns given more word place h f slow_word is e =
     let parts = slow-is given more given.slow e in
     subst (λ g. Turns word g place h) parts.1 (subst (λ w. Turns w (record given { slow = true }) place h) (sym is) (slow_turns given place h f parts.0))
 kind_turns given more word place h f unknown_word is e = cc
 
-word_turns : (given more : Given) (word : Text) (place : ℕ) (h : Held) → Fits given place h → with_word given (kind_of word) ≡ Some more → Turns word more place h
+word_turns : (given more : Given) (word : Text) (place : ℕ) (h : Held) → Fits given place h → with_word given (kind_of word) ≡ Some more
+    → Turns word more place h
 word_turns given more word place h f e = kind_turns given more word place h f (kind_of word) (kind-is word) e
 
 -- ---- all words
@@ -170,7 +185,8 @@ record Ends (words : List Text) (more : Given) (place : ℕ) (h : Held) : Type 0
   pub goes : fold (walked rules []) (at place h) words ≡ at next_place next_held
   pub fits : Fits more next_place next_held
 
-after_one : (o : Option Given) (f : Given → Option Given) (more : Given) → option_and_then f o ≡ Some more → (mid : Given) × (o ≡ Some mid) × (f mid ≡ Some more)
+after_one : (o : Option Given) (f : Given → Option Given) (more : Given) → option_and_then f o ≡ Some more
+    → (mid : Given) × (o ≡ Some mid) × (f mid ≡ Some more)
 after_one None f more e = cc
 after_one (Some mid) f more e = (mid, refl, e)
 
@@ -194,7 +210,13 @@ words_end (word ∷ words) given more place h f e =
     }
 
 fits_nothing : Fits nothing 1 nothing_held
-fits_nothing = record { settles = refl; holds = record { handheld = refl; desktop = refl; date = refl; script = refl; trace = refl; actions = refl; slow = refl; add_user = refl }; position = refl; order = λ e. refl; dated = λ seconds e. cc }
+fits_nothing = record {
+  settles = refl;
+  holds = record { handheld = refl; desktop = refl; date = refl; script = refl; trace = refl; actions = refl; slow = refl; add_user = refl };
+  position = refl;
+  order = λ e. refl;
+  dated = λ seconds e. cc;
+}
 
 -- ---- the defaults
 
@@ -227,18 +249,21 @@ finished-is h =
 abbrev default_row : Text → Row
 default_row id = record { id = id; values = codes "false" ∷ []; count = None; source = Some DefaultValue; reading = AsWritten }
 
-find_default : (flag id : Text) (b : Bool) (rows : List Row) → has_row flag rows ≡ b → bytes_eq flag id ≡ false → find_row id (with_default flag b rows) ≡ find_row id rows
+find_default : (flag id : Text) (b : Bool) (rows : List Row) → has_row flag rows ≡ b → bytes_eq flag id ≡ false
+    → find_row id (with_default flag b rows) ≡ find_row id rows
 find_default flag id true rows has apart = refl
 find_default flag id false rows none apart =
     let added = at_row-none flag (more_values DefaultValue (codes "false" ∷ [])) (default_row flag ∷ []) rows none in
     rw added (find-append id rows (default_row flag) ∙ rw apart (or_none (find_row id rows)))
 
-find_both : (id : Text) (rows : List Row) → bytes_eq (codes "slow") id ≡ false → bytes_eq (codes "add-user") id ≡ false → find_row id (with_both rows) ≡ find_row id rows
+find_both : (id : Text) (rows : List Row) → bytes_eq (codes "slow") id ≡ false → bytes_eq (codes "add-user") id ≡ false
+    → find_row id (with_both rows) ≡ find_row id rows
 find_both id rows slow add_user =
     find_default (codes "add-user") id (has_row (codes "add-user") (with_slow rows)) (with_slow rows) refl add_user
     ∙ find_default (codes "slow") id (has_row (codes "slow") rows) rows refl slow
 
-find_finished : (id : Text) (h : Held) → bytes_eq (codes "slow") id ≡ false → bytes_eq (codes "add-user") id ≡ false → find_row id (finished rules h) ≡ find_row id (settled rules h).rows
+find_finished : (id : Text) (h : Held) → bytes_eq (codes "slow") id ≡ false → bytes_eq (codes "add-user") id ≡ false
+    → find_row id (finished rules h) ≡ find_row id (settled rules h).rows
 find_finished id h slow add_user = ap (find_row id) (finished-is h) ∙ find_both id (settled rules h).rows slow add_user
 
 -- ---- all of it
@@ -254,7 +279,8 @@ record IsRun (given : Given) (run : Run) : Type 0 where
   pub slow : given.slow ≡ run.slow
   pub add_user : given.add_user ≡ run.add_user
 
-whole-is : (given : Given) (a b : Option Text) (d : Option ℕ) (run : Run) → given.handheld ≡ a → given.desktop ≡ b → given.date ≡ d → whole_of given a b d ≡ Some run → IsRun given run
+whole-is : (given : Given) (a b : Option Text) (d : Option ℕ) (run : Run) → given.handheld ≡ a → given.desktop ≡ b → given.date ≡ d
+    → whole_of given a b d ≡ Some run → IsRun given run
 whole-is given (Some a) (Some b) (Some d) run ea eb ed e = record {
   handheld = ea ∙ cc;
   desktop = eb ∙ cc;
@@ -270,7 +296,8 @@ whole-is given (Some a) None d run ea eb ed e = cc
 whole-is given (Some a) (Some b) None run ea eb ed e = cc
 
 -- `clap` takes the words of a run
-takes_given : (first : Text) (words : List Text) (given : Given) (run : Run) → with_words nothing words ≡ Some given → IsRun given run → takes run_app (first ∷ words) ≡ true
+takes_given : (first : Text) (words : List Text) (given : Given) (run : Run) → with_words nothing words ≡ Some given → IsRun given run
+    → takes run_app (first ∷ words) ≡ true
 unfolding run_app
 takes_given first words given run e is =
     let end = words_end words nothing given 1 nothing_held fits_nothing e in
@@ -330,19 +357,22 @@ matches_given first words given run found e is rows =
     let holds = end.fits.holds in
     let last = (settled rules end.next_held).rows in
     let at_end : rows_of found ≡ finished rules end.next_held = rows ∙ rw goes refl in
-    let value : (id : Text) → bytes_eq (codes "slow") id ≡ false → bytes_eq (codes "add-user") id ≡ false → first_value found id ≡ value_in (find_row id (settled rules end.next_held).rows) = λ id slow add_user.
+    let value : (id : Text) → bytes_eq (codes "slow") id ≡ false → bytes_eq (codes "add-user") id ≡ false → first_value found id ≡ value_in
+    (find_row id (settled rules end.next_held).rows) = λ id slow add_user.
     first_value-rows found id ∙ ap (first_of id) at_end ∙ ap value_in (find_finished id end.next_held slow add_user) in
     record {
       handheld = value (codes "handheld") refl refl ∙ ap value_in holds.handheld ∙ in_row (codes "handheld") given.handheld ∙ is.handheld;
       desktop = value (codes "desktop") refl refl ∙ ap value_in holds.desktop ∙ in_row (codes "desktop") given.desktop ∙ is.desktop;
       dated = end.fits.dated run.date is.date;
-      date = value (codes "date") refl refl ∙ ap value_in holds.date ∙ in_row (codes "date") (option_map date_text given.date) ∙ ap (option_map date_text) is.date;
+      date = value (codes "date") refl refl ∙ ap value_in holds.date ∙ in_row (codes "date") (option_map date_text given.date)
+          ∙ ap (option_map date_text) is.date;
       script = value (codes "script") refl refl ∙ ap value_in holds.script ∙ in_row (codes "script") given.script ∙ is.script;
       trace = value (codes "trace") refl refl ∙ ap value_in holds.trace ∙ in_row (codes "trace") given.trace ∙ is.trace;
       actions = value (codes "actions") refl refl ∙ ap value_in holds.actions ∙ in_row (codes "actions") given.actions ∙ is.actions;
       slow = one_text-rows found (codes "slow") ∙ ap (one_of (codes "slow")) (at_end ∙ finished-is end.next_held) ∙ slow_in given.slow last holds.slow
           ∙ ap (λ b. Some (cond b (codes "true") (codes "false"))) is.slow;
-      add_user = one_text-rows found (codes "add-user") ∙ ap (one_of (codes "add-user")) (at_end ∙ finished-is end.next_held) ∙ add_user_in given.add_user last holds.add_user
+      add_user = one_text-rows found (codes "add-user") ∙ ap (one_of (codes "add-user")) (at_end ∙ finished-is end.next_held)
+          ∙ add_user_in given.add_user last holds.add_user
           ∙ ap (λ b. Some (cond b (codes "true") (codes "false"))) is.add_user;
     }
 
@@ -362,7 +392,8 @@ takes_run first words run e =
     let parts = run_parts words run e in
     takes_given first words parts.0 run parts.1 parts.2
 
-pub matches_run : (first : Text) (words : List Text) (run : Run) (found : Found) → run_of words ≡ Some run → rows_of found ≡ matches_of run_app (first ∷ words) → HoldsRun found run
+pub matches_run : (first : Text) (words : List Text) (run : Run) (found : Found) → run_of words ≡ Some run
+    → rows_of found ≡ matches_of run_app (first ∷ words) → HoldsRun found run
 matches_run first words run found e rows =
     let parts = run_parts words run e in
     matches_given first words parts.0 run found parts.1 parts.2 rows

@@ -16,13 +16,15 @@ abbrev pub Asks : List Text → Task → Type 0
 Asks words (Sync run) = (first : Text) × (rest : List Text) × (words ≡ first ∷ rest) × (run_of rest ≡ Some run)
 Asks words (LookAt look file) = (first : Text) × (words ≡ first ∷ file ∷ []) × (is_plain file ≡ true)
 Asks words (Scan bytes) = (first : Text) × (hex : Text) × (words ≡ first ∷ hex ∷ []) × (is_hex hex ≡ true) × (bytes_of hex ≡ bytes)
-Asks words (Make seed count) = (first : Text) × (one : Text) × (two : Text) × (words ≡ first ∷ one ∷ two ∷ []) × (number_of one ≡ Some seed) × (count_of two ≡ Some count)
+Asks words (Make seed count) = (first : Text) × (one : Text) × (two : Text) × (words ≡ first ∷ one ∷ two ∷ []) × (number_of one ≡ Some seed) ×
+    (count_of two ≡ Some count)
 
 run_asks : (first : Text) (rest : List Text) (o : Option Run) (task : Task) → run_of rest ≡ o → option_map Sync o ≡ Some task → Asks (first ∷ rest) task
 run_asks first rest None task h e = cc
 run_asks first rest (Some run) task h e = let is : Sync run ≡ task = cc in subst (Asks (first ∷ rest)) is (first, rest, refl, h)
 
-plain_asks : (plain : Bool) (look : Look) (first file : Text) (task : Task) → is_plain file ≡ plain → option_map (LookAt look) (cond plain (Some file) None) ≡ Some task → Asks (first ∷ file ∷ []) task
+plain_asks : (plain : Bool) (look : Look) (first file : Text) (task : Task) → is_plain file ≡ plain
+    → option_map (LookAt look) (cond plain (Some file) None) ≡ Some task → Asks (first ∷ file ∷ []) task
 plain_asks false look first file task h e = cc
 plain_asks true look first file task h e = let is : LookAt look file ≡ task = cc in subst (Asks (first ∷ file ∷ [])) is (first, refl, h)
 
@@ -32,7 +34,8 @@ look_asks look first [] task e = cc
 look_asks look first (file ∷ []) task e = plain_asks (is_plain file) look first file task refl e
 look_asks look first (one ∷ two ∷ more) task e = cc
 
-hex_asks : (hexadecimal : Bool) (first hex : Text) (task : Task) → is_hex hex ≡ hexadecimal → option_map Scan (cond hexadecimal (Some (bytes_of hex)) None) ≡ Some task → Asks (first ∷ hex ∷ []) task
+hex_asks : (hexadecimal : Bool) (first hex : Text) (task : Task) → is_hex hex ≡ hexadecimal
+    → option_map Scan (cond hexadecimal (Some (bytes_of hex)) None) ≡ Some task → Asks (first ∷ hex ∷ []) task
 hex_asks false first hex task h e = cc
 hex_asks true first hex task h e = let is : Scan (bytes_of hex) ≡ task = cc in subst (Asks (first ∷ hex ∷ [])) is (first, hex, refl, h, refl)
 
@@ -46,7 +49,8 @@ numbers_ask : (first one two : Text) (seed count : Option ℕ) (task : Task) →
     → option_and_then (λ number. option_map (Make number) count) seed ≡ Some task → Asks (first ∷ one ∷ two ∷ []) task
 numbers_ask first one two None count task s c e = cc
 numbers_ask first one two (Some seed) None task s c e = cc
-numbers_ask first one two (Some seed) (Some count) task s c e = let is : Make seed count ≡ task = cc in subst (Asks (first ∷ one ∷ two ∷ [])) is (first, one, two, refl, s, c)
+numbers_ask first one two (Some seed) (Some count) task s c e = let is : Make seed count ≡ task = cc in subst (Asks (first ∷ one ∷ two ∷ [])) is
+    (first, one, two, refl, s, c)
 
 make_asks : (first : Text) (rest : List Text) (task : Task) → make_of rest ≡ Some task → Asks (first ∷ rest) task
 unfolding make_of
@@ -70,4 +74,5 @@ pub words_ask : (words : List Text) (task : Task) → task_of words ≡ Some tas
 unfolding task_of
 words_ask [] task e = cc
 words_ask (first ∷ rest) task e =
-    chosen (bytes_eq first (codes "run")) (bytes_eq first (codes "check")) (bytes_eq first (codes "show")) (bytes_eq first (codes "packet")) (bytes_eq first (codes "make")) first rest task e
+    chosen (bytes_eq first (codes "run")) (bytes_eq first (codes "check")) (bytes_eq first (codes "show")) (bytes_eq first (codes "packet"))
+    (bytes_eq first (codes "make")) first rest task e

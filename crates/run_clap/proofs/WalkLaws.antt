@@ -19,7 +19,8 @@ abbrev pub desktop_in : Rule
 desktop_in = with_index 2 (filled desktop_rule)
 
 abbrev pub rules : List Rule
-rules = handheld_in ∷ desktop_in ∷ filled date_rule ∷ filled script_rule ∷ filled trace_rule ∷ filled actions_rule ∷ filled slow_rule ∷ filled add_user_rule ∷ []
+rules = handheld_in ∷ desktop_in ∷ filled date_rule ∷ filled script_rule ∷ filled trace_rule ∷ filled actions_rule ∷ filled slow_rule ∷ filled
+    add_user_rule ∷ []
 
 rules_are : (built run_app).top.rules ≡ rules
 unfolding run_app
@@ -48,7 +49,8 @@ or_none (Some x) = refl
 find_other : (id k : Text) (values : List Text) (rows : List Row) → bytes_eq k id ≡ false → find_row id (rows ++ row k values ∷ []) ≡ find_row id rows
 find_other id k values rows apart = find-append id rows (row k values) ∙ rw apart (or_none (find_row id rows))
 
-find_new : (k : Text) (values : List Text) (rows : List Row) → bytes_eq k k ≡ true → find_row k rows ≡ None → find_row k (rows ++ row k values ∷ []) ≡ Some (row k values)
+find_new : (k : Text) (values : List Text) (rows : List Row) → bytes_eq k k ≡ true → find_row k rows ≡ None
+    → find_row k (rows ++ row k values ∷ []) ≡ Some (row k values)
 find_new k values rows same none = find-append k rows (row k values) ∙ rw (none, same) refl
 
 no_test : (b : Bool) (x : Row) (o : Option Row) → cond b (Some x) o ≡ None → (b ≡ false) × (o ≡ None)
@@ -119,7 +121,8 @@ and_false false = refl
 
 -- ---- the rows after one more word
 
-handheld_holds : (given : Given) (v : Text) (rows : List Row) → Holds given rows → given.handheld ≡ None → Holds (record given { handheld = Some v }) (rows ++ row (codes "handheld") (v ∷ []) ∷ [])
+handheld_holds : (given : Given) (v : Text) (rows : List Row) → Holds given rows → given.handheld ≡ None
+    → Holds (record given { handheld = Some v }) (rows ++ row (codes "handheld") (v ∷ []) ∷ [])
 handheld_holds given v rows h e = record {
   handheld = find_new (codes "handheld") (v ∷ []) rows refl (h.handheld ∙ ap (row_for (codes "handheld")) e);
   desktop = find_other (codes "desktop") (codes "handheld") (v ∷ []) rows refl ∙ h.desktop;
@@ -131,7 +134,8 @@ handheld_holds given v rows h e = record {
   add_user = find_other (codes "add-user") (codes "handheld") (v ∷ []) rows refl ∙ h.add_user;
 }
 
-desktop_holds : (given : Given) (v : Text) (rows : List Row) → Holds given rows → given.desktop ≡ None → Holds (record given { desktop = Some v }) (rows ++ row (codes "desktop") (v ∷ []) ∷ [])
+desktop_holds : (given : Given) (v : Text) (rows : List Row) → Holds given rows → given.desktop ≡ None
+    → Holds (record given { desktop = Some v }) (rows ++ row (codes "desktop") (v ∷ []) ∷ [])
 desktop_holds given v rows h e = record {
   handheld = find_other (codes "handheld") (codes "desktop") (v ∷ []) rows refl ∙ h.handheld;
   desktop = find_new (codes "desktop") (v ∷ []) rows refl (h.desktop ∙ ap (row_for (codes "desktop")) e);
@@ -143,11 +147,13 @@ desktop_holds given v rows h e = record {
   add_user = find_other (codes "add-user") (codes "desktop") (v ∷ []) rows refl ∙ h.add_user;
 }
 
-date_holds : (given : Given) (seconds : ℕ) (v : Text) (rows : List Row) → Holds given rows → given.date ≡ None → v ≡ date_text seconds → Holds (record given { date = Some seconds }) (rows ++ row (codes "date") (v ∷ []) ∷ [])
+date_holds : (given : Given) (seconds : ℕ) (v : Text) (rows : List Row) → Holds given rows → given.date ≡ None → v ≡ date_text seconds
+    → Holds (record given { date = Some seconds }) (rows ++ row (codes "date") (v ∷ []) ∷ [])
 date_holds given seconds v rows h e text = record {
   handheld = find_other (codes "handheld") (codes "date") (v ∷ []) rows refl ∙ h.handheld;
   desktop = find_other (codes "desktop") (codes "date") (v ∷ []) rows refl ∙ h.desktop;
-  date = find_new (codes "date") (v ∷ []) rows refl (h.date ∙ ap (λ o. row_for (codes "date") (option_map date_text o)) e) ∙ ap (λ t. Some (row (codes "date") (t ∷ []))) text;
+  date = find_new (codes "date") (v ∷ []) rows refl (h.date ∙ ap (λ o. row_for (codes "date") (option_map date_text o)) e)
+      ∙ ap (λ t. Some (row (codes "date") (t ∷ []))) text;
   script = find_other (codes "script") (codes "date") (v ∷ []) rows refl ∙ h.script;
   trace = find_other (codes "trace") (codes "date") (v ∷ []) rows refl ∙ h.trace;
   actions = find_other (codes "actions") (codes "date") (v ∷ []) rows refl ∙ h.actions;
@@ -155,7 +161,8 @@ date_holds given seconds v rows h e text = record {
   add_user = find_other (codes "add-user") (codes "date") (v ∷ []) rows refl ∙ h.add_user;
 }
 
-script_holds : (given : Given) (v : Text) (rows : List Row) → Holds given rows → given.script ≡ None → Holds (record given { script = Some v }) (rows ++ row (codes "script") (v ∷ []) ∷ [])
+script_holds : (given : Given) (v : Text) (rows : List Row) → Holds given rows → given.script ≡ None
+    → Holds (record given { script = Some v }) (rows ++ row (codes "script") (v ∷ []) ∷ [])
 script_holds given v rows h e = record {
   handheld = find_other (codes "handheld") (codes "script") (v ∷ []) rows refl ∙ h.handheld;
   desktop = find_other (codes "desktop") (codes "script") (v ∷ []) rows refl ∙ h.desktop;
@@ -167,7 +174,8 @@ script_holds given v rows h e = record {
   add_user = find_other (codes "add-user") (codes "script") (v ∷ []) rows refl ∙ h.add_user;
 }
 
-trace_holds : (given : Given) (v : Text) (rows : List Row) → Holds given rows → given.trace ≡ None → Holds (record given { trace = Some v }) (rows ++ row (codes "trace") (v ∷ []) ∷ [])
+trace_holds : (given : Given) (v : Text) (rows : List Row) → Holds given rows → given.trace ≡ None
+    → Holds (record given { trace = Some v }) (rows ++ row (codes "trace") (v ∷ []) ∷ [])
 trace_holds given v rows h e = record {
   handheld = find_other (codes "handheld") (codes "trace") (v ∷ []) rows refl ∙ h.handheld;
   desktop = find_other (codes "desktop") (codes "trace") (v ∷ []) rows refl ∙ h.desktop;
@@ -179,7 +187,8 @@ trace_holds given v rows h e = record {
   add_user = find_other (codes "add-user") (codes "trace") (v ∷ []) rows refl ∙ h.add_user;
 }
 
-actions_holds : (given : Given) (v : Text) (rows : List Row) → Holds given rows → given.actions ≡ None → Holds (record given { actions = Some v }) (rows ++ row (codes "actions") (v ∷ []) ∷ [])
+actions_holds : (given : Given) (v : Text) (rows : List Row) → Holds given rows → given.actions ≡ None
+    → Holds (record given { actions = Some v }) (rows ++ row (codes "actions") (v ∷ []) ∷ [])
 actions_holds given v rows h e = record {
   handheld = find_other (codes "handheld") (codes "actions") (v ∷ []) rows refl ∙ h.handheld;
   desktop = find_other (codes "desktop") (codes "actions") (v ∷ []) rows refl ∙ h.desktop;
@@ -191,7 +200,8 @@ actions_holds given v rows h e = record {
   add_user = find_other (codes "add-user") (codes "actions") (v ∷ []) rows refl ∙ h.add_user;
 }
 
-slow_holds : (given : Given) (rows : List Row) → Holds given rows → given.slow ≡ false → Holds (record given { slow = true }) (rows ++ row (codes "slow") (codes "true" ∷ []) ∷ [])
+slow_holds : (given : Given) (rows : List Row) → Holds given rows → given.slow ≡ false
+    → Holds (record given { slow = true }) (rows ++ row (codes "slow") (codes "true" ∷ []) ∷ [])
 slow_holds given rows h e = record {
   handheld = find_other (codes "handheld") (codes "slow") (codes "true" ∷ []) rows refl ∙ h.handheld;
   desktop = find_other (codes "desktop") (codes "slow") (codes "true" ∷ []) rows refl ∙ h.desktop;
@@ -203,7 +213,8 @@ slow_holds given rows h e = record {
   add_user = find_other (codes "add-user") (codes "slow") (codes "true" ∷ []) rows refl ∙ h.add_user;
 }
 
-add_user_holds : (given : Given) (rows : List Row) → Holds given rows → given.add_user ≡ false → Holds (record given { add_user = true }) (rows ++ row (codes "add-user") (codes "true" ∷ []) ∷ [])
+add_user_holds : (given : Given) (rows : List Row) → Holds given rows → given.add_user ≡ false
+    → Holds (record given { add_user = true }) (rows ++ row (codes "add-user") (codes "true" ∷ []) ∷ [])
 add_user_holds given rows h e = record {
   handheld = find_other (codes "handheld") (codes "add-user") (codes "true" ∷ []) rows refl ∙ h.handheld;
   desktop = find_other (codes "desktop") (codes "add-user") (codes "true" ∷ []) rows refl ∙ h.desktop;
@@ -225,7 +236,8 @@ pub record Turns (word : Text) (more : Given) (place : ℕ) (h : Held) : Type 0 
   pub goes : walked rules [] (at place h) word ≡ at next_place next_held
   pub fits : Fits more next_place next_held
 
-pub script_turns : (given : Given) (v : Text) (place : ℕ) (h : Held) → Fits given place h → given.script ≡ None → Turns (codes "--script=" ++ v) (record given { script = Some v }) place h
+pub script_turns : (given : Given) (v : Text) (place : ℕ) (h : Held) → Fits given place h → given.script ≡ None
+    → Turns (codes "--script=" ++ v) (record given { script = Some v }) place h
 unfolding run_app walked
 script_turns given v place h f e =
     let none = no_row (codes "script") (settled rules h).rows (f.holds.script ∙ ap (row_for (codes "script")) e) in
@@ -236,10 +248,17 @@ script_turns given v place h f e =
       next_held = reacted rules (filled script_rule) (v ∷ []) h;
       passes = rw (settles, none) refl;
       goes = refl;
-      fits = record { settles = refl; holds = subst (Holds (record given { script = Some v })) (sym added) (script_holds given v _ f.holds e); position = f.position; order = f.order; dated = f.dated };
+      fits = record {
+        settles = refl;
+        holds = subst (Holds (record given { script = Some v })) (sym added) (script_holds given v _ f.holds e);
+        position = f.position;
+        order = f.order;
+        dated = f.dated;
+      };
     }
 
-pub trace_turns : (given : Given) (v : Text) (place : ℕ) (h : Held) → Fits given place h → given.trace ≡ None → Turns (codes "--trace=" ++ v) (record given { trace = Some v }) place h
+pub trace_turns : (given : Given) (v : Text) (place : ℕ) (h : Held) → Fits given place h → given.trace ≡ None
+    → Turns (codes "--trace=" ++ v) (record given { trace = Some v }) place h
 unfolding run_app walked
 trace_turns given v place h f e =
     let none = no_row (codes "trace") (settled rules h).rows (f.holds.trace ∙ ap (row_for (codes "trace")) e) in
@@ -250,10 +269,17 @@ trace_turns given v place h f e =
       next_held = reacted rules (filled trace_rule) (v ∷ []) h;
       passes = rw (settles, none) refl;
       goes = refl;
-      fits = record { settles = refl; holds = subst (Holds (record given { trace = Some v })) (sym added) (trace_holds given v _ f.holds e); position = f.position; order = f.order; dated = f.dated };
+      fits = record {
+        settles = refl;
+        holds = subst (Holds (record given { trace = Some v })) (sym added) (trace_holds given v _ f.holds e);
+        position = f.position;
+        order = f.order;
+        dated = f.dated;
+      };
     }
 
-pub actions_turns : (given : Given) (v : Text) (place : ℕ) (h : Held) → Fits given place h → given.actions ≡ None → Turns (codes "--actions=" ++ v) (record given { actions = Some v }) place h
+pub actions_turns : (given : Given) (v : Text) (place : ℕ) (h : Held) → Fits given place h → given.actions ≡ None
+    → Turns (codes "--actions=" ++ v) (record given { actions = Some v }) place h
 unfolding run_app walked
 actions_turns given v place h f e =
     let none = no_row (codes "actions") (settled rules h).rows (f.holds.actions ∙ ap (row_for (codes "actions")) e) in
@@ -264,10 +290,17 @@ actions_turns given v place h f e =
       next_held = reacted rules (filled actions_rule) (v ∷ []) h;
       passes = rw (settles, none) refl;
       goes = refl;
-      fits = record { settles = refl; holds = subst (Holds (record given { actions = Some v })) (sym added) (actions_holds given v _ f.holds e); position = f.position; order = f.order; dated = f.dated };
+      fits = record {
+        settles = refl;
+        holds = subst (Holds (record given { actions = Some v })) (sym added) (actions_holds given v _ f.holds e);
+        position = f.position;
+        order = f.order;
+        dated = f.dated;
+      };
     }
 
-pub date_turns : (given : Given) (seconds : ℕ) (v : Text) (place : ℕ) (h : Held) → Fits given place h → given.date ≡ None → v ≡ date_text seconds → read_text (date_text seconds) ≡ Some seconds → Turns (codes "--date=" ++ v) (record given { date = Some seconds }) place h
+pub date_turns : (given : Given) (seconds : ℕ) (v : Text) (place : ℕ) (h : Held) → Fits given place h → given.date ≡ None → v ≡ date_text seconds
+    → read_text (date_text seconds) ≡ Some seconds → Turns (codes "--date=" ++ v) (record given { date = Some seconds }) place h
 unfolding run_app walked
 date_turns given seconds v place h f e text reads =
     let none = no_row (codes "date") (settled rules h).rows (f.holds.date ∙ ap (λ o. row_for (codes "date") (option_map date_text o)) e) in
@@ -278,10 +311,17 @@ date_turns given seconds v place h f e text reads =
       next_held = reacted rules (filled date_rule) (v ∷ []) h;
       passes = rw (settles, none) refl;
       goes = refl;
-      fits = record { settles = refl; holds = subst (Holds (record given { date = Some seconds })) (sym added) (date_holds given seconds v _ f.holds e text); position = f.position; order = f.order; dated = λ s same. let is : seconds ≡ s = cc in subst (λ n. read_text (date_text n) ≡ Some n) is reads };
+      fits = record {
+        settles = refl;
+        holds = subst (Holds (record given { date = Some seconds })) (sym added) (date_holds given seconds v _ f.holds e text);
+        position = f.position;
+        order = f.order;
+        dated = λ s same. let is : seconds ≡ s = cc in subst (λ n. read_text (date_text n) ≡ Some n) is reads;
+      };
     }
 
-pub slow_turns : (given : Given) (place : ℕ) (h : Held) → Fits given place h → given.slow ≡ false → Turns (codes "--slow") (record given { slow = true }) place h
+pub slow_turns : (given : Given) (place : ℕ) (h : Held) → Fits given place h → given.slow ≡ false
+    → Turns (codes "--slow") (record given { slow = true }) place h
 unfolding run_app walked
 slow_turns given place h f e =
     let none = no_row (codes "slow") (settled rules h).rows (f.holds.slow ∙ ap (flag_row (codes "slow")) e) in
@@ -292,10 +332,17 @@ slow_turns given place h f e =
       next_held = reacted rules (filled slow_rule) [] h;
       passes = rw (settles, none) refl;
       goes = refl;
-      fits = record { settles = refl; holds = subst (Holds (record given { slow = true })) (sym added) (slow_holds given _ f.holds e); position = f.position; order = f.order; dated = f.dated };
+      fits = record {
+        settles = refl;
+        holds = subst (Holds (record given { slow = true })) (sym added) (slow_holds given _ f.holds e);
+        position = f.position;
+        order = f.order;
+        dated = f.dated;
+      };
     }
 
-pub add_user_turns : (given : Given) (place : ℕ) (h : Held) → Fits given place h → given.add_user ≡ false → Turns (codes "--add-user") (record given { add_user = true }) place h
+pub add_user_turns : (given : Given) (place : ℕ) (h : Held) → Fits given place h → given.add_user ≡ false
+    → Turns (codes "--add-user") (record given { add_user = true }) place h
 unfolding run_app walked
 add_user_turns given place h f e =
     let none = no_row (codes "add-user") (settled rules h).rows (f.holds.add_user ∙ ap (flag_row (codes "add-user")) e) in
@@ -306,10 +353,17 @@ add_user_turns given place h f e =
       next_held = reacted rules (filled add_user_rule) [] h;
       passes = rw (settles, none) refl;
       goes = refl;
-      fits = record { settles = refl; holds = subst (Holds (record given { add_user = true })) (sym added) (add_user_holds given _ f.holds e); position = f.position; order = f.order; dated = f.dated };
+      fits = record {
+        settles = refl;
+        holds = subst (Holds (record given { add_user = true })) (sym added) (add_user_holds given _ f.holds e);
+        position = f.position;
+        order = f.order;
+        dated = f.dated;
+      };
     }
 
-pub handheld_turns : (given : Given) (x : ℕ) (xs : Text) (place : ℕ) (h : Held) → Fits given place h → (x == 45) ≡ false → given.handheld ≡ None → Turns (x ∷ xs) (record given { handheld = Some (x ∷ xs) }) place h
+pub handheld_turns : (given : Given) (x : ℕ) (xs : Text) (place : ℕ) (h : Held) → Fits given place h → (x == 45) ≡ false → given.handheld ≡ None
+    → Turns (x ∷ xs) (record given { handheld = Some (x ∷ xs) }) place h
 unfolding run_app walked
 handheld_turns given x xs place h f apart e =
     let none = no_row (codes "handheld") (settled rules h).rows (f.holds.handheld ∙ ap (row_for (codes "handheld")) e) in
@@ -322,10 +376,17 @@ handheld_turns given x xs place h f apart e =
       next_held = pushed (codes "handheld") (x ∷ xs) (settled rules h);
       passes = rw (first, apart, apart, settles, and_false (is_pending handheld_in h.pending)) refl;
       goes = rw (first, apart, apart, and_false (is_pending handheld_in h.pending)) refl;
-      fits = record { settles = rw none refl; holds = subst (Holds (record given { handheld = Some (x ∷ xs) })) (sym added) (handheld_holds given (x ∷ xs) _ f.holds e); position = rw desktop refl; order = λ other. cc; dated = f.dated };
+      fits = record {
+        settles = rw none refl;
+        holds = subst (Holds (record given { handheld = Some (x ∷ xs) })) (sym added) (handheld_holds given (x ∷ xs) _ f.holds e);
+        position = rw desktop refl;
+        order = λ other. cc;
+        dated = f.dated;
+      };
     }
 
-pub desktop_turns : (given : Given) (first : Text) (x : ℕ) (xs : Text) (place : ℕ) (h : Held) → Fits given place h → (x == 45) ≡ false → given.handheld ≡ Some first → given.desktop ≡ None → Turns (x ∷ xs) (record given { desktop = Some (x ∷ xs) }) place h
+pub desktop_turns : (given : Given) (first : Text) (x : ℕ) (xs : Text) (place : ℕ) (h : Held) → Fits given place h → (x == 45) ≡ false
+    → given.handheld ≡ Some first → given.desktop ≡ None → Turns (x ∷ xs) (record given { desktop = Some (x ∷ xs) }) place h
 unfolding run_app walked
 desktop_turns given first x xs place h f apart other e =
     let none = no_row (codes "desktop") (settled rules h).rows (f.holds.desktop ∙ ap (row_for (codes "desktop")) e) in
@@ -337,5 +398,11 @@ desktop_turns given first x xs place h f apart other e =
       next_held = pushed (codes "desktop") (x ∷ xs) (settled rules h);
       passes = rw (second, apart, apart, settles, and_false (is_pending desktop_in h.pending)) refl;
       goes = rw (second, apart, apart, and_false (is_pending desktop_in h.pending)) refl;
-      fits = record { settles = rw none refl; holds = subst (Holds (record given { desktop = Some (x ∷ xs) })) (sym added) (desktop_holds given (x ∷ xs) _ f.holds e); position = rw other refl; order = λ absent. cc; dated = f.dated };
+      fits = record {
+        settles = rw none refl;
+        holds = subst (Holds (record given { desktop = Some (x ∷ xs) })) (sym added) (desktop_holds given (x ∷ xs) _ f.holds e);
+        position = rw other refl;
+        order = λ absent. cc;
+        dated = f.dated;
+      };
     }

@@ -38,7 +38,8 @@ empty_app name = let app = new_app name in record app { top = record app.top { d
 -- `run`, with its two folders and its options
 unfoldable pub run_app : App
 run_app =
-    with_rule (with_rule (with_rule (with_rule (with_rule (with_rule (with_rule (with_rule (empty_app (codes "run")) handheld_rule) desktop_rule) date_rule) script_rule) trace_rule) actions_rule) slow_rule) add_user_rule
+    with_rule (with_rule (with_rule (with_rule (with_rule (with_rule (with_rule (with_rule (empty_app (codes "run"))
+    handheld_rule) desktop_rule) date_rule) script_rule) trace_rule) actions_rule) slow_rule) add_user_rule
 
 -- `check` or `show`, with its file
 unfoldable pub file_app : App

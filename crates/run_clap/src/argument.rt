@@ -44,7 +44,8 @@ pub fn flag_arg<'a>(alloc: Global, id: &'a str) -> Arg<'a>
 // With one more argument.
 pub fn with_arg<'a>(command: Command<'a>, arg: Arg<'a>) -> Result<Command<'a>, AllocError>
     requires { arg.global ≡ false }
-    ensures { IfOk result (λ more. app_of more ≡ with_rule (app_of command.entry) (rule_of arg.entry)) }
+    ensures { IfOk result (λ more.
+        app_of more ≡ with_rule (app_of command.entry) (rule_of arg.entry)) }
 {
     let more = command.arg(arg)?;
     Ok(more)

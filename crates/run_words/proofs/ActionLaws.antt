@@ -28,7 +28,8 @@ first_plain byte (x ∷ y ∷ rest) e = rw e refl
 digit_number-hex_digit : (n : ℕ) → n < 16 → digit_number (hex_digit n) ≡ n
 digit_number-hex_digit n e = grind (arith, nat_tests, e)
 
-first_escape : (byte : ℕ) (rest : List ℕ) → byte < 256 → is_plain byte ≡ false → first_of (37 ∷ hex_digit (byte / 16) ∷ hex_digit (byte % 16) ∷ rest) ≡ Some (byte, rest)
+first_escape : (byte : ℕ) (rest : List ℕ) → byte < 256 → is_plain byte ≡ false
+    → first_of (37 ∷ hex_digit (byte / 16) ∷ hex_digit (byte % 16) ∷ rest) ≡ Some (byte, rest)
 first_escape byte rest small e =
     let high = digit_number-hex_digit (byte / 16) (omega arith) in
     let low = digit_number-hex_digit (byte % 16) (omega arith) in
@@ -93,7 +94,8 @@ escape_parts false b p n byte e = cc
 
 escaped-is : (high low byte : ℕ) → escaped high low ≡ Some byte → IsEscape high low byte
 escaped-is high low byte e =
-    let parts = escape_parts (nat_lt (digit_number high) 16) (nat_lt (digit_number low) 16) (is_plain (digit_number high * 16 + digit_number low)) (digit_number high * 16 + digit_number low) byte e in
+    let parts = escape_parts (nat_lt (digit_number high) 16) (nat_lt (digit_number low) 16) (is_plain (digit_number high * 16 + digit_number low))
+    (digit_number high * 16 + digit_number low) byte e in
     let a : digit_number high < 16 = grind (arith, nat_tests, parts.0) in
     let b : digit_number low < 16 = grind (arith, nat_tests, parts.1) in
     let sum = parts.3 in
@@ -142,7 +144,8 @@ three_read : (plain : Bool) (first second third : ℕ) (rest name : List ℕ) �
     (cond (first == 37) (option_and_then (λ byte. onto byte (bytes_of_stem rest)) (escaped second third)) None) ≡ Some name
     → ((more : List ℕ) → bytes_of_stem (second ∷ third ∷ rest) ≡ Some more → IsRead (second ∷ third ∷ rest) more)
     → ((more : List ℕ) → bytes_of_stem rest ≡ Some more → IsRead rest more) → IsRead (first ∷ second ∷ third ∷ rest) name
-three_read true first second third rest name p e next later = plain_read true first (second ∷ third ∷ rest) (bytes_of_stem (second ∷ third ∷ rest)) name p e next
+three_read true first second third rest name p e next later = plain_read true first (second ∷ third ∷ rest)
+    (bytes_of_stem (second ∷ third ∷ rest)) name p e next
 three_read false first second third rest name p e next later =
     let read = escape_read (first == 37) second third (escaped second third) rest (bytes_of_stem rest) name refl e later in
     let is : first ≡ 37 = grind (arith, nat_tests, read.0) in
@@ -154,11 +157,13 @@ bytes_of_stem-is [] name e =
     let is : name ≡ [] = cc in
     rw is (record { written = refl; bytes = tt })
 bytes_of_stem-is (first ∷ []) name e = plain_read (is_plain first) first [] (Some []) name refl e (λ more same. bytes_of_stem-is [] more same)
-bytes_of_stem-is (first ∷ second ∷ []) name e = plain_read (is_plain first) first (second ∷ []) (bytes_of_stem (second ∷ [])) name refl e (bytes_of_stem-is (second ∷ []))
+bytes_of_stem-is (first ∷ second ∷ []) name e = plain_read (is_plain first) first (second ∷ []) (bytes_of_stem (second ∷ [])) name refl e
+    (bytes_of_stem-is (second ∷ []))
 bytes_of_stem-is (first ∷ second ∷ third ∷ rest) name e =
     three_read (is_plain first) first second third rest name refl e (bytes_of_stem-is (second ∷ third ∷ rest)) (bytes_of_stem-is rest)
 
-free : (b : Bool) (bytes name : List ℕ) → is_none (name_fault bytes) ≡ b → cond b (Some bytes) None ≡ Some name → (Some bytes ≡ Some name) × (is_none (name_fault name) ≡ true)
+free : (b : Bool) (bytes name : List ℕ) → is_none (name_fault bytes) ≡ b → cond b (Some bytes) None ≡ Some name
+    → (Some bytes ≡ Some name) × (is_none (name_fault name) ≡ true)
 free true bytes name f e = (e, let same : bytes ≡ name = cc in rw same at f)
 free false bytes name f e = cc
 
@@ -171,12 +176,14 @@ fault_free (Some bytes) name e = free (is_none (name_fault bytes)) bytes name re
 no_bool : {P : Type 0} → ◌≡◌ {A = Bool} false true → P
 no_bool e = absurd (let no : ◌≡◌ {A = Bool} false true = e in cc)
 
-long_fault : (short : Bool) (bytes : List ℕ) (o : Option ℕ) → is_none (cond short (Some TooLong) (option_map (λ place. BadByte place) o)) ≡ true → (short ≡ false) × (o ≡ None)
+long_fault : (short : Bool) (bytes : List ℕ) (o : Option ℕ) → is_none (cond short (Some TooLong) (option_map (λ place. BadByte place) o)) ≡ true
+    → (short ≡ false) × (o ≡ None)
 long_fault true bytes o e = no_bool e
 long_fault false bytes None e = (refl, refl)
 long_fault false bytes (Some place) e = no_bool e
 
-name_fault-parts : (empty short : Bool) (bytes : List ℕ) (o : Option ℕ) → is_none (cond empty (Some Empty) (cond short (Some TooLong) (option_map (λ place. BadByte place) o))) ≡ true
+name_fault-parts : (empty short : Bool) (bytes : List ℕ) (o : Option ℕ)
+    → is_none (cond empty (Some Empty) (cond short (Some TooLong) (option_map (λ place. BadByte place) o))) ≡ true
     → (empty ≡ false) × (short ≡ false) × (o ≡ None)
 name_fault-parts true short bytes o e = no_bool e
 name_fault-parts false short bytes o e =
@@ -203,7 +210,8 @@ name_of-is stem name e =
 
 action_parts : (a b c d : Bool) (action : ActionWord)
     → cond a (Some Sync) (cond b (Some Handheld) (cond c (Some Desktop) (cond d (Some Nothing) None))) ≡ Some action
-    → (text : List ℕ) → (a ≡ true → text ≡ codes "sync") → (b ≡ true → text ≡ codes "handheld") → (c ≡ true → text ≡ codes "desktop") → (d ≡ true → text ≡ codes "nothing")
+    → (text : List ℕ) → (a ≡ true → text ≡ codes "sync") → (b ≡ true → text ≡ codes "handheld") → (c ≡ true → text ≡ codes "desktop")
+    → (d ≡ true → text ≡ codes "nothing")
     → text ≡ action_text action
 action_parts true b c d action e text ha hb hc hd = let is : Sync ≡ action = cc in ha refl ∙ ap action_text is
 action_parts false true c d action e text ha hb hc hd = let is : Handheld ≡ action = cc in hb refl ∙ ap action_text is
@@ -213,8 +221,10 @@ action_parts false false false false action e text ha hb hc hd = cc
 
 action_of_word-is : (word : List ℕ) (action : ActionWord) → action_of_word word ≡ Some action → word ≡ action_text action
 action_of_word-is word action e =
-    action_parts (bytes_eq word (codes "sync")) (bytes_eq word (codes "handheld")) (bytes_eq word (codes "desktop")) (bytes_eq word (codes "nothing")) action e word
-    (bytes_eq-Decides word (codes "sync")).0 (bytes_eq-Decides word (codes "handheld")).0 (bytes_eq-Decides word (codes "desktop")).0 (bytes_eq-Decides word (codes "nothing")).0
+    action_parts (bytes_eq word (codes "sync")) (bytes_eq word (codes "handheld")) (bytes_eq word (codes "desktop"))
+    (bytes_eq word (codes "nothing")) action e word
+    (bytes_eq-Decides word (codes "sync")).0 (bytes_eq-Decides word (codes "handheld")).0 (bytes_eq-Decides word (codes "desktop")).0
+    (bytes_eq-Decides word (codes "nothing")).0
 
 action_of_word-action_text : (action : ActionWord) → action_of_word (action_text action) ≡ Some action
 action_of_word-action_text Sync = refl
@@ -301,7 +311,8 @@ action_text-others Handheld = search rules
 action_text-others Desktop = search rules
 action_text-others Nothing = search rules
 
-no_commas : (stem text : List ℕ) → AllByRecursion IsOther stem → AllByRecursion (λ byte. is_comma byte ≡ false) text → AllByRecursion (λ byte. is_comma byte ≡ false) (stem ++ 58 ∷ text)
+no_commas : (stem text : List ℕ) → AllByRecursion IsOther stem → AllByRecursion (λ byte. is_comma byte ≡ false) text
+    → AllByRecursion (λ byte. is_comma byte ≡ false) (stem ++ 58 ∷ text)
 unfolding IsOther
 no_commas [] text h t = (refl, t)
 no_commas (x ∷ xs) text h t = (h.0.0, no_commas xs text h.1 t)
@@ -419,16 +430,19 @@ text_is_read text e =
 
 -- the text of actions is split into their items
 slice_split-actions_text : (first : NamedAction) (rest : List NamedAction) → slice_split is_comma (actions_text (first ∷ rest)) ≡ map item_text (first ∷ rest)
-slice_split-actions_text first [] = slice_split_none is_comma (item_text first) (All-from_recursion (λ byte. is_comma byte ≡ false) (item_text first) (item_text-no_commas first))
+slice_split-actions_text first [] = slice_split_none is_comma (item_text first) (All-from_recursion (λ byte. is_comma byte ≡ false) (item_text first)
+    (item_text-no_commas first))
 slice_split-actions_text first (next ∷ rest) =
-    slice_split_at is_comma (item_text first) 44 (actions_text (next ∷ rest)) (All-from_recursion (λ byte. is_comma byte ≡ false) (item_text first) (item_text-no_commas first)) refl
+    slice_split_at is_comma (item_text first) 44 (actions_text (next ∷ rest)) (All-from_recursion (λ byte. is_comma byte ≡ false) (item_text first)
+    (item_text-no_commas first)) refl
     ∙ ap (λ items. item_text first ∷ items) (slice_split-actions_text next rest)
 
 false_from : (b : Bool) → ¬ (b ≡ true) → b ≡ false
 false_from true h = absurd (h refl)
 false_from false h = refl
 
-has_stem-apart : (name : List ℕ) (actions : List NamedAction) → AllByRecursion (λ other. ¬ (other.name ≡ name)) actions → has_stem (stem_of name) (map item_text actions) ≡ false
+has_stem-apart : (name : List ℕ) (actions : List NamedAction) → AllByRecursion (λ other. ¬ (other.name ≡ name)) actions
+    → has_stem (stem_of name) (map item_text actions) ≡ false
 has_stem-apart name [] h = refl
 has_stem-apart name (x ∷ xs) h =
     let stem = stem_in-item_text x in
@@ -436,7 +450,8 @@ has_stem-apart name (x ∷ xs) h =
     false_from (bytes_eq (stem_of x.name) (stem_of name)) (λ e. h.0 (stem_of_injective x.name name ((bytes_eq-Decides (stem_of x.name) (stem_of name)).0 e))) in
     rw (stem, test) (has_stem-apart name xs h.1)
 
-items_pass : (actions : List NamedAction) → AllByRecursion (λ action. IsNameOfBytes action.name) actions → AreApart actions → are_items (map item_text actions) ≡ true
+items_pass : (actions : List NamedAction) → AllByRecursion (λ action. IsNameOfBytes action.name) actions → AreApart actions
+    → are_items (map item_text actions) ≡ true
 unfolding are_items
 items_pass [] names apart = refl
 items_pass (x ∷ xs) names apart =

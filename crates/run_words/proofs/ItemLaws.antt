@@ -14,7 +14,8 @@ unfolding are_items
 are_items-nil = refl
 
 -- what is left begins with an item
-next : {X : Type 0} (f : List (List ℕ) → X) (rest : Option (List ℕ)) (text item : List ℕ) (more : Option (List ℕ)) (whole : X) → f (items_of rest) ≡ whole → rest ≡ Some text
+next : {X : Type 0} (f : List (List ℕ) → X) (rest : Option (List ℕ)) (text item : List ℕ) (more : Option (List ℕ)) (whole : X)
+    → f (items_of rest) ≡ whole → rest ≡ Some text
     → items_of (Some text) ≡ item ∷ items_of more → f (item ∷ items_of more) ≡ whole
 next f rest text item more whole so_far is split = ap f (sym split) ∙ ap (λ o. f (items_of o)) (sym is) ∙ so_far
 
@@ -28,7 +29,8 @@ pub items_go_on : (rest : Option (List ℕ)) (text item : List ℕ) (more : Opti
 items_go_on rest text item more whole so_far is split good =
     sym (are_items-more item (items_of more) ∙ ap (λ b. b && are_items (items_of more)) good) ∙ next are_items rest text item more whole so_far is split
 
-pub item_is_read : (actions : List NamedAction) (rest : Option (List ℕ)) (text item : List ℕ) (more : Option (List ℕ)) (action : NamedAction) (whole : List NamedAction)
+pub item_is_read : (actions : List NamedAction) (rest : Option (List ℕ)) (text item : List ℕ) (more : Option (List ℕ)) (action : NamedAction)
+    (whole : List NamedAction)
     → actions ++ filter_map item_of (items_of rest) ≡ whole → rest ≡ Some text → items_of (Some text) ≡ item ∷ items_of more → Some action ≡ item_of item
     → (actions ++ action ∷ []) ++ filter_map item_of (items_of more) ≡ whole
 item_is_read actions rest text item more action whole so_far is split says =

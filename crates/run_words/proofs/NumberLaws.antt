@@ -30,5 +30,6 @@ pub parse-number : {E : Type 0} (word : List ℕ) (r : Result ℕ E) → ParsesU
 parse-number word r h e =
     let parts = number_parts (not (length word == 0)) (list_all is_ascii_digit word) _ e in
     let long : 0 < length word = grind (arith, nat_tests, parts.0) in
-    rw e (parsed ((0 < length word) × (digits_value 10 word < 2 ^ 64)) (nat_lt (digits_value 10 word) (2 ^ 64)) (digits_value 10 word) r (parse_digits own 64 word r h parts.1)
+    rw e (parsed ((0 < length word) × (digits_value 10 word < 2 ^ 64)) (nat_lt (digits_value 10 word) (2 ^ 64)) (digits_value 10 word) r
+    (parse_digits own 64 word r h parts.1)
     (λ t. (long, grind (arith, nat_tests, t))) (λ p. let small = p.1 in grind (arith, nat_tests, small)))

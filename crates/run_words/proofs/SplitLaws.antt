@@ -6,7 +6,8 @@ use Rattle.std.proofs.lemmas.List.Splits.{slice_split_first}
 use Rattle.run_words.specs.Actions.{is_comma}
 
 -- a text with a comma is what stands before the first one, and the items behind it
-pub slice_split-comma : (text first more : List ℕ) → first ≡ before_first is_comma text → more ≡ after_first is_comma text → position_or_len is_comma text < length text
+pub slice_split-comma : (text first more : List ℕ) → first ≡ before_first is_comma text → more ≡ after_first is_comma text
+    → position_or_len is_comma text < length text
     → slice_split is_comma text ≡ first ∷ slice_split is_comma more
 slice_split-comma text first more before after within = rw (before, after) (slice_split_first is_comma text 0 within)
 

@@ -53,20 +53,25 @@ step : (rest : List ℕ) (o : Option (ℕ × List ℕ)) → (length rest == 0) �
 step [] o some e = cc
 step (x ∷ xs) o some e = bytes_of_stem-first x xs ∙ ap from_first (sym e)
 
-pub stem_ends : (stem rest bytes : List ℕ) → behind bytes (bytes_of_stem rest) ≡ bytes_of_stem stem → (length rest == 0) ≡ false → None ≡ first_of rest → None ≡ name_of stem
+pub stem_ends : (stem rest bytes : List ℕ) → behind bytes (bytes_of_stem rest) ≡ bytes_of_stem stem → (length rest == 0) ≡ false
+    → None ≡ first_of rest → None ≡ name_of stem
 stem_ends stem rest bytes so_far some e = ap (λ o. option_and_then as_name (behind bytes o)) (sym (step rest None some e)) ∙ ap (option_and_then as_name) so_far
 
-pub stem_goes_on : (stem rest bytes : List ℕ) (byte : ℕ) (more : List ℕ) → behind bytes (bytes_of_stem rest) ≡ bytes_of_stem stem → (length rest == 0) ≡ false → Some (byte, more) ≡ first_of rest
+pub stem_goes_on : (stem rest bytes : List ℕ) (byte : ℕ) (more : List ℕ) → behind bytes (bytes_of_stem rest) ≡ bytes_of_stem stem
+    → (length rest == 0) ≡ false → Some (byte, more) ≡ first_of rest
     → behind (bytes ++ byte ∷ []) (bytes_of_stem more) ≡ bytes_of_stem stem
 stem_goes_on stem rest bytes byte more so_far some e =
     sym (behind-onto bytes byte (bytes_of_stem more)) ∙ ap (behind bytes) (sym (step rest (Some (byte, more)) some e)) ∙ so_far
 
-pub stem_is_long : (stem rest bytes : List ℕ) (byte : ℕ) (more : List ℕ) → behind bytes (bytes_of_stem rest) ≡ bytes_of_stem stem → (length rest == 0) ≡ false → Some (byte, more) ≡ first_of rest
+pub stem_is_long : (stem rest bytes : List ℕ) (byte : ℕ) (more : List ℕ) → behind bytes (bytes_of_stem rest) ≡ bytes_of_stem stem
+    → (length rest == 0) ≡ false → Some (byte, more) ≡ first_of rest
     → length bytes ≡ 31 → None ≡ name_of stem
 stem_is_long stem rest bytes byte more so_far some e full =
-    sym (too_long bytes byte (bytes_of_stem more) full) ∙ ap (λ o. option_and_then as_name (behind bytes o)) (sym (step rest (Some (byte, more)) some e)) ∙ ap (option_and_then as_name) so_far
+    sym (too_long bytes byte (bytes_of_stem more) full)
+    ∙ ap (λ o. option_and_then as_name (behind bytes o)) (sym (step rest (Some (byte, more)) some e)) ∙ ap (option_and_then as_name) so_far
 
-pub stem_is_read : (stem rest bytes : List ℕ) → behind bytes (bytes_of_stem rest) ≡ bytes_of_stem stem → (length rest == 0) ≡ true → as_name bytes ≡ name_of stem
+pub stem_is_read : (stem rest bytes : List ℕ) → behind bytes (bytes_of_stem rest) ≡ bytes_of_stem stem → (length rest == 0) ≡ true
+    → as_name bytes ≡ name_of stem
 unfolding bytes_of_stem
 stem_is_read stem [] bytes so_far none = ap as_name (sym (append-nil bytes)) ∙ ap (option_and_then as_name) so_far
 stem_is_read stem (x ∷ xs) bytes so_far none =

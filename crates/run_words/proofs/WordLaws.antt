@@ -24,7 +24,8 @@ after-none (x ∷ xs) (y ∷ ys) h = elim (cases_eq x y) [
   | inr apart ↦ let test : (x == y) ≡ false = grind (arith, nat_tests) in rw test refl
 ]
 
-pub value_after-is : (name word : List ℕ) (r : Option (Bor (List ℕ))) → MatchOption r (FindsTextPrefix name word None) (λ x. StripsPrefix (FindsTextPrefix name) word x.now) → option_copied r ≡ after name word
+pub value_after-is : (name word : List ℕ) (r : Option (Bor (List ℕ)))
+    → MatchOption r (FindsTextPrefix name word None) (λ x. StripsPrefix (FindsTextPrefix name) word x.now) → option_copied r ≡ after name word
 value_after-is name word None h = sym (after-none name word h)
 value_after-is name word (Some x) h =
     let split : word ≡ name ++ drop h.0 word = h.1.1 in
@@ -34,13 +35,15 @@ with_words-nil : (given : Given) → with_words given [] ≡ Some given
 unfolding with_words
 with_words-nil given = refl
 
-with_words-more : (given : Given) (word : List ℕ) (rest : List (List ℕ)) → with_words given (word ∷ rest) ≡ option_and_then (λ more. with_words more rest) (with_word given (kind_of word))
+with_words-more : (given : Given) (word : List ℕ) (rest : List (List ℕ))
+    → with_words given (word ∷ rest) ≡ option_and_then (λ more. with_words more rest) (with_word given (kind_of word))
 unfolding with_words
 with_words-more given word rest = refl
 
 -- one more word of the list
 pub with_words_step : (given : Given) (words : List (String Global)) (i : ℕ) (word : String Global) → i < length words → word ≡ get_or words i word
-    → with_words given (drop i (map string_bytes words)) ≡ option_and_then (λ more. with_words more (drop (i + 1) (map string_bytes words))) (with_word given (kind_of (string_bytes word)))
+    → with_words given (drop i (map string_bytes words)) ≡ option_and_then (λ more. with_words more (drop (i + 1) (map string_bytes words)))
+    (with_word given (kind_of (string_bytes word)))
 with_words_step given [] i word lt at = absurd (omega arith)
 with_words_step given (x ∷ xs) zero word lt at = rw at (with_words-more given (string_bytes x) (map string_bytes xs))
 with_words_step given (x ∷ xs) (suc i) word lt at =

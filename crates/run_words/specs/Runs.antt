@@ -68,7 +68,16 @@ pub record Run : Type 0 where
 
 abbrev pub whole_of : Given → Option (List ℕ) → Option (List ℕ) → Option ℕ → Option Run
 whole_of given (Some handheld) (Some desktop) (Some date) =
-    Some (record { handheld = handheld; desktop = desktop; date = date; script = given.script; trace = given.trace; actions = given.actions; slow = given.slow; add_user = given.add_user })
+    Some (record {
+      handheld = handheld;
+      desktop = desktop;
+      date = date;
+      script = given.script;
+      trace = given.trace;
+      actions = given.actions;
+      slow = given.slow;
+      add_user = given.add_user;
+    })
 whole_of given _ _ _ = None
 
 -- the run that is given, where nothing is missing

@@ -43,7 +43,8 @@ fn escaped(high: u8, low: u8) -> Option<u8>
 
 // The first byte that a stem stands for, and the rest of the stem.
 fn first_byte(stem: &[u8]) -> Option<(u8, &[u8])>
-    ensures value { option_map (λ first. (first.0, first.1.now)) result ≡ spec.first_of stem.entry.now }
+    ensures value { option_map (λ first. (first.0, first.1.now)) result
+        ≡ spec.first_of stem.entry.now }
     ensures shorter { IfSome result (λ first. length first.1.now < length stem.entry.now) }
 {
     match stem {

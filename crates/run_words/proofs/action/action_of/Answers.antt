@@ -7,10 +7,12 @@ use Rattle.run_words.proofs.action.action_of.Goals as goal
 
 pub returns-in-Some : goal.returns-in-Some
 returns-in-Some c =
-    let found = find_from_yields_List (is_of c.args.name.now) _ _ c.find.result c.find.ensures.ran (YieldsList-from_slice c.args.actions.now cc) (λ x b q k. search (rules, tests)) in
+    let found = find_from_yields_List (is_of c.args.name.now) _ _ c.find.result c.find.ensures.ran (YieldsList-from_slice c.args.actions.now cc)
+    (λ x b q k. search (rules, tests)) in
     ap action_or_sync (ap (option_map (λ x. x.now)) (sym c.in-Some.is) ∙ found)
 
 pub returns-in-None : goal.returns-in-None
 returns-in-None c =
-    let found = find_from_yields_List (is_of c.args.name.now) _ _ c.find.result c.find.ensures.ran (YieldsList-from_slice c.args.actions.now cc) (λ x b q k. search (rules, tests)) in
+    let found = find_from_yields_List (is_of c.args.name.now) _ _ c.find.result c.find.ensures.ran (YieldsList-from_slice c.args.actions.now cc)
+    (λ x b q k. search (rules, tests)) in
     ap action_or_sync (ap (option_map (λ x. x.now)) (sym c.in-None.is) ∙ found)
