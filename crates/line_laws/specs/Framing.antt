@@ -1,9 +1,9 @@
 -- The frames of a running line as a trace: each came exactly where it arrives and stands at or before its end's cursor.
-use Rattle.std.specs.Prelude.{◌≡◌, ℕ, ◌+◌, false, ◌&&◌, nat_le, List, [], ◌∷◌}
+use Rattle.std.specs.Prelude.{◌≡◌, ℕ, zero, suc, ◌+◌, false, ◌&&◌, nat_le, List, [], ◌∷◌}
 use Rattle.std.specs.List.{AllByRecursion}
-use Rattle.trace_text.specs.Fates.{FateValue, arrives}
+use Rattle.trace_text.specs.Fates.{FateValue, arrives, ends_run}
 use Rattle.trace_text.specs.Frames.{BearsFragment, fragment_in, is_abort, past_of}
-use Rattle.trace_text.specs.Past.{Sent}
+use Rattle.trace_text.specs.Past.{Sent, is_end}
 use Rattle.trace_text.specs.Proper.{AreNumbered}
 use Rattle.trace_text.specs.TraceLines.{FrameValue}
 use Rattle.trace_text.specs.declared.frame.End.{End}
@@ -23,3 +23,19 @@ pub record Framed (script : ℕ → FateValue) (cursor : End → ℕ) (frames : 
   pub whole : AllByRecursion IsNoAbort frames
   pub came : CameByCursor 1 cursor frames
   pub past_is : past_of frames ≡ past
+
+-- the run goes on behind a frame
+abbrev pub RunsOn : FrameValue → Type 0
+RunsOn frame = ends_run frame.fate frame.bytes ≡ false
+
+-- the frame at this place, counted from 0, is one of X, and is marked as come where it arrives
+abbrev pub PassesFrame : End → ℕ → List FrameValue → List FrameValue → Type 0
+PassesFrame X place [] after = ⊥
+PassesFrame X zero (frame ∷ frames) after = (frame.from ≡ X) × (after ≡ record frame { came = arrives frame.fate } ∷ frames)
+PassesFrame X (suc place) (frame ∷ frames) after = (rest : List FrameValue) × (after ≡ frame ∷ rest) × PassesFrame X place frames rest
+
+-- it is one of the other end
+abbrev pub PassesOther : End → ℕ → List FrameValue → Type 0
+PassesOther X place [] = ⊥
+PassesOther X zero (frame ∷ frames) = is_end X frame.from ≡ false
+PassesOther X (suc place) (frame ∷ frames) = PassesOther X place frames
