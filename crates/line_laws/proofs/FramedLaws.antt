@@ -13,11 +13,11 @@ use Rattle.line_laws.proofs.CameLaws.{same_end}
 
 -- ---- a frame is sent
 
-all-push : (P : FrameValue → Type 0) (frames : List FrameValue) (frame : FrameValue) → AllByRecursion P frames → P frame → AllByRecursion P (frames ++ frame ∷ [])
+pub all-push : (P : FrameValue → Type 0) (frames : List FrameValue) (frame : FrameValue) → AllByRecursion P frames → P frame → AllByRecursion P (frames ++ frame ∷ [])
 all-push P [] frame all is = (is, tt)
 all-push P (first ∷ later) frame all is = (all.0, all-push P later frame all.1 is)
 
-numbered-push : (number : ℕ) (script : ℕ → FateValue) (frames : List FrameValue) (frame : FrameValue) → AllByRecursion RunsOn frames → AreNumbered number script frames → frame.number ≡ number + length frames → frame.fate ≡ script frame.number → AreNumbered number script (frames ++ frame ∷ [])
+pub numbered-push : (number : ℕ) (script : ℕ → FateValue) (frames : List FrameValue) (frame : FrameValue) → AllByRecursion RunsOn frames → AreNumbered number script frames → frame.number ≡ number + length frames → frame.fate ≡ script frame.number → AreNumbered number script (frames ++ frame ∷ [])
 numbered-push number script [] frame runs was is given = let same : frame.number ≡ number = omega (arith, is) in (same, given ∙ ap script same, λ e. refl, tt)
 numbered-push number script (first ∷ later) frame runs was is given =
     (was.0, was.1, λ e. absurd (both_ways _ runs.0 e), numbered-push (number + 1) script later frame runs.1 was.3 (omega (arith, is)) given)
@@ -26,11 +26,11 @@ none_yet : (a b : Bool) → b ≡ false → false ≡ (a && b)
 none_yet false b e = refl
 none_yet true b e = sym e
 
-came-push-one : (number : ℕ) (cursor : End → ℕ) (frames : List FrameValue) (frame : FrameValue) → CameByCursor number cursor frames → frame.came ≡ false → cursor frame.from < number + length frames → CameByCursor number cursor (frames ++ frame ∷ [])
+pub came-push-one : (number : ℕ) (cursor : End → ℕ) (frames : List FrameValue) (frame : FrameValue) → CameByCursor number cursor frames → frame.came ≡ false → cursor frame.from < number + length frames → CameByCursor number cursor (frames ++ frame ∷ [])
 came-push-one number cursor [] frame was away above = (away ∙ none_yet (arrives frame.fate) (leb number (cursor frame.from)) (lt-leb _ _ (omega (arith, above))), tt)
 came-push-one number cursor (first ∷ later) frame was away above = (was.0, came-push-one (number + 1) cursor later frame was.1 away (omega (arith, above)))
 
-past-push : (past : List Sent) (frames : List FrameValue) (frame : FrameValue) → past_behind past (frames ++ frame ∷ []) ≡ add_frame frame (past_behind past frames)
+pub past-push : (past : List Sent) (frames : List FrameValue) (frame : FrameValue) → past_behind past (frames ++ frame ∷ []) ≡ add_frame frame (past_behind past frames)
 past-push past [] frame = refl
 past-push past (first ∷ later) frame = past-push (add_frame first past) later frame
 

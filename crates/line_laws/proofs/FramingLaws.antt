@@ -26,7 +26,7 @@ use Rattle.line_laws.proofs.CameLaws.{Grows, begins-grow, acks-grow, data_that_c
 abbrev pub IsByCursor : (End → ℕ) → (ℕ → Bool) → List Sent → Type 0
 IsByCursor cursor came past = (n : ℕ) (frame : Sent) (older : List Sent) → n ≤ length past → at n past ≡ frame ∷ older → came n ≡ (comes frame.course && leb n (cursor frame.from))
 
-grows-by : (cursor : End → ℕ) (came : ℕ → Bool) (past : List Sent) → IsByCursor cursor came past → Grows (came_by cursor past) came past
+pub grows-by : (cursor : End → ℕ) (came : ℕ → Bool) (past : List Sent) → IsByCursor cursor came past → Grows (came_by cursor past) came past
 grows-by cursor came past is n inside taken = go (at n past) refl taken
   where
     go : (list : List Sent) → at n past ≡ list → is_taken cursor n list ≡ true → came n ≡ true
@@ -53,7 +53,7 @@ comes-arrives (Noise bytes) = refl
 comes-arrives Unplug = refl
 comes-arrives Abort = refl
 
-longer-behind : (past : List Sent) (frames : List FrameValue) → AllByRecursion IsNoAbort frames → length (past_behind past frames) ≡ length past + length frames
+pub longer-behind : (past : List Sent) (frames : List FrameValue) → AllByRecursion IsNoAbort frames → length (past_behind past frames) ≡ length past + length frames
 longer-behind past [] whole = omega arith
 longer-behind past (frame ∷ later) whole =
     ap (λ (p : List Sent). length (past_behind p later)) (cond-false _ _ _ whole.0) ∙ omega (arith, longer-behind (sent_in frame ∷ past) later whole.1)
@@ -84,7 +84,7 @@ came-at cursor past (first ∷ later) number whole came next n frame older from 
           ∙ (came.0 ∙ (ap (λ (k : ℕ). arrives first.fate && leb k (cursor first.from)) same ∙ (ap (λ (b : Bool). b && leb n (cursor first.from)) (comes-arrives first.fate) ∙ ap (λ (s : Sent). comes s.course && leb n (cursor s.from)) is)))
     ]
 
-came_in-is : (cursor : End → ℕ) (frames : List FrameValue) → AllByRecursion IsNoAbort frames → CameByCursor 1 cursor frames → IsByCursor cursor (came_in frames) (past_of frames)
+pub came_in-is : (cursor : End → ℕ) (frames : List FrameValue) → AllByRecursion IsNoAbort frames → CameByCursor 1 cursor frames → IsByCursor cursor (came_in frames) (past_of frames)
 came_in-is cursor frames whole came n frame older inside here = elim (cases_lt 0 n) [
   | inl some ↦ came-at cursor [] frames 1 whole came (omega arith) n frame older (omega (arith, some)) inside here
   | inr none ↦ absurd (let zero_is : n ≡ 0 = omega (arith, none) in
@@ -105,7 +105,7 @@ stay-away X cursor number (frame ∷ later) came above = (
   out true false none = refl
   out true true none = absurd (none refl)
 
-come-in-order : (cursor : End → ℕ) (number : ℕ) (frames : List FrameValue) → CameByCursor number cursor frames → ComeInOrder frames
+pub come-in-order : (cursor : End → ℕ) (number : ℕ) (frames : List FrameValue) → CameByCursor number cursor frames → ComeInOrder frames
 come-in-order cursor number [] came = tt
 come-in-order cursor number (frame ∷ later) came = (
   λ is. (and_parts (arrives frame.fate) _ (sym came.0 ∙ is)).0,
