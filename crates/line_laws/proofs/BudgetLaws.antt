@@ -53,7 +53,8 @@ pub count_above : (p : Sent → Bool) (past : List Sent) (m : ℕ) → m < newes
 count_above p past m below = omega (arith, count_newest p past (omega (arith, below)), count_grows p m (newest p past - 1) past (omega (arith, below)) (omega (arith, newest_inside p past)))
 
 -- each new fragment is a data frame
-pub said_data-drop : (X : End) (k : ℕ) (past : List Sent) → count (is_data_of X) (drop k past) + length (said X past) ≤ count (is_data_of X) past + length (said X (drop k past))
+pub said_data-drop : (X : End) (k : ℕ) (past : List Sent)
+    → count (is_data_of X) (drop k past) + length (said X past) ≤ count (is_data_of X) past + length (said X (drop k past))
 said_data-drop X zero past = omega arith
 said_data-drop X (suc k) [] = omega arith
 said_data-drop X (suc k) (frame ∷ past) = let below = said_data-drop X k past in elim (cases_Bool (is_data_of X frame)) [
@@ -65,7 +66,8 @@ said_data-drop X (suc k) (frame ∷ past) = let below = said_data-drop X k past 
 ]
 
 -- data that comes is data
-pub comes_data-drop : (X : End) (k : ℕ) (past : List Sent) → count (data_comes X) past + count (is_data_of X) (drop k past) ≤ count (is_data_of X) past + count (data_comes X) (drop k past)
+pub comes_data-drop : (X : End) (k : ℕ) (past : List Sent)
+    → count (data_comes X) past + count (is_data_of X) (drop k past) ≤ count (is_data_of X) past + count (data_comes X) (drop k past)
 comes_data-drop X zero past = omega arith
 comes_data-drop X (suc k) [] = omega arith
 comes_data-drop X (suc k) (frame ∷ past) = let below = comes_data-drop X k past in elim (cases_Bool (is_data_of X frame)) [
@@ -78,7 +80,8 @@ comes_data-drop X (suc k) (frame ∷ past) = let below = comes_data-drop X k pas
 
 -- ---- at most four data frames of an end are on the line, two of them above the last tick
 
-pub above_tick : (X Y : End) (past : List Sent) (fresh : Bool) (cx released m : ℕ) → Counts X Y past fresh cx → Queued X past cx released → cx ≤ m → released ≤ m → m ≤ length past → count (data_comes X) past ≤ count (data_comes X) (at m past) + 2
+pub above_tick : (X Y : End) (past : List Sent) (fresh : Bool) (cx released m : ℕ) → Counts X Y past fresh cx → Queued X past cx released → cx ≤ m
+    → released ≤ m → m ≤ length past → count (data_comes X) past ≤ count (data_comes X) (at m past) + 2
 above_tick X Y past fresh cx released m counts queued from above inside =
     let follows = follows-length _ _ fresh counts.follows in
     let fits = counts.fits m from inside in
@@ -90,7 +93,8 @@ above_tick X Y past fresh cx released m counts queued from above inside =
       at_most true = omega arith
       at_most false = omega arith
 
-pub four : (X Y : End) (past : List Sent) (fresh : Bool) (cx released : ℕ) → Counts X Y past fresh cx → Queued X past cx released → released ≤ length past → data_pending X past cx ≤ 4
+pub four : (X Y : End) (past : List Sent) (fresh : Bool) (cx released : ℕ) → Counts X Y past fresh cx → Queued X past cx released
+    → released ≤ length past → data_pending X past cx ≤ 4
 four X Y past fresh cx released counts queued inside = elim (cases_lt cx released) [
   | inl before ↦ omega (arith, above_tick X Y past fresh cx released released counts queued (omega (arith, before)) (omega arith) inside, queued.old)
   | inr behind ↦ omega (arith, above_tick X Y past fresh cx released cx counts queued (omega arith) behind counts.cur_in)
@@ -99,7 +103,8 @@ four X Y past fresh cx released counts queued inside = elim (cases_lt cx release
 -- ---- the tick
 
 -- at any frame from the cursor on, all but two of the fragments and acknowledgements are known
-few_unknown : (X Y : End) (past : List Sent) (fresh : Bool) (cx n : ℕ) → Counts X Y past fresh cx → cx ≤ n → n ≤ length past → length (said X past) + length (said Y past) ≤ length (said X (at n past)) + length (acked X (at n past)) + 2
+few_unknown : (X Y : End) (past : List Sent) (fresh : Bool) (cx n : ℕ) → Counts X Y past fresh cx → cx ≤ n → n ≤ length past
+    → length (said X past) + length (said Y past) ≤ length (said X (at n past)) + length (acked X (at n past)) + 2
 few_unknown X Y past fresh cx n counts from inside =
     let fits = counts.fits n from inside in
     let follows = follows-length _ _ fresh counts.follows in
@@ -110,7 +115,8 @@ few_unknown X Y past fresh cx n counts from inside =
       at_most false = omega arith
 
 -- where X is held, the load is near the newest fault
-held_load : (X Y : End) (past : List Sent) (fresh : Bool) (cx cy released : ℕ) → Counts X Y past fresh cx → HeldBudget 10 X Y past cx cy released → IsHeld X past cx released → load X Y past cx cy ≤ newest faulted past + 14
+held_load : (X Y : End) (past : List Sent) (fresh : Bool) (cx cy released : ℕ) → Counts X Y past fresh cx → HeldBudget 10 X Y past cx cy released
+    → IsHeld X past cx released → load X Y past cx cy ≤ newest faulted past + 14
 held_load X Y past fresh cx cy released counts budget held =
     let b = budget (cx + 1) held.frame held.older (omega arith) held.above (omega (arith, held.inside)) held.here held.late in
     let few = few_unknown X Y past fresh cx (cx + 1) counts (omega arith) (omega (arith, held.inside)) in
@@ -126,7 +132,8 @@ pub record AfterTick (X Y : End) (past : List Sent) (cx cy faults : ℕ) : Type 
   pub bound : load X Y past cx cy + 4 + 2 * length (acked X past) ≤ f + 14 + 4 * faults + 2 * length (said Y past)
 
 -- the first try
-pub tick_first : (X Y : End) (past : List Sent) (fx fy : Bool) (cx cy released : ℕ) → Counts X Y past fx cx → Counts Y X past fy cy → Progress X Y past cx cy released → Blocked X past cx released → Blocked Y past cy released
+pub tick_first : (X Y : End) (past : List Sent) (fx fy : Bool) (cx cy released : ℕ) → Counts X Y past fx cx → Counts Y X past fy cy
+    → Progress X Y past cx cy released → Blocked X past cx released → Blocked Y past cy released
     → HeldBudget 10 X Y past cx cy released → HeldBudget 10 Y X past cy cx released → FirstTry X Y past cx cy → AfterTick X Y past cx cy 1
 tick_first X Y past fx fy cx cy released there back progress bx by held_x held_y try =
     let fault = fault_at_tick X Y past cx cy released progress bx by in
@@ -150,7 +157,8 @@ tick_first X Y past fx fy cx cy released there back progress bx by held_x held_y
       near_y pends (inr held) = omega (arith, held_load Y X past fy cy cx released back held_y held)
 
 -- a later try
-pub tick_later : (X Y : End) (past : List Sent) (cx cy released faults : ℕ) → Progress X Y past cx cy released → Blocked X past cx released → Blocked Y past cy released → HeldUp 0 X Y past cx cy released faults → AfterTick X Y past cx cy (faults + 1)
+pub tick_later : (X Y : End) (past : List Sent) (cx cy released faults : ℕ) → Progress X Y past cx cy released → Blocked X past cx released
+    → Blocked Y past cy released → HeldUp 0 X Y past cx cy released faults → AfterTick X Y past cx cy (faults + 1)
 tick_later X Y past cx cy released faults progress bx by was =
     let fault = fault_at_tick X Y past cx cy released progress bx by in
     record {
@@ -162,7 +170,8 @@ tick_later X Y past cx cy released faults progress bx by was =
     }
 
 -- where the tenth timer is to run, ten faults stand among the last 53 frames
-pub ten_faults : (X Y : End) (past : List Sent) (fy : Bool) (cx cy released : ℕ) → Counts Y X past fy cy → Progress X Y past cx cy released → Blocked X past cx released → Blocked Y past cy released → HeldUp 0 X Y past cx cy released 9
+pub ten_faults : (X Y : End) (past : List Sent) (fy : Bool) (cx cy released : ℕ) → Counts Y X past fy cy → Progress X Y past cx cy released
+    → Blocked X past cx released → Blocked Y past cy released → HeldUp 0 X Y past cx cy released 9
     → (f : ℕ) × (0 < f) × (length past < f + 53) × (10 + count faulted (at (f - 1) past) ≤ count faulted past)
 ten_faults X Y past fy cx cy released back progress bx by was =
     let after = tick_later X Y past cx cy released 9 progress bx by was in

@@ -18,7 +18,8 @@ Grows came later past = (n : ℕ) → n ≤ length past → came n ≡ true → 
 pub came-push : (cursor : End → ℕ) (frame : Sent) (past : List Sent) → Grows (came_by cursor past) (came_by cursor (frame ∷ past)) past
 came-push cursor frame past n inside came = ap (is_taken cursor n) (at_push n frame past inside) ∙ came
 
-taken-moves : (cursor later : End → ℕ) → ((Z : End) → cursor Z ≤ later Z) → (n : ℕ) (past : List Sent) → is_taken cursor n past ≡ true → is_taken later n past ≡ true
+taken-moves : (cursor later : End → ℕ) → ((Z : End) → cursor Z ≤ later Z) → (n : ℕ) (past : List Sent) → is_taken cursor n past ≡ true
+    → is_taken later n past ≡ true
 taken-moves cursor later more n [] is = is
 taken-moves cursor later more n (frame ∷ older) is =
     let parts = and_parts (comes frame.course) _ is in
@@ -33,17 +34,20 @@ unfoldable pub reaches-grows : (came later : ℕ → Bool) (n : ℕ) (past : Lis
 reaches-grows came later n past more was =
     record { frame = was.frame; older = was.older; inside = was.inside; here = was.here; comes = more n was.inside was.comes; free = was.free }
 
-pub known-grows : (X Y : End) (talk : Talk) (came later : ℕ → Bool) (past : List Sent) → Grows came later past → IsKnown X Y talk came past → IsKnown X Y talk later past
+pub known-grows : (X Y : End) (talk : Talk) (came later : ℕ → Bool) (past : List Sent) → Grows came later past → IsKnown X Y talk came past
+    → IsKnown X Y talk later past
 unfolding reaches-grows
 known-grows X Y talk came later past more was = record { n = was.n; reaches = reaches-grows came later was.n past more was.reaches; cause = was.cause }
 
-pub answers-grow : (turn : _) (talk : Talk) (came later : ℕ → Bool) (past : List Sent) → Grows came later past → IfAnswers turn talk came past → IfAnswers turn talk later past
+pub answers-grow : (turn : _) (talk : Talk) (came later : ℕ → Bool) (past : List Sent) → Grows came later past → IfAnswers turn talk came past
+    → IfAnswers turn talk later past
 unfolding reaches-grows
 answers-grow None talk came later past more was = tt
 answers-grow (Some turn) talk came later past more was =
     record { n = was.n; reaches = reaches-grows came later was.n past more was.reaches; there = was.there; bears = was.bears }
 
-pub begins-grow : (X Y : End) (talk : Talk) (came later : ℕ → Bool) (past : List Sent) → Grows came later past → BeginInTurn X Y talk came past → BeginInTurn X Y talk later past
+pub begins-grow : (X Y : End) (talk : Talk) (came later : ℕ → Bool) (past : List Sent) → Grows came later past → BeginInTurn X Y talk came past
+    → BeginInTurn X Y talk later past
 begins-grow X Y talk came later [] more was = tt
 begins-grow X Y talk came later (frame ∷ past) more was =
     let inside : Grows came later past = λ n le is. more n (omega arith) is in (
@@ -54,7 +58,8 @@ begins-grow X Y talk came later (frame ∷ past) more was =
       begins-grow X Y talk came later past inside was.1,
     )
 
-pub acks-grow : (Y : End) (came later : ℕ → Bool) (past : List Sent) (answered : List Numbered) → Grows came later past → AcksAreFor Y came past answered → AcksAreFor Y later past answered
+pub acks-grow : (Y : End) (came later : ℕ → Bool) (past : List Sent) (answered : List Numbered) → Grows came later past
+    → AcksAreFor Y came past answered → AcksAreFor Y later past answered
 acks-grow Y came later [] answered more was = was
 acks-grow Y came later (frame ∷ past) answered more was = go (is_ack_of Y frame) (λ n le is. more n (omega arith) is) (λ list. acks-grow Y came later past list) was
   where
@@ -67,7 +72,8 @@ acks-grow Y came later (frame ∷ past) answered more was = go (is_ack_of Y fram
 -- ---- acknowledgements over the steps
 
 -- a frame that is no acknowledgement by Y
-pub match-push : (X Y : End) (cursor : End → ℕ) (frame : Sent) (past : List Sent) → cursor X ≤ length past → is_ack_of Y frame ≡ false → AcksMatch X Y cursor past → AcksMatch X Y cursor (frame ∷ past)
+pub match-push : (X Y : End) (cursor : End → ℕ) (frame : Sent) (past : List Sent) → cursor X ≤ length past → is_ack_of Y frame ≡ false
+    → AcksMatch X Y cursor past → AcksMatch X Y cursor (frame ∷ past)
 match-push X Y cursor frame past inside other was =
     let stays = acks-grow Y (came_by cursor past) (came_by cursor (frame ∷ past)) past (data_taken X (at (cursor X) past)) (came-push cursor frame past) was in
     let same : data_taken X (at (cursor X) past) ≡ data_taken X (at (cursor X) (frame ∷ past)) = ap (data_taken X) (sym (at_push (cursor X) frame past inside)) in
@@ -75,16 +81,20 @@ match-push X Y cursor frame past inside other was =
     (subst (λ (b : Bool). MatchBool b ((data_frame : Numbered) × (older : List Numbered) × (data_taken X (at (cursor X) past) ≡ data_frame ∷ older) × (data_frame.key ≡ frame.key) × Reaches (came_by cursor (frame ∷ past)) data_frame.number past × AcksAreFor Y (came_by cursor (frame ∷ past)) past older) (AcksAreFor Y (came_by cursor (frame ∷ past)) past (data_taken X (at (cursor X) past)))) (sym other) stays)
 
 -- a cursor moves, and no data of X comes by it
-pub match-moves : (X Y : End) (cursor later : End → ℕ) (past : List Sent) → ((Z : End) → cursor Z ≤ later Z) → data_taken X (at (later X) past) ≡ data_taken X (at (cursor X) past) → AcksMatch X Y cursor past → AcksMatch X Y later past
+pub match-moves : (X Y : End) (cursor later : End → ℕ) (past : List Sent) → ((Z : End) → cursor Z ≤ later Z)
+    → data_taken X (at (later X) past) ≡ data_taken X (at (cursor X) past) → AcksMatch X Y cursor past → AcksMatch X Y later past
 match-moves X Y cursor later past more same was =
     subst (AcksAreFor Y (came_by later past) past) (sym same) (acks-grow Y (came_by cursor past) (came_by later past) past (data_taken X (at (cursor X) past)) (came-moves cursor later past more) was)
 
-pub taken-passed : (X : End) (past : List Sent) (cx : ℕ) (frame : Sent) → at (cx + 1) past ≡ frame ∷ at cx past → data_comes X frame ≡ false → data_taken X (at (cx + 1) past) ≡ data_taken X (at cx past)
+pub taken-passed : (X : End) (past : List Sent) (cx : ℕ) (frame : Sent) → at (cx + 1) past ≡ frame ∷ at cx past → data_comes X frame ≡ false
+    → data_taken X (at (cx + 1) past) ≡ data_taken X (at cx past)
 taken-passed X past cx frame here other = ap (data_taken X) here ∙ cond-false _ _ _ other
 
 -- data of X is taken and acknowledged
-pub match-taken : (X Y : End) (cursor later : End → ℕ) (ack : Sent) (past : List Sent) (cx : ℕ) (frame : Sent) → ((Z : End) → cursor Z ≤ later Z) → cursor X ≡ cx → later X ≡ cx + 1 → cx < length past
-    → at (cx + 1) past ≡ frame ∷ at cx past → data_comes X frame ≡ true → frame.from ≡ X → is_ack_of Y ack ≡ true → ack.key ≡ frame.key → (IsHeldIn X (cx + 1) past → ⊥) → AcksMatch X Y cursor past → AcksMatch X Y later (ack ∷ past)
+pub match-taken : (X Y : End) (cursor later : End → ℕ) (ack : Sent) (past : List Sent) (cx : ℕ) (frame : Sent) → ((Z : End) → cursor Z ≤ later Z)
+    → cursor X ≡ cx → later X ≡ cx + 1 → cx < length past
+    → at (cx + 1) past ≡ frame ∷ at cx past → data_comes X frame ≡ true → frame.from ≡ X → is_ack_of Y ack ≡ true → ack.key ≡ frame.key
+    → (IsHeldIn X (cx + 1) past → ⊥) → AcksMatch X Y cursor past → AcksMatch X Y later (ack ∷ past)
 match-taken X Y cursor later ack past cx frame more is_cx is_later inside here comes_here mine is_ack key free was =
     let now = came_by later (ack ∷ past) in
     let grows : Grows (came_by cursor past) now past = λ n le is. came-push later ack past n le (came-moves cursor later past more n le is) in
@@ -112,7 +122,8 @@ leaves X cursor frame n mine above = go (comes frame.course) (leb n (cursor fram
     go true false none = refl
     go true true none = absurd (none refl)
 
-stays_in : (X : End) (cursor : End → ℕ) (frame : Sent) (n : ℕ) → frame.from ≡ X → n ≤ cursor X → (comes frame.course && leb n (cursor frame.from)) ≡ comes frame.course
+stays_in : (X : End) (cursor : End → ℕ) (frame : Sent) (n : ℕ) → frame.from ≡ X → n ≤ cursor X
+    → (comes frame.course && leb n (cursor frame.from)) ≡ comes frame.course
 stays_in X cursor frame n mine within = rw (le-leb n (cursor frame.from) (omega (arith, ap cursor mine, within))) (and_true (comes frame.course))
   where
     and_true : (b : Bool) → (b && true) ≡ b
@@ -126,7 +137,9 @@ same_end Desktop Handheld is = absurd cc
 same_end Desktop Desktop is = refl
 
 -- in a past that ends at or before the cursor
-came-within : (X : End) (cursor : End → ℕ) (came : ℕ → Bool) (past : List Sent) → ((n : ℕ) (frame : Sent) (older : List Sent) → n ≤ length past → at n past ≡ frame ∷ older → came n ≡ (comes frame.course && leb n (cursor frame.from))) → length past ≤ cursor X → data_that_came X came past ≡ data_taken X past
+came-within : (X : End) (cursor : End → ℕ) (came : ℕ → Bool) (past : List Sent)
+    → ((n : ℕ) (frame : Sent) (older : List Sent) → n ≤ length past → at n past ≡ frame ∷ older → came n ≡ (comes frame.course && leb n (cursor frame.from)))
+    → length past ≤ cursor X → data_that_came X came past ≡ data_taken X past
 came-within X cursor came [] is inside = refl
 came-within X cursor came (frame ∷ past) is inside =
     let number : length past + 1 ≡ length (frame ∷ past) = omega arith in
@@ -144,7 +157,8 @@ came-within X cursor came (frame ∷ past) is inside =
         ∙ (later ∙ ap (λ (b : Bool). cond ((b && frame.is_data) && comes frame.course) (record { number = length past + 1; key = frame.key } ∷ data_taken X past) (data_taken X past)) (sym other))
 
 -- frame n of a past came exactly where it comes and stands at or before its cursor
-came_is : (cursor : End → ℕ) (past : List Sent) (n : ℕ) (frame : Sent) (older : List Sent) → at n past ≡ frame ∷ older → came_by cursor past n ≡ (comes frame.course && leb n (cursor frame.from))
+came_is : (cursor : End → ℕ) (past : List Sent) (n : ℕ) (frame : Sent) (older : List Sent) → at n past ≡ frame ∷ older
+    → came_by cursor past n ≡ (comes frame.course && leb n (cursor frame.from))
 came_is cursor past n frame older here = ap (is_taken cursor n) here
 
 and_none : (b : Bool) → (b && false) ≡ false
@@ -152,7 +166,9 @@ and_none true = refl
 and_none false = refl
 
 -- the data that came by the cursors is what was taken
-pub data_that_came-taken : (X : End) (cursor : End → ℕ) (came : ℕ → Bool) (past : List Sent) → ((n : ℕ) (frame : Sent) (older : List Sent) → n ≤ length past → at n past ≡ frame ∷ older → came n ≡ (comes frame.course && leb n (cursor frame.from))) → cursor X ≤ length past → data_that_came X came past ≡ data_taken X (at (cursor X) past)
+pub data_that_came-taken : (X : End) (cursor : End → ℕ) (came : ℕ → Bool) (past : List Sent)
+    → ((n : ℕ) (frame : Sent) (older : List Sent) → n ≤ length past → at n past ≡ frame ∷ older → came n ≡ (comes frame.course && leb n (cursor frame.from)))
+    → cursor X ≤ length past → data_that_came X came past ≡ data_taken X (at (cursor X) past)
 data_that_came-taken X cursor came [] is inside = came-within X cursor came [] is (omega arith) ∙ ap (data_taken X) (sym (ap (λ (k : ℕ). at k []) (none (cursor X) inside) ∙ at_all []))
   where
     none : (k : ℕ) → k ≤ 0 → k ≡ 0
@@ -171,7 +187,8 @@ data_that_came-taken X cursor came (frame ∷ past) is inside = elim (cases_lt (
   skip true mine here above = ap (λ (b : Bool). is_data_of X frame && b) (here ∙ leaves X cursor frame (length past + 1) (same_end X frame.from mine) above) ∙ and_none (is_data_of X frame)
   skip false other here above = ap (λ (b : Bool). (b && frame.is_data) && came (length past + 1)) other
 
-pub data_that_came-by : (X : End) (cursor : End → ℕ) (past : List Sent) → cursor X ≤ length past → data_that_came X (came_by cursor past) past ≡ data_taken X (at (cursor X) past)
+pub data_that_came-by : (X : End) (cursor : End → ℕ) (past : List Sent) → cursor X ≤ length past
+    → data_that_came X (came_by cursor past) past ≡ data_taken X (at (cursor X) past)
 data_that_came-by X cursor past inside = data_that_came-taken X cursor (came_by cursor past) past (λ n frame older le here. came_is cursor past n frame older here) inside
 
 -- ---- at most ten in a row

@@ -12,7 +12,8 @@ use Rattle.line_laws.proofs.PastLaws.{at_all, at_push, keys_grow, keys_below, ke
 pub fits_now : (X : End) (a s cur : ℕ) (past : List Sent) → cur ≤ length past → AllFit X a s cur past → Fits X a s past
 fits_now X a s cur past inside all = subst (λ (p : List Sent). Fits X a s p) (at_all past) (all (length past) inside (omega arith))
 
-pub all_fit-push : (X : End) (a s cur : ℕ) (frame : Sent) (past : List Sent) → AllFit X a s cur past → Fits X a s (frame ∷ past) → AllFit X a s cur (frame ∷ past)
+pub all_fit-push : (X : End) (a s cur : ℕ) (frame : Sent) (past : List Sent) → AllFit X a s cur past → Fits X a s (frame ∷ past)
+    → AllFit X a s cur (frame ∷ past)
 all_fit-push X a s cur frame past all now n from inside = elim (cases_lt (length past) n) [
   | inl new ↦ (let e : n ≡ length (frame ∷ past) = omega arith in subst (λ (p : List Sent). Fits X a s p) (sym (ap (λ (k : ℕ). at k (frame ∷ past)) e ∙ at_all (frame ∷ past))) now)
   | inr old ↦ subst (λ (p : List Sent). Fits X a s p) (sym (at_push n frame past old)) (all n from old)
@@ -22,7 +23,8 @@ pub all_fit-later : (X : End) (a s cur later : ℕ) (past : List Sent) → cur �
 all_fit-later X a s cur later past more all n from inside = all n (omega arith) inside
 
 -- the fragment of frame `later` is taken
-pub all_fit-taken : (X : End) (a s cur later : ℕ) (past : List Sent) → cur ≤ later → AllFit X a s cur past → a < length (said X (at later past)) → length (said X past) ≤ suc a → AllFit X (suc a) s later past
+pub all_fit-taken : (X : End) (a s cur later : ℕ) (past : List Sent) → cur ≤ later → AllFit X a s cur past → a < length (said X (at later past))
+    → length (said X past) ≤ suc a → AllFit X (suc a) s later past
 all_fit-taken X a s cur later past more all fresh most n from inside =
     let was = all n (omega arith) inside in
     let grows = keys_grow (data_of X) later n past from inside in
@@ -30,7 +32,8 @@ all_fit-taken X a s cur later past more all fresh most n from inside =
     record { taken = omega (arith, grows); known = was.known; begun = λ over. absurd (omega (arith, below)) }
 
 -- the other end, which knows all, begins a fragment
-pub all_fit-begun : (X : End) (a s cur : ℕ) (past : List Sent) → AllFit X a s cur past → s ≤ length (acked X (at cur past)) → length (said X past) ≡ a → AllFit X a (suc s) cur past
+pub all_fit-begun : (X : End) (a s cur : ℕ) (past : List Sent) → AllFit X a s cur past → s ≤ length (acked X (at cur past)) → length (said X past) ≡ a
+    → AllFit X a (suc s) cur past
 all_fit-begun X a s cur past all caught none n from inside =
     let was = all n from inside in
     let grows = keys_grow (ack_of X) cur n past from inside in
@@ -44,7 +47,9 @@ follows-length said acked false follows = omega (arith, ap (λ (s : List Key). l
 follows-length said acked true follows = omega (arith, ap (λ (s : List Key). length s) (follows.1))
 
 -- a frame that changes nothing but what X acknowledged
-pub counts_push : (X Y : End) (frame : Sent) (past : List Sent) (fresh : Bool) (cur : ℕ) → Counts X Y past fresh cur → said X (frame ∷ past) ≡ said X past → said Y (frame ∷ past) ≡ said Y past → acked Y (frame ∷ past) ≡ acked Y past → Counts X Y (frame ∷ past) fresh cur
+pub counts_push : (X Y : End) (frame : Sent) (past : List Sent) (fresh : Bool) (cur : ℕ) → Counts X Y past fresh cur
+    → said X (frame ∷ past) ≡ said X past → said Y (frame ∷ past) ≡ said Y past → acked Y (frame ∷ past) ≡ acked Y past
+    → Counts X Y (frame ∷ past) fresh cur
 counts_push X Y frame past fresh cur counts sx sy ay =
     let now = fits_now X _ _ cur past counts.cur_in counts.fits in
     let more = keys_push (ack_of X) frame past in
@@ -57,7 +62,8 @@ counts_push X Y frame past fresh cur counts sx sy ay =
       fits = subst (λ (k : ℕ). AllFit X k (length (said Y (frame ∷ past))) cur (frame ∷ past)) (ap (λ (s : List Key). length s) (sym ay)) (subst (λ (k : ℕ). AllFit X (length (acked Y past)) k cur (frame ∷ past)) (ap (λ (s : List Key). length s) (sym sy)) all);
     }
 
-pub counts_later : (X Y : End) (past : List Sent) (fresh : Bool) (cur later : ℕ) → Counts X Y past fresh cur → cur ≤ later → later ≤ length past → Counts X Y past fresh later
+pub counts_later : (X Y : End) (past : List Sent) (fresh : Bool) (cur later : ℕ) → Counts X Y past fresh cur → cur ≤ later → later ≤ length past
+    → Counts X Y past fresh later
 counts_later X Y past fresh cur later counts more inside = record { follows = counts.follows; cur_in = inside; fits = all_fit-later X _ _ cur later past more counts.fits }
 
 pub all_fit-is : (X : End) (a s c d cur : ℕ) (past : List Sent) → a ≡ c → s ≡ d → AllFit X a s cur past → AllFit X c d cur past
@@ -67,8 +73,10 @@ len : {s t : List Key} → s ≡ t → length s ≡ length t
 len e = ap (λ (s : List Key). length s) e
 
 -- Y took the newest fragment of X, in frame n, and acknowledges it
-pub counts_accept : (X Y : End) (frame : Sent) (past : List Sent) (cur n : ℕ) → Counts X Y past true cur → cur ≤ n → n ≤ length past → length (acked Y past) < length (said X (at n past))
-    → said X (frame ∷ past) ≡ said X past → said Y (frame ∷ past) ≡ said Y past → acked X (frame ∷ past) ≡ acked X past → acked Y (frame ∷ past) ≡ said X past → Counts X Y (frame ∷ past) false n
+pub counts_accept : (X Y : End) (frame : Sent) (past : List Sent) (cur n : ℕ) → Counts X Y past true cur → cur ≤ n → n ≤ length past
+    → length (acked Y past) < length (said X (at n past))
+    → said X (frame ∷ past) ≡ said X past → said Y (frame ∷ past) ≡ said Y past → acked X (frame ∷ past) ≡ acked X past
+    → acked Y (frame ∷ past) ≡ said X past → Counts X Y (frame ∷ past) false n
 counts_accept X Y frame past cur n counts from inside fresh sx sy ax ay =
     let follows = follows-length _ _ true counts.follows in
     let all = all_fit-taken X _ _ cur n past from counts.fits fresh (omega (arith, follows)) in
@@ -83,8 +91,10 @@ counts_accept X Y frame past cur n counts from inside fresh sx sy ax ay =
     }
 
 -- X, which knows all, begins a fragment
-pub counts_begin : (X Y : End) (key : Key) (frame : Sent) (past : List Sent) (cur : ℕ) → Counts X Y past false cur → length (said Y past) ≤ length (acked X past)
-    → said X (frame ∷ past) ≡ key ∷ said X past → said Y (frame ∷ past) ≡ said Y past → acked X (frame ∷ past) ≡ acked X past → acked Y (frame ∷ past) ≡ acked Y past → Counts X Y (frame ∷ past) true cur
+pub counts_begin : (X Y : End) (key : Key) (frame : Sent) (past : List Sent) (cur : ℕ) → Counts X Y past false cur
+    → length (said Y past) ≤ length (acked X past)
+    → said X (frame ∷ past) ≡ key ∷ said X past → said Y (frame ∷ past) ≡ said Y past → acked X (frame ∷ past) ≡ acked X past
+    → acked Y (frame ∷ past) ≡ acked Y past → Counts X Y (frame ∷ past) true cur
 counts_begin X Y key frame past cur counts knows sx sy ax ay =
     let now = fits_now X _ _ cur past counts.cur_in counts.fits in
     let s = len sx in
@@ -97,8 +107,10 @@ counts_begin X Y key frame past cur counts knows sx sy ax ay =
     }
 
 -- the direction from X, where the other end begins a fragment
-pub counts_begun : (X Y : End) (key : Key) (frame : Sent) (past : List Sent) (cur : ℕ) → Counts X Y past false cur → length (said Y past) ≤ length (acked X (at cur past))
-    → said Y (frame ∷ past) ≡ key ∷ said Y past → said X (frame ∷ past) ≡ said X past → acked X (frame ∷ past) ≡ acked X past → acked Y (frame ∷ past) ≡ acked Y past → Counts X Y (frame ∷ past) false cur
+pub counts_begun : (X Y : End) (key : Key) (frame : Sent) (past : List Sent) (cur : ℕ) → Counts X Y past false cur
+    → length (said Y past) ≤ length (acked X (at cur past))
+    → said Y (frame ∷ past) ≡ key ∷ said Y past → said X (frame ∷ past) ≡ said X past → acked X (frame ∷ past) ≡ acked X past
+    → acked Y (frame ∷ past) ≡ acked Y past → Counts X Y (frame ∷ past) false cur
 counts_begun X Y key frame past cur counts caught sy sx ax ay =
     let all = all_fit-begun X _ _ cur past counts.fits caught (len counts.follows) in
     let now = fits_now X _ _ cur past counts.cur_in all in
@@ -125,7 +137,8 @@ pub record IsNewest (X Y : End) (frame : Sent) (n : ℕ) (past : List Sent) (fre
   pub newest : length (said X (at n past)) ≡ length (said X past)
   pub behind : length (acked Y past) < length (said X (at n past))
 
-pub pending_data : (X Y : End) (past : List Sent) (fresh : Bool) (cur n : ℕ) (frame : Sent) (older : List Sent) → Counts X Y past fresh cur → cur ≤ n → n ≤ length past → at n past ≡ frame ∷ older → IsDataOf X frame
+pub pending_data : (X Y : End) (past : List Sent) (fresh : Bool) (cur n : ℕ) (frame : Sent) (older : List Sent) → Counts X Y past fresh cur → cur ≤ n
+    → n ≤ length past → at n past ≡ frame ∷ older → IsDataOf X frame
     → IsCopy X Y frame n past ⊎ IsNewest X Y frame n past fresh
 pending_data X Y past false cur n frame older counts from inside here is =
     let fits = counts.fits n from inside in
@@ -154,7 +167,9 @@ acked_ends X Y past false n follows = subst (λ (s : List Key). Ends (acked X (a
 acked_ends X Y past true n follows = subst (λ (s : List Key). Ends (acked X (at n past)) s) (sym (follows.1)) (ends_more _ (follows.0) (acked X past) (keys_end_all (ack_of X) n past))
 
 -- an acknowledgement on the line that bears the newest key of Y acknowledges its newest fragment
-pub pending_ack : (X Y : End) (past : List Sent) (fresh : Bool) (cur n : ℕ) (frame : Sent) (older : List Sent) (a : ℕ) → AllFit X a (length (said Y past)) cur past → Follows (said Y past) (acked X past) fresh → cur ≤ n → n ≤ length past → at n past ≡ frame ∷ older → IsAckOf X frame
+pub pending_ack : (X Y : End) (past : List Sent) (fresh : Bool) (cur n : ℕ) (frame : Sent) (older : List Sent) (a : ℕ)
+    → AllFit X a (length (said Y past)) cur past → Follows (said Y past) (acked X past) fresh → cur ≤ n → n ≤ length past → at n past ≡ frame ∷ older
+    → IsAckOf X frame
     → first (said Y past) ≡ Some (frame.key) → length (said Y past) ≡ length (acked X (at n past))
 pending_ack X Y past fresh cur n frame older a all follows from inside here is matches =
     let fits = all n from inside in

@@ -25,7 +25,8 @@ newest_push p frame past = let below = newest_inside p past in elim (cases_Bool 
   | inr fails ↦ omega (arith, cond-false (p frame) (length past + 1) (newest p past) fails)
 ]
 
-pub newest_from : (p : Sent → Bool) (past : List Sent) (n : ℕ) (frame : Sent) (older : List Sent) → n ≤ length past → at n past ≡ frame ∷ older → p frame ≡ true → n ≤ newest p past
+pub newest_from : (p : Sent → Bool) (past : List Sent) (n : ℕ) (frame : Sent) (older : List Sent) → n ≤ length past → at n past ≡ frame ∷ older
+    → p frame ≡ true → n ≤ newest p past
 newest_from p [] n frame older inside here passes = omega arith
 newest_from p (top ∷ past) n frame older inside here passes = elim (cases_lt (length past) n) [
   | inl new ↦ (let e : n ≡ length (top ∷ past) = omega arith in
@@ -44,7 +45,8 @@ late_is_fault Z frame late = go (frame.course) (and_parts (is_end Z frame.from) 
   go Gone is = absurd cc
   go Late is = refl
 
-pub fault_at_tick : (X Y : End) (past : List Sent) (cx cy released : ℕ) → Progress X Y past cx cy released → Blocked X past cx released → Blocked Y past cy released → released < newest faulted past
+pub fault_at_tick : (X Y : End) (past : List Sent) (cx cy released : ℕ) → Progress X Y past cx cy released → Blocked X past cx released
+    → Blocked Y past cy released → released < newest faulted past
 fault_at_tick X Y past cx cy released progress bx by = elim bx [
   | inr held ↦ held_is X cx held
   | inl none ↦ elim by [
@@ -67,7 +69,8 @@ at_top frame past = let e : length past + 1 ≡ length (frame ∷ past) = omega 
 len : {s t : List Key} → s ≡ t → length s ≡ length t
 len e = ap (λ (s : List Key). length s) e
 
-data_pends-push : (X : End) (frame : Sent) (past : List Sent) (cx : ℕ) → DataPends X past cx → said X (frame ∷ past) ≡ said X past → DataPends X (frame ∷ past) cx
+data_pends-push : (X : End) (frame : Sent) (past : List Sent) (cx : ℕ) → DataPends X past cx → said X (frame ∷ past) ≡ said X past
+    → DataPends X (frame ∷ past) cx
 data_pends-push X frame past cx pends same = (let e = at_push pends.n frame past pends.inside in record {
   n = pends.n;
   frame = pends.frame;
@@ -80,7 +83,8 @@ data_pends-push X frame past cx pends same = (let e = at_push pends.n frame past
   newest_is = ap (λ (p : List Sent). length (said X p)) e ∙ pends.newest_is ∙ sym (len same);
 })
 
-ack_pends-push : (X Y : End) (frame : Sent) (past : List Sent) (cy : ℕ) → AckPends X Y past cy → said X (frame ∷ past) ≡ said X past → AckPends X Y (frame ∷ past) cy
+ack_pends-push : (X Y : End) (frame : Sent) (past : List Sent) (cy : ℕ) → AckPends X Y past cy → said X (frame ∷ past) ≡ said X past
+    → AckPends X Y (frame ∷ past) cy
 ack_pends-push X Y frame past cy pends same = (let e = at_push pends.n frame past pends.inside in record {
   n = pends.n;
   frame = pends.frame;
@@ -94,7 +98,8 @@ ack_pends-push X Y frame past cy pends same = (let e = at_push pends.n frame pas
 })
 
 -- a frame that isn't data of X
-pub progress_push : (X Y : End) (frame : Sent) (past : List Sent) (cx cy released : ℕ) → Progress X Y past cx cy released → is_data_of X frame ≡ false → said X (frame ∷ past) ≡ said X past → Progress X Y (frame ∷ past) cx cy released
+pub progress_push : (X Y : End) (frame : Sent) (past : List Sent) (cx cy released : ℕ) → Progress X Y past cx cy released → is_data_of X frame ≡ false
+    → said X (frame ∷ past) ≡ said X past → Progress X Y (frame ∷ past) cx cy released
 progress_push X Y frame past cx cy released progress other same =
     let stays : newest (is_data_of X) (frame ∷ past) ≡ newest (is_data_of X) past = cond-false _ _ _ other in
     record {
@@ -115,7 +120,8 @@ is_ack-frame Handheld key course = refl
 is_ack-frame Desktop key course = refl
 
 -- X sends data
-pub progress_sent : (X Y : End) (key : Key) (bytes : List ℕ) (course : Course) (past : List Sent) (cx cy released : ℕ) → released ≤ length past → cx ≤ length past → Progress X Y (data_frame X key bytes course ∷ past) cx cy released
+pub progress_sent : (X Y : End) (key : Key) (bytes : List ℕ) (course : Course) (past : List Sent) (cx cy released : ℕ) → released ≤ length past
+    → cx ≤ length past → Progress X Y (data_frame X key bytes course ∷ past) cx cy released
 progress_sent X Y key bytes course past cx cy released before inside =
     let frame = data_frame X key bytes course in
     let here : newest (is_data_of X) (frame ∷ past) ≡ length past + 1 = cond-true _ _ _ (is_data-frame X key bytes course) in
@@ -137,7 +143,9 @@ progress_sent X Y key bytes course past cx cy released before inside =
       go Late here = inl (omega (arith, here))
 
 -- Y acknowledges the newest fragment of X
-pub progress_acked : (X Y : End) (key : Key) (course : Course) (past : List Sent) (cx cy c released : ℕ) → Progress X Y past cx cy released → is_data_of X (ack_frame Y key course) ≡ false → cy ≤ length past → acked Y (ack_frame Y key course ∷ past) ≡ said X (ack_frame Y key course ∷ past)
+pub progress_acked : (X Y : End) (key : Key) (course : Course) (past : List Sent) (cx cy c released : ℕ) → Progress X Y past cx cy released
+    → is_data_of X (ack_frame Y key course) ≡ false → cy ≤ length past
+    → acked Y (ack_frame Y key course ∷ past) ≡ said X (ack_frame Y key course ∷ past)
     → Progress X Y (ack_frame Y key course ∷ past) c cy released
 progress_acked X Y key course past cx cy c released progress other inside all =
     let stays : newest (is_data_of X) (ack_frame Y key course ∷ past) ≡ newest (is_data_of X) past = cond-false _ _ _ other in
@@ -159,7 +167,8 @@ progress_acked X Y key course past cx cy c released progress other inside all =
       go Late stays all = inl (omega (arith, stays, newest_inside (is_data_of X) past))
 
 -- a cursor moves by one frame that isn't what X waits for
-pub progress_x : (X Y : End) (past : List Sent) (cx cy released : ℕ) → Progress X Y past cx cy released → ((pends : DataPends X past cx) → pends.n ≡ cx + 1 → ⊥) → Progress X Y past (cx + 1) cy released
+pub progress_x : (X Y : End) (past : List Sent) (cx cy released : ℕ) → Progress X Y past cx cy released
+    → ((pends : DataPends X past cx) → pends.n ≡ cx + 1 → ⊥) → Progress X Y past (cx + 1) cy released
 progress_x X Y past cx cy released progress not = record {
   since = progress.since;
   cause = elim (progress.cause) [
@@ -169,7 +178,8 @@ progress_x X Y past cx cy released progress not = record {
   ];
 }
 
-pub progress_y : (X Y : End) (past : List Sent) (cx cy released : ℕ) → Progress X Y past cx cy released → ((pends : AckPends X Y past cy) → pends.n ≡ cy + 1 → ⊥) → Progress X Y past cx (cy + 1) released
+pub progress_y : (X Y : End) (past : List Sent) (cx cy released : ℕ) → Progress X Y past cx cy released
+    → ((pends : AckPends X Y past cy) → pends.n ≡ cy + 1 → ⊥) → Progress X Y past cx (cy + 1) released
 progress_y X Y past cx cy released progress not = record {
   since = progress.since;
   cause = elim (progress.cause) [

@@ -13,11 +13,14 @@ use Rattle.line_laws.proofs.CameLaws.{same_end}
 
 -- ---- a frame is sent
 
-pub all-push : (P : FrameValue → Type 0) (frames : List FrameValue) (frame : FrameValue) → AllByRecursion P frames → P frame → AllByRecursion P (frames ++ frame ∷ [])
+pub all-push : (P : FrameValue → Type 0) (frames : List FrameValue) (frame : FrameValue) → AllByRecursion P frames → P frame
+    → AllByRecursion P (frames ++ frame ∷ [])
 all-push P [] frame all is = (is, tt)
 all-push P (first ∷ later) frame all is = (all.0, all-push P later frame all.1 is)
 
-pub numbered-push : (number : ℕ) (script : ℕ → FateValue) (frames : List FrameValue) (frame : FrameValue) → AllByRecursion RunsOn frames → AreNumbered number script frames → frame.number ≡ number + length frames → frame.fate ≡ script frame.number → AreNumbered number script (frames ++ frame ∷ [])
+pub numbered-push : (number : ℕ) (script : ℕ → FateValue) (frames : List FrameValue) (frame : FrameValue) → AllByRecursion RunsOn frames
+    → AreNumbered number script frames → frame.number ≡ number + length frames → frame.fate ≡ script frame.number
+    → AreNumbered number script (frames ++ frame ∷ [])
 numbered-push number script [] frame runs was is given = let same : frame.number ≡ number = omega (arith, is) in (same, given ∙ ap script same, λ e. refl, tt)
 numbered-push number script (first ∷ later) frame runs was is given =
     (was.0, was.1, λ e. absurd (both_ways _ runs.0 e), numbered-push (number + 1) script later frame runs.1 was.3 (omega (arith, is)) given)
@@ -26,15 +29,19 @@ none_yet : (a b : Bool) → b ≡ false → false ≡ (a && b)
 none_yet false b e = refl
 none_yet true b e = sym e
 
-pub came-push-one : (number : ℕ) (cursor : End → ℕ) (frames : List FrameValue) (frame : FrameValue) → CameByCursor number cursor frames → frame.came ≡ false → cursor frame.from < number + length frames → CameByCursor number cursor (frames ++ frame ∷ [])
+pub came-push-one : (number : ℕ) (cursor : End → ℕ) (frames : List FrameValue) (frame : FrameValue) → CameByCursor number cursor frames
+    → frame.came ≡ false → cursor frame.from < number + length frames → CameByCursor number cursor (frames ++ frame ∷ [])
 came-push-one number cursor [] frame was away above = (away ∙ none_yet (arrives frame.fate) (leb number (cursor frame.from)) (lt-leb _ _ (omega (arith, above))), tt)
 came-push-one number cursor (first ∷ later) frame was away above = (was.0, came-push-one (number + 1) cursor later frame was.1 away (omega (arith, above)))
 
-pub past-push : (past : List Sent) (frames : List FrameValue) (frame : FrameValue) → past_behind past (frames ++ frame ∷ []) ≡ add_frame frame (past_behind past frames)
+pub past-push : (past : List Sent) (frames : List FrameValue) (frame : FrameValue)
+    → past_behind past (frames ++ frame ∷ []) ≡ add_frame frame (past_behind past frames)
 past-push past [] frame = refl
 past-push past (first ∷ later) frame = past-push (add_frame first past) later frame
 
-pub framed_sends : (script : ℕ → FateValue) (cursor : End → ℕ) (frames : List FrameValue) (past : List Sent) (frame : FrameValue) → Framed script cursor frames past → AllByRecursion RunsOn frames → frame.number ≡ length frames + 1 → frame.fate ≡ script frame.number → frame.came ≡ false → cursor frame.from ≤ length frames → BearsFragment frame → IsNoAbort frame
+pub framed_sends : (script : ℕ → FateValue) (cursor : End → ℕ) (frames : List FrameValue) (past : List Sent) (frame : FrameValue)
+    → Framed script cursor frames past → AllByRecursion RunsOn frames → frame.number ≡ length frames + 1 → frame.fate ≡ script frame.number
+    → frame.came ≡ false → cursor frame.from ≤ length frames → BearsFragment frame → IsNoAbort frame
     → Framed script cursor (frames ++ frame ∷ []) (sent_in frame ∷ past)
 framed_sends script cursor frames past frame was runs is given away inside bears no_abort = record {
   numbered = numbered-push 1 script frames frame runs was.numbered (omega (arith, is)) given;
@@ -47,7 +54,8 @@ framed_sends script cursor frames past frame was runs is given away inside bears
 -- ---- a frame is taken off the line
 
 -- where the cursors differ at no frame of these
-came-same : (number : ℕ) (cursor later : End → ℕ) (frames : List FrameValue) → ((Z : End) (n : ℕ) → number ≤ n → leb n (later Z) ≡ leb n (cursor Z)) → CameByCursor number cursor frames → CameByCursor number later frames
+came-same : (number : ℕ) (cursor later : End → ℕ) (frames : List FrameValue) → ((Z : End) (n : ℕ) → number ≤ n → leb n (later Z) ≡ leb n (cursor Z))
+    → CameByCursor number cursor frames → CameByCursor number later frames
 came-same number cursor later [] same was = tt
 came-same number cursor later (frame ∷ frames) same was = (
   was.0 ∙ ap (λ (b : Bool). arrives frame.fate && b) (sym (same frame.from number (omega arith))),
@@ -58,7 +66,8 @@ came-same number cursor later (frame ∷ frames) same was = (
 abbrev OthersStay : End → (End → ℕ) → (End → ℕ) → Type 0
 OthersStay X cursor later = (Z : End) → is_end X Z ≡ false → later Z ≡ cursor Z
 
-same-leb : (X : End) (cursor later : End → ℕ) (n : ℕ) → OthersStay X cursor later → leb n (later X) ≡ leb n (cursor X) → (Z : End) → leb n (later Z) ≡ leb n (cursor Z)
+same-leb : (X : End) (cursor later : End → ℕ) (n : ℕ) → OthersStay X cursor later → leb n (later X) ≡ leb n (cursor X) → (Z : End)
+    → leb n (later Z) ≡ leb n (cursor Z)
 same-leb X cursor later n others mine Z = elim (cases_Bool (is_end X Z)) [
   | inl is ↦ subst (λ (E : End). leb n (later E) ≡ leb n (cursor E)) (sym (same_end X Z is)) mine
   | inr other ↦ ap (leb n) (others Z other)
@@ -75,7 +84,9 @@ and_true : (b : Bool) → b ≡ (b && true)
 and_true true = refl
 and_true false = refl
 
-came-takes : (number : ℕ) (X : End) (cursor later : End → ℕ) (place : ℕ) (frames after : List FrameValue) → OthersStay X cursor later → cursor X + 1 ≡ number + place → later X ≡ number + place → PassesFrame X place frames after → CameByCursor number cursor frames → CameByCursor number later after
+came-takes : (number : ℕ) (X : End) (cursor later : End → ℕ) (place : ℕ) (frames after : List FrameValue) → OthersStay X cursor later
+    → cursor X + 1 ≡ number + place → later X ≡ number + place → PassesFrame X place frames after → CameByCursor number cursor frames
+    → CameByCursor number later after
 came-takes number X cursor later place [] after others at_it next passes was = absurd passes
 came-takes number X cursor later zero (frame ∷ frames) after others at_it next passes was =
     let here : arrives frame.fate ≡ (arrives frame.fate && leb number (later frame.from)) =
@@ -87,7 +98,9 @@ came-takes number X cursor later (suc place) (frame ∷ frames) after others at_
     subst (CameByCursor number later) (sym passes.1)
     (was.0 ∙ ap (λ (b : Bool). arrives frame.fate && b) (sym here), came-takes (number + 1) X cursor later place frames passes.0 others (omega (arith, at_it)) (omega (arith, next)) passes.2 was.1)
 
-came-skips : (number : ℕ) (X : End) (cursor later : End → ℕ) (place : ℕ) (frames : List FrameValue) → OthersStay X cursor later → cursor X + 1 ≡ number + place → later X ≡ number + place → PassesOther X place frames → CameByCursor number cursor frames → CameByCursor number later frames
+came-skips : (number : ℕ) (X : End) (cursor later : End → ℕ) (place : ℕ) (frames : List FrameValue) → OthersStay X cursor later
+    → cursor X + 1 ≡ number + place → later X ≡ number + place → PassesOther X place frames → CameByCursor number cursor frames
+    → CameByCursor number later frames
 came-skips number X cursor later place [] others at_it next passes was = absurd passes
 came-skips number X cursor later zero (frame ∷ frames) others at_it next passes was = (
   was.0 ∙ ap (λ (n : ℕ). arrives frame.fate && leb number n) (sym (others frame.from passes)),
@@ -100,7 +113,8 @@ came-skips number X cursor later (suc place) (frame ∷ frames) others at_it nex
     )
 
 -- what is known of the frames but the mark
-numbered-takes : (number : ℕ) (script : ℕ → FateValue) (X : End) (place : ℕ) (frames after : List FrameValue) → PassesFrame X place frames after → AreNumbered number script frames → AreNumbered number script after
+numbered-takes : (number : ℕ) (script : ℕ → FateValue) (X : End) (place : ℕ) (frames after : List FrameValue) → PassesFrame X place frames after
+    → AreNumbered number script frames → AreNumbered number script after
 numbered-takes number script X place [] after passes was = absurd passes
 numbered-takes number script X zero (frame ∷ frames) after passes was = subst (AreNumbered number script) (sym passes.1) was
 numbered-takes number script X (suc place) (frame ∷ frames) after passes was =
@@ -110,17 +124,21 @@ numbered-takes number script X (suc place) (frame ∷ frames) after passes was =
     none_behind [] rest none passes = absurd passes
     none_behind (frame ∷ frames) rest none passes = absurd cc
 
-all-takes : (P : FrameValue → Type 0) → ((frame : FrameValue) (came : Bool) → P frame → P (record frame { came = came })) → (X : End) (place : ℕ) (frames after : List FrameValue) → PassesFrame X place frames after → AllByRecursion P frames → AllByRecursion P after
+all-takes : (P : FrameValue → Type 0) → ((frame : FrameValue) (came : Bool) → P frame → P (record frame { came = came }))
+    → (X : End) (place : ℕ) (frames after : List FrameValue) → PassesFrame X place frames after → AllByRecursion P frames → AllByRecursion P after
 all-takes P stays X place [] after passes was = absurd passes
 all-takes P stays X zero (frame ∷ frames) after passes was = subst (AllByRecursion P) (sym passes.1) (stays frame (arrives frame.fate) was.0, was.1)
 all-takes P stays X (suc place) (frame ∷ frames) after passes was = subst (AllByRecursion P) (sym passes.1) (was.0, all-takes P stays X place frames passes.0 passes.2 was.1)
 
-past-takes : (past : List Sent) (X : End) (place : ℕ) (frames after : List FrameValue) → PassesFrame X place frames after → past_behind past after ≡ past_behind past frames
+past-takes : (past : List Sent) (X : End) (place : ℕ) (frames after : List FrameValue) → PassesFrame X place frames after
+    → past_behind past after ≡ past_behind past frames
 past-takes past X place [] after passes = absurd passes
 past-takes past X zero (frame ∷ frames) after passes = ap (past_behind past) passes.1
 past-takes past X (suc place) (frame ∷ frames) after passes = ap (past_behind past) passes.1 ∙ past-takes (add_frame frame past) X place frames passes.0 passes.2
 
-pub framed_takes : (script : ℕ → FateValue) (X : End) (cursor later : End → ℕ) (place : ℕ) (frames after : List FrameValue) (past : List Sent) → OthersStay X cursor later → cursor X ≡ place → later X ≡ place + 1 → PassesFrame X place frames after → Framed script cursor frames past → Framed script later after past
+pub framed_takes : (script : ℕ → FateValue) (X : End) (cursor later : End → ℕ) (place : ℕ) (frames after : List FrameValue) (past : List Sent)
+    → OthersStay X cursor later → cursor X ≡ place → later X ≡ place + 1 → PassesFrame X place frames after → Framed script cursor frames past
+    → Framed script later after past
 framed_takes script X cursor later place frames after past others at_it next passes was = record {
   numbered = numbered-takes 1 script X place frames after passes was.numbered;
   bear = all-takes BearsFragment (λ frame came bears. record { is = bears.is; fragment = bears.fragment; kind = bears.kind }) X place frames after passes was.bear;
@@ -129,7 +147,9 @@ framed_takes script X cursor later place frames after past others at_it next pas
   past_is = past-takes [] X place frames after passes ∙ was.past_is;
 }
 
-pub framed_skips : (script : ℕ → FateValue) (X : End) (cursor later : End → ℕ) (place : ℕ) (frames : List FrameValue) (past : List Sent) → OthersStay X cursor later → cursor X ≡ place → later X ≡ place + 1 → PassesOther X place frames → Framed script cursor frames past → Framed script later frames past
+pub framed_skips : (script : ℕ → FateValue) (X : End) (cursor later : End → ℕ) (place : ℕ) (frames : List FrameValue) (past : List Sent)
+    → OthersStay X cursor later → cursor X ≡ place → later X ≡ place + 1 → PassesOther X place frames → Framed script cursor frames past
+    → Framed script later frames past
 framed_skips script X cursor later place frames past others at_it next passes was = record {
   numbered = was.numbered;
   bear = was.bear;

@@ -33,7 +33,8 @@ grows-by cursor came past is n inside taken = go (at n past) refl taken
     go [] here taken = absurd cc
     go (frame ∷ older) here taken = is n frame older inside here ∙ taken
 
-pub speaks-as : (X Y : End) (talk : Talk) (cursor : End → ℕ) (came : ℕ → Bool) (past : List Sent) (x : Side) → IsByCursor cursor came past → cursor X ≤ length past → Speech X Y talk cursor past x → SpeaksProperly X Y talk came past
+pub speaks-as : (X Y : End) (talk : Talk) (cursor : End → ℕ) (came : ℕ → Bool) (past : List Sent) (x : Side) → IsByCursor cursor came past
+    → cursor X ≤ length past → Speech X Y talk cursor past x → SpeaksProperly X Y talk came past
 speaks-as X Y talk cursor came past x is inside speech =
     let grows = grows-by cursor came past is in
     record {
@@ -53,18 +54,22 @@ comes-arrives (Noise bytes) = refl
 comes-arrives Unplug = refl
 comes-arrives Abort = refl
 
-pub longer-behind : (past : List Sent) (frames : List FrameValue) → AllByRecursion IsNoAbort frames → length (past_behind past frames) ≡ length past + length frames
+pub longer-behind : (past : List Sent) (frames : List FrameValue) → AllByRecursion IsNoAbort frames
+    → length (past_behind past frames) ≡ length past + length frames
 longer-behind past [] whole = omega arith
 longer-behind past (frame ∷ later) whole =
     ap (λ (p : List Sent). length (past_behind p later)) (cond-false _ _ _ whole.0) ∙ omega (arith, longer-behind (sent_in frame ∷ past) later whole.1)
 
-at-behind : (n : ℕ) (past : List Sent) (frames : List FrameValue) → AllByRecursion IsNoAbort frames → n ≤ length past → at n (past_behind past frames) ≡ at n past
+at-behind : (n : ℕ) (past : List Sent) (frames : List FrameValue) → AllByRecursion IsNoAbort frames → n ≤ length past
+    → at n (past_behind past frames) ≡ at n past
 at-behind n past [] whole inside = refl
 at-behind n past (frame ∷ later) whole inside =
     ap (λ (p : List Sent). at n (past_behind p later)) (cond-false _ _ _ whole.0) ∙ (at-behind n (sent_in frame ∷ past) later whole.1 (omega arith) ∙ at_push n (sent_in frame) past inside)
 
-came-at : (cursor : End → ℕ) (past : List Sent) (frames : List FrameValue) (number : ℕ) → AllByRecursion IsNoAbort frames → CameByCursor number cursor frames → number ≡ length past + 1
-    → (n : ℕ) (frame : Sent) (older : List Sent) → number ≤ n → n ≤ length (past_behind past frames) → at n (past_behind past frames) ≡ frame ∷ older → slice_index_or (map (λ f. f.came) frames) (n - number) false ≡ (comes frame.course && leb n (cursor frame.from))
+came-at : (cursor : End → ℕ) (past : List Sent) (frames : List FrameValue) (number : ℕ) → AllByRecursion IsNoAbort frames
+    → CameByCursor number cursor frames → number ≡ length past + 1
+    → (n : ℕ) (frame : Sent) (older : List Sent) → number ≤ n → n ≤ length (past_behind past frames) → at n (past_behind past frames) ≡ frame ∷ older
+    → slice_index_or (map (λ f. f.came) frames) (n - number) false ≡ (comes frame.course && leb n (cursor frame.from))
 came-at cursor past [] number whole came next n frame older from inside here = absurd (omega arith)
 came-at cursor past (first ∷ later) number whole came next n frame older from inside here =
     let step : past_behind past (first ∷ later) ≡ past_behind (sent_in first ∷ past) later = ap (λ (p : List Sent). past_behind p later) (cond-false _ _ _ whole.0) in
@@ -84,7 +89,8 @@ came-at cursor past (first ∷ later) number whole came next n frame older from 
           ∙ (came.0 ∙ (ap (λ (k : ℕ). arrives first.fate && leb k (cursor first.from)) same ∙ (ap (λ (b : Bool). b && leb n (cursor first.from)) (comes-arrives first.fate) ∙ ap (λ (s : Sent). comes s.course && leb n (cursor s.from)) is)))
     ]
 
-pub came_in-is : (cursor : End → ℕ) (frames : List FrameValue) → AllByRecursion IsNoAbort frames → CameByCursor 1 cursor frames → IsByCursor cursor (came_in frames) (past_of frames)
+pub came_in-is : (cursor : End → ℕ) (frames : List FrameValue) → AllByRecursion IsNoAbort frames → CameByCursor 1 cursor frames
+    → IsByCursor cursor (came_in frames) (past_of frames)
 came_in-is cursor frames whole came n frame older inside here = elim (cases_lt 0 n) [
   | inl some ↦ came-at cursor [] frames 1 whole came (omega arith) n frame older (omega (arith, some)) inside here
   | inr none ↦ absurd (let zero_is : n ≡ 0 = omega (arith, none) in
@@ -94,7 +100,8 @@ came_in-is cursor frames whole came n frame older inside here = elim (cases_lt 0
 
 -- ---- in order
 
-stay-away : (X : End) (cursor : End → ℕ) (number : ℕ) (frames : List FrameValue) → CameByCursor number cursor frames → cursor X < number → AllByRecursion (StaysAway X) frames
+stay-away : (X : End) (cursor : End → ℕ) (number : ℕ) (frames : List FrameValue) → CameByCursor number cursor frames → cursor X < number
+    → AllByRecursion (StaysAway X) frames
 stay-away X cursor number [] came above = tt
 stay-away X cursor number (frame ∷ later) came above = (
   λ mine. came.0 ∙ out (arrives frame.fate) (leb number (cursor frame.from)) (λ is. omega (arith, leb-true number (cursor frame.from) is, ap cursor mine, above)),
@@ -118,7 +125,9 @@ come-in-order cursor number (frame ∷ later) came = (
 
 -- ---- the whole
 
-pub trace-is-proper : (script : ℕ → FateValue) (talk : Talk) (cursor : End → ℕ) (frames : List FrameValue) (past : List Sent) (h d : Side) → Framed script cursor frames past → RepeatsHaveFaults past → cursor Handheld ≤ length past → cursor Desktop ≤ length past → Speech Handheld Desktop talk cursor past h → Speech Desktop Handheld talk cursor past d → IsProper script talk frames
+pub trace-is-proper : (script : ℕ → FateValue) (talk : Talk) (cursor : End → ℕ) (frames : List FrameValue) (past : List Sent) (h d : Side)
+    → Framed script cursor frames past → RepeatsHaveFaults past → cursor Handheld ≤ length past → cursor Desktop ≤ length past
+    → Speech Handheld Desktop talk cursor past h → Speech Desktop Handheld talk cursor past d → IsProper script talk frames
 trace-is-proper script talk cursor frames past h d framed faults h_in d_in handheld desktop =
     let is : IsByCursor cursor (came_in frames) past = subst (λ (p : List Sent). IsByCursor cursor (came_in frames) p) framed.past_is (came_in-is cursor frames framed.whole framed.came) in
     record {

@@ -14,7 +14,8 @@ use Rattle.line_laws.proofs.FaultLaws.{newest_push, is_data-frame}
 use Rattle.line_laws.proofs.TraceLaws.{last_repeat-is, last_repeat-stays, last_repeat-inside, newest_repeat-of, again_repeats, begun_no_repeat, other_no_repeat, release_tick, faults_again}
 
 -- the frame of X is a repeat of X, and none of another end
-pub repeat_only : (X Y : End) (key : Key) (bytes : List ℕ) (course : Course) (past : List Sent) → is_end Y X ≡ false → is_repeat Y (data_frame X key bytes course) past ≡ false
+pub repeat_only : (X Y : End) (key : Key) (bytes : List ℕ) (course : Course) (past : List Sent) → is_end Y X ≡ false
+    → is_repeat Y (data_frame X key bytes course) past ≡ false
 repeat_only X Y key bytes course past apart = other_no_repeat Y (data_frame X key bytes course) past (ap (λ (b : Bool). b && true) apart)
 
 -- each end is X or Y
@@ -26,14 +27,16 @@ either Handheld Desktop Desktop apart = inr refl
 either Desktop Handheld Handheld apart = inr refl
 either Desktop Handheld Desktop apart = inl refl
 
-near_of : (X Y : End) (past : List Sent) (released : ℕ) → is_end X Y ≡ false → last_repeat X past ≤ released + 2 → last_repeat Y past ≤ released + 2 → (Z : End) → last_repeat Z past ≤ released + 2
+near_of : (X Y : End) (past : List Sent) (released : ℕ) → is_end X Y ≡ false → last_repeat X past ≤ released + 2 → last_repeat Y past ≤ released + 2
+    → (Z : End) → last_repeat Z past ≤ released + 2
 near_of X Y past released apart x y Z = elim (either X Y Z apart) [
   | inl is ↦ subst (λ (E : End). last_repeat E past ≤ released + 2) (sym is) x
   | inr is ↦ subst (λ (E : End). last_repeat E past ≤ released + 2) (sym is) y
 ]
 
 -- release and faults where X alone waits
-pub release_one : (X Y : End) (past : List Sent) (cx cy released : ℕ) (key : Key) (bytes : List ℕ) (course : Course) → Apart X Y → first (said X past) ≡ Some key → Release X past cx released → Release Y past cy released → cx ≤ length past → cy ≤ length past
+pub release_one : (X Y : End) (past : List Sent) (cx cy released : ℕ) (key : Key) (bytes : List ℕ) (course : Course) → Apart X Y
+    → first (said X past) ≡ Some key → Release X past cx released → Release Y past cy released → cx ≤ length past → cy ≤ length past
     → RepeatsHaveFaults past → released < newest faulted past
     → Release X (data_frame X key bytes course ∷ past) cx (length past) × Release Y (data_frame X key bytes course ∷ past) cy (length past) × RepeatsHaveFaults (data_frame X key bytes course ∷ past)
 release_one X Y past cx cy released key bytes course apart newest_is x_release y_release x_in y_in faults fault =
@@ -47,7 +50,9 @@ release_one X Y past cx cy released key bytes course apart newest_is x_release y
     )
 
 -- and where both wait
-pub release_two : (X Y : End) (past : List Sent) (cx cy released : ℕ) (key : Key) (bytes : List ℕ) (course : Course) (key' : Key) (bytes' : List ℕ) (course' : Course) → Apart X Y → first (said X past) ≡ Some key → first (said Y past) ≡ Some key' → Release X past cx released → Release Y past cy released → cx ≤ length past → cy ≤ length past
+pub release_two : (X Y : End) (past : List Sent) (cx cy released : ℕ) (key : Key) (bytes : List ℕ) (course : Course) (key' : Key) (bytes' : List ℕ) (course' : Course)
+    → Apart X Y → first (said X past) ≡ Some key → first (said Y past) ≡ Some key' → Release X past cx released → Release Y past cy released
+    → cx ≤ length past → cy ≤ length past
     → RepeatsHaveFaults past → released < newest faulted past
     → Release X (data_frame Y key' bytes' course' ∷ data_frame X key bytes course ∷ past) cx (length past) × Release Y (data_frame Y key' bytes' course' ∷ data_frame X key bytes course ∷ past) cy (length past) × RepeatsHaveFaults (data_frame Y key' bytes' course' ∷ data_frame X key bytes course ∷ past)
 release_two X Y past cx cy released key bytes course key' bytes' course' apart newest_x newest_y x_release y_release x_in y_in faults fault =
@@ -75,15 +80,19 @@ release_two X Y past cx cy released key bytes course key' bytes' course' apart n
 
 -- ---- how X's newest fragment came to be acknowledged: by the frame of Y at the cursor
 
-pub acknowledged_by_ack : (X Y : End) (past : List Sent) (cy : ℕ) (frame : Sent) → at (cy + 1) past ≡ frame ∷ at cy past → IsAckOf Y frame → comes frame.course ≡ true → length (said X (at (cy + 1) past)) ≡ length (said X past) → first (said X past) ≡ Some (frame.key) → Acknowledged X Y past (cy + 1)
+pub acknowledged_by_ack : (X Y : End) (past : List Sent) (cy : ℕ) (frame : Sent) → at (cy + 1) past ≡ frame ∷ at cy past → IsAckOf Y frame
+    → comes frame.course ≡ true → length (said X (at (cy + 1) past)) ≡ length (said X past) → first (said X past) ≡ Some (frame.key)
+    → Acknowledged X Y past (cy + 1)
 acknowledged_by_ack X Y past cy frame here is came newest_is key = record { n = cy + 1; frame = frame; older = at cy past; some = omega arith; before = omega arith; here = here; came = came; cause = inl (is, newest_is, key) }
 
-pub acknowledged_by_answer : (X Y : End) (past : List Sent) (cy : ℕ) (frame : Sent) → at (cy + 1) past ≡ frame ∷ at cy past → IsDataOf Y frame → comes frame.course ≡ true → length (acked Y (at (cy + 1) past)) ≡ length (said X past) → Acknowledged X Y past (cy + 1)
+pub acknowledged_by_answer : (X Y : End) (past : List Sent) (cy : ℕ) (frame : Sent) → at (cy + 1) past ≡ frame ∷ at cy past → IsDataOf Y frame
+    → comes frame.course ≡ true → length (acked Y (at (cy + 1) past)) ≡ length (said X past) → Acknowledged X Y past (cy + 1)
 acknowledged_by_answer X Y past cy frame here is came newest_is = record { n = cy + 1; frame = frame; older = at cy past; some = omega arith; before = omega arith; here = here; came = came; cause = inr (is, newest_is) }
 
 -- ---- acknowledgements stand behind what they acknowledge
 
-pub acks_behind-push : (X Y : End) (frame : Sent) (past : List Sent) (fresh : Bool) → AcksBehind X Y past → Follows (said X (frame ∷ past)) (acked Y (frame ∷ past)) fresh → AcksBehind X Y (frame ∷ past)
+pub acks_behind-push : (X Y : End) (frame : Sent) (past : List Sent) (fresh : Bool) → AcksBehind X Y past
+    → Follows (said X (frame ∷ past)) (acked Y (frame ∷ past)) fresh → AcksBehind X Y (frame ∷ past)
 acks_behind-push X Y frame past fresh all follows n inside = elim (cases_lt (length past) n) [
   | inl new ↦ (let e : n ≡ length (frame ∷ past) = omega arith in
       let here : at n (frame ∷ past) ≡ frame ∷ past = ap (λ (k : ℕ). at k (frame ∷ past)) e ∙ at_all (frame ∷ past) in
@@ -93,15 +102,18 @@ acks_behind-push X Y frame past fresh all follows n inside = elim (cases_lt (len
 ]
 
 -- so a frame of Y that acknowledges all of X stands behind the first frame of X's newest fragment
-pub acked_all-said_all : (X Y : End) (past : List Sent) (n : ℕ) → AcksBehind X Y past → n ≤ length past → length (acked Y (at n past)) ≡ length (said X past) → length (said X (at n past)) ≡ length (said X past)
+pub acked_all-said_all : (X Y : End) (past : List Sent) (n : ℕ) → AcksBehind X Y past → n ≤ length past
+    → length (acked Y (at n past)) ≡ length (said X past) → length (said X (at n past)) ≡ length (said X past)
 acked_all-said_all X Y past n all inside acked_all = omega (arith, all n inside, keys_below (data_of X) n past, acked_all)
 
 -- ---- tries
 
-pub run_again : (X : End) (key : Key) (bytes : List ℕ) (course : Course) (past : List Sent) → first (said X past) ≡ Some key → run X (data_frame X key bytes course ∷ past) ≡ run X past + 1
+pub run_again : (X : End) (key : Key) (bytes : List ℕ) (course : Course) (past : List Sent) → first (said X past) ≡ Some key
+    → run X (data_frame X key bytes course ∷ past) ≡ run X past + 1
 run_again X key bytes course past newest_is = cond-true _ _ _ (again_repeats X key bytes course past newest_is)
 
-pub run_begins : (X : End) (key : Key) (bytes : List ℕ) (course : Course) (past : List Sent) → (first (said X past) ≡ Some key → ⊥) → run X (data_frame X key bytes course ∷ past) ≡ 1
+pub run_begins : (X : End) (key : Key) (bytes : List ℕ) (course : Course) (past : List Sent) → (first (said X past) ≡ Some key → ⊥)
+    → run X (data_frame X key bytes course ∷ past) ≡ 1
 run_begins X key bytes course past new = cond-false _ _ _ (begun_no_repeat X key bytes course past new) ∙ cond-true _ _ _ (is_data-frame X key bytes course)
 
 pub run_other : (X : End) (frame : Sent) (past : List Sent) → is_data_of X frame ≡ false → run X (frame ∷ past) ≡ run X past

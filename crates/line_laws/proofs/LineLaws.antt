@@ -29,7 +29,9 @@ both_kinds X frame found older behind same is_data is_ack =
     both_ways _ (ap (λ (f : Sent). f.is_data) it ∙ not-true _ b) a
 
 -- a copy is taken and acknowledged once more
-pub line_copy : (X Y : End) (past : List Sent) (cx cy released : ℕ) (x y : Side) (rx ry : ReceiverValue) (fx fy : Bool) (tx ty : ℕ) (course : Course) (frame : Sent) → Apart X Y → Core X Y past cx cy x y rx ry fx fy → Timed X Y past cx cy released x tx → Timed Y X past cy cx released y ty → released ≤ length past
+pub line_copy : (X Y : End) (past : List Sent) (cx cy released : ℕ) (x y : Side) (rx ry : ReceiverValue) (fx fy : Bool) (tx ty : ℕ) (course : Course) (frame : Sent)
+    → Apart X Y → Core X Y past cx cy x y rx ry fx fy → Timed X Y past cx cy released x tx → Timed Y X past cy cx released y ty
+    → released ≤ length past
     → cx < length past → at (cx + 1) past ≡ frame ∷ at cx past → IsDataOf X frame → comes frame.course ≡ true → IsCopy X Y frame (cx + 1) past
     → Core X Y (ack_frame Y (frame.key) course ∷ past) (cx + 1) cy x y rx ry fx fy
     × Timed X Y (ack_frame Y (frame.key) course ∷ past) (cx + 1) cy released x tx
@@ -49,8 +51,11 @@ line_copy X Y past cx cy released x y rx ry fx fy tx ty course frame apart core 
           progress_push X Y (ack_frame Y (frame.key) course) past (cx + 1) cy released moved (ack_is_no_data X Y (frame.key) course) (said_ack Y X (frame.key) course past)
 
 -- the newest fragment is taken and acknowledged, and the other end waits no more
-pub line_newest : (X Y : End) (past : List Sent) (cx cy released : ℕ) (x y : Side) (rx ry : ReceiverValue) (fx fy : Bool) (tx ty k : ℕ) (course : Course) (frame : Sent) (answer : Taken) (whole : Bool) → Apart X Y → Core X Y past cx cy x y rx ry fx fy → Timed X Y past cx cy released x tx → Timed Y X past cy cx released y ty → released ≤ length past
-    → cx < length past → at (cx + 1) past ≡ frame ∷ at cx past → IsDataOf X frame → comes frame.course ≡ true → Accepting X Y past cy (cx + 1) x y rx ry (frame.key) (frame.bytes) answer whole → piece_count (length y.message) ≤ k
+pub line_newest : (X Y : End) (past : List Sent) (cx cy released : ℕ) (x y : Side) (rx ry : ReceiverValue) (fx fy : Bool) (tx ty k : ℕ) (course : Course) (frame : Sent) (answer : Taken) (whole : Bool)
+    → Apart X Y → Core X Y past cx cy x y rx ry fx fy → Timed X Y past cx cy released x tx → Timed Y X past cy cx released y ty
+    → released ≤ length past
+    → cx < length past → at (cx + 1) past ≡ frame ∷ at cx past → IsDataOf X frame → comes frame.course ≡ true
+    → Accepting X Y past cy (cx + 1) x y rx ry (frame.key) (frame.bytes) answer whole → piece_count (length y.message) ≤ k
     → Core X Y (ack_frame Y (frame.key) course ∷ past) (cx + 1) cy x (record y { acknowledged = k }) rx (after_answer ry (frame.key.id) (data_fragment (frame.key) (frame.bytes)) answer) false false
     × Timed X Y (ack_frame Y (frame.key) course ∷ past) (cx + 1) cy released x tx
     × Timed Y X (ack_frame Y (frame.key) course ∷ past) cy (cx + 1) released (record y { acknowledged = k }) ty
@@ -63,7 +68,8 @@ line_newest X Y past cx cy released x y rx ry fx fy tx ty k course frame answer 
     (after, time.0, time.1)
 
 -- an acknowledgement that bears another key than the waiting one isn't the awaited one
-pub other_ack : (X Y : End) (past : List Sent) (cx : ℕ) (x y : Side) (fy : Bool) (frame : Sent) → Follows (said Y past) (acked X past) fy → at (cx + 1) past ≡ frame ∷ at cx past → (first (said Y past) ≡ Some (frame.key) → ⊥) → (pends : AckPends Y X past cx) → pends.n ≡ cx + 1 → ⊥
+pub other_ack : (X Y : End) (past : List Sent) (cx : ℕ) (x y : Side) (fy : Bool) (frame : Sent) → Follows (said Y past) (acked X past) fy
+    → at (cx + 1) past ≡ frame ∷ at cx past → (first (said Y past) ≡ Some (frame.key) → ⊥) → (pends : AckPends Y X past cx) → pends.n ≡ cx + 1 → ⊥
 other_ack X Y past cx x y fy frame follows here other pends same =
     let all_of : frame ∷ at cx past ≡ pends.frame ∷ pends.older = sym here ∙ ap (λ (n : ℕ). at n past) (sym same) ∙ pends.here in
     let it : frame ≡ pends.frame = cc in
@@ -72,7 +78,8 @@ other_ack X Y past cx x y fy frame follows here other pends same =
     other (ap first (sym all) ∙ newest ∙ ap (λ (f : Sent). Some (f.key)) (sym it))
 
 -- it changes nothing
-pub line_other_ack : (X Y : End) (past : List Sent) (cx cy released : ℕ) (x y : Side) (rx ry : ReceiverValue) (fx fy : Bool) (tx ty : ℕ) (frame : Sent) → Core X Y past cx cy x y rx ry fx fy → Timed X Y past cx cy released x tx → Timed Y X past cy cx released y ty
+pub line_other_ack : (X Y : End) (past : List Sent) (cx cy released : ℕ) (x y : Side) (rx ry : ReceiverValue) (fx fy : Bool) (tx ty : ℕ) (frame : Sent)
+    → Core X Y past cx cy x y rx ry fx fy → Timed X Y past cx cy released x tx → Timed Y X past cy cx released y ty
     → cx < length past → at (cx + 1) past ≡ frame ∷ at cx past → IsAckOf X frame → (Waiting y → key_now y ≡ frame.key → ⊥)
     → Core X Y past (cx + 1) cy x y rx ry fx fy × Timed X Y past (cx + 1) cy released x tx × Timed Y X past cy (cx + 1) released y ty
 line_other_ack X Y past cx cy released x y rx ry fx fy tx ty frame core x_time y_time x_in here is other =
@@ -82,7 +89,8 @@ line_other_ack X Y past cx cy released x y rx ry fx fy tx ty frame core x_time y
     (passes X Y past cx cy x y rx ry fx fy (cx + 1) core (omega arith) (omega (arith, x_in)), time.0, time.1)
 
 -- a frame that doesn't come, or is of the other end, changes nothing
-pub line_skips : (X Y : End) (past : List Sent) (cx cy released : ℕ) (x y : Side) (rx ry : ReceiverValue) (fx fy : Bool) (tx ty : ℕ) (frame : Sent) → Core X Y past cx cy x y rx ry fx fy → Timed X Y past cx cy released x tx → Timed Y X past cy cx released y ty
+pub line_skips : (X Y : End) (past : List Sent) (cx cy released : ℕ) (x y : Side) (rx ry : ReceiverValue) (fx fy : Bool) (tx ty : ℕ) (frame : Sent)
+    → Core X Y past cx cy x y rx ry fx fy → Timed X Y past cx cy released x tx → Timed Y X past cy cx released y ty
     → cx < length past → at (cx + 1) past ≡ frame ∷ at cx past → (is_end X frame.from && comes frame.course) ≡ false
     → Core X Y past (cx + 1) cy x y rx ry fx fy × Timed X Y past (cx + 1) cy released x tx × Timed Y X past cy (cx + 1) released y ty
 line_skips X Y past cx cy released x y rx ry fx fy tx ty frame core x_time y_time x_in here gone =
@@ -96,25 +104,33 @@ line_skips X Y past cx cy released x y rx ry fx fy tx ty frame core x_time y_tim
 -- ---- acknowledgements of the waiting piece
 
 -- an end that waits no more has its queues alone
-pub timed_idle : (X Y : End) (past : List Sent) (cx cy released : ℕ) (x x' : Side) (tx : ℕ) → Timed X Y past cx cy released x tx → piece_count (length x'.message) ≤ x'.acknowledged → Timed X Y past cx cy released x' tx
+pub timed_idle : (X Y : End) (past : List Sent) (cx cy released : ℕ) (x x' : Side) (tx : ℕ) → Timed X Y past cx cy released x tx
+    → piece_count (length x'.message) ≤ x'.acknowledged → Timed X Y past cx cy released x' tx
 timed_idle X Y past cx cy released x x' tx time idle = record { queued = time.queued; held = time.held; progress = λ w. absurd (omega arith); tried = λ w. absurd (omega arith) }
 
 -- an acknowledgement of X comes, and Y waits for none from then on
-moves_idle : (X Y : End) (past : List Sent) (cx cy released : ℕ) (x y y' : Side) (tx ty : ℕ) (frame : Sent) → Timed X Y past cx cy released x tx → Timed Y X past cy cx released y ty → cx < length past → at (cx + 1) past ≡ frame ∷ at cx past → IsAckOf X frame → piece_count (length y'.message) ≤ y'.acknowledged
+moves_idle : (X Y : End) (past : List Sent) (cx cy released : ℕ) (x y y' : Side) (tx ty : ℕ) (frame : Sent) → Timed X Y past cx cy released x tx
+    → Timed Y X past cy cx released y ty → cx < length past → at (cx + 1) past ≡ frame ∷ at cx past → IsAckOf X frame
+    → piece_count (length y'.message) ≤ y'.acknowledged
     → Timed X Y past (cx + 1) cy released x tx × Timed Y X past cy (cx + 1) released y' ty
 moves_idle X Y past cx cy released x y y' tx ty frame x_time y_time x_in here is idle =
     time_passes X Y past cx cy released x y' tx ty x_time (timed_idle Y X past cy cx released y y' ty y_time idle) x_in
     (λ w pends same. both_kinds X pends.frame frame pends.older (at cx past) (sym pends.here ∙ ap (λ (n : ℕ). at n past) same ∙ here) pends.is is) (λ w. absurd (omega arith))
 
-pub line_last_ack : (X Y : End) (past : List Sent) (cx cy released : ℕ) (x y : Side) (rx ry : ReceiverValue) (fx fy : Bool) (tx ty : ℕ) (frame : Sent) → Core X Y past cx cy x y rx ry fx fy → Timed X Y past cx cy released x tx → Timed Y X past cy cx released y ty
-    → cx < length past → at (cx + 1) past ≡ frame ∷ at cx past → IsAckOf X frame → Waiting y → key_now y ≡ frame.key → y.acknowledged + 1 ≡ piece_count (length y.message)
+pub line_last_ack : (X Y : End) (past : List Sent) (cx cy released : ℕ) (x y : Side) (rx ry : ReceiverValue) (fx fy : Bool) (tx ty : ℕ) (frame : Sent)
+    → Core X Y past cx cy x y rx ry fx fy → Timed X Y past cx cy released x tx → Timed Y X past cy cx released y ty
+    → cx < length past → at (cx + 1) past ≡ frame ∷ at cx past → IsAckOf X frame → Waiting y → key_now y ≡ frame.key
+    → y.acknowledged + 1 ≡ piece_count (length y.message)
     → Core X Y past (cx + 1) cy x (acknowledged y) rx ry fx false × Timed X Y past (cx + 1) cy released x tx × Timed Y X past cy (cx + 1) released (acknowledged y) ty
 line_last_ack X Y past cx cy released x y rx ry fx fy tx ty frame core x_time y_time x_in here is waits key last =
     let time = moves_idle X Y past cx cy released x y (acknowledged y) tx ty frame x_time y_time x_in here is (omega arith) in
     (take_last_ack X Y past cx cy (cx + 1) x y rx ry fx fy frame (at cx past) core (omega arith) (omega (arith, x_in)) here is waits key last, time.0, time.1)
 
-pub line_next_piece : (X Y : End) (past : List Sent) (cx cy released : ℕ) (x y : Side) (rx ry : ReceiverValue) (fx fy : Bool) (tx ty : ℕ) (frame : Sent) (course : Course) → Apart X Y → Core X Y past cx cy x y rx ry fx fy → Timed X Y past cx cy released x tx → Timed Y X past cy cx released y ty → released ≤ length past
-    → cx < length past → at (cx + 1) past ≡ frame ∷ at cx past → IsAckOf X frame → Waiting y → key_now y ≡ frame.key → y.acknowledged + 1 < piece_count (length y.message)
+pub line_next_piece : (X Y : End) (past : List Sent) (cx cy released : ℕ) (x y : Side) (rx ry : ReceiverValue) (fx fy : Bool) (tx ty : ℕ) (frame : Sent) (course : Course)
+    → Apart X Y → Core X Y past cx cy x y rx ry fx fy → Timed X Y past cx cy released x tx → Timed Y X past cy cx released y ty
+    → released ≤ length past
+    → cx < length past → at (cx + 1) past ≡ frame ∷ at cx past → IsAckOf X frame → Waiting y → key_now y ≡ frame.key
+    → y.acknowledged + 1 < piece_count (length y.message)
     → Core X Y (data_frame Y (key_now (acknowledged y)) ((part_now (acknowledged y)).bytes) course ∷ past) (cx + 1) cy x (acknowledged y) rx ry false true
     × Timed X Y (data_frame Y (key_now (acknowledged y)) ((part_now (acknowledged y)).bytes) course ∷ past) (cx + 1) cy released x tx
     × Timed Y X (data_frame Y (key_now (acknowledged y)) ((part_now (acknowledged y)).bytes) course ∷ past) cy (cx + 1) released (acknowledged y) 1
@@ -131,8 +147,11 @@ line_next_piece X Y past cx cy released x y rx ry fx fy tx ty frame course apart
 
 -- ---- a message begins
 
-pub line_starts : (X Y : End) (past : List Sent) (cx cy released : ℕ) (x y : Side) (rx ry : ReceiverValue) (tx ty id : ℕ) (message : List ℕ) (course : Course) → Apart X Y → Core X Y past cx cy x y rx ry false false → Timed X Y past cx cy released x tx → Timed Y X past cy cx released y ty → released ≤ length past
-    → length (said X past) ≤ length (acked Y (at cy past)) → (id ≡ x.id → ⊥) → ry.awaited ≡ Some id → ry.pieces ≡ [] → (Waiting y → y.acknowledged + 1 ≡ piece_count (length y.message))
+pub line_starts : (X Y : End) (past : List Sent) (cx cy released : ℕ) (x y : Side) (rx ry : ReceiverValue) (tx ty id : ℕ) (message : List ℕ) (course : Course)
+    → Apart X Y → Core X Y past cx cy x y rx ry false false → Timed X Y past cx cy released x tx → Timed Y X past cy cx released y ty
+    → released ≤ length past
+    → length (said X past) ≤ length (acked Y (at cy past)) → (id ≡ x.id → ⊥) → ry.awaited ≡ Some id → ry.pieces ≡ []
+    → (Waiting y → y.acknowledged + 1 ≡ piece_count (length y.message))
     → Core X Y (data_frame X (key_now (beginning id message)) ((part_now (beginning id message)).bytes) course ∷ past) cx cy (beginning id message) y rx ry true false
     × Timed X Y (data_frame X (key_now (beginning id message)) ((part_now (beginning id message)).bytes) course ∷ past) cx cy released (beginning id message) 1
     × Timed Y X (data_frame X (key_now (beginning id message)) ((part_now (beginning id message)).bytes) course ∷ past) cy cx released y ty

@@ -24,7 +24,8 @@ no_data_comes X frame other = and_false (is_data_of X frame) (comes frame.course
 -- ---- the load
 
 -- a frame that is no data of either end
-pub load_push : (X Y : End) (frame : Sent) (past : List Sent) (cx cy : ℕ) → cx ≤ length past → cy ≤ length past → is_data_of X frame ≡ false → is_data_of Y frame ≡ false → load X Y (frame ∷ past) cx cy ≡ load X Y past cx cy + 1
+pub load_push : (X Y : End) (frame : Sent) (past : List Sent) (cx cy : ℕ) → cx ≤ length past → cy ≤ length past → is_data_of X frame ≡ false
+    → is_data_of Y frame ≡ false → load X Y (frame ∷ past) cx cy ≡ load X Y past cx cy + 1
 load_push X Y frame past cx cy x_in y_in no_x no_y =
     let a = count_at-push (data_comes X) cx frame past x_in in
     let b = count_at-push (data_comes Y) cy frame past y_in in
@@ -33,7 +34,8 @@ load_push X Y frame past cx cy x_in y_in no_x no_y =
     omega (arith, a, b, c, d)
 
 -- a data frame of one end
-pub load_sent : (X Y : End) (frame : Sent) (past : List Sent) (cx cy : ℕ) → cx ≤ length past → cy ≤ length past → is_data_of Y frame ≡ false → load X Y (frame ∷ past) cx cy ≤ load X Y past cx cy + 2
+pub load_sent : (X Y : End) (frame : Sent) (past : List Sent) (cx cy : ℕ) → cx ≤ length past → cy ≤ length past → is_data_of Y frame ≡ false
+    → load X Y (frame ∷ past) cx cy ≤ load X Y past cx cy + 2
 load_sent X Y frame past cx cy x_in y_in no_y =
     let a = count_at-push (data_comes X) cx frame past x_in in
     let b = count_at-push (data_comes Y) cy frame past y_in in
@@ -49,7 +51,8 @@ pub load_moves : (X Y : End) (past : List Sent) (cx cy later : ℕ) → cx ≤ l
 load_moves X Y past cx cy later more inside = let g = count_grows (data_comes X) cx later past more inside in omega (arith, g)
 
 -- data that comes is taken
-pub load_takes : (X Y : End) (past : List Sent) (cx cy : ℕ) (frame : Sent) (older : List Sent) → cx < length past → at (cx + 1) past ≡ frame ∷ older → older ≡ at cx past → data_comes X frame ≡ true → load X Y past (cx + 1) cy + 1 ≡ load X Y past cx cy
+pub load_takes : (X Y : End) (past : List Sent) (cx cy : ℕ) (frame : Sent) (older : List Sent) → cx < length past → at (cx + 1) past ≡ frame ∷ older
+    → older ≡ at cx past → data_comes X frame ≡ true → load X Y past (cx + 1) cy + 1 ≡ load X Y past cx cy
 load_takes X Y past cx cy frame older inside here behind comes_here =
     let one : count (data_comes X) (at (cx + 1) past) ≡ count (data_comes X) (at cx past) + 1 = ap (λ (s : List Sent). count (data_comes X) s) here ∙ count_pass (data_comes X) frame older comes_here ∙ ap (λ (s : List Sent). count (data_comes X) s + 1) behind in
     let rest = count_grows (data_comes X) (cx + 1) (length past) past (omega (arith, inside)) (omega arith) in
@@ -59,7 +62,8 @@ load_takes X Y past cx cy frame older inside here behind comes_here =
 -- ---- the queues
 
 pub queued_push : (X : End) (frame : Sent) (past : List Sent) (cx released : ℕ) → Queued X past cx released → cx ≤ length past → released ≤ length past
-    → count (is_data_of X) (frame ∷ past) + length (said X past) ≤ count (is_data_of X) past + length (said X (frame ∷ past)) → Queued X (frame ∷ past) cx released
+    → count (is_data_of X) (frame ∷ past) + length (said X past) ≤ count (is_data_of X) past + length (said X (frame ∷ past))
+    → Queued X (frame ∷ past) cx released
 queued_push X frame past cx released queued x_in r_in fair =
     let a = count_at-push (is_data_of X) released frame past r_in in
     let b = ap (λ (s : List Sent). length (said X s)) (at_push released frame past r_in) in
@@ -67,17 +71,21 @@ queued_push X frame past cx released queued x_in r_in fair =
     let d = count_at-push (data_comes X) cx frame past x_in in
     record { once = omega (arith, queued.once, a, b, fair); old = omega (arith, queued.old, c, d) }
 
-pub queued_moves : (X : End) (past : List Sent) (cx later released : ℕ) → Queued X past cx released → cx ≤ later → later ≤ length past → Queued X past later released
+pub queued_moves : (X : End) (past : List Sent) (cx later released : ℕ) → Queued X past cx released → cx ≤ later → later ≤ length past
+    → Queued X past later released
 queued_moves X past cx later released queued more inside = record { once = queued.once; old = omega (arith, queued.old, count_grows (data_comes X) cx later past more inside) }
 
 -- ---- the budgets
 
 pub first_step : (X Y : End) (past later : List Sent) (cx cy dx dy : ℕ) → FirstTry X Y past cx cy → newest (is_data_of X) later ≡ newest (is_data_of X) past
-    → load X Y later dx dy + 2 * length (acked X later) + 2 * length (said Y past) ≤ load X Y past cx cy + 2 * length (acked X past) + 2 * length (said Y later) → FirstTry X Y later dx dy
+    → load X Y later dx dy + 2 * length (acked X later) + 2 * length (said Y past) ≤ load X Y past cx cy + 2 * length (acked X past) + 2 * length (said Y later)
+    → FirstTry X Y later dx dy
 first_step X Y past later cx cy dx dy was same fair = record { bound = omega (arith, was.bound, same, fair) }
 
-pub held_up-step : (X Y : End) (frame : Sent) (past : List Sent) (cx cy dx dy released faults : ℕ) → HeldUp 0 X Y past cx cy released faults → released ≤ length past
-    → load X Y (frame ∷ past) dx dy + 2 * length (acked X (frame ∷ past)) + 2 * length (said Y past) ≤ load X Y past cx cy + 2 * length (acked X past) + 2 * length (said Y (frame ∷ past)) → HeldUp 0 X Y (frame ∷ past) dx dy released faults
+pub held_up-step : (X Y : End) (frame : Sent) (past : List Sent) (cx cy dx dy released faults : ℕ) → HeldUp 0 X Y past cx cy released faults
+    → released ≤ length past
+    → load X Y (frame ∷ past) dx dy + 2 * length (acked X (frame ∷ past)) + 2 * length (said Y past) ≤ load X Y past cx cy + 2 * length (acked X past) + 2 * length (said Y (frame ∷ past))
+    → HeldUp 0 X Y (frame ∷ past) dx dy released faults
 held_up-step X Y frame past cx cy dx dy released faults was r_in fair = record {
   f = was.f;
   some = was.some;
@@ -86,10 +94,12 @@ held_up-step X Y frame past cx cy dx dy released faults was r_in fair = record {
   bound = omega (arith, was.bound, fair);
 }
 
-pub held_up-moves : (X Y : End) (past : List Sent) (cx cy dx dy released faults : ℕ) → HeldUp 0 X Y past cx cy released faults → load X Y past dx dy ≤ load X Y past cx cy → HeldUp 0 X Y past dx dy released faults
+pub held_up-moves : (X Y : End) (past : List Sent) (cx cy dx dy released faults : ℕ) → HeldUp 0 X Y past cx cy released faults
+    → load X Y past dx dy ≤ load X Y past cx cy → HeldUp 0 X Y past dx dy released faults
 held_up-moves X Y past cx cy dx dy released faults was fair = record { f = was.f; some = was.some; inside = was.inside; faults_are = was.faults_are; bound = omega (arith, was.bound, fair) }
 
-pub held_moves : (slack : ℕ) (X Y : End) (past : List Sent) (cx cy dx dy released : ℕ) → HeldBudget slack X Y past cx cy released → cx ≤ dx → load X Y past dx dy ≤ load X Y past cx cy → HeldBudget slack X Y past dx dy released
+pub held_moves : (slack : ℕ) (X Y : End) (past : List Sent) (cx cy dx dy released : ℕ) → HeldBudget slack X Y past cx cy released → cx ≤ dx
+    → load X Y past dx dy ≤ load X Y past cx cy → HeldBudget slack X Y past dx dy released
 held_moves slack X Y past cx cy dx dy released all more fair n frame older from above inside here late = omega (arith, all n frame older (omega (arith, from, more)) above inside here late, fair)
 
 -- a pushed frame, which itself stands within the budget

@@ -23,52 +23,66 @@ rest-idle side tries idle = cond-false _ _ _ (le-ltb _ _ idle)
 
 -- ---- the work over each kind of step
 
-work_moves : (X Y : End) (past : List Sent) (cx cy pieces tries fewer less : ℕ) → cx < length past → cy ≤ length past → fewer ≤ pieces → less ≤ tries → work X Y past (cx + 1) cy fewer less < work X Y past cx cy pieces tries
+work_moves : (X Y : End) (past : List Sent) (cx cy pieces tries fewer less : ℕ) → cx < length past → cy ≤ length past → fewer ≤ pieces → less ≤ tries
+    → work X Y past (cx + 1) cy fewer less < work X Y past cx cy pieces tries
 work_moves X Y past cx cy pieces tries fewer less x_in y_in f l = omega (arith, load_moves X Y past cx cy (cx + 1) (omega arith) (omega (arith, x_in)), x_in, y_in, f, l)
 
-work_taken : (X Y : End) (ack : Sent) (past : List Sent) (cx cy pieces tries fewer less : ℕ) (frame : Sent) → cx < length past → cy ≤ length past → at (cx + 1) past ≡ frame ∷ at cx past → data_comes X frame ≡ true → is_data_of X ack ≡ false → is_data_of Y ack ≡ false → fewer ≤ pieces → less ≤ tries
+work_taken : (X Y : End) (ack : Sent) (past : List Sent) (cx cy pieces tries fewer less : ℕ) (frame : Sent) → cx < length past → cy ≤ length past
+    → at (cx + 1) past ≡ frame ∷ at cx past → data_comes X frame ≡ true → is_data_of X ack ≡ false → is_data_of Y ack ≡ false → fewer ≤ pieces
+    → less ≤ tries
     → work X Y (ack ∷ past) (cx + 1) cy fewer less < work X Y past cx cy pieces tries
 work_taken X Y ack past cx cy pieces tries fewer less frame x_in y_in here comes_here no_x no_y f l =
     omega (arith, load_push X Y ack past (cx + 1) cy (omega (arith, x_in)) y_in no_x no_y, load_takes X Y past cx cy frame (at cx past) x_in here refl comes_here, x_in, y_in, f, l)
 
-work_sent : (X Y : End) (frame : Sent) (past : List Sent) (cx cy pieces tries less : ℕ) → cx ≤ length past → cy ≤ length past → is_data_of Y frame ≡ false → less < tries → work X Y (frame ∷ past) cx cy pieces less < work X Y past cx cy pieces tries
+work_sent : (X Y : End) (frame : Sent) (past : List Sent) (cx cy pieces tries less : ℕ) → cx ≤ length past → cy ≤ length past
+    → is_data_of Y frame ≡ false → less < tries → work X Y (frame ∷ past) cx cy pieces less < work X Y past cx cy pieces tries
 work_sent X Y frame past cx cy pieces tries less x_in y_in no_y l = omega (arith, load_sent X Y frame past cx cy x_in y_in no_y, x_in, y_in, l)
 
-work_next : (X Y : End) (frame : Sent) (past : List Sent) (cx cy pieces tries fewer more : ℕ) → cx < length past → cy ≤ length past → is_data_of X frame ≡ false → fewer + 1 ≤ pieces → more ≤ tries + 9 → work X Y (frame ∷ past) (cx + 1) cy fewer more < work X Y past cx cy pieces tries
+work_next : (X Y : End) (frame : Sent) (past : List Sent) (cx cy pieces tries fewer more : ℕ) → cx < length past → cy ≤ length past
+    → is_data_of X frame ≡ false → fewer + 1 ≤ pieces → more ≤ tries + 9
+    → work X Y (frame ∷ past) (cx + 1) cy fewer more < work X Y past cx cy pieces tries
 work_next X Y frame past cx cy pieces tries fewer more x_in y_in no_x f m =
     omega (arith, load_sent Y X frame past cy (cx + 1) y_in (omega (arith, x_in)) no_x, load_turned X Y (frame ∷ past) (cx + 1) cy, load_turned X Y past (cx + 1) cy, load_moves X Y past cx cy (cx + 1) (omega arith) (omega (arith, x_in)), x_in, y_in, f, m)
 
 -- ---- a running line
 
 -- a frame of X is passed
-pub measure_passes : (X Y : End) (past : List Sent) (cx cy : ℕ) (x y : Side) (tx ty : ℕ) → cx < length past → cy ≤ length past → measure X Y past (cx + 1) cy x y tx ty < measure X Y past cx cy x y tx ty
+pub measure_passes : (X Y : End) (past : List Sent) (cx cy : ℕ) (x y : Side) (tx ty : ℕ) → cx < length past → cy ≤ length past
+    → measure X Y past (cx + 1) cy x y tx ty < measure X Y past cx cy x y tx ty
 measure_passes X Y past cx cy x y tx ty x_in y_in = work_moves X Y past cx cy (left x + left y) (rest_tries x tx + rest_tries y ty) (left x + left y) (rest_tries x tx + rest_tries y ty) x_in y_in (omega arith) (omega arith)
 
 -- data of X is taken and acknowledged, and Y's side stays or ends
-pub measure_copy : (X Y : End) (past : List Sent) (cx cy : ℕ) (x y : Side) (tx ty : ℕ) (course : Course) (frame : Sent) → cx < length past → cy ≤ length past → at (cx + 1) past ≡ frame ∷ at cx past → IsDataOf X frame → comes frame.course ≡ true → measure X Y (ack_frame Y (frame.key) course ∷ past) (cx + 1) cy x y tx ty < measure X Y past cx cy x y tx ty
+pub measure_copy : (X Y : End) (past : List Sent) (cx cy : ℕ) (x y : Side) (tx ty : ℕ) (course : Course) (frame : Sent) → cx < length past
+    → cy ≤ length past → at (cx + 1) past ≡ frame ∷ at cx past → IsDataOf X frame → comes frame.course ≡ true
+    → measure X Y (ack_frame Y (frame.key) course ∷ past) (cx + 1) cy x y tx ty < measure X Y past cx cy x y tx ty
 measure_copy X Y past cx cy x y tx ty course frame x_in y_in here is comes_here =
     work_taken X Y (ack_frame Y (frame.key) course) past cx cy (left x + left y) (rest_tries x tx + rest_tries y ty) (left x + left y) (rest_tries x tx + rest_tries y ty) frame x_in y_in here (and_from (is_data_of X frame) (comes frame.course) is comes_here) (ack_is_no_data X Y (frame.key) course) (ack_is_no_data Y Y (frame.key) course) (omega arith) (omega arith)
 
-pub measure_newest : (X Y : End) (past : List Sent) (cx cy : ℕ) (x y : Side) (tx ty k : ℕ) (course : Course) (frame : Sent) → cx < length past → cy ≤ length past → at (cx + 1) past ≡ frame ∷ at cx past → IsDataOf X frame → comes frame.course ≡ true → piece_count (length y.message) ≤ k
+pub measure_newest : (X Y : End) (past : List Sent) (cx cy : ℕ) (x y : Side) (tx ty k : ℕ) (course : Course) (frame : Sent) → cx < length past
+    → cy ≤ length past → at (cx + 1) past ≡ frame ∷ at cx past → IsDataOf X frame → comes frame.course ≡ true → piece_count (length y.message) ≤ k
     → measure X Y (ack_frame Y (frame.key) course ∷ past) (cx + 1) cy x (record y { acknowledged = k }) tx ty < measure X Y past cx cy x y tx ty
 measure_newest X Y past cx cy x y tx ty k course frame x_in y_in here is comes_here idle =
     let done = rest-idle (record y { acknowledged = k }) ty idle in
     work_taken X Y (ack_frame Y (frame.key) course) past cx cy (left x + left y) (rest_tries x tx + rest_tries y ty) (left x + left (record y { acknowledged = k })) (rest_tries x tx + rest_tries (record y { acknowledged = k }) ty) frame x_in y_in here (and_from (is_data_of X frame) (comes frame.course) is comes_here) (ack_is_no_data X Y (frame.key) course) (ack_is_no_data Y Y (frame.key) course)
     (omega (arith, idle)) (omega (arith, done))
 
-pub measure_last_ack : (X Y : End) (past : List Sent) (cx cy : ℕ) (x y : Side) (tx ty : ℕ) → cx < length past → cy ≤ length past → y.acknowledged + 1 ≡ piece_count (length y.message) → measure X Y past (cx + 1) cy x (acknowledged y) tx ty < measure X Y past cx cy x y tx ty
+pub measure_last_ack : (X Y : End) (past : List Sent) (cx cy : ℕ) (x y : Side) (tx ty : ℕ) → cx < length past → cy ≤ length past
+    → y.acknowledged + 1 ≡ piece_count (length y.message) → measure X Y past (cx + 1) cy x (acknowledged y) tx ty < measure X Y past cx cy x y tx ty
 measure_last_ack X Y past cx cy x y tx ty x_in y_in last =
     let done = rest-idle (acknowledged y) ty (omega (arith, last)) in
     work_moves X Y past cx cy (left x + left y) (rest_tries x tx + rest_tries y ty) (left x + left (acknowledged y)) (rest_tries x tx + rest_tries (acknowledged y) ty) x_in y_in (omega (arith, last)) (omega (arith, done))
 
-pub measure_next_piece : (X Y : End) (past : List Sent) (cx cy : ℕ) (x y : Side) (tx ty : ℕ) (key : Key) (bytes : List ℕ) (course : Course) → is_data_of X (data_frame Y key bytes course) ≡ false → cx < length past → cy ≤ length past → y.acknowledged + 1 < piece_count (length y.message)
+pub measure_next_piece : (X Y : End) (past : List Sent) (cx cy : ℕ) (x y : Side) (tx ty : ℕ) (key : Key) (bytes : List ℕ) (course : Course)
+    → is_data_of X (data_frame Y key bytes course) ≡ false → cx < length past → cy ≤ length past → y.acknowledged + 1 < piece_count (length y.message)
     → measure X Y (data_frame Y key bytes course ∷ past) (cx + 1) cy x (acknowledged y) tx 1 < measure X Y past cx cy x y tx ty
 measure_next_piece X Y past cx cy x y tx ty key bytes course no_x x_in y_in more =
     let rest = rest-waits (acknowledged y) 1 more in
     work_next X Y (data_frame Y key bytes course) past cx cy (left x + left y) (rest_tries x tx + rest_tries y ty) (left x + left (acknowledged y)) (rest_tries x tx + rest_tries (acknowledged y) 1) x_in y_in no_x (omega (arith, more)) (omega (arith, rest))
 
 -- X sends again
-pub measure_again : (X Y : End) (past : List Sent) (cx cy : ℕ) (x y : Side) (tx ty : ℕ) (key : Key) (bytes : List ℕ) (course : Course) → is_data_of Y (data_frame X key bytes course) ≡ false → cx ≤ length past → cy ≤ length past → Waiting x → tx < 10 → measure X Y (data_frame X key bytes course ∷ past) cx cy x y (suc tx) ty < measure X Y past cx cy x y tx ty
+pub measure_again : (X Y : End) (past : List Sent) (cx cy : ℕ) (x y : Side) (tx ty : ℕ) (key : Key) (bytes : List ℕ) (course : Course)
+    → is_data_of Y (data_frame X key bytes course) ≡ false → cx ≤ length past → cy ≤ length past → Waiting x → tx < 10
+    → measure X Y (data_frame X key bytes course ∷ past) cx cy x y (suc tx) ty < measure X Y past cx cy x y tx ty
 measure_again X Y past cx cy x y tx ty key bytes course no_y x_in y_in waits few =
     let now = rest-waits x tx waits in
     let then = rest-waits x (suc tx) waits in

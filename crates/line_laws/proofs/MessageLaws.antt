@@ -25,7 +25,8 @@ pieces-more [] j (suc k) less inside = absurd (omega arith)
 pieces-more (message ∷ later) zero (suc k) less inside = omega (arith, some_pieces (length message))
 pieces-more (message ∷ later) (suc j) (suc k) less inside = omega (arith, pieces-more later j k (omega arith) (omega arith))
 
-pieces-stay : (messages : List (List ℕ)) (message : List ℕ) (k : ℕ) → k ≤ length messages → pieces_before (messages ++ message ∷ []) k ≡ pieces_before messages k
+pieces-stay : (messages : List (List ℕ)) (message : List ℕ) (k : ℕ) → k ≤ length messages
+    → pieces_before (messages ++ message ∷ []) k ≡ pieces_before messages k
 pieces-stay messages message zero inside = refl
 pieces-stay [] message (suc k) inside = absurd (omega arith)
 pieces-stay (first ∷ later) message (suc k) inside = ap (λ (n : ℕ). piece_count (length first) + n) (pieces-stay later message k (omega arith))
@@ -34,7 +35,8 @@ one_more : (messages : List (List ℕ)) (message : List ℕ) → length (message
 one_more [] message = refl
 one_more (first ∷ later) message = omega (arith, one_more later message)
 
-pieces-all : (messages : List (List ℕ)) (message : List ℕ) → pieces_before (messages ++ message ∷ []) (length messages + 1) ≡ pieces_before messages (length messages) + piece_count (length message)
+pieces-all : (messages : List (List ℕ)) (message : List ℕ)
+    → pieces_before (messages ++ message ∷ []) (length messages + 1) ≡ pieces_before messages (length messages) + piece_count (length message)
 pieces-all [] message = omega arith
 pieces-all (first ∷ later) message =
     let next : length (first ∷ later) + 1 ≡ suc (length later + 1) = omega arith in
@@ -71,7 +73,8 @@ pub count-say : (X : End) (message : List ℕ) (talk : Talk) → count_messages 
 count-say Handheld message talk = one_more talk.handheld message
 count-say Desktop message talk = one_more talk.desktop message
 
-pub pieces-say : (X : End) (message : List ℕ) (talk : Talk) → pieces_before (messages_of X (say X message talk)) (count_messages X talk + 1) ≡ pieces_before (messages_of X talk) (count_messages X talk) + piece_count (length message)
+pub pieces-say : (X : End) (message : List ℕ) (talk : Talk)
+    → pieces_before (messages_of X (say X message talk)) (count_messages X talk + 1) ≡ pieces_before (messages_of X talk) (count_messages X talk) + piece_count (length message)
 pieces-say Handheld message talk = pieces-all talk.handheld message
 pieces-say Desktop message talk = pieces-all talk.desktop message
 
@@ -83,7 +86,8 @@ messages-other Desktop Desktop message talk apart = absurd cc
 
 -- ---- the rules stay
 
-pub known-longer : (X Y : End) (talk later : Talk) (came : ℕ → Bool) (past : List Sent) → Longer talk later → IsKnown X Y talk came past → IsKnown X Y later came past
+pub known-longer : (X Y : End) (talk later : Talk) (came : ℕ → Bool) (past : List Sent) → Longer talk later → IsKnown X Y talk came past
+    → IsKnown X Y later came past
 known-longer X Y talk later came past longer was = record { n = was.n; reaches = was.reaches; cause = go was.reaches.frame was.cause }
   where
     go : (frame : Sent) → AcksNewest X Y past was.n frame ⊎ AnswersNewest X Y talk past was.n frame → AcksNewest X Y past was.n frame ⊎ AnswersNewest X Y later past was.n frame
@@ -98,7 +102,8 @@ known-longer X Y talk later came past longer was = record { n = was.n; reaches =
       bears = record { is = answer.bears.is; number_is = answer.bears.number_is ∙ ap (λ (k : ℕ). k + 1) (sym (longer.stays Y answer.answer (omega (arith, answer.there)))) };
     })
 
-pub answers-longer : (turn : Option Turn) (talk later : Talk) (came : ℕ → Bool) (past : List Sent) → Longer talk later → IfAnswers turn talk came past → IfAnswers turn later came past
+pub answers-longer : (turn : Option Turn) (talk later : Talk) (came : ℕ → Bool) (past : List Sent) → Longer talk later → IfAnswers turn talk came past
+    → IfAnswers turn later came past
 answers-longer None talk later came past longer was = tt
 answers-longer (Some turn) talk later came past longer was = record {
   n = was.n;
@@ -108,7 +113,8 @@ answers-longer (Some turn) talk later came past longer was = record {
 }
 
 -- a new fragment is one more
-pub new-says : (X : End) (frame : Sent) (past : List Sent) → is_data_of X frame ≡ true → is_repeat X frame past ≡ false → length (said X (frame ∷ past)) ≡ length (said X past) + 1
+pub new-says : (X : End) (frame : Sent) (past : List Sent) → is_data_of X frame ≡ true → is_repeat X frame past ≡ false
+    → length (said X (frame ∷ past)) ≡ length (said X past) + 1
 new-says X frame past is new =
     let picked : data_of X frame ≡ Some frame.key = cond-true _ _ _ is in
     let other : is_newest_key frame.key (said X past) ≡ false = ap (λ (b : Bool). b && is_newest_key frame.key (said X past)) (sym is) ∙ new in
@@ -126,7 +132,9 @@ said-grows X frame past = go (data_of X frame) (said X past)
     go (Some key) [] = omega arith
     go (Some key) (newest ∷ older) = elim (same_key key newest) as (λ b. length (newest ∷ older) ≤ length (cond b (newest ∷ older) (key ∷ newest ∷ older))) [ true ↦ omega arith | false ↦ omega arith ]
 
-pub begins-longer : (X Y : End) (talk later : Talk) (came : ℕ → Bool) (past : List Sent) → Longer talk later → length (said X past) ≤ pieces_before (messages_of X talk) (count_messages X talk) → BeginInTurn X Y talk came past → BeginInTurn X Y later came past
+pub begins-longer : (X Y : End) (talk later : Talk) (came : ℕ → Bool) (past : List Sent) → Longer talk later
+    → length (said X past) ≤ pieces_before (messages_of X talk) (count_messages X talk) → BeginInTurn X Y talk came past
+    → BeginInTurn X Y later came past
 begins-longer X Y talk later came [] longer most was = tt
 begins-longer X Y talk later came (frame ∷ past) longer most was = (
   λ is new. let rules = was.0 is new in

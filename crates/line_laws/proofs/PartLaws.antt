@@ -60,17 +60,21 @@ heard_is_acked X Y past cx follow = heard_keys X (at cx past) ∙ ap each_once (
 -- ---- over the steps
 
 -- X begins a fragment: one part more
-pub spoken_begins : (X : End) (key : Key) (bytes : List ℕ) (course : Course) (past : List Sent) → (first (said X past) ≡ Some key → ⊥) → spoken X (data_frame X key bytes course ∷ past) ≡ record { key = key; bytes = bytes } ∷ spoken X past
+pub spoken_begins : (X : End) (key : Key) (bytes : List ℕ) (course : Course) (past : List Sent) → (first (said X past) ≡ Some key → ⊥)
+    → spoken X (data_frame X key bytes course ∷ past) ≡ record { key = key; bytes = bytes } ∷ spoken X past
 spoken_begins X key bytes course past new = cond-true _ _ _ (is_data-frame X key bytes course) ∙ add_part-new _ (spoken X past) (λ same. new (ap first (sym (spoken_keys X past)) ∙ same))
 
 -- X sends again: none more
-pub spoken_again : (X : End) (key : Key) (bytes : List ℕ) (course : Course) (past : List Sent) → first (said X past) ≡ Some key → spoken X (data_frame X key bytes course ∷ past) ≡ spoken X past
+pub spoken_again : (X : End) (key : Key) (bytes : List ℕ) (course : Course) (past : List Sent) → first (said X past) ≡ Some key
+    → spoken X (data_frame X key bytes course ∷ past) ≡ spoken X past
 spoken_again X key bytes course past same = cond-true _ _ _ (is_data-frame X key bytes course) ∙ add_part-again _ (spoken X past) (ap first (spoken_keys X past) ∙ same)
 
 -- the other end takes a new fragment: one part more
-pub heard_newest : (X Y : End) (past : List Sent) (cx : ℕ) (frame : Sent) → AcksFollow X Y past cx → at (cx + 1) past ≡ frame ∷ at cx past → data_comes X frame ≡ true → (first (acked Y past) ≡ Some (frame.key) → ⊥) → heard X (at (cx + 1) past) ≡ part_of frame ∷ heard X (at cx past)
+pub heard_newest : (X Y : End) (past : List Sent) (cx : ℕ) (frame : Sent) → AcksFollow X Y past cx → at (cx + 1) past ≡ frame ∷ at cx past
+    → data_comes X frame ≡ true → (first (acked Y past) ≡ Some (frame.key) → ⊥) → heard X (at (cx + 1) past) ≡ part_of frame ∷ heard X (at cx past)
 heard_newest X Y past cx frame follow here comes_here new = ap (λ (s : List Sent). heard X s) here ∙ cond-true _ _ _ comes_here ∙ add_part-new _ (heard X (at cx past)) (λ same. new (ap first (sym (heard_is_acked X Y past cx follow)) ∙ same))
 
 -- it takes a copy: none more
-pub heard_copy : (X Y : End) (past : List Sent) (cx : ℕ) (frame : Sent) → AcksFollow X Y past cx → at (cx + 1) past ≡ frame ∷ at cx past → data_comes X frame ≡ true → first (acked Y past) ≡ Some (frame.key) → heard X (at (cx + 1) past) ≡ heard X (at cx past)
+pub heard_copy : (X Y : End) (past : List Sent) (cx : ℕ) (frame : Sent) → AcksFollow X Y past cx → at (cx + 1) past ≡ frame ∷ at cx past
+    → data_comes X frame ≡ true → first (acked Y past) ≡ Some (frame.key) → heard X (at (cx + 1) past) ≡ heard X (at cx past)
 heard_copy X Y past cx frame follow here comes_here same = ap (λ (s : List Sent). heard X s) here ∙ cond-true _ _ _ comes_here ∙ add_part-again _ (heard X (at cx past)) (ap first (heard_is_acked X Y past cx follow) ∙ same)

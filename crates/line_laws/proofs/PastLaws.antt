@@ -107,7 +107,8 @@ keys_end_at pick m n past below inside = subst (λ (s : List Sent). Ends (keys p
 pub keys_end_all : (pick : Sent → Option Key) (n : ℕ) (past : List Sent) → Ends (keys pick (at n past)) (keys pick past)
 keys_end_all pick n past = keys_end pick (length past - n) past
 
-pub keys_grow : (pick : Sent → Option Key) (m n : ℕ) (past : List Sent) → m ≤ n → n ≤ length past → length (keys pick (at m past)) ≤ length (keys pick (at n past))
+pub keys_grow : (pick : Sent → Option Key) (m n : ℕ) (past : List Sent) → m ≤ n → n ≤ length past
+    → length (keys pick (at m past)) ≤ length (keys pick (at n past))
 keys_grow pick m n past below inside = let ends = keys_end_at pick m n past below inside in omega arith
 
 pub keys_below : (pick : Sent → Option Key) (n : ℕ) (past : List Sent) → length (keys pick (at n past)) ≤ length (keys pick past)
@@ -133,11 +134,13 @@ pub is_end-same : (X : End) → is_end X X ≡ true
 is_end-same Handheld = refl
 is_end-same Desktop = refl
 
-pub said_data : (X : End) (key : Key) (bytes : List ℕ) (course : Course) (past : List Sent) → said X (data_frame X key bytes course ∷ past) ≡ add (Some key) (said X past)
+pub said_data : (X : End) (key : Key) (bytes : List ℕ) (course : Course) (past : List Sent)
+    → said X (data_frame X key bytes course ∷ past) ≡ add (Some key) (said X past)
 said_data Handheld key bytes course past = refl
 said_data Desktop key bytes course past = refl
 
-pub said_data-other : (X Y : End) → is_end Y X ≡ false → (key : Key) (bytes : List ℕ) (course : Course) (past : List Sent) → said Y (data_frame X key bytes course ∷ past) ≡ said Y past
+pub said_data-other : (X Y : End) → is_end Y X ≡ false → (key : Key) (bytes : List ℕ) (course : Course) (past : List Sent)
+    → said Y (data_frame X key bytes course ∷ past) ≡ said Y past
 said_data-other Handheld Handheld apart key bytes course past = absurd cc
 said_data-other Desktop Desktop apart key bytes course past = absurd cc
 said_data-other Handheld Desktop apart key bytes course past = refl
@@ -153,7 +156,8 @@ pub acked_ack : (X : End) (key : Key) (course : Course) (past : List Sent) → a
 acked_ack Handheld key course past = refl
 acked_ack Desktop key course past = refl
 
-pub acked_ack-other : (X Y : End) → is_end Y X ≡ false → (key : Key) (course : Course) (past : List Sent) → acked Y (ack_frame X key course ∷ past) ≡ acked Y past
+pub acked_ack-other : (X Y : End) → is_end Y X ≡ false → (key : Key) (course : Course) (past : List Sent)
+    → acked Y (ack_frame X key course ∷ past) ≡ acked Y past
 acked_ack-other Handheld Handheld apart key course past = absurd cc
 acked_ack-other Desktop Desktop apart key course past = absurd cc
 acked_ack-other Handheld Desktop apart key course past = refl

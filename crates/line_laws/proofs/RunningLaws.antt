@@ -27,14 +27,17 @@ use Rattle.line_laws.proofs.TracedLaws.{traced_turned, traced_moves, traced_take
 
 -- ---- what an end knows
 
-pub knows_moves : (X Y : End) (past : List Sent) (cy : ℕ) (x : Side) (tx : ℕ) (frame : Sent) → Knows X Y past cy x tx → at (cy + 1) past ≡ frame ∷ at cy past → (Waiting x → IsAckOf Y frame → comes frame.course ≡ true → frame.key ≡ key_now x → ⊥) → Knows X Y past (cy + 1) x tx
+pub knows_moves : (X Y : End) (past : List Sent) (cy : ℕ) (x : Side) (tx : ℕ) (frame : Sent) → Knows X Y past cy x tx
+    → at (cy + 1) past ≡ frame ∷ at cy past → (Waiting x → IsAckOf Y frame → comes frame.course ≡ true → frame.key ≡ key_now x → ⊥)
+    → Knows X Y past (cy + 1) x tx
 knows_moves X Y past cy x tx frame knows here other = record {
   run_is = knows.run_is;
   none = λ w. no_ack-moves X Y past cy (key_now x) frame (knows.none w) here (other w);
   done = λ idle some. acknowledged-moves X Y past cy (cy + 1) (knows.done idle some) (omega arith);
 }
 
-pub knows_push : (X Y : End) (frame : Sent) (past : List Sent) (cy : ℕ) (x : Side) (tx : ℕ) → Knows X Y past cy x tx → cy ≤ length past → said X (frame ∷ past) ≡ said X past → is_data_of X frame ≡ false → Knows X Y (frame ∷ past) cy x tx
+pub knows_push : (X Y : End) (frame : Sent) (past : List Sent) (cy : ℕ) (x : Side) (tx : ℕ) → Knows X Y past cy x tx → cy ≤ length past
+    → said X (frame ∷ past) ≡ said X past → is_data_of X frame ≡ false → Knows X Y (frame ∷ past) cy x tx
 knows_push X Y frame past cy x tx knows inside same other = record {
   run_is = λ w. run_other X frame past other ∙ knows.run_is w;
   none = λ w. no_ack-push X Y frame past cy (key_now x) (knows.none w) inside same;
@@ -64,8 +67,10 @@ data_no_ack X frame is_data is_ack = both_ways _ (not-true _ ((and_parts (is_end
 -- ---- the steps
 
 -- a frame that doesn't come, or the other end's, is passed
-pub running_skips : (X Y : End) (past : List Sent) (cx cy released : ℕ) (x y : Side) (rx ry : ReceiverValue) (fx fy : Bool) (tx ty : ℕ) (frame : Sent) → Line X Y past cx cy released x y rx ry fx fy tx ty
-    → cx < length past → at (cx + 1) past ≡ frame ∷ at cx past → (is_end X frame.from && comes frame.course) ≡ false → Line X Y past (cx + 1) cy released x y rx ry fx fy tx ty
+pub running_skips : (X Y : End) (past : List Sent) (cx cy released : ℕ) (x y : Side) (rx ry : ReceiverValue) (fx fy : Bool) (tx ty : ℕ) (frame : Sent)
+    → Line X Y past cx cy released x y rx ry fx fy tx ty
+    → cx < length past → at (cx + 1) past ≡ frame ∷ at cx past → (is_end X frame.from && comes frame.course) ≡ false
+    → Line X Y past (cx + 1) cy released x y rx ry fx fy tx ty
 running_skips X Y past cx cy released x y rx ry fx fy tx ty frame line x_in here gone =
     let step = line_skips X Y past cx cy released x y rx ry fx fy tx ty frame line.core line.x_time line.y_time x_in here gone in
     record {
@@ -81,8 +86,10 @@ running_skips X Y past cx cy released x y rx ry fx fy tx ty frame line x_in here
     }
 
 -- another acknowledgement than the waiting one
-pub running_other_ack : (X Y : End) (past : List Sent) (cx cy released : ℕ) (x y : Side) (rx ry : ReceiverValue) (fx fy : Bool) (tx ty : ℕ) (frame : Sent) → Line X Y past cx cy released x y rx ry fx fy tx ty
-    → cx < length past → at (cx + 1) past ≡ frame ∷ at cx past → (late_of X frame ≡ true → cx + 1 ≤ released) → IsAckOf X frame → (Waiting y → key_now y ≡ frame.key → ⊥) → Line X Y past (cx + 1) cy released x y rx ry fx fy tx ty
+pub running_other_ack : (X Y : End) (past : List Sent) (cx cy released : ℕ) (x y : Side) (rx ry : ReceiverValue) (fx fy : Bool) (tx ty : ℕ) (frame : Sent)
+    → Line X Y past cx cy released x y rx ry fx fy tx ty
+    → cx < length past → at (cx + 1) past ≡ frame ∷ at cx past → (late_of X frame ≡ true → cx + 1 ≤ released) → IsAckOf X frame
+    → (Waiting y → key_now y ≡ frame.key → ⊥) → Line X Y past (cx + 1) cy released x y rx ry fx fy tx ty
 running_other_ack X Y past cx cy released x y rx ry fx fy tx ty frame line x_in here free is other =
     let step = line_other_ack X Y past cx cy released x y rx ry fx fy tx ty frame line.core line.x_time line.y_time x_in here is other in
     record {
@@ -96,8 +103,10 @@ running_other_ack X Y past cx cy released x y rx ry fx fy tx ty frame line x_in 
     }
 
 -- data, a copy: acknowledged again
-pub running_copy : (X Y : End) (past : List Sent) (cx cy released : ℕ) (x y : Side) (rx ry : ReceiverValue) (fx fy : Bool) (tx ty : ℕ) (course : Course) (frame : Sent) → Apart X Y → Line X Y past cx cy released x y rx ry fx fy tx ty
-    → cx < length past → at (cx + 1) past ≡ frame ∷ at cx past → (late_of X frame ≡ true → cx + 1 ≤ released) → IsDataOf X frame → comes frame.course ≡ true → IsCopy X Y frame (cx + 1) past
+pub running_copy : (X Y : End) (past : List Sent) (cx cy released : ℕ) (x y : Side) (rx ry : ReceiverValue) (fx fy : Bool) (tx ty : ℕ) (course : Course) (frame : Sent)
+    → Apart X Y → Line X Y past cx cy released x y rx ry fx fy tx ty
+    → cx < length past → at (cx + 1) past ≡ frame ∷ at cx past → (late_of X frame ≡ true → cx + 1 ≤ released) → IsDataOf X frame
+    → comes frame.course ≡ true → IsCopy X Y frame (cx + 1) past
     → Line X Y (ack_frame Y (frame.key) course ∷ past) (cx + 1) cy released x y rx ry fx fy tx ty
 running_copy X Y past cx cy released x y rx ry fx fy tx ty course frame apart line x_in here free is comes_here copy =
     let step = line_copy X Y past cx cy released x y rx ry fx fy tx ty course frame apart line.core line.x_time line.y_time line.inside x_in here is comes_here copy in
@@ -113,8 +122,10 @@ running_copy X Y past cx cy released x y rx ry fx fy tx ty course frame apart li
     }
 
 -- the newest fragment: taken, the other end's wait ends, and it is acknowledged
-pub running_newest : (X Y : End) (past : List Sent) (cx cy released : ℕ) (x y : Side) (rx ry : ReceiverValue) (fx fy : Bool) (tx ty k : ℕ) (course : Course) (frame : Sent) (answer : Taken) (whole : Bool) → Apart X Y → Line X Y past cx cy released x y rx ry fx fy tx ty
-    → cx < length past → at (cx + 1) past ≡ frame ∷ at cx past → (late_of X frame ≡ true → cx + 1 ≤ released) → IsDataOf X frame → comes frame.course ≡ true → Accepting X Y past cy (cx + 1) x y rx ry (frame.key) (frame.bytes) answer whole → piece_count (length y.message) ≤ k
+pub running_newest : (X Y : End) (past : List Sent) (cx cy released : ℕ) (x y : Side) (rx ry : ReceiverValue) (fx fy : Bool) (tx ty k : ℕ) (course : Course) (frame : Sent) (answer : Taken) (whole : Bool)
+    → Apart X Y → Line X Y past cx cy released x y rx ry fx fy tx ty
+    → cx < length past → at (cx + 1) past ≡ frame ∷ at cx past → (late_of X frame ≡ true → cx + 1 ≤ released) → IsDataOf X frame
+    → comes frame.course ≡ true → Accepting X Y past cy (cx + 1) x y rx ry (frame.key) (frame.bytes) answer whole → piece_count (length y.message) ≤ k
     → Line X Y (ack_frame Y (frame.key) course ∷ past) (cx + 1) cy released x (record y { acknowledged = k }) rx (after_answer ry (frame.key.id) (data_fragment (frame.key) (frame.bytes)) answer) false false tx ty
 running_newest X Y past cx cy released x y rx ry fx fy tx ty k course frame answer whole apart line x_in here free is comes_here accepting idle =
     let step = line_newest X Y past cx cy released x y rx ry fx fy tx ty k course frame answer whole apart line.core line.x_time line.y_time line.inside x_in here is comes_here accepting idle in
@@ -140,8 +151,10 @@ running_newest X Y past cx cy released x y rx ry fx fy tx ty k course frame answ
       ]
 
 -- the acknowledgement of the last piece
-pub running_last_ack : (X Y : End) (past : List Sent) (cx cy released : ℕ) (x y : Side) (rx ry : ReceiverValue) (fx fy : Bool) (tx ty : ℕ) (frame : Sent) → Line X Y past cx cy released x y rx ry fx fy tx ty
-    → cx < length past → at (cx + 1) past ≡ frame ∷ at cx past → (late_of X frame ≡ true → cx + 1 ≤ released) → IsAckOf X frame → comes frame.course ≡ true → Waiting y → key_now y ≡ frame.key → y.acknowledged + 1 ≡ piece_count (length y.message)
+pub running_last_ack : (X Y : End) (past : List Sent) (cx cy released : ℕ) (x y : Side) (rx ry : ReceiverValue) (fx fy : Bool) (tx ty : ℕ) (frame : Sent)
+    → Line X Y past cx cy released x y rx ry fx fy tx ty
+    → cx < length past → at (cx + 1) past ≡ frame ∷ at cx past → (late_of X frame ≡ true → cx + 1 ≤ released) → IsAckOf X frame
+    → comes frame.course ≡ true → Waiting y → key_now y ≡ frame.key → y.acknowledged + 1 ≡ piece_count (length y.message)
     → Line X Y past (cx + 1) cy released x (acknowledged y) rx ry fx false tx ty
 running_last_ack X Y past cx cy released x y rx ry fx fy tx ty frame line x_in here free is came waits key last =
     let step = line_last_ack X Y past cx cy released x y rx ry fx fy tx ty frame line.core line.x_time line.y_time x_in here is waits key last in
@@ -163,17 +176,20 @@ running_last_ack X Y past cx cy released x y rx ry fx fy tx ty frame line x_in h
     }
 
 -- a fragment begins
-knows_begins : (X Y : End) (key : _) (bytes : List ℕ) (course : Course) (past : List Sent) (cy : ℕ) (x : Side) → cy ≤ length past → (first (said X past) ≡ Some key → ⊥) → Waiting x → Knows X Y (data_frame X key bytes course ∷ past) cy x 1
+knows_begins : (X Y : End) (key : _) (bytes : List ℕ) (course : Course) (past : List Sent) (cy : ℕ) (x : Side) → cy ≤ length past
+    → (first (said X past) ≡ Some key → ⊥) → Waiting x → Knows X Y (data_frame X key bytes course ∷ past) cy x 1
 knows_begins X Y key bytes course past cy x inside new waits = record {
   run_is = λ w. run_begins X key bytes course past new;
   none = λ w. no_ack-begins X Y (data_frame X key bytes course) past cy key (key_now x) inside (said_data X key bytes course past ∙ add_new key (said X past) new);
   done = λ idle some. absurd (idle waits);
 }
 
-knows_other : (X Y : End) (key : _) (bytes : List ℕ) (course : Course) (past : List Sent) (cx : ℕ) (y : Side) (ty : ℕ) → is_end Y X ≡ false → Knows Y X past cx y ty → cx ≤ length past → Knows Y X (data_frame X key bytes course ∷ past) cx y ty
+knows_other : (X Y : End) (key : _) (bytes : List ℕ) (course : Course) (past : List Sent) (cx : ℕ) (y : Side) (ty : ℕ) → is_end Y X ≡ false
+    → Knows Y X past cx y ty → cx ≤ length past → Knows Y X (data_frame X key bytes course ∷ past) cx y ty
 knows_other X Y key bytes course past cx y ty apart knows inside = knows_push Y X (data_frame X key bytes course) past cx y ty knows inside (said_data-other X Y apart key bytes course past) (ap (λ (b : Bool). b && true) apart)
 
-knows_again : (X Y : End) (key : _) (bytes : List ℕ) (course : Course) (past : List Sent) (cy : ℕ) (x : Side) (tx : ℕ) → Knows X Y past cy x tx → cy ≤ length past → first (said X past) ≡ Some key → Waiting x → Knows X Y (data_frame X key bytes course ∷ past) cy x (suc tx)
+knows_again : (X Y : End) (key : _) (bytes : List ℕ) (course : Course) (past : List Sent) (cy : ℕ) (x : Side) (tx : ℕ) → Knows X Y past cy x tx
+    → cy ≤ length past → first (said X past) ≡ Some key → Waiting x → Knows X Y (data_frame X key bytes course ∷ past) cy x (suc tx)
 knows_again X Y key bytes course past cy x tx knows inside newest_is waits = record {
   run_is = λ w. omega (arith, run_again X key bytes course past newest_is, knows.run_is w);
   none = λ w. no_ack-push X Y (data_frame X key bytes course) past cy (key_now x) (knows.none w) inside (said_data X key bytes course past ∙ add_first key (said X past) newest_is);
@@ -181,8 +197,10 @@ knows_again X Y key bytes course past cy x tx knows inside newest_is waits = rec
 }
 
 -- the acknowledgement of another piece: the next one goes
-pub running_next_piece : (X Y : End) (past : List Sent) (cx cy released : ℕ) (x y : Side) (rx ry : ReceiverValue) (fx fy : Bool) (tx ty : ℕ) (frame : Sent) (course : Course) → Apart X Y → Line X Y past cx cy released x y rx ry fx fy tx ty
-    → cx < length past → at (cx + 1) past ≡ frame ∷ at cx past → (late_of X frame ≡ true → cx + 1 ≤ released) → IsAckOf X frame → Waiting y → key_now y ≡ frame.key → y.acknowledged + 1 < piece_count (length y.message)
+pub running_next_piece : (X Y : End) (past : List Sent) (cx cy released : ℕ) (x y : Side) (rx ry : ReceiverValue) (fx fy : Bool) (tx ty : ℕ) (frame : Sent) (course : Course)
+    → Apart X Y → Line X Y past cx cy released x y rx ry fx fy tx ty
+    → cx < length past → at (cx + 1) past ≡ frame ∷ at cx past → (late_of X frame ≡ true → cx + 1 ≤ released) → IsAckOf X frame → Waiting y
+    → key_now y ≡ frame.key → y.acknowledged + 1 < piece_count (length y.message)
     → Line X Y (data_frame Y (key_now (acknowledged y)) ((part_now (acknowledged y)).bytes) course ∷ past) (cx + 1) cy released x (acknowledged y) rx ry false true tx 1
 running_next_piece X Y past cx cy released x y rx ry fx fy tx ty frame course apart line x_in here free is waits key more =
     let step = line_next_piece X Y past cx cy released x y rx ry fx fy tx ty frame course apart line.core line.x_time line.y_time line.inside x_in here is waits key more in
@@ -204,8 +222,10 @@ running_next_piece X Y past cx cy released x y rx ry fx fy tx ty frame course ap
     }
 
 -- a new message
-pub running_starts : (X Y : End) (past : List Sent) (cx cy released : ℕ) (x y : Side) (rx ry : ReceiverValue) (tx ty id : ℕ) (message : List ℕ) (course : Course) → Apart X Y → Line X Y past cx cy released x y rx ry false false tx ty
-    → length (said X past) ≤ length (acked Y (at cy past)) → (id ≡ x.id → ⊥) → ry.awaited ≡ Some id → ry.pieces ≡ [] → (Waiting y → y.acknowledged + 1 ≡ piece_count (length y.message))
+pub running_starts : (X Y : End) (past : List Sent) (cx cy released : ℕ) (x y : Side) (rx ry : ReceiverValue) (tx ty id : ℕ) (message : List ℕ) (course : Course)
+    → Apart X Y → Line X Y past cx cy released x y rx ry false false tx ty
+    → length (said X past) ≤ length (acked Y (at cy past)) → (id ≡ x.id → ⊥) → ry.awaited ≡ Some id → ry.pieces ≡ []
+    → (Waiting y → y.acknowledged + 1 ≡ piece_count (length y.message))
     → Line X Y (data_frame X (key_now (beginning id message)) ((part_now (beginning id message)).bytes) course ∷ past) cx cy released (beginning id message) y rx ry true false 1 ty
 running_starts X Y past cx cy released x y rx ry tx ty id message course apart line caught other awaited none last =
     let step = line_starts X Y past cx cy released x y rx ry tx ty id message course apart line.core line.x_time line.y_time line.inside caught other awaited none last in
@@ -224,7 +244,8 @@ running_starts X Y past cx cy released x y rx ry tx ty id message course apart l
     }
 
 -- the tick where X alone waits
-pub running_tick_one : (X Y : End) (past : List Sent) (cx cy released : ℕ) (x y : Side) (rx ry : ReceiverValue) (fx fy : Bool) (tx ty : ℕ) (course : Course) → Apart X Y → Line X Y past cx cy released x y rx ry fx fy tx ty
+pub running_tick_one : (X Y : End) (past : List Sent) (cx cy released : ℕ) (x y : Side) (rx ry : ReceiverValue) (fx fy : Bool) (tx ty : ℕ) (course : Course)
+    → Apart X Y → Line X Y past cx cy released x y rx ry fx fy tx ty
     → Blocked X past cx released → Blocked Y past cy released → Waiting x → (Waiting y → ⊥)
     → Line X Y (data_frame X (key_now x) ((part_now x).bytes) course ∷ past) cx cy (length past) x y rx ry fx fy (suc tx) ty
 running_tick_one X Y past cx cy released x y rx ry fx fy tx ty course apart line bx by waits idle =
@@ -242,7 +263,8 @@ running_tick_one X Y past cx cy released x y rx ry fx fy tx ty course apart line
     }
 
 -- and where both wait: X sends, then Y
-pub running_tick_two : (X Y : End) (past : List Sent) (cx cy released : ℕ) (x y : Side) (rx ry : ReceiverValue) (fx fy : Bool) (tx ty : ℕ) (course other : Course) → Apart X Y → Line X Y past cx cy released x y rx ry fx fy tx ty
+pub running_tick_two : (X Y : End) (past : List Sent) (cx cy released : ℕ) (x y : Side) (rx ry : ReceiverValue) (fx fy : Bool) (tx ty : ℕ) (course other : Course)
+    → Apart X Y → Line X Y past cx cy released x y rx ry fx fy tx ty
     → Blocked X past cx released → Blocked Y past cy released → Waiting x → Waiting y
     → Line X Y (data_frame Y (key_now y) ((part_now y).bytes) other ∷ data_frame X (key_now x) ((part_now x).bytes) course ∷ past) cx cy (length past) x y rx ry fx fy (suc tx) (suc ty)
 running_tick_two X Y past cx cy released x y rx ry fx fy tx ty course other apart line bx by wx wy =
@@ -266,7 +288,8 @@ running_tick_two X Y past cx cy released x y rx ry fx fy tx ty course other apar
     }
 
 -- Y, which took the whole message of X, awaits the next one
-pub running_expects : (X Y : End) (past : List Sent) (cx cy released : ℕ) (x y : Side) (rx ry : ReceiverValue) (fy : Bool) (tx ty id : ℕ) → Line X Y past cx cy released x y rx ry false fy tx ty → piece_count (length x.message) ≤ x.acknowledged + 1
+pub running_expects : (X Y : End) (past : List Sent) (cx cy released : ℕ) (x y : Side) (rx ry : ReceiverValue) (fy : Bool) (tx ty id : ℕ)
+    → Line X Y past cx cy released x y rx ry false fy tx ty → piece_count (length x.message) ≤ x.acknowledged + 1
     → Line X Y past cx cy released x y rx (record { awaited = Some id; pieces = []; last = ry.last }) false fy tx ty
 running_expects X Y past cx cy released x y rx ry fy tx ty id line whole = record {
   core = expects X Y past cx cy x y rx ry fy id line.core whole;

@@ -9,7 +9,8 @@ use Rattle.trace_text.specs.declared.frame.End.TheVariants.{Handheld, Desktop}
 use Rattle.line_laws.specs.Core.{Side, part_now, AllBear, Speaks, Hears, data_frame, ack_frame}
 use Rattle.line_laws.proofs.PastLaws.{at_all, at_push, keys_below}
 
-pub all_bear-push : (X : End) (frame : Sent) (past : List Sent) (bytes : List ℕ) → AllBear X past bytes → said X (frame ∷ past) ≡ said X past → (IsDataOf X frame → frame.bytes ≡ bytes) → AllBear X (frame ∷ past) bytes
+pub all_bear-push : (X : End) (frame : Sent) (past : List Sent) (bytes : List ℕ) → AllBear X past bytes → said X (frame ∷ past) ≡ said X past
+    → (IsDataOf X frame → frame.bytes ≡ bytes) → AllBear X (frame ∷ past) bytes
 all_bear-push X frame past bytes all same now n found older inside here is newest = elim (cases_lt (length past) n) [
   | inl new ↦ (let e : n ≡ length (frame ∷ past) = omega arith in
       let all_of : frame ∷ past ≡ found ∷ older = sym (ap (λ (k : ℕ). at k (frame ∷ past)) e ∙ at_all (frame ∷ past)) ∙ here in
@@ -18,7 +19,8 @@ all_bear-push X frame past bytes all same now n found older inside here is newes
   | inr old ↦ all n found older old (sym (at_push n frame past old) ∙ here) is (newest ∙ ap (λ (s : List Key). length s) same)
 ]
 
-pub all_bear-new : (X : End) (key : Key) (frame : Sent) (past : List Sent) (bytes : List ℕ) → said X (frame ∷ past) ≡ key ∷ said X past → frame.bytes ≡ bytes → AllBear X (frame ∷ past) bytes
+pub all_bear-new : (X : End) (key : Key) (frame : Sent) (past : List Sent) (bytes : List ℕ) → said X (frame ∷ past) ≡ key ∷ said X past
+    → frame.bytes ≡ bytes → AllBear X (frame ∷ past) bytes
 all_bear-new X key frame past bytes more now n found older inside here is newest = elim (cases_lt (length past) n) [
   | inl new ↦ (let e : n ≡ length (frame ∷ past) = omega arith in
       let all_of : frame ∷ past ≡ found ∷ older = sym (ap (λ (k : ℕ). at k (frame ∷ past)) e ∙ at_all (frame ∷ past)) ∙ here in
@@ -29,7 +31,8 @@ all_bear-new X key frame past bytes more now n found older inside here is newest
       absurd (omega (arith, below, newest, ap (λ (s : List Key). length s) more, ap (λ (p : List Sent). length (said X p)) was)))
 ]
 
-pub speaks_push : (X : End) (frame : Sent) (past : List Sent) (fresh : Bool) (side : Side) → Speaks X past fresh side → said X (frame ∷ past) ≡ said X past → (IsDataOf X frame → frame.bytes ≡ (part_now side).bytes) → Speaks X (frame ∷ past) fresh side
+pub speaks_push : (X : End) (frame : Sent) (past : List Sent) (fresh : Bool) (side : Side) → Speaks X past fresh side
+    → said X (frame ∷ past) ≡ said X past → (IsDataOf X frame → frame.bytes ≡ (part_now side).bytes) → Speaks X (frame ∷ past) fresh side
 speaks_push X frame past fresh side speaks same now = record {
   waits = speaks.waits;
   newest = λ waits. ap first same ∙ speaks.newest waits;
@@ -37,7 +40,8 @@ speaks_push X frame past fresh side speaks same now = record {
   bytes = λ waits. all_bear-push X frame past _ (speaks.bytes waits) same now;
 }
 
-pub hears_push : (Y : End) (frame : Sent) (past : List Sent) (fresh : Bool) (side : Side) (receiver : ReceiverValue) → Hears Y past fresh side receiver → acked Y (frame ∷ past) ≡ acked Y past → Hears Y (frame ∷ past) fresh side receiver
+pub hears_push : (Y : End) (frame : Sent) (past : List Sent) (fresh : Bool) (side : Side) (receiver : ReceiverValue)
+    → Hears Y past fresh side receiver → acked Y (frame ∷ past) ≡ acked Y past → Hears Y (frame ∷ past) fresh side receiver
 hears_push Y frame past fresh side receiver hears same = record { last_is = hears.last_is ∙ ap first (sym same); receives = hears.receives }
 
 -- an acknowledgement is no data

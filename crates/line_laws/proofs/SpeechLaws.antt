@@ -35,7 +35,8 @@ held-back X n frame past inside held = record {
   no_repeat = omega (arith, held.no_repeat, newest_repeat-grows frame past);
 }
 
-unfoldable pub reaches-push : (cursor : End → ℕ) (n : ℕ) (frame : Sent) (past : List Sent) → Reaches (came_by cursor past) n past → Reaches (came_by cursor (frame ∷ past)) n (frame ∷ past)
+unfoldable pub reaches-push : (cursor : End → ℕ) (n : ℕ) (frame : Sent) (past : List Sent) → Reaches (came_by cursor past) n past
+    → Reaches (came_by cursor (frame ∷ past)) n (frame ∷ past)
 reaches-push cursor n frame past was = record {
   frame = was.frame;
   older = was.older;
@@ -45,7 +46,8 @@ reaches-push cursor n frame past was = record {
   free = λ held. was.free (held-back was.frame.from n frame past was.inside held);
 }
 
-pub known-push : (X Y : End) (talk : Talk) (cursor : End → ℕ) (frame : Sent) (past : List Sent) → said X (frame ∷ past) ≡ said X past → IsKnown X Y talk (came_by cursor past) past → IsKnown X Y talk (came_by cursor (frame ∷ past)) (frame ∷ past)
+pub known-push : (X Y : End) (talk : Talk) (cursor : End → ℕ) (frame : Sent) (past : List Sent) → said X (frame ∷ past) ≡ said X past
+    → IsKnown X Y talk (came_by cursor past) past → IsKnown X Y talk (came_by cursor (frame ∷ past)) (frame ∷ past)
 unfolding reaches-push
 known-push X Y talk cursor frame past same was = record { n = was.n; reaches = reaches-push cursor was.n frame past was.reaches; cause = go was.reaches.frame was.reaches.inside was.cause }
   where
@@ -65,7 +67,8 @@ known-push X Y talk cursor frame past same was = record { n = was.n; reaches = r
       bears = record { is = answer.bears.is; number_is = ap (λ (s : List Sent). length (said Y s)) (at_push was.n frame past inside) ∙ answer.bears.number_is };
     })
 
-pub took-push : (X Y : End) (cursor : End → ℕ) (frame : Sent) (past : List Sent) → length (acked Y (frame ∷ past)) ≡ length (acked Y past) → TookNewest X Y (came_by cursor past) past → TookNewest X Y (came_by cursor (frame ∷ past)) (frame ∷ past)
+pub took-push : (X Y : End) (cursor : End → ℕ) (frame : Sent) (past : List Sent) → length (acked Y (frame ∷ past)) ≡ length (acked Y past)
+    → TookNewest X Y (came_by cursor past) past → TookNewest X Y (came_by cursor (frame ∷ past)) (frame ∷ past)
 unfolding reaches-push
 took-push X Y cursor frame past same was = record {
   n = was.n;
@@ -78,25 +81,32 @@ unfolding reaches-grows
 took-grows X Y came later past more was = record { n = was.n; reaches = reaches-grows came later was.n past more was.reaches; bears = was.bears }
 
 -- where X begins nothing
-begins-none : (X Y : End) (talk : Talk) (cursor : End → ℕ) (frame : Sent) (past : List Sent) → (is_data_of X frame ≡ true → is_repeat X frame past ≡ false → ⊥) → BeginInTurn X Y talk (came_by cursor past) past → BeginInTurn X Y talk (came_by cursor (frame ∷ past)) (frame ∷ past)
+begins-none : (X Y : End) (talk : Talk) (cursor : End → ℕ) (frame : Sent) (past : List Sent)
+    → (is_data_of X frame ≡ true → is_repeat X frame past ≡ false → ⊥) → BeginInTurn X Y talk (came_by cursor past) past
+    → BeginInTurn X Y talk (came_by cursor (frame ∷ past)) (frame ∷ past)
 begins-none X Y talk cursor frame past none was =
     (λ is new. absurd (none is new), begins-grow X Y talk (came_by cursor past) (came_by cursor (frame ∷ past)) past (came-push cursor frame past) was)
 
 -- where it begins a fragment
-begins-one : (X Y : End) (talk : Talk) (cursor : End → ℕ) (frame : Sent) (past : List Sent) → (0 < length (said X past) → IsKnown X Y talk (came_by cursor past) past) → AnswersReached X talk (came_by cursor (frame ∷ past)) past → BeginInTurn X Y talk (came_by cursor past) past → BeginInTurn X Y talk (came_by cursor (frame ∷ past)) (frame ∷ past)
+begins-one : (X Y : End) (talk : Talk) (cursor : End → ℕ) (frame : Sent) (past : List Sent)
+    → (0 < length (said X past) → IsKnown X Y talk (came_by cursor past) past) → AnswersReached X talk (came_by cursor (frame ∷ past)) past
+    → BeginInTurn X Y talk (came_by cursor past) past → BeginInTurn X Y talk (came_by cursor (frame ∷ past)) (frame ∷ past)
 begins-one X Y talk cursor frame past known answers was = (
   λ is new. (λ some. known-grows X Y talk (came_by cursor past) (came_by cursor (frame ∷ past)) past (came-push cursor frame past) (known some), answers),
   begins-grow X Y talk (came_by cursor past) (came_by cursor (frame ∷ past)) past (came-push cursor frame past) was,
 )
 
 -- what was said stays
-spoken_still : (X : End) (frame : Sent) (past : List Sent) (x : Side) (talk : Talk) → spoken X (frame ∷ past) ≡ spoken X past → reverse (spoken X past) ++ unsaid x ≡ session_parts 0 (messages_of X talk) → reverse (spoken X (frame ∷ past)) ++ unsaid x ≡ session_parts 0 (messages_of X talk)
+spoken_still : (X : End) (frame : Sent) (past : List Sent) (x : Side) (talk : Talk) → spoken X (frame ∷ past) ≡ spoken X past
+    → reverse (spoken X past) ++ unsaid x ≡ session_parts 0 (messages_of X talk)
+    → reverse (spoken X (frame ∷ past)) ++ unsaid x ≡ session_parts 0 (messages_of X talk)
 spoken_still X frame past x talk same was = ap (λ (parts : List Part). reverse parts ++ unsaid x) same ∙ was
 
 -- ---- steps that begin nothing
 
 -- cursors move, and no data of X comes by that
-pub speech-moves : (X Y : End) (talk : Talk) (cursor later : End → ℕ) (past : List Sent) (x : Side) → ((Z : End) → cursor Z ≤ later Z) → data_taken X (at (later X) past) ≡ data_taken X (at (cursor X) past) → Speech X Y talk cursor past x → Speech X Y talk later past x
+pub speech-moves : (X Y : End) (talk : Talk) (cursor later : End → ℕ) (past : List Sent) (x : Side) → ((Z : End) → cursor Z ≤ later Z)
+    → data_taken X (at (later X) past) ≡ data_taken X (at (cursor X) past) → Speech X Y talk cursor past x → Speech X Y talk later past x
 speech-moves X Y talk cursor later past x more same was =
     let grows = came-moves cursor later past more in
     record {
@@ -111,7 +121,9 @@ speech-moves X Y talk cursor later past x more same was =
     }
 
 -- a frame that is neither data of X nor an acknowledgement by Y
-pub speech-push : (X Y : End) (talk : Talk) (cursor : End → ℕ) (frame : Sent) (past : List Sent) (x : Side) → is_data_of X frame ≡ false → is_ack_of Y frame ≡ false → said X (frame ∷ past) ≡ said X past → acked Y (frame ∷ past) ≡ acked Y past → run X (frame ∷ past) ≡ run X past → cursor X ≤ length past
+pub speech-push : (X Y : End) (talk : Talk) (cursor : End → ℕ) (frame : Sent) (past : List Sent) (x : Side) → is_data_of X frame ≡ false
+    → is_ack_of Y frame ≡ false → said X (frame ∷ past) ≡ said X past → acked Y (frame ∷ past) ≡ acked Y past → run X (frame ∷ past) ≡ run X past
+    → cursor X ≤ length past
     → Speech X Y talk cursor past x → Speech X Y talk cursor (frame ∷ past) x
 speech-push X Y talk cursor frame past x no_data no_ack same none runs inside was =
     let len = ap (λ (s : List Key). length s) same in
@@ -128,7 +140,9 @@ speech-push X Y talk cursor frame past x no_data no_ack same none runs inside wa
     }
 
 -- X sends its newest fragment again
-pub speech-again : (X Y : End) (talk : Talk) (cursor : End → ℕ) (frame : Sent) (past : List Sent) (x : Side) → is_repeat X frame past ≡ true → is_ack_of Y frame ≡ false → said X (frame ∷ past) ≡ said X past → acked Y (frame ∷ past) ≡ acked Y past → run X (frame ∷ past) ≤ 10 → spoken X (frame ∷ past) ≡ spoken X past → cursor X ≤ length past
+pub speech-again : (X Y : End) (talk : Talk) (cursor : End → ℕ) (frame : Sent) (past : List Sent) (x : Side) → is_repeat X frame past ≡ true
+    → is_ack_of Y frame ≡ false → said X (frame ∷ past) ≡ said X past → acked Y (frame ∷ past) ≡ acked Y past → run X (frame ∷ past) ≤ 10
+    → spoken X (frame ∷ past) ≡ spoken X past → cursor X ≤ length past
     → Speech X Y talk cursor past x → Speech X Y talk cursor (frame ∷ past) x
 speech-again X Y talk cursor frame past x repeats no_ack same none few spoken_same inside was =
     let len = ap (λ (s : List Key). length s) same in
@@ -145,9 +159,12 @@ speech-again X Y talk cursor frame past x repeats no_ack same none few spoken_sa
     }
 
 -- data of X is taken, and Y acknowledges it
-pub speech-taken : (X Y : End) (talk : Talk) (cursor later : End → ℕ) (ack : Sent) (past : List Sent) (cx : ℕ) (frame : Sent) (x : Side) → ((Z : End) → cursor Z ≤ later Z) → cursor X ≡ cx → later X ≡ cx + 1 → cx < length past
-    → at (cx + 1) past ≡ frame ∷ at cx past → data_comes X frame ≡ true → frame.from ≡ X → is_ack_of Y ack ≡ true → ack.key ≡ frame.key → (IsHeldIn X (cx + 1) past → ⊥)
-    → is_data_of X ack ≡ false → said X (ack ∷ past) ≡ said X past → run X (ack ∷ past) ≡ run X past → TookNewest X Y (came_by later (ack ∷ past)) (ack ∷ past) → Speech X Y talk cursor past x → Speech X Y talk later (ack ∷ past) x
+pub speech-taken : (X Y : End) (talk : Talk) (cursor later : End → ℕ) (ack : Sent) (past : List Sent) (cx : ℕ) (frame : Sent) (x : Side)
+    → ((Z : End) → cursor Z ≤ later Z) → cursor X ≡ cx → later X ≡ cx + 1 → cx < length past
+    → at (cx + 1) past ≡ frame ∷ at cx past → data_comes X frame ≡ true → frame.from ≡ X → is_ack_of Y ack ≡ true → ack.key ≡ frame.key
+    → (IsHeldIn X (cx + 1) past → ⊥)
+    → is_data_of X ack ≡ false → said X (ack ∷ past) ≡ said X past → run X (ack ∷ past) ≡ run X past
+    → TookNewest X Y (came_by later (ack ∷ past)) (ack ∷ past) → Speech X Y talk cursor past x → Speech X Y talk later (ack ∷ past) x
 speech-taken X Y talk cursor later ack past cx frame x more is_cx is_later inside here comes mine is_ack key free no_data same runs took was =
     let len = ap (λ (s : List Key). length s) same in
     let grows = came-moves cursor later past more in
@@ -163,7 +180,9 @@ speech-taken X Y talk cursor later ack past cx frame x more is_cx is_later insid
     }
 
 -- X waits for nothing more, and knows that its newest fragment was taken
-pub speech-ends : (X Y : End) (talk : Talk) (cursor : End → ℕ) (past : List Sent) (x : Side) (k : ℕ) → left x ≡ 0 → piece_count (length x.message) ≤ k → (0 < length (said X past) → IsKnown X Y talk (came_by cursor past) past) → Speech X Y talk cursor past x → Speech X Y talk cursor past (record x { acknowledged = k })
+pub speech-ends : (X Y : End) (talk : Talk) (cursor : End → ℕ) (past : List Sent) (x : Side) (k : ℕ) → left x ≡ 0 → piece_count (length x.message) ≤ k
+    → (0 < length (said X past) → IsKnown X Y talk (came_by cursor past) past) → Speech X Y talk cursor past x
+    → Speech X Y talk cursor past (record x { acknowledged = k })
 speech-ends X Y talk cursor past x k none idle known was = record {
   begun = omega (arith, was.begun, none, idle);
   current = was.current;
@@ -178,14 +197,20 @@ speech-ends X Y talk cursor past x k none idle known was = record {
 -- ---- steps that begin a fragment
 
 -- no message begins in the middle of one
-inside_message : (X : End) (talk : Talk) (came : ℕ → Bool) (past : List Sent) (x : Side) → length (said X past) + left x ≡ pieces_before (messages_of X talk) (count_messages X talk)
-    → pieces_before (messages_of X talk) (count_messages X talk) ≡ pieces_before (messages_of X talk) (count_messages X talk - 1) + piece_count (length x.message) → 0 < left x → AnswersReached X talk came past
+inside_message : (X : End) (talk : Talk) (came : ℕ → Bool) (past : List Sent) (x : Side)
+    → length (said X past) + left x ≡ pieces_before (messages_of X talk) (count_messages X talk)
+    → pieces_before (messages_of X talk) (count_messages X talk) ≡ pieces_before (messages_of X talk) (count_messages X talk - 1) + piece_count (length x.message)
+    → 0 < left x → AnswersReached X talk came past
 inside_message X talk came past x begun current more number less begins =
     absurd (omega (arith, begun, current, more, begins, pieces-grow (messages_of X talk) number (count_messages X talk - 1) (omega arith)))
 
 -- the next piece of its message
-pub speech-next : (X Y : End) (talk : Talk) (cursor : End → ℕ) (frame : Sent) (past : List Sent) (x : Side) → x.acknowledged + 1 < piece_count (length x.message) → is_data_of X frame ≡ true → is_repeat X frame past ≡ false → is_ack_of Y frame ≡ false → acked Y (frame ∷ past) ≡ acked Y past → run X (frame ∷ past) ≡ 1 → spoken X (frame ∷ past) ≡ part_at x.id x.message (x.acknowledged + 1) ∷ spoken X past → cursor X ≤ length past
-    → (0 < length (said X past) → IsKnown X Y talk (came_by cursor past) past) → 0 < count_messages X talk → Speech X Y talk cursor past x → Speech X Y talk cursor (frame ∷ past) (record x { acknowledged = x.acknowledged + 1 })
+pub speech-next : (X Y : End) (talk : Talk) (cursor : End → ℕ) (frame : Sent) (past : List Sent) (x : Side)
+    → x.acknowledged + 1 < piece_count (length x.message) → is_data_of X frame ≡ true → is_repeat X frame past ≡ false → is_ack_of Y frame ≡ false
+    → acked Y (frame ∷ past) ≡ acked Y past → run X (frame ∷ past) ≡ 1
+    → spoken X (frame ∷ past) ≡ part_at x.id x.message (x.acknowledged + 1) ∷ spoken X past → cursor X ≤ length past
+    → (0 < length (said X past) → IsKnown X Y talk (came_by cursor past) past) → 0 < count_messages X talk → Speech X Y talk cursor past x
+    → Speech X Y talk cursor (frame ∷ past) (record x { acknowledged = x.acknowledged + 1 })
 speech-next X Y talk cursor frame past x more is_data new no_ack none runs spoken_is inside known some_message was =
     let len = new-says X frame past is_data new in
     let acks_len = ap (λ (s : List Key). length s) none in
@@ -202,7 +227,9 @@ speech-next X Y talk cursor frame past x more is_data new no_ack none runs spoke
     }
 
 -- a message begins where all pieces before it were begun
-first_piece : (X : End) (message : List ℕ) (talk : Talk) (came : ℕ → Bool) (past : List Sent) → length (said X past) ≡ pieces_before (messages_of X talk) (count_messages X talk) → IfAnswers (answered_by X (count_messages X talk)) (say X message talk) came past → AnswersReached X (say X message talk) came past
+first_piece : (X : End) (message : List ℕ) (talk : Talk) (came : ℕ → Bool) (past : List Sent)
+    → length (said X past) ≡ pieces_before (messages_of X talk) (count_messages X talk)
+    → IfAnswers (answered_by X (count_messages X talk)) (say X message talk) came past → AnswersReached X (say X message talk) came past
 first_piece X message talk came past all answers number less begins = elim (cases_lt number (count_messages X talk)) [
   | inl old ↦ absurd (omega (arith, all, begins, (longer-say X message talk).stays X number (omega (arith, old)), pieces-more (messages_of X talk) number (count_messages X talk) old (omega arith)))
   | inr added ↦
@@ -211,8 +238,13 @@ first_piece X message talk came past all answers number less begins = elim (case
 ]
 
 -- X begins a message: it knows that its newest fragment was taken, and took what this message answers
-pub speech-starts : (X Y : End) (talk : Talk) (cursor : End → ℕ) (frame : Sent) (past : List Sent) (x begun : Side) → left x ≡ 0 → begun.acknowledged ≡ 0 → is_data_of X frame ≡ true → is_repeat X frame past ≡ false → is_ack_of Y frame ≡ false → acked Y (frame ∷ past) ≡ acked Y past → run X (frame ∷ past) ≡ 1 → spoken X (frame ∷ past) ≡ part_at begun.id begun.message 0 ∷ spoken X past → begun.id ≡ session_id (count_messages X talk) → cursor X ≤ length past
-    → (0 < length (said X past) → IsKnown X Y talk (came_by cursor past) past) → IfAnswers (answered_by X (count_messages X talk)) (say X (begun.message) talk) (came_by cursor (frame ∷ past)) past → Speech X Y talk cursor past x → Speech X Y (say X (begun.message) talk) cursor (frame ∷ past) begun
+pub speech-starts : (X Y : End) (talk : Talk) (cursor : End → ℕ) (frame : Sent) (past : List Sent) (x begun : Side) → left x ≡ 0
+    → begun.acknowledged ≡ 0 → is_data_of X frame ≡ true → is_repeat X frame past ≡ false → is_ack_of Y frame ≡ false
+    → acked Y (frame ∷ past) ≡ acked Y past → run X (frame ∷ past) ≡ 1 → spoken X (frame ∷ past) ≡ part_at begun.id begun.message 0 ∷ spoken X past
+    → begun.id ≡ session_id (count_messages X talk) → cursor X ≤ length past
+    → (0 < length (said X past) → IsKnown X Y talk (came_by cursor past) past)
+    → IfAnswers (answered_by X (count_messages X talk)) (say X (begun.message) talk) (came_by cursor (frame ∷ past)) past
+    → Speech X Y talk cursor past x → Speech X Y (say X (begun.message) talk) cursor (frame ∷ past) begun
 speech-starts X Y talk cursor frame past x begun none first_one is_data new no_ack acks_none runs spoken_is id_is inside known answers was =
     let later = say X (begun.message) talk in
     let longer = longer-say X (begun.message) talk in
@@ -241,7 +273,8 @@ speech-starts X Y talk cursor frame past x begun none first_one is_data new no_a
     }
 
 -- the other end begins one
-pub speech-longer : (X Y : End) (talk : Talk) (cursor : End → ℕ) (past : List Sent) (x : Side) (message : List ℕ) → is_end X Y ≡ false → Speech X Y talk cursor past x → Speech X Y (say Y message talk) cursor past x
+pub speech-longer : (X Y : End) (talk : Talk) (cursor : End → ℕ) (past : List Sent) (x : Side) (message : List ℕ) → is_end X Y ≡ false
+    → Speech X Y talk cursor past x → Speech X Y (say Y message talk) cursor past x
 speech-longer X Y talk cursor past x message apart was =
     let later = say Y message talk in
     let longer = longer-say Y message talk in

@@ -11,7 +11,8 @@ use Rattle.line_laws.proofs.PastLaws.{add_first, add_new, keys_apart, said_data,
 use Rattle.line_laws.proofs.CountLaws.{counts_push, counts_later, counts_accept, counts_begin, counts_begun}
 use Rattle.line_laws.proofs.SpeakLaws.{speaks_push, hears_push, all_bear-new, ack_no_data, data_no_other}
 
-pub turned : (X Y : End) (past : List Sent) (cx cy : ℕ) (x y : Side) (rx ry : ReceiverValue) (fx fy : Bool) → Core X Y past cx cy x y rx ry fx fy → Core Y X past cy cx y x ry rx fy fx
+pub turned : (X Y : End) (past : List Sent) (cx cy : ℕ) (x y : Side) (rx ry : ReceiverValue) (fx fy : Bool) → Core X Y past cx cy x y rx ry fx fy
+    → Core Y X past cy cx y x ry rx fy fx
 turned X Y past cx cy x y rx ry fx fy core = record {
   there = core.back;
   back = core.there;
@@ -27,7 +28,8 @@ turned X Y past cx cy x y rx ry fx fy core = record {
   only false fy one fresh = refl
 
 -- the timer of X: the waiting piece goes once more
-pub again : (X Y : End) (past : List Sent) (cx cy : ℕ) (x y : Side) (rx ry : ReceiverValue) (fx fy : Bool) (course : Course) → Apart X Y → Core X Y past cx cy x y rx ry fx fy → Waiting x
+pub again : (X Y : End) (past : List Sent) (cx cy : ℕ) (x y : Side) (rx ry : ReceiverValue) (fx fy : Bool) (course : Course) → Apart X Y
+    → Core X Y past cx cy x y rx ry fx fy → Waiting x
     → Core X Y (data_frame X (key_now x) ((part_now x).bytes) course ∷ past) cx cy x y rx ry fx fy
 again X Y past cx cy x y rx ry fx fy course apart core waits =
     let key = key_now x in
@@ -49,7 +51,8 @@ again X Y past cx cy x y rx ry fx fy course apart core waits =
     }
 
 -- a frame of X is taken off the line and changes nothing: one that was lost or damaged, or another acknowledgement than the waiting one
-pub passes : (X Y : End) (past : List Sent) (cx cy : ℕ) (x y : Side) (rx ry : ReceiverValue) (fx fy : Bool) (n : ℕ) → Core X Y past cx cy x y rx ry fx fy → cx ≤ n → n ≤ length past → Core X Y past n cy x y rx ry fx fy
+pub passes : (X Y : End) (past : List Sent) (cx cy : ℕ) (x y : Side) (rx ry : ReceiverValue) (fx fy : Bool) (n : ℕ)
+    → Core X Y past cx cy x y rx ry fx fy → cx ≤ n → n ≤ length past → Core X Y past n cy x y rx ry fx fy
 passes X Y past cx cy x y rx ry fx fy n core from inside = record {
   there = counts_later X Y past fx cx n core.there from inside;
   back = core.back;
@@ -62,7 +65,8 @@ passes X Y past cx cy x y rx ry fx fy n core from inside = record {
 }
 
 -- Y takes a copy of the last fragment that it took, and acknowledges it again
-pub repeats : (X Y : End) (past : List Sent) (cx cy : ℕ) (x y : Side) (rx ry : ReceiverValue) (fx fy : Bool) (n : ℕ) (key : Key) (course : Course) → Apart X Y → Core X Y past cx cy x y rx ry fx fy → cx ≤ n → n ≤ length past → first (acked Y past) ≡ Some key
+pub repeats : (X Y : End) (past : List Sent) (cx cy : ℕ) (x y : Side) (rx ry : ReceiverValue) (fx fy : Bool) (n : ℕ) (key : Key) (course : Course)
+    → Apart X Y → Core X Y past cx cy x y rx ry fx fy → cx ≤ n → n ≤ length past → first (acked Y past) ≡ Some key
     → Core X Y (ack_frame Y key course ∷ past) n cy x y rx ry fx fy
 repeats X Y past cx cy x y rx ry fx fy n key course apart core from inside copy =
     let frame = ack_frame Y key course in
@@ -113,14 +117,16 @@ begins X Y past cx cy x y rx ry course apart there back caught y_speaks last awa
     }
 
 -- where the newest fragment wasn't taken and the other end waits too, it is a first piece, and the other end waits on its last
-pub answers_last : (X Y : End) (past : List Sent) (cx cy : ℕ) (x y : Side) (rx ry : ReceiverValue) (fy : Bool) → Core X Y past cx cy x y rx ry true fy → Waiting y → (x.acknowledged ≡ 0) × (y.acknowledged + 1 ≡ piece_count (length y.message))
+pub answers_last : (X Y : End) (past : List Sent) (cx cy : ℕ) (x y : Side) (rx ry : ReceiverValue) (fy : Bool) → Core X Y past cx cy x y rx ry true fy
+    → Waiting y → (x.acknowledged ≡ 0) × (y.acknowledged + 1 ≡ piece_count (length y.message))
 answers_last X Y past cx cy x y rx ry fy core waits = elim (core.both (core.x_speaks.waits refl) waits) [
   | inl a ↦ (a.begins, a.ends)
   | inr a ↦ absurd (both_ways fy (core.one refl) a.is_fresh)
 ]
 
 -- Y takes the newest fragment, which is acknowledged; what Y waited for is acknowledged by it too
-pub accepts : (X Y : End) (past : List Sent) (cx cy : ℕ) (x y : Side) (rx ry ry' : ReceiverValue) (n k : ℕ) (key : Key) (course : Course) → Apart X Y → Core X Y past cx cy x y rx ry true false → cx ≤ n → n ≤ length past
+pub accepts : (X Y : End) (past : List Sent) (cx cy : ℕ) (x y : Side) (rx ry ry' : ReceiverValue) (n k : ℕ) (key : Key) (course : Course) → Apart X Y
+    → Core X Y past cx cy x y rx ry true false → cx ≤ n → n ≤ length past
     → first (said X past) ≡ Some key → length (acked Y past) < length (said X (at n past)) → piece_count (length y.message) ≤ k
     → ry'.last ≡ Some key → (x.acknowledged + 1 < piece_count (length x.message) → Awaits x.id (x.acknowledged + 1) x.message ry')
     → Core X Y (ack_frame Y key course ∷ past) n cy x (record y { acknowledged = k }) rx ry' false false
@@ -146,7 +152,8 @@ accepts X Y past cx cy x y rx ry ry' n k key course apart core from inside newes
     }
 
 -- X takes the acknowledgement of its last piece
-pub ends : (X Y : End) (past : List Sent) (cx cy : ℕ) (x y : Side) (rx ry : ReceiverValue) (fx : Bool) (n k : ℕ) → Core X Y past cx cy x y rx ry fx false → cx ≤ n → n ≤ length past → piece_count (length y.message) ≤ k
+pub ends : (X Y : End) (past : List Sent) (cx cy : ℕ) (x y : Side) (rx ry : ReceiverValue) (fx : Bool) (n k : ℕ)
+    → Core X Y past cx cy x y rx ry fx false → cx ≤ n → n ≤ length past → piece_count (length y.message) ≤ k
     → Core X Y past n cy x (record y { acknowledged = k }) rx ry fx false
 ends X Y past cx cy x y rx ry fx n k core from inside idle = record {
   there = counts_later X Y past fx cx n core.there from inside;

@@ -28,7 +28,9 @@ use Rattle.line_laws.proofs.FramingLaws.{IsByCursor, grows-by, come-in-order, lo
 use Rattle.line_laws.proofs.FramedLaws.{all-push, numbered-push, came-push-one, past-push}
 
 -- a message that an end was to begin
-pub speaks-more : (X Y : End) (talk : Talk) (came : ℕ → Bool) (past : List Sent) (message : List ℕ) → length (said X past) ≤ pieces_before (messages_of X talk) (count_messages X talk) → SpeaksProperly X Y talk came past → SpeaksProperly X Y (say X message talk) came past
+pub speaks-more : (X Y : End) (talk : Talk) (came : ℕ → Bool) (past : List Sent) (message : List ℕ)
+    → length (said X past) ≤ pieces_before (messages_of X talk) (count_messages X talk) → SpeaksProperly X Y talk came past
+    → SpeaksProperly X Y (say X message talk) came past
 speaks-more X Y talk came past message most was = record {
   says = record {
     rest = was.says.rest ++ message_parts (session_id (count_messages X talk)) message;
@@ -40,7 +42,9 @@ speaks-more X Y talk came past message most was = record {
   acked = was.acked;
 }
 
-pub speaks-beside : (X Y : End) (talk : Talk) (came : ℕ → Bool) (past : List Sent) (message : List ℕ) → is_end X Y ≡ false → length (said X past) ≤ pieces_before (messages_of X talk) (count_messages X talk) → SpeaksProperly X Y talk came past → SpeaksProperly X Y (say Y message talk) came past
+pub speaks-beside : (X Y : End) (talk : Talk) (came : ℕ → Bool) (past : List Sent) (message : List ℕ) → is_end X Y ≡ false
+    → length (said X past) ≤ pieces_before (messages_of X talk) (count_messages X talk) → SpeaksProperly X Y talk came past
+    → SpeaksProperly X Y (say Y message talk) came past
 speaks-beside X Y talk came past message apart most was = record {
   says = record { rest = was.says.rest; is = was.says.is ∙ sym (ap (session_parts 0) (messages-other Y X message talk apart)) };
   ten = was.ten;
@@ -49,7 +53,9 @@ speaks-beside X Y talk came past message apart most was = record {
 }
 
 -- data of X that was taken and was to be acknowledged
-pub speaks-unacked : (X Y : End) (talk : Talk) (cursor later : End → ℕ) (came : ℕ → Bool) (past : List Sent) (cx : ℕ) (frame : Sent) (x : Side) → ((Z : End) → cursor Z ≤ later Z) → cursor X ≡ cx → later X ≡ cx + 1 → cx < length past → at (cx + 1) past ≡ frame ∷ at cx past → data_comes X frame ≡ true
+pub speaks-unacked : (X Y : End) (talk : Talk) (cursor later : End → ℕ) (came : ℕ → Bool) (past : List Sent) (cx : ℕ) (frame : Sent) (x : Side)
+    → ((Z : End) → cursor Z ≤ later Z) → cursor X ≡ cx → later X ≡ cx + 1 → cx < length past → at (cx + 1) past ≡ frame ∷ at cx past
+    → data_comes X frame ≡ true
     → IsByCursor later came past → Speech X Y talk cursor past x → SpeaksProperly X Y talk came past
 speaks-unacked X Y talk cursor later came past cx frame x more is_cx is_later inside here comes_here is speech =
     let grows : Grows (came_by cursor past) came past = λ n le taken. grows-by later came past is n le (came-moves cursor later past more n le taken) in
@@ -67,13 +73,15 @@ speaks-unacked X Y talk cursor later came past cx frame x more is_cx is_later in
 
 -- ---- the abort stands last
 
-came-before : (frames : List FrameValue) (frame : FrameValue) (place : ℕ) → place < length frames → slice_index_or (map (λ f. f.came) (frames ++ frame ∷ [])) place false ≡ slice_index_or (map (λ f. f.came) frames) place false
+came-before : (frames : List FrameValue) (frame : FrameValue) (place : ℕ) → place < length frames
+    → slice_index_or (map (λ f. f.came) (frames ++ frame ∷ [])) place false ≡ slice_index_or (map (λ f. f.came) frames) place false
 came-before [] frame place less = absurd (omega arith)
 came-before (first ∷ later) frame zero less = refl
 came-before (first ∷ later) frame (suc place) less = came-before later frame place (omega arith)
 
 -- what came is told by the frames before it
-pub came-still : (cursor : End → ℕ) (frames : List FrameValue) (frame : FrameValue) (past : List Sent) → length past ≡ length frames → IsByCursor cursor (came_in frames) past → IsByCursor cursor (came_in (frames ++ frame ∷ [])) past
+pub came-still : (cursor : End → ℕ) (frames : List FrameValue) (frame : FrameValue) (past : List Sent) → length past ≡ length frames
+    → IsByCursor cursor (came_in frames) past → IsByCursor cursor (came_in (frames ++ frame ∷ [])) past
 came-still cursor frames frame past same is n found older inside here = elim (cases_lt 0 n) [
   | inl some ↦ came-before frames frame (n - 1) (omega (arith, some, inside, same)) ∙ is n found older inside here
   | inr none ↦ absurd (let zero_is : n ≡ 0 = omega (arith, none) in nothing past n zero_is here)
@@ -83,8 +91,11 @@ came-still cursor frames frame past same is n found older inside here = elim (ca
       let none : length (at k list) ≡ 0 = ap (λ (j : ℕ). length (at j list)) zero_is ∙ length-at 0 list (omega arith) in
       omega (arith, none, ap (λ (l : List Sent). length l) here)
 
-pub aborted-is-proper : (script : ℕ → FateValue) (talk : Talk) (cursor : End → ℕ) (frames : List FrameValue) (past : List Sent) (frame : FrameValue) → Framed script cursor frames past → AllByRecursion RunsOn frames → frame.number ≡ length frames + 1 → frame.fate ≡ script frame.number → frame.came ≡ false → cursor frame.from ≤ length frames → BearsFragment frame → is_abort (fragment_in frame).kind ≡ true
-    → RepeatsHaveFaults past → SpeaksProperly Handheld Desktop talk (came_in (frames ++ frame ∷ [])) past → SpeaksProperly Desktop Handheld talk (came_in (frames ++ frame ∷ [])) past → IsProper script talk (frames ++ frame ∷ [])
+pub aborted-is-proper : (script : ℕ → FateValue) (talk : Talk) (cursor : End → ℕ) (frames : List FrameValue) (past : List Sent) (frame : FrameValue)
+    → Framed script cursor frames past → AllByRecursion RunsOn frames → frame.number ≡ length frames + 1 → frame.fate ≡ script frame.number
+    → frame.came ≡ false → cursor frame.from ≤ length frames → BearsFragment frame → is_abort (fragment_in frame).kind ≡ true
+    → RepeatsHaveFaults past → SpeaksProperly Handheld Desktop talk (came_in (frames ++ frame ∷ [])) past
+    → SpeaksProperly Desktop Handheld talk (came_in (frames ++ frame ∷ [])) past → IsProper script talk (frames ++ frame ∷ [])
 aborted-is-proper script talk cursor frames past frame framed runs is given away inside bears aborts faults handheld desktop =
     let past_is : past_of (frames ++ frame ∷ []) ≡ past = past-push [] frames frame ∙ (cond-true _ _ _ aborts ∙ framed.past_is) in
     record {
@@ -97,5 +108,6 @@ aborted-is-proper script talk cursor frames past frame framed runs is given away
     }
 
 -- the past of a running line has as many frames
-pub framed-length : (script : ℕ → FateValue) (cursor : End → ℕ) (frames : List FrameValue) (past : List Sent) → Framed script cursor frames past → length past ≡ length frames
+pub framed-length : (script : ℕ → FateValue) (cursor : End → ℕ) (frames : List FrameValue) (past : List Sent) → Framed script cursor frames past
+    → length past ≡ length frames
 framed-length script cursor frames past framed = ap (λ (p : List Sent). length p) (sym framed.past_is) ∙ (longer-behind [] frames framed.whole ∙ omega arith)

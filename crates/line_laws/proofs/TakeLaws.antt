@@ -22,7 +22,8 @@ pub record Took (x : Side) (receiver : ReceiverValue) (answer : Taken) : Type 0 
   pub last : (after_answer receiver x.id (part_now x) answer).last ≡ Some (key_now x)
   pub awaits : Awaits x.id (x.acknowledged + 1) x.message (after_answer receiver x.id (part_now x) answer)
 
-pub takes : (x : Side) (receiver : ReceiverValue) (answer : Taken) → Awaits x.id x.acknowledged x.message receiver → (receiver.last ≡ Some (key_now x) → ⊥) → Waiting x → Answers receiver x.id (part_now x) answer → Took x receiver answer
+pub takes : (x : Side) (receiver : ReceiverValue) (answer : Taken) → Awaits x.id x.acknowledged x.message receiver
+    → (receiver.last ≡ Some (key_now x) → ⊥) → Waiting x → Answers receiver x.id (part_now x) answer → Took x receiver answer
 takes x receiver answer awaits new waits answers =
     let before : IsBefore x.id x.acknowledged x.message receiver = record { awaited = awaits.awaited; pieces = awaits.pieces; fresh = new } in
     let step = takes_piece x.id x.acknowledged x.message receiver answer before waits answers in
@@ -56,7 +57,8 @@ AfterData X Y past cy n x y rx ry fx fy key bytes Whole = (fx ≡ true) × Accep
 AfterData X Y past cy n x y rx ry fx fy key bytes Dropped = ⊥
 
 -- a copy of the last fragment that was taken
-take_copy : (X Y : End) (past : List Sent) (cx cy n : ℕ) (x y : Side) (rx ry : ReceiverValue) (fx fy : Bool) (key : Key) (bytes : List ℕ) (answer : Taken) → Apart X Y → Core X Y past cx cy x y rx ry fx fy → cx ≤ n → n ≤ length past
+take_copy : (X Y : End) (past : List Sent) (cx cy n : ℕ) (x y : Side) (rx ry : ReceiverValue) (fx fy : Bool) (key : Key) (bytes : List ℕ) (answer : Taken)
+    → Apart X Y → Core X Y past cx cy x y rx ry fx fy → cx ≤ n → n ≤ length past
     → first (acked Y past) ≡ Some key → Answers ry (key.id) (data_fragment key bytes) answer → AfterData X Y past cy n x y rx ry fx fy key bytes answer
 take_copy X Y past cx cy n x y rx ry fx fy key bytes Repeated apart core from inside copy answers = λ course. repeats X Y past cx cy x y rx ry fx fy n key course apart core from inside copy
 take_copy X Y past cx cy n x y rx ry fx fy key bytes Accepted apart core from inside copy answers = absurd (answers.0 (core.y_hears.last_is ∙ copy))
@@ -64,8 +66,11 @@ take_copy X Y past cx cy n x y rx ry fx fy key bytes Whole apart core from insid
 take_copy X Y past cx cy n x y rx ry fx fy key bytes Dropped apart core from inside copy answers = absurd (answers.0 (core.y_hears.last_is ∙ copy))
 
 -- the newest fragment
-take_newest : (X Y : End) (past : List Sent) (cx cy n : ℕ) (x y : Side) (rx ry : ReceiverValue) (answer : Taken) → Apart X Y → Core X Y past cx cy x y rx ry true false → cx ≤ n → n ≤ length past
-    → length (acked Y past) < length (said X (at n past)) → Answers ry x.id (part_now x) answer → (whole : Bool) → nat_eq (x.acknowledged + 1) (piece_count (length x.message)) ≡ whole → Took x ry answer → Accepting X Y past cy n x y rx ry (key_now x) ((part_now x).bytes) answer whole
+take_newest : (X Y : End) (past : List Sent) (cx cy n : ℕ) (x y : Side) (rx ry : ReceiverValue) (answer : Taken) → Apart X Y
+    → Core X Y past cx cy x y rx ry true false → cx ≤ n → n ≤ length past
+    → length (acked Y past) < length (said X (at n past)) → Answers ry x.id (part_now x) answer → (whole : Bool)
+    → nat_eq (x.acknowledged + 1) (piece_count (length x.message)) ≡ whole → Took x ry answer
+    → Accepting X Y past cy n x y rx ry (key_now x) ((part_now x).bytes) answer whole
 take_newest X Y past cx cy n x y rx ry answer apart core from inside behind answers whole whole_is took = record {
   key_is = refl;
   waits = core.x_speaks.waits refl;
@@ -76,15 +81,18 @@ take_newest X Y past cx cy n x y rx ry answer apart core from inside behind answ
 }
 
 -- the newest fragment of X wasn't the last key that the other end took
-newest_is_new : (X Y : End) (past : List Sent) (cx cy : ℕ) (x y : Side) (rx ry : ReceiverValue) (fy : Bool) → Core X Y past cx cy x y rx ry true fy → ry.last ≡ Some (key_now x) → ⊥
+newest_is_new : (X Y : End) (past : List Sent) (cx cy : ℕ) (x y : Side) (rx ry : ReceiverValue) (fy : Bool) → Core X Y past cx cy x y rx ry true fy
+    → ry.last ≡ Some (key_now x) → ⊥
 newest_is_new X Y past cx cy x y rx ry fy core same =
     let was = core.there.follows in
     let newest = core.x_speaks.newest (core.x_speaks.waits refl) in
     let it : was.0 ≡ key_now x = (let s : Some (was.0) ≡ Some (key_now x) = sym (ap first (was.1)) ∙ newest in cc) in
     keys_apart (data_of X) past (was.0) (acked Y past) (was.1) (sym core.y_hears.last_is ∙ same ∙ ap (λ (k : Key). Some k) (sym it))
 
-after_newest : (X Y : End) (past : List Sent) (cx cy n : ℕ) (x y : Side) (rx ry : ReceiverValue) (answer : Taken) → Apart X Y → Core X Y past cx cy x y rx ry true false → cx ≤ n → n ≤ length past
-    → length (acked Y past) < length (said X (at n past)) → Answers ry x.id (part_now x) answer → AfterData X Y past cy n x y rx ry true false (key_now x) ((part_now x).bytes) answer
+after_newest : (X Y : End) (past : List Sent) (cx cy n : ℕ) (x y : Side) (rx ry : ReceiverValue) (answer : Taken) → Apart X Y
+    → Core X Y past cx cy x y rx ry true false → cx ≤ n → n ≤ length past
+    → length (acked Y past) < length (said X (at n past)) → Answers ry x.id (part_now x) answer
+    → AfterData X Y past cy n x y rx ry true false (key_now x) ((part_now x).bytes) answer
 after_newest X Y past cx cy n x y rx ry answer apart core from inside behind answers =
     go answer (nat_eq (x.acknowledged + 1) (piece_count (length x.message))) refl answers (takes x ry answer awaits (newest_is_new X Y past cx cy x y rx ry false core) waits answers) where
       waits : Waiting x
@@ -104,8 +112,10 @@ after_newest X Y past cx cy n x y rx ry answer apart core from inside behind ans
       go Dropped false test answers took = absurd (let e : Dropped ≡ Accepted = took.is ∙ cond-false _ Whole Accepted test in cc)
 
 -- A data frame of X comes, whatever its answer: it is never dropped.
-pub take_data : (X Y : End) (past : List Sent) (cx cy n : ℕ) (x y : Side) (rx ry : ReceiverValue) (fx fy : Bool) (frame : Sent) (older : List Sent) (answer : Taken) → Apart X Y → Core X Y past cx cy x y rx ry fx fy → cx ≤ n → n ≤ length past
-    → at n past ≡ frame ∷ older → IsDataOf X frame → Answers ry (frame.key.id) (data_fragment (frame.key) (frame.bytes)) answer → AfterData X Y past cy n x y rx ry fx fy (frame.key) (frame.bytes) answer
+pub take_data : (X Y : End) (past : List Sent) (cx cy n : ℕ) (x y : Side) (rx ry : ReceiverValue) (fx fy : Bool) (frame : Sent) (older : List Sent) (answer : Taken)
+    → Apart X Y → Core X Y past cx cy x y rx ry fx fy → cx ≤ n → n ≤ length past
+    → at n past ≡ frame ∷ older → IsDataOf X frame → Answers ry (frame.key.id) (data_fragment (frame.key) (frame.bytes)) answer
+    → AfterData X Y past cy n x y rx ry fx fy (frame.key) (frame.bytes) answer
 take_data X Y past cx cy n x y rx ry fx fy frame older answer apart core from inside here is answers = elim (pending_data X Y past fx cx n frame older core.there from inside here is) [
   | inl copy ↦ take_copy X Y past cx cy n x y rx ry fx fy (frame.key) (frame.bytes) answer apart core from inside (copy.key) answers
   | inr newest ↦ go fx fy core newest
@@ -133,7 +143,8 @@ pub record Matched (X Y : End) (past : List Sent) (n : ℕ) (fx fy : Bool) (x y 
   pub alone : y.acknowledged + 1 < piece_count (length y.message) → (fx ≡ false) × (Waiting x → ⊥)
 
 -- it bears the key of the waiting piece of Y: its newest fragment was taken, and where more pieces follow X waits for nothing
-pub matched : (X Y : End) (past : List Sent) (cx cy n : ℕ) (x y : Side) (rx ry : ReceiverValue) (fx fy : Bool) (frame : Sent) (older : List Sent) → Core X Y past cx cy x y rx ry fx fy → cx ≤ n → n ≤ length past
+pub matched : (X Y : End) (past : List Sent) (cx cy n : ℕ) (x y : Side) (rx ry : ReceiverValue) (fx fy : Bool) (frame : Sent) (older : List Sent)
+    → Core X Y past cx cy x y rx ry fx fy → cx ≤ n → n ≤ length past
     → at n past ≡ frame ∷ older → IsAckOf X frame → Waiting y → key_now y ≡ frame.key → Matched X Y past n fx fy x y
 matched X Y past cx cy n x y rx ry fx fy frame older core from inside here is waits key =
     let newest : first (said Y past) ≡ Some (frame.key) = core.y_speaks.newest waits ∙ ap (λ (k : Key). Some k) key in
@@ -162,14 +173,17 @@ matched X Y past cx cy n x y rx ry fx fy frame older core from inside here is wa
       ]
 
 -- it acknowledges the last piece: nothing waits
-pub take_last_ack : (X Y : End) (past : List Sent) (cx cy n : ℕ) (x y : Side) (rx ry : ReceiverValue) (fx fy : Bool) (frame : Sent) (older : List Sent) → Core X Y past cx cy x y rx ry fx fy → cx ≤ n → n ≤ length past
-    → at n past ≡ frame ∷ older → IsAckOf X frame → Waiting y → key_now y ≡ frame.key → y.acknowledged + 1 ≡ piece_count (length y.message) → Core X Y past n cy x (acknowledged y) rx ry fx false
+pub take_last_ack : (X Y : End) (past : List Sent) (cx cy n : ℕ) (x y : Side) (rx ry : ReceiverValue) (fx fy : Bool) (frame : Sent) (older : List Sent)
+    → Core X Y past cx cy x y rx ry fx fy → cx ≤ n → n ≤ length past
+    → at n past ≡ frame ∷ older → IsAckOf X frame → Waiting y → key_now y ≡ frame.key → y.acknowledged + 1 ≡ piece_count (length y.message)
+    → Core X Y past n cy x (acknowledged y) rx ry fx false
 take_last_ack X Y past cx cy n x y rx ry fx fy frame older core from inside here is waits key last =
     let m = matched X Y past cx cy n x y rx ry fx fy frame older core from inside here is waits key in
     ends X Y past cx cy x y rx ry fx n (y.acknowledged + 1) (subst (λ (f : Bool). Core X Y past cx cy x y rx ry fx f) (m.none_fresh) core) from inside (omega arith)
 
 -- it acknowledges another piece: the next one goes
-pub take_ack : (X Y : End) (past : List Sent) (cx cy n : ℕ) (x y : Side) (rx ry : ReceiverValue) (fx fy : Bool) (frame : Sent) (older : List Sent) (course : Course) → Apart X Y → Core X Y past cx cy x y rx ry fx fy → cx ≤ n → n ≤ length past
+pub take_ack : (X Y : End) (past : List Sent) (cx cy n : ℕ) (x y : Side) (rx ry : ReceiverValue) (fx fy : Bool) (frame : Sent) (older : List Sent) (course : Course)
+    → Apart X Y → Core X Y past cx cy x y rx ry fx fy → cx ≤ n → n ≤ length past
     → at n past ≡ frame ∷ older → IsAckOf X frame → Waiting y → key_now y ≡ frame.key → y.acknowledged + 1 < piece_count (length y.message)
     → Core X Y (data_frame Y (key_now (acknowledged y)) ((part_now (acknowledged y)).bytes) course ∷ past) n cy x (acknowledged y) rx ry false true
 take_ack X Y past cx cy n x y rx ry fx fy frame older course apart core from inside here is waits key more =
@@ -194,15 +208,18 @@ abbrev pub beginning : ℕ → List ℕ → Side
 beginning id message = record { id = id; message = message; acknowledged = 0 }
 
 -- X, which waits for nothing and knows all that was said, begins a message that Y awaits
-pub starts : (X Y : End) (past : List Sent) (cx cy : ℕ) (x y : Side) (rx ry : ReceiverValue) (id : ℕ) (message : List ℕ) (course : Course) → Apart X Y → Core X Y past cx cy x y rx ry false false
-    → length (said X past) ≤ length (acked Y (at cy past)) → (id ≡ x.id → ⊥) → ry.awaited ≡ Some id → ry.pieces ≡ [] → (Waiting y → y.acknowledged + 1 ≡ piece_count (length y.message))
+pub starts : (X Y : End) (past : List Sent) (cx cy : ℕ) (x y : Side) (rx ry : ReceiverValue) (id : ℕ) (message : List ℕ) (course : Course) → Apart X Y
+    → Core X Y past cx cy x y rx ry false false
+    → length (said X past) ≤ length (acked Y (at cy past)) → (id ≡ x.id → ⊥) → ry.awaited ≡ Some id → ry.pieces ≡ []
+    → (Waiting y → y.acknowledged + 1 ≡ piece_count (length y.message))
     → Core X Y (data_frame X (key_now (beginning id message)) ((part_now (beginning id message)).bytes) course ∷ past) cx cy (beginning id message) y rx ry true false
 starts X Y past cx cy x y rx ry id message course apart core caught other awaited none last =
     begins X Y past cx cy (beginning id message) y rx ry course apart core.there core.back caught core.y_speaks core.y_hears.last_is
     (record { awaited = awaited; pieces = none }) core.x_hears (omega arith) (λ same. other (core.x_speaks.newest_id _ same)) (λ w. (refl, last w))
 
 -- Y, which took the whole message of X, awaits the next one
-pub expects : (X Y : End) (past : List Sent) (cx cy : ℕ) (x y : Side) (rx ry : ReceiverValue) (fy : Bool) (id : ℕ) → Core X Y past cx cy x y rx ry false fy → piece_count (length x.message) ≤ x.acknowledged + 1
+pub expects : (X Y : End) (past : List Sent) (cx cy : ℕ) (x y : Side) (rx ry : ReceiverValue) (fy : Bool) (id : ℕ)
+    → Core X Y past cx cy x y rx ry false fy → piece_count (length x.message) ≤ x.acknowledged + 1
     → Core X Y past cx cy x y rx (record { awaited = Some id; pieces = []; last = ry.last }) false fy
 expects X Y past cx cy x y rx ry fy id core whole = record {
   there = core.there;

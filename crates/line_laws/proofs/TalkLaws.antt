@@ -55,7 +55,9 @@ data-frame-other : (X Y : End) (key : Key) (bytes : List ℕ) (course : Course) 
 data-frame-other X Y key bytes course apart = ap (λ (b : Bool). b && true) apart
 
 -- the frame that is taken reached this time
-taken-reaches : (X : End) (cursor : End → ℕ) (past : List Sent) (cx : ℕ) (frame : Sent) → cursor X ≡ cx + 1 → cx < length past → at (cx + 1) past ≡ frame ∷ at cx past → is_end X frame.from ≡ true → comes frame.course ≡ true → (IsHeldIn X (cx + 1) past → ⊥) → Reaches (came_by cursor past) (cx + 1) past
+taken-reaches : (X : End) (cursor : End → ℕ) (past : List Sent) (cx : ℕ) (frame : Sent) → cursor X ≡ cx + 1 → cx < length past
+    → at (cx + 1) past ≡ frame ∷ at cx past → is_end X frame.from ≡ true → comes frame.course ≡ true → (IsHeldIn X (cx + 1) past → ⊥)
+    → Reaches (came_by cursor past) (cx + 1) past
 taken-reaches X cursor past cx frame is_cx inside here mine comes_here free =
     let from : frame.from ≡ X = same_end X frame.from mine in
     record {
@@ -68,7 +70,9 @@ taken-reaches X cursor past cx frame is_cx inside here mine comes_here free =
     }
 
 -- the newest fragment of X is the one that is accepted
-newest_at : (X Y : End) (past : List Sent) (fx : Bool) (cx : ℕ) (frame : Sent) → Counts X Y past fx cx → cx < length past → at (cx + 1) past ≡ frame ∷ at cx past → IsDataOf X frame → first (said X past) ≡ Some (frame.key) → length (said X (at (cx + 1) past)) ≡ length (said X past)
+newest_at : (X Y : End) (past : List Sent) (fx : Bool) (cx : ℕ) (frame : Sent) → Counts X Y past fx cx → cx < length past
+    → at (cx + 1) past ≡ frame ∷ at cx past → IsDataOf X frame → first (said X past) ≡ Some (frame.key)
+    → length (said X (at (cx + 1) past)) ≡ length (said X past)
 newest_at X Y past fx cx frame counts inside here is key = elim (pending_data X Y past fx cx (cx + 1) frame (at cx past) counts (omega arith) (omega (arith, inside)) here is) [
   | inl copy ↦ go fx counts.follows copy
   | inr newest ↦ newest.newest
@@ -81,7 +85,8 @@ some_said : (X : End) (past : List Sent) (key : Key) → first (said X past) ≡
 some_said X past key newest_is = let f = first_is (said X past) key newest_is in omega (arith, ap (λ (s : List Key). length s) f.1)
 
 -- an end that said something began a message
-some_message : (X Y : End) (talk : Talk) (cursor : End → ℕ) (past : List Sent) (x : Side) → Speech X Y talk cursor past x → 0 < length (said X past) → 0 < count_messages X talk
+some_message : (X Y : End) (talk : Talk) (cursor : End → ℕ) (past : List Sent) (x : Side) → Speech X Y talk cursor past x → 0 < length (said X past)
+    → 0 < count_messages X talk
 some_message X Y talk cursor past x speech some = go (count_messages X talk) refl
   where
     go : (count : ℕ) → count_messages X talk ≡ count → 0 < count
@@ -93,7 +98,9 @@ some_message X Y talk cursor past x speech some = go (count_messages X talk) ref
 -- ---- passing
 
 -- a frame of X is passed that is no data which comes
-pub talking_passes : (X Y : End) (talk : Talk) (cursor later : End → ℕ) (past : List Sent) (cx : ℕ) (x y : Side) (fx fy : Bool) (frame : Sent) → Apart X Y → cursor X ≡ cx → Moves X Y cursor later → at (cx + 1) past ≡ frame ∷ at cx past → data_comes X frame ≡ false → Talking X Y talk cursor past x y fx fy → Talking X Y talk later past x y fx fy
+pub talking_passes : (X Y : End) (talk : Talk) (cursor later : End → ℕ) (past : List Sent) (cx : ℕ) (x y : Side) (fx fy : Bool) (frame : Sent)
+    → Apart X Y → cursor X ≡ cx → Moves X Y cursor later → at (cx + 1) past ≡ frame ∷ at cx past → data_comes X frame ≡ false
+    → Talking X Y talk cursor past x y fx fy → Talking X Y talk later past x y fx fy
 talking_passes X Y talk cursor later past cx x y fx fy frame apart is_cx moves here other was =
     let more = moves-more X Y cursor later apart.there moves in
     let moved : later X ≡ cx + 1 = omega (arith, moves.moved, is_cx) in
@@ -107,16 +114,20 @@ talking_passes X Y talk cursor later past cx x y fx fy frame apart is_cx moves h
 -- ---- data is taken
 
 -- Y's speech, where Y acknowledges data of X
-acked_other : (X Y : End) (talk : Talk) (cursor later : End → ℕ) (past : List Sent) (y : Side) (key : Key) (course : Course) → Apart X Y → Moves X Y cursor later → cursor Y ≤ length past → Speech Y X talk cursor past y → Speech Y X talk later (ack_frame Y key course ∷ past) y
+acked_other : (X Y : End) (talk : Talk) (cursor later : End → ℕ) (past : List Sent) (y : Side) (key : Key) (course : Course) → Apart X Y
+    → Moves X Y cursor later → cursor Y ≤ length past → Speech Y X talk cursor past y → Speech Y X talk later (ack_frame Y key course ∷ past) y
 acked_other X Y talk cursor later past y key course apart moves inside was =
     let no_data = ack_is_no_data Y Y key course in
     speech-push Y X talk later (ack_frame Y key course) past y no_data (ack-frame-other X Y key course apart.there) (said_ack Y Y key course past) (acked_ack-other Y X apart.there key course past) (run_other Y (ack_frame Y key course) past no_data) (omega (arith, inside, moves.kept))
     (speech-moves Y X talk cursor later past y (moves-more X Y cursor later apart.there moves) (ap (λ (k : ℕ). data_taken Y (at k past)) moves.kept) was)
 
 -- a copy
-pub talking_copy : (X Y : End) (talk : Talk) (cursor later : End → ℕ) (past : List Sent) (cx cy released : ℕ) (x y : Side) (rx ry : ReceiverValue) (fx fy : Bool) (tx ty : ℕ) (course : Course) (frame : Sent) → Apart X Y → Line X Y past cx cy released x y rx ry fx fy tx ty
-    → cx < length past → at (cx + 1) past ≡ frame ∷ at cx past → (late_of X frame ≡ true → cx + 1 ≤ released) → IsDataOf X frame → comes frame.course ≡ true → IsCopy X Y frame (cx + 1) past
-    → cursor X ≡ cx → cursor Y ≡ cy → Moves X Y cursor later → Talking X Y talk cursor past x y fx fy → Talking X Y talk later (ack_frame Y (frame.key) course ∷ past) x y fx fy
+pub talking_copy : (X Y : End) (talk : Talk) (cursor later : End → ℕ) (past : List Sent) (cx cy released : ℕ) (x y : Side) (rx ry : ReceiverValue) (fx fy : Bool) (tx ty : ℕ) (course : Course) (frame : Sent)
+    → Apart X Y → Line X Y past cx cy released x y rx ry fx fy tx ty
+    → cx < length past → at (cx + 1) past ≡ frame ∷ at cx past → (late_of X frame ≡ true → cx + 1 ≤ released) → IsDataOf X frame
+    → comes frame.course ≡ true → IsCopy X Y frame (cx + 1) past
+    → cursor X ≡ cx → cursor Y ≡ cy → Moves X Y cursor later → Talking X Y talk cursor past x y fx fy
+    → Talking X Y talk later (ack_frame Y (frame.key) course ∷ past) x y fx fy
 talking_copy X Y talk cursor later past cx cy released x y rx ry fx fy tx ty course frame apart line x_in here free is comes_here copy is_cx is_cy moves was =
     let ack = ack_frame Y (frame.key) course in
     let more = moves-more X Y cursor later apart.there moves in
@@ -136,18 +147,23 @@ talking_copy X Y talk cursor later past cx cy released x y rx ry fx fy tx ty cou
     }
 
 -- the frame that is taken reached what is sent behind the acknowledgement
-reached-now : (X : End) (cursor : End → ℕ) (ack : Sent) (past : List Sent) (cx : ℕ) (frame : Sent) → cursor X ≡ cx + 1 → cx < length past → at (cx + 1) past ≡ frame ∷ at cx past → is_end X frame.from ≡ true → comes frame.course ≡ true → (IsHeldIn X (cx + 1) past → ⊥)
+reached-now : (X : End) (cursor : End → ℕ) (ack : Sent) (past : List Sent) (cx : ℕ) (frame : Sent) → cursor X ≡ cx + 1 → cx < length past
+    → at (cx + 1) past ≡ frame ∷ at cx past → is_end X frame.from ≡ true → comes frame.course ≡ true → (IsHeldIn X (cx + 1) past → ⊥)
     → (reaches : Reaches (came_by cursor (ack ∷ past)) (cx + 1) (ack ∷ past)) × (reaches.frame ≡ frame)
 unfolding taken-reaches reaches-push
 reached-now X cursor ack past cx frame is_cx inside here mine comes_here free =
     (reaches-push cursor (cx + 1) ack past (taken-reaches X cursor past cx frame is_cx inside here mine comes_here free), refl)
 
-took-newest : (X Y : End) (came : ℕ → Bool) (past : List Sent) (n : ℕ) (frame : Sent) (reached : (reaches : Reaches came n past) × (reaches.frame ≡ frame)) → IsDataOf X frame → length (said X (at n past)) ≡ length (acked Y past) → TookNewest X Y came past
+took-newest : (X Y : End) (came : ℕ → Bool) (past : List Sent) (n : ℕ) (frame : Sent) (reached : (reaches : Reaches came n past) × (reaches.frame ≡ frame))
+    → IsDataOf X frame → length (said X (at n past)) ≡ length (acked Y past) → TookNewest X Y came past
 took-newest X Y came past n frame reached is number =
     record { n = n; reaches = reached.0; bears = record { is = subst (λ (f : Sent). IsDataOf X f) (sym reached.1) is; number_is = number } }
 
-known_by_answer : (X Y : End) (talk : Talk) (came : ℕ → Bool) (past : List Sent) (n : ℕ) (frame : Sent) (reached : (reaches : Reaches came n past) × (reaches.frame ≡ frame)) → IsDataOf Y frame → 0 < count_messages X talk → 0 < count_messages Y talk → answer_to X (count_messages X talk - 1) ≡ Some (count_messages Y talk - 1)
-    → pieces_before (messages_of X talk) (count_messages X talk) ≡ length (said X past) → length (said Y (at n past)) ≡ pieces_before (messages_of Y talk) (count_messages Y talk - 1) + 1 → IsKnown X Y talk came past
+known_by_answer : (X Y : End) (talk : Talk) (came : ℕ → Bool) (past : List Sent) (n : ℕ) (frame : Sent) (reached : (reaches : Reaches came n past) × (reaches.frame ≡ frame))
+    → IsDataOf Y frame → 0 < count_messages X talk → 0 < count_messages Y talk
+    → answer_to X (count_messages X talk - 1) ≡ Some (count_messages Y talk - 1)
+    → pieces_before (messages_of X talk) (count_messages X talk) ≡ length (said X past)
+    → length (said Y (at n past)) ≡ pieces_before (messages_of Y talk) (count_messages Y talk - 1) + 1 → IsKnown X Y talk came past
 known_by_answer X Y talk came past n frame reached is x_some y_some answers ends number = record {
   n = n;
   reaches = reached.0;
@@ -162,7 +178,8 @@ known_by_answer X Y talk came past n frame reached is x_some y_some answers ends
   });
 }
 
-known_by_its_ack : (X Y : End) (talk : Talk) (came : ℕ → Bool) (past : List Sent) (n : ℕ) (frame : Sent) (reached : (reaches : Reaches came n past) × (reaches.frame ≡ frame)) → IsAckOf Y frame → length (said X (at n past)) ≡ length (said X past) → first (said X past) ≡ Some (frame.key) → IsKnown X Y talk came past
+known_by_its_ack : (X Y : End) (talk : Talk) (came : ℕ → Bool) (past : List Sent) (n : ℕ) (frame : Sent) (reached : (reaches : Reaches came n past) × (reaches.frame ≡ frame))
+    → IsAckOf Y frame → length (said X (at n past)) ≡ length (said X past) → first (said X past) ≡ Some (frame.key) → IsKnown X Y talk came past
 known_by_its_ack X Y talk came past n frame reached is behind key = record {
   n = n;
   reaches = reached.0;
@@ -170,9 +187,12 @@ known_by_its_ack X Y talk came past n frame reached is behind key = record {
 }
 
 -- the newest fragment: where Y waits, this frame tells it that its message was taken
-pub talking_newest : (X Y : End) (talk : Talk) (cursor later : End → ℕ) (past : List Sent) (cx cy released : ℕ) (x y : Side) (rx ry : ReceiverValue) (fx fy : Bool) (tx ty k : ℕ) (course : Course) (frame : Sent) (answer : Taken) (whole : Bool) → Apart X Y → Line X Y past cx cy released x y rx ry fx fy tx ty
-    → cx < length past → at (cx + 1) past ≡ frame ∷ at cx past → (late_of X frame ≡ true → cx + 1 ≤ released) → IsDataOf X frame → comes frame.course ≡ true → Accepting X Y past cy (cx + 1) x y rx ry (frame.key) (frame.bytes) answer whole → piece_count (length y.message) ≤ k
-    → cursor X ≡ cx → cursor Y ≡ cy → Moves X Y cursor later → Talking X Y talk cursor past x y fx fy → Talking X Y talk later (ack_frame Y (frame.key) course ∷ past) x (record y { acknowledged = k }) false false
+pub talking_newest : (X Y : End) (talk : Talk) (cursor later : End → ℕ) (past : List Sent) (cx cy released : ℕ) (x y : Side) (rx ry : ReceiverValue) (fx fy : Bool) (tx ty k : ℕ) (course : Course) (frame : Sent) (answer : Taken) (whole : Bool)
+    → Apart X Y → Line X Y past cx cy released x y rx ry fx fy tx ty
+    → cx < length past → at (cx + 1) past ≡ frame ∷ at cx past → (late_of X frame ≡ true → cx + 1 ≤ released) → IsDataOf X frame
+    → comes frame.course ≡ true → Accepting X Y past cy (cx + 1) x y rx ry (frame.key) (frame.bytes) answer whole → piece_count (length y.message) ≤ k
+    → cursor X ≡ cx → cursor Y ≡ cy → Moves X Y cursor later → Talking X Y talk cursor past x y fx fy
+    → Talking X Y talk later (ack_frame Y (frame.key) course ∷ past) x (record y { acknowledged = k }) false false
 talking_newest X Y talk cursor later past cx cy released x y rx ry fx fy tx ty k course frame answer whole apart line x_in here free is comes_here accepting idle is_cx is_cy moves was =
     let more = moves-more X Y cursor later apart.there moves in
     let moved : later X ≡ cx + 1 = omega (arith, moves.moved, is_cx) in
@@ -230,8 +250,10 @@ ack_no_data X frame is = go (is_end X frame.from) (frame.is_data) (comes frame.c
   go true true c is = absurd cc
 
 -- the acknowledgement of the waiting piece of Y tells it that this was taken
-known_now : (X Y : End) (talk : Talk) (later : End → ℕ) (past : List Sent) (cx cy released : ℕ) (x y : Side) (rx ry : ReceiverValue) (fx fy : Bool) (tx ty : ℕ) (frame : Sent) → Line X Y past cx cy released x y rx ry fx fy tx ty
-    → cx < length past → at (cx + 1) past ≡ frame ∷ at cx past → (late_of X frame ≡ true → cx + 1 ≤ released) → IsAckOf X frame → comes frame.course ≡ true → Waiting y → key_now y ≡ frame.key → later X ≡ cx + 1 → IsKnown Y X talk (came_by later past) past
+known_now : (X Y : End) (talk : Talk) (later : End → ℕ) (past : List Sent) (cx cy released : ℕ) (x y : Side) (rx ry : ReceiverValue) (fx fy : Bool) (tx ty : ℕ) (frame : Sent)
+    → Line X Y past cx cy released x y rx ry fx fy tx ty
+    → cx < length past → at (cx + 1) past ≡ frame ∷ at cx past → (late_of X frame ≡ true → cx + 1 ≤ released) → IsAckOf X frame
+    → comes frame.course ≡ true → Waiting y → key_now y ≡ frame.key → later X ≡ cx + 1 → IsKnown Y X talk (came_by later past) past
 unfolding taken-reaches
 known_now X Y talk later past cx cy released x y rx ry fx fy tx ty frame line x_in here free is comes_here waits key moved =
     let mine = (and_parts (is_end X frame.from) _ is).0 in
@@ -242,8 +264,10 @@ known_now X Y talk later past cx cy released x y rx ry fx fy tx ty frame line x_
     (line.core.y_speaks.newest waits ∙ ap (λ (k : Key). Some k) key)
 
 -- of its last piece
-pub talking_last_ack : (X Y : End) (talk : Talk) (cursor later : End → ℕ) (past : List Sent) (cx cy released : ℕ) (x y : Side) (rx ry : ReceiverValue) (fx fy : Bool) (tx ty : ℕ) (frame : Sent) → Apart X Y → Line X Y past cx cy released x y rx ry fx fy tx ty
-    → cx < length past → at (cx + 1) past ≡ frame ∷ at cx past → (late_of X frame ≡ true → cx + 1 ≤ released) → IsAckOf X frame → comes frame.course ≡ true → Waiting y → key_now y ≡ frame.key → y.acknowledged + 1 ≡ piece_count (length y.message)
+pub talking_last_ack : (X Y : End) (talk : Talk) (cursor later : End → ℕ) (past : List Sent) (cx cy released : ℕ) (x y : Side) (rx ry : ReceiverValue) (fx fy : Bool) (tx ty : ℕ) (frame : Sent)
+    → Apart X Y → Line X Y past cx cy released x y rx ry fx fy tx ty
+    → cx < length past → at (cx + 1) past ≡ frame ∷ at cx past → (late_of X frame ≡ true → cx + 1 ≤ released) → IsAckOf X frame
+    → comes frame.course ≡ true → Waiting y → key_now y ≡ frame.key → y.acknowledged + 1 ≡ piece_count (length y.message)
     → cursor X ≡ cx → Moves X Y cursor later → Talking X Y talk cursor past x y fx fy → Talking X Y talk later past x (acknowledged y) fx false
 talking_last_ack X Y talk cursor later past cx cy released x y rx ry fx fy tx ty frame apart line x_in here free is comes_here waits key last is_cx moves was =
     let passed = talking_passes X Y talk cursor later past cx x y fx fy frame apart is_cx moves here (ack_no_data X frame is) was in
@@ -256,9 +280,12 @@ talking_last_ack X Y talk cursor later past cx cy released x y rx ry fx fy tx ty
     }
 
 -- of another piece: the next one goes
-pub talking_next_piece : (X Y : End) (talk : Talk) (cursor later : End → ℕ) (past : List Sent) (cx cy released : ℕ) (x y : Side) (rx ry : ReceiverValue) (fx fy : Bool) (tx ty : ℕ) (frame : Sent) (course : Course) → Apart X Y → Line X Y past cx cy released x y rx ry fx fy tx ty
-    → cx < length past → at (cx + 1) past ≡ frame ∷ at cx past → (late_of X frame ≡ true → cx + 1 ≤ released) → IsAckOf X frame → comes frame.course ≡ true → Waiting y → key_now y ≡ frame.key → y.acknowledged + 1 < piece_count (length y.message)
-    → cursor X ≡ cx → cursor Y ≡ cy → Moves X Y cursor later → Talking X Y talk cursor past x y fx fy → Talking X Y talk later (data_frame Y (key_now (acknowledged y)) ((part_now (acknowledged y)).bytes) course ∷ past) x (acknowledged y) false true
+pub talking_next_piece : (X Y : End) (talk : Talk) (cursor later : End → ℕ) (past : List Sent) (cx cy released : ℕ) (x y : Side) (rx ry : ReceiverValue) (fx fy : Bool) (tx ty : ℕ) (frame : Sent) (course : Course)
+    → Apart X Y → Line X Y past cx cy released x y rx ry fx fy tx ty
+    → cx < length past → at (cx + 1) past ≡ frame ∷ at cx past → (late_of X frame ≡ true → cx + 1 ≤ released) → IsAckOf X frame
+    → comes frame.course ≡ true → Waiting y → key_now y ≡ frame.key → y.acknowledged + 1 < piece_count (length y.message)
+    → cursor X ≡ cx → cursor Y ≡ cy → Moves X Y cursor later → Talking X Y talk cursor past x y fx fy
+    → Talking X Y talk later (data_frame Y (key_now (acknowledged y)) ((part_now (acknowledged y)).bytes) course ∷ past) x (acknowledged y) false true
 talking_next_piece X Y talk cursor later past cx cy released x y rx ry fx fy tx ty frame course apart line x_in here free is comes_here waits key more is_cx is_cy moves was =
     let next = key_now (acknowledged y) in
     let bytes = (part_now (acknowledged y)).bytes in
@@ -277,9 +304,13 @@ talking_next_piece X Y talk cursor later past cx cy released x y rx ry fx fy tx 
 
 -- ---- a new message
 
-pub talking_starts : (X Y : End) (talk : Talk) (cursor : End → ℕ) (past : List Sent) (cx cy released : ℕ) (x y : Side) (rx ry : ReceiverValue) (tx ty id : ℕ) (message : List ℕ) (course : Course) → Apart X Y → Line X Y past cx cy released x y rx ry false false tx ty → (Waiting x → ⊥) → (id ≡ x.id → ⊥) → id ≡ session_id (count_messages X talk)
-    → IfAnswers (answered_by X (count_messages X talk)) talk (came_by cursor past) past → (Waiting y → (0 < count_messages Y talk) × (answer_to Y (count_messages Y talk - 1) ≡ Some (count_messages X talk)))
-    → cursor X ≡ cx → cursor Y ≡ cy → Talking X Y talk cursor past x y false false → Talking X Y (say X message talk) cursor (data_frame X (key_now (beginning id message)) ((part_now (beginning id message)).bytes) course ∷ past) (beginning id message) y true false
+pub talking_starts : (X Y : End) (talk : Talk) (cursor : End → ℕ) (past : List Sent) (cx cy released : ℕ) (x y : Side) (rx ry : ReceiverValue) (tx ty id : ℕ) (message : List ℕ) (course : Course)
+    → Apart X Y → Line X Y past cx cy released x y rx ry false false tx ty → (Waiting x → ⊥) → (id ≡ x.id → ⊥)
+    → id ≡ session_id (count_messages X talk)
+    → IfAnswers (answered_by X (count_messages X talk)) talk (came_by cursor past) past
+    → (Waiting y → (0 < count_messages Y talk) × (answer_to Y (count_messages Y talk - 1) ≡ Some (count_messages X talk)))
+    → cursor X ≡ cx → cursor Y ≡ cy → Talking X Y talk cursor past x y false false
+    → Talking X Y (say X message talk) cursor (data_frame X (key_now (beginning id message)) ((part_now (beginning id message)).bytes) course ∷ past) (beginning id message) y true false
 talking_starts X Y talk cursor past cx cy released x y rx ry tx ty id message course apart line idle other id_is answers turn is_cx is_cy was =
     let key = key_now (beginning id message) in
     let bytes = (part_now (beginning id message)).bytes in
@@ -303,7 +334,9 @@ talking_starts X Y talk cursor past cx cy released x y rx ry tx ty id message co
     }
 
 -- an end whose message was taken whole: its last fragment reached this time
-pub end_taken : (X Y : End) (talk : Talk) (cursor : End → ℕ) (past : List Sent) (x : Side) → Speech X Y talk cursor past x → left x ≡ 0 → said X past ≡ acked Y past → 0 < count_messages X talk → 0 < length (said X past) → EndReached (record { end = X; number = count_messages X talk - 1 }) talk (came_by cursor past) past
+pub end_taken : (X Y : End) (talk : Talk) (cursor : End → ℕ) (past : List Sent) (x : Side) → Speech X Y talk cursor past x → left x ≡ 0
+    → said X past ≡ acked Y past → 0 < count_messages X talk → 0 < length (said X past)
+    → EndReached (record { end = X; number = count_messages X talk - 1 }) talk (came_by cursor past) past
 end_taken X Y talk cursor past x speech none same some some_piece =
     let len = ap (λ (s : List Key). length s) same in
     let took = speech.took (omega (arith, some_piece, len)) in
@@ -317,7 +350,9 @@ end_taken X Y talk cursor past x speech none same some some_piece =
 
 -- ---- the tick
 
-talking_again : (X Y : End) (talk : Talk) (cursor : End → ℕ) (past : List Sent) (x y : Side) (fx fy : Bool) (key : Key) (bytes : List ℕ) (course : Course) → Apart X Y → first (said X past) ≡ Some key → run X past < 10 → cursor X ≤ length past → cursor Y ≤ length past → Talking X Y talk cursor past x y fx fy → Talking X Y talk cursor (data_frame X key bytes course ∷ past) x y fx fy
+talking_again : (X Y : End) (talk : Talk) (cursor : End → ℕ) (past : List Sent) (x y : Side) (fx fy : Bool) (key : Key) (bytes : List ℕ) (course : Course)
+    → Apart X Y → first (said X past) ≡ Some key → run X past < 10 → cursor X ≤ length past → cursor Y ≤ length past
+    → Talking X Y talk cursor past x y fx fy → Talking X Y talk cursor (data_frame X key bytes course ∷ past) x y fx fy
 talking_again X Y talk cursor past x y fx fy key bytes course apart newest_is few x_in y_in was =
     let no_data = data-frame-other X Y key bytes course apart.back in
     record {
@@ -327,18 +362,22 @@ talking_again X Y talk cursor past x y fx fy key bytes course apart newest_is fe
       y_answers = was.y_answers;
     }
 
-pub talking_turned : (X Y : End) (talk : Talk) (cursor : End → ℕ) (past : List Sent) (x y : Side) (fx fy : Bool) → Talking X Y talk cursor past x y fx fy → Talking Y X talk cursor past y x fy fx
+pub talking_turned : (X Y : End) (talk : Talk) (cursor : End → ℕ) (past : List Sent) (x y : Side) (fx fy : Bool)
+    → Talking X Y talk cursor past x y fx fy → Talking Y X talk cursor past y x fy fx
 talking_turned X Y talk cursor past x y fx fy was = record { x_speech = was.y_speech; y_speech = was.x_speech; x_answers = was.y_answers; y_answers = was.x_answers }
 
 -- where X alone waits
-pub talking_tick_one : (X Y : End) (talk : Talk) (cursor : End → ℕ) (past : List Sent) (cx cy released : ℕ) (x y : Side) (rx ry : ReceiverValue) (fx fy : Bool) (tx ty : ℕ) (course : Course) → Apart X Y → Line X Y past cx cy released x y rx ry fx fy tx ty → Waiting x → tx < 10 → cursor X ≡ cx → cursor Y ≡ cy
+pub talking_tick_one : (X Y : End) (talk : Talk) (cursor : End → ℕ) (past : List Sent) (cx cy released : ℕ) (x y : Side) (rx ry : ReceiverValue) (fx fy : Bool) (tx ty : ℕ) (course : Course)
+    → Apart X Y → Line X Y past cx cy released x y rx ry fx fy tx ty → Waiting x → tx < 10 → cursor X ≡ cx → cursor Y ≡ cy
     → Talking X Y talk cursor past x y fx fy → Talking X Y talk cursor (data_frame X (key_now x) ((part_now x).bytes) course ∷ past) x y fx fy
 talking_tick_one X Y talk cursor past cx cy released x y rx ry fx fy tx ty course apart line waits few is_cx is_cy was =
     talking_again X Y talk cursor past x y fx fy (key_now x) ((part_now x).bytes) course apart (line.core.x_speaks.newest waits) (omega (arith, line.x_knows.run_is waits, few)) (omega (arith, is_cx, line.core.there.cur_in)) (omega (arith, is_cy, line.core.back.cur_in)) was
 
 -- where both wait: X sends, then Y
-pub talking_tick_two : (X Y : End) (talk : Talk) (cursor : End → ℕ) (past : List Sent) (cx cy released : ℕ) (x y : Side) (rx ry : ReceiverValue) (fx fy : Bool) (tx ty : ℕ) (course other : Course) → Apart X Y → Line X Y past cx cy released x y rx ry fx fy tx ty → Waiting x → Waiting y → tx < 10 → ty < 10 → cursor X ≡ cx → cursor Y ≡ cy
-    → Talking X Y talk cursor past x y fx fy → Talking X Y talk cursor (data_frame Y (key_now y) ((part_now y).bytes) other ∷ data_frame X (key_now x) ((part_now x).bytes) course ∷ past) x y fx fy
+pub talking_tick_two : (X Y : End) (talk : Talk) (cursor : End → ℕ) (past : List Sent) (cx cy released : ℕ) (x y : Side) (rx ry : ReceiverValue) (fx fy : Bool) (tx ty : ℕ) (course other : Course)
+    → Apart X Y → Line X Y past cx cy released x y rx ry fx fy tx ty → Waiting x → Waiting y → tx < 10 → ty < 10 → cursor X ≡ cx → cursor Y ≡ cy
+    → Talking X Y talk cursor past x y fx fy
+    → Talking X Y talk cursor (data_frame Y (key_now y) ((part_now y).bytes) other ∷ data_frame X (key_now x) ((part_now x).bytes) course ∷ past) x y fx fy
 talking_tick_two X Y talk cursor past cx cy released x y rx ry fx fy tx ty course other apart line wx wy few_x few_y is_cx is_cy was =
     let mid = data_frame X (key_now x) ((part_now x).bytes) course ∷ past in
     let one = talking_tick_one X Y talk cursor past cx cy released x y rx ry fx fy tx ty course apart line wx few_x is_cx is_cy was in
@@ -378,7 +417,8 @@ talking_at_first X Y cursor x_zero y_zero = record {
 }
 
 -- an end speaks properly
-pub speaks_properly : (X Y : End) (talk : Talk) (cursor : End → ℕ) (past : List Sent) (x : Side) → cursor X ≤ length past → Speech X Y talk cursor past x → SpeaksProperly X Y talk (came_by cursor past) past
+pub speaks_properly : (X Y : End) (talk : Talk) (cursor : End → ℕ) (past : List Sent) (x : Side) → cursor X ≤ length past
+    → Speech X Y talk cursor past x → SpeaksProperly X Y talk (came_by cursor past) past
 speaks_properly X Y talk cursor past x inside speech = record {
   says = record { rest = unsaid x; is = speech.says };
   ten = speech.ten;

@@ -25,7 +25,8 @@ pub record Fresh (X : End) (past : List Sent) (cx tick : ℕ) : Type 0 where
   pub none : count (is_data_of X) past + length (said X (at tick past)) ≤ count (is_data_of X) (at tick past) + length (said X past)
   pub old : count (data_comes X) (at tick past) ≤ count (data_comes X) (at cx past) + 2
 
-pub fresh_at_tick : (X Y : End) (past : List Sent) (fx : Bool) (cx released : ℕ) → Counts X Y past fx cx → Queued X past cx released → released ≤ length past → Blocked X past cx released → Fresh X past cx (length past)
+pub fresh_at_tick : (X Y : End) (past : List Sent) (fx : Bool) (cx released : ℕ) → Counts X Y past fx cx → Queued X past cx released
+    → released ≤ length past → Blocked X past cx released → Fresh X past cx (length past)
 fresh_at_tick X Y past fx cx released counts queued inside blocked =
     let all = at_all past in
     record {
@@ -46,8 +47,10 @@ tick_held_up X Y past cx cy faults after = record {
   bound = omega (arith, after.bound);
 }
 
-pub tried_tick : (X Y : End) (past : List Sent) (fx fy : Bool) (cx cy released tries : ℕ) → Counts X Y past fx cx → Counts Y X past fy cy → Progress X Y past cx cy released → Blocked X past cx released → Blocked Y past cy released
-    → HeldBudget 10 X Y past cx cy released → HeldBudget 10 Y X past cy cx released → Tried X Y past cx cy released tries → HeldUp 4 X Y past cx cy (length past) tries
+pub tried_tick : (X Y : End) (past : List Sent) (fx fy : Bool) (cx cy released tries : ℕ) → Counts X Y past fx cx → Counts Y X past fy cy
+    → Progress X Y past cx cy released → Blocked X past cx released → Blocked Y past cy released
+    → HeldBudget 10 X Y past cx cy released → HeldBudget 10 Y X past cy cx released → Tried X Y past cx cy released tries
+    → HeldUp 4 X Y past cx cy (length past) tries
 tried_tick X Y past fx fy cx cy released zero there back progress bx by held_x held_y tried = absurd tried
 tried_tick X Y past fx fy cx cy released (suc zero) there back progress bx by held_x held_y tried = tick_held_up X Y past cx cy 1 (tick_first X Y past fx fy cx cy released there back progress bx by held_x held_y tried)
 tried_tick X Y past fx fy cx cy released (suc (suc faults)) there back progress bx by held_x held_y tried =
@@ -55,7 +58,8 @@ tried_tick X Y past fx fy cx cy released (suc (suc faults)) there back progress 
     tick_held_up X Y past cx cy (suc (suc faults)) (subst (λ (k : ℕ). AfterTick X Y past cx cy k) e (tick_later X Y past cx cy released (suc faults) progress bx by tried))
 
 -- a data frame of either end, within the slack
-pub held_up-sent : (slack : ℕ) (X Y : End) (frame : Sent) (past : List Sent) (cx cy tick faults : ℕ) → HeldUp (slack + 2) X Y past cx cy tick faults → tick ≤ length past → load X Y (frame ∷ past) cx cy ≤ load X Y past cx cy + 2
+pub held_up-sent : (slack : ℕ) (X Y : End) (frame : Sent) (past : List Sent) (cx cy tick faults : ℕ) → HeldUp (slack + 2) X Y past cx cy tick faults
+    → tick ≤ length past → load X Y (frame ∷ past) cx cy ≤ load X Y past cx cy + 2
     → acked X (frame ∷ past) ≡ acked X past → said Y (frame ∷ past) ≡ said Y past → HeldUp slack X Y (frame ∷ past) cx cy tick faults
 held_up-sent slack X Y frame past cx cy tick faults was inside more ax sy = record {
   f = was.f;
@@ -76,20 +80,24 @@ pub record Repeats (X Y : End) (frame : Sent) (past : List Sent) : Type 0 where
   pub is : is_data_of X frame ≡ true
   pub other : is_data_of Y frame ≡ false
 
-pub queued_again : (X Y : End) (frame : Sent) (past : List Sent) (cx tick : ℕ) → Repeats X Y frame past → Fresh X past cx tick → cx ≤ length past → tick ≤ length past → Queued X (frame ∷ past) cx tick
+pub queued_again : (X Y : End) (frame : Sent) (past : List Sent) (cx tick : ℕ) → Repeats X Y frame past → Fresh X past cx tick → cx ≤ length past
+    → tick ≤ length past → Queued X (frame ∷ past) cx tick
 queued_again X Y frame past cx tick repeat fresh x_in t_in = record {
   once = omega (arith, fresh.none, count_pass (is_data_of X) frame past repeat.is, count_at-push (is_data_of X) tick frame past t_in, ap (λ (s : List Sent). length (said X s)) (at_push tick frame past t_in), ap (λ (s : List Key). length s) repeat.sx);
   old = omega (arith, fresh.old, count_at-push (data_comes X) tick frame past t_in, count_at-push (data_comes X) cx frame past x_in);
 }
 
-pub fresh_other : (X Y : End) (frame : Sent) (past : List Sent) (cy tick : ℕ) → Repeats X Y frame past → Fresh Y past cy tick → cy ≤ length past → tick ≤ length past → Fresh Y (frame ∷ past) cy tick
+pub fresh_other : (X Y : End) (frame : Sent) (past : List Sent) (cy tick : ℕ) → Repeats X Y frame past → Fresh Y past cy tick → cy ≤ length past
+    → tick ≤ length past → Fresh Y (frame ∷ past) cy tick
 fresh_other X Y frame past cy tick repeat fresh y_in t_in = record {
   none = omega (arith, fresh.none, count_fail (is_data_of Y) frame past repeat.other, count_at-push (is_data_of Y) tick frame past t_in, ap (λ (s : List Sent). length (said Y s)) (at_push tick frame past t_in), ap (λ (s : List Key). length s) repeat.sy);
   old = omega (arith, fresh.old, count_at-push (data_comes Y) tick frame past t_in, count_at-push (data_comes Y) cy frame past y_in);
 }
 
 -- what a late repeat may have before it
-pub held_again : (X Y : End) (frame : Sent) (past : List Sent) (fx fy : Bool) (cx cy tick : ℕ) → Repeats X Y frame past → Counts X Y (frame ∷ past) fx cx → Counts Y X (frame ∷ past) fy cy → Queued X (frame ∷ past) cx tick → Queued Y (frame ∷ past) cy tick → tick ≤ length past
+pub held_again : (X Y : End) (frame : Sent) (past : List Sent) (fx fy : Bool) (cx cy tick : ℕ) → Repeats X Y frame past
+    → Counts X Y (frame ∷ past) fx cx → Counts Y X (frame ∷ past) fy cy → Queued X (frame ∷ past) cx tick → Queued Y (frame ∷ past) cy tick
+    → tick ≤ length past
     → load X Y (frame ∷ past) cx cy + 2 * (length (said X (frame ∷ past)) + length (acked X (frame ∷ past))) ≤ length past + 1 + 8 + 2 * (length (said X (frame ∷ past)) + length (said Y (frame ∷ past)))
 held_again X Y frame past fx fy cx cy tick repeat there back qx qy t_in =
     let a = four X Y (frame ∷ past) fx cx tick there qx (omega arith) in
@@ -99,7 +107,8 @@ held_again X Y frame past fx fy cx cy tick repeat there back qx qy t_in =
 
 -- ---- the whole tick
 
-pub repeats_of : (X Y : End) (past : List Sent) (cx cy : ℕ) (x y : Side) (rx ry : ReceiverValue) (fx fy : Bool) (course : Course) → Apart X Y → Core X Y past cx cy x y rx ry fx fy → Waiting x → Repeats X Y (data_frame X (key_now x) ((part_now x).bytes) course) past
+pub repeats_of : (X Y : End) (past : List Sent) (cx cy : ℕ) (x y : Side) (rx ry : ReceiverValue) (fx fy : Bool) (course : Course) → Apart X Y
+    → Core X Y past cx cy x y rx ry fx fy → Waiting x → Repeats X Y (data_frame X (key_now x) ((part_now x).bytes) course) past
 repeats_of X Y past cx cy x y rx ry fx fy course apart core waits = record {
   sx = said_data X (key_now x) ((part_now x).bytes) course past ∙ add_first (key_now x) (said X past) (core.x_speaks.newest waits);
   sy = said_data-other X Y apart.back (key_now x) ((part_now x).bytes) course past;
@@ -116,13 +125,15 @@ len e = ap (λ (s : List Key). length s) e
 none_held : (slack : ℕ) (X Y : End) (past : List Sent) (cx cy : ℕ) → HeldBudget slack X Y past cx cy (length past)
 none_held slack X Y past cx cy n frame older from above inside here late = absurd (omega arith)
 
-pub held_wider : (slack wider : ℕ) (X Y : End) (past : List Sent) (cx cy released : ℕ) → slack ≤ wider → HeldBudget slack X Y past cx cy released → HeldBudget wider X Y past cx cy released
+pub held_wider : (slack wider : ℕ) (X Y : End) (past : List Sent) (cx cy released : ℕ) → slack ≤ wider → HeldBudget slack X Y past cx cy released
+    → HeldBudget wider X Y past cx cy released
 held_wider slack wider X Y past cx cy released more all n frame older from above inside here late = omega (arith, all n frame older from above inside here late)
 
 pub late_from : (X Y : End) (key : Key) (bytes : List ℕ) (course : Course) → is_end Y X ≡ false → late_of Y (data_frame X key bytes course) ≡ true → ⊥
 late_from X Y key bytes course apart late = (let parts = and_parts (is_end Y X) _ late in both_ways _ apart parts.0)
 
-tried_from : (X Y : End) (past : List Sent) (cx cy released tries : ℕ) → HeldUp 0 X Y past cx cy released tries → 0 < tries → Tried X Y past cx cy released (suc tries)
+tried_from : (X Y : End) (past : List Sent) (cx cy released tries : ℕ) → HeldUp 0 X Y past cx cy released tries → 0 < tries
+    → Tried X Y past cx cy released (suc tries)
 tried_from X Y past cx cy released zero held some = absurd (omega arith)
 tried_from X Y past cx cy released (suc faults) held some = held
 
@@ -134,11 +145,14 @@ held_up-less : (X Y : End) (past : List Sent) (cx cy tick faults : ℕ) → Held
 held_up-less X Y past cx cy tick faults was = record { f = was.f; some = was.some; inside = was.inside; faults_are = was.faults_are; bound = omega (arith, was.bound) }
 
 -- X's repeat makes at most two more of the load
-sent_load : (X Y : End) (frame : Sent) (past : List Sent) (cx cy : ℕ) → Repeats X Y frame past → cx ≤ length past → cy ≤ length past → load X Y (frame ∷ past) cx cy ≤ load X Y past cx cy + 2
+sent_load : (X Y : End) (frame : Sent) (past : List Sent) (cx cy : ℕ) → Repeats X Y frame past → cx ≤ length past → cy ≤ length past
+    → load X Y (frame ∷ past) cx cy ≤ load X Y past cx cy + 2
 sent_load X Y frame past cx cy repeat x_in y_in = load_sent X Y frame past cx cy x_in y_in repeat.other
 
 -- only X waits
-pub tick_one : (X Y : End) (past : List Sent) (cx cy released : ℕ) (x y : Side) (rx ry : ReceiverValue) (fx fy : Bool) (tx ty : ℕ) (course : Course) → Apart X Y → Core X Y past cx cy x y rx ry fx fy → Timed X Y past cx cy released x tx → Timed Y X past cy cx released y ty → released ≤ length past
+pub tick_one : (X Y : End) (past : List Sent) (cx cy released : ℕ) (x y : Side) (rx ry : ReceiverValue) (fx fy : Bool) (tx ty : ℕ) (course : Course)
+    → Apart X Y → Core X Y past cx cy x y rx ry fx fy → Timed X Y past cx cy released x tx → Timed Y X past cy cx released y ty
+    → released ≤ length past
     → Blocked X past cx released → Blocked Y past cy released → Waiting x → (Waiting y → ⊥)
     → Core X Y (data_frame X (key_now x) ((part_now x).bytes) course ∷ past) cx cy x y rx ry fx fy
     × Timed X Y (data_frame X (key_now x) ((part_now x).bytes) course ∷ past) cx cy (length past) x (suc tx)
@@ -176,7 +190,9 @@ tick_one X Y past cx cy released x y rx ry fx fy tx ty course apart core x_time 
     )
 
 -- both wait: X sends, then Y
-pub tick_two : (X Y : End) (past : List Sent) (cx cy released : ℕ) (x y : Side) (rx ry : ReceiverValue) (fx fy : Bool) (tx ty : ℕ) (course other : Course) → Apart X Y → Core X Y past cx cy x y rx ry fx fy → Timed X Y past cx cy released x tx → Timed Y X past cy cx released y ty → released ≤ length past
+pub tick_two : (X Y : End) (past : List Sent) (cx cy released : ℕ) (x y : Side) (rx ry : ReceiverValue) (fx fy : Bool) (tx ty : ℕ) (course other : Course)
+    → Apart X Y → Core X Y past cx cy x y rx ry fx fy → Timed X Y past cx cy released x tx → Timed Y X past cy cx released y ty
+    → released ≤ length past
     → Blocked X past cx released → Blocked Y past cy released → Waiting x → Waiting y
     → Core Y X (data_frame Y (key_now y) ((part_now y).bytes) other ∷ data_frame X (key_now x) ((part_now x).bytes) course ∷ past) cy cx y x ry rx fy fx
     × Timed X Y (data_frame Y (key_now y) ((part_now y).bytes) other ∷ data_frame X (key_now x) ((part_now x).bytes) course ∷ past) cx cy (length past) x (suc tx)

@@ -18,24 +18,29 @@ use Rattle.line_laws.proofs.TickLaws.{len, late_from}
 
 -- ---- tries
 
-tried_push : (X Y : End) (frame : Sent) (past : List Sent) (cx cy dx dy released tries : ℕ) → Tried X Y past cx cy released tries → released ≤ length past → newest (is_data_of X) (frame ∷ past) ≡ newest (is_data_of X) past
-    → load X Y (frame ∷ past) dx dy + 2 * length (acked X (frame ∷ past)) + 2 * length (said Y past) ≤ load X Y past cx cy + 2 * length (acked X past) + 2 * length (said Y (frame ∷ past)) → Tried X Y (frame ∷ past) dx dy released tries
+tried_push : (X Y : End) (frame : Sent) (past : List Sent) (cx cy dx dy released tries : ℕ) → Tried X Y past cx cy released tries
+    → released ≤ length past → newest (is_data_of X) (frame ∷ past) ≡ newest (is_data_of X) past
+    → load X Y (frame ∷ past) dx dy + 2 * length (acked X (frame ∷ past)) + 2 * length (said Y past) ≤ load X Y past cx cy + 2 * length (acked X past) + 2 * length (said Y (frame ∷ past))
+    → Tried X Y (frame ∷ past) dx dy released tries
 tried_push X Y frame past cx cy dx dy released zero tried inside same fair = tried
 tried_push X Y frame past cx cy dx dy released (suc zero) tried inside same fair = first_step X Y past (frame ∷ past) cx cy dx dy tried same fair
 tried_push X Y frame past cx cy dx dy released (suc (suc faults)) tried inside same fair = held_up-step X Y frame past cx cy dx dy released (suc faults) tried inside fair
 
-tried_moves : (X Y : End) (past : List Sent) (cx cy dx dy released tries : ℕ) → Tried X Y past cx cy released tries → load X Y past dx dy ≤ load X Y past cx cy → Tried X Y past dx dy released tries
+tried_moves : (X Y : End) (past : List Sent) (cx cy dx dy released tries : ℕ) → Tried X Y past cx cy released tries
+    → load X Y past dx dy ≤ load X Y past cx cy → Tried X Y past dx dy released tries
 tried_moves X Y past cx cy dx dy released zero tried fair = tried
 tried_moves X Y past cx cy dx dy released (suc zero) tried fair = first_step X Y past past cx cy dx dy tried refl (omega (arith, fair))
 tried_moves X Y past cx cy dx dy released (suc (suc faults)) tried fair = held_up-moves X Y past cx cy dx dy released (suc faults) tried fair
 
 -- two ends at eight data frames on the line
-eight : (X Y : End) (past : List Sent) (fx fy : Bool) (cx cy released : ℕ) → Counts X Y past fx cx → Counts Y X past fy cy → Queued X past cx released → Queued Y past cy released → released ≤ length past → load X Y past cx cy ≤ length past + 8
+eight : (X Y : End) (past : List Sent) (fx fy : Bool) (cx cy released : ℕ) → Counts X Y past fx cx → Counts Y X past fy cy → Queued X past cx released
+    → Queued Y past cy released → released ≤ length past → load X Y past cx cy ≤ length past + 8
 eight X Y past fx fy cx cy released there back qx qy inside = omega (arith, four X Y past fx cx released there qx inside, four Y X past fy cy released back qy inside)
 
 -- ---- a cursor moves by one frame
 
-pub time_passes : (X Y : End) (past : List Sent) (cx cy released : ℕ) (x y : Side) (tx ty : ℕ) → Timed X Y past cx cy released x tx → Timed Y X past cy cx released y ty → cx < length past
+pub time_passes : (X Y : End) (past : List Sent) (cx cy released : ℕ) (x y : Side) (tx ty : ℕ) → Timed X Y past cx cy released x tx
+    → Timed Y X past cy cx released y ty → cx < length past
     → (Waiting x → (pends : DataPends X past cx) → pends.n ≡ cx + 1 → ⊥) → (Waiting y → (pends : AckPends Y X past cx) → pends.n ≡ cx + 1 → ⊥)
     → Timed X Y past (cx + 1) cy released x tx × Timed Y X past cy (cx + 1) released y ty
 time_passes X Y past cx cy released x y tx ty x_time y_time inside no_data no_ack =
@@ -58,8 +63,10 @@ time_passes X Y past cx cy released x y tx ty x_time y_time inside no_data no_ac
 
 -- ---- X begins a fragment
 
-pub time_begins : (X Y : End) (key : Key) (bytes : List ℕ) (course : Course) (past : List Sent) (cx cy released : ℕ) (x y : Side) (ty : ℕ) → Apart X Y → Queued X past cx released → HeldBudget 10 X Y past cx cy released → Timed Y X past cy cx released y ty → released ≤ length past
-    → cx ≤ length past → cy ≤ length past → said X (data_frame X key bytes course ∷ past) ≡ key ∷ said X past → Counts X Y (data_frame X key bytes course ∷ past) true cx → Counts Y X (data_frame X key bytes course ∷ past) false cy
+pub time_begins : (X Y : End) (key : Key) (bytes : List ℕ) (course : Course) (past : List Sent) (cx cy released : ℕ) (x y : Side) (ty : ℕ) → Apart X Y
+    → Queued X past cx released → HeldBudget 10 X Y past cx cy released → Timed Y X past cy cx released y ty → released ≤ length past
+    → cx ≤ length past → cy ≤ length past → said X (data_frame X key bytes course ∷ past) ≡ key ∷ said X past
+    → Counts X Y (data_frame X key bytes course ∷ past) true cx → Counts Y X (data_frame X key bytes course ∷ past) false cy
     → Timed X Y (data_frame X key bytes course ∷ past) cx cy released x 1 × Timed Y X (data_frame X key bytes course ∷ past) cy cx released y ty
 time_begins X Y key bytes course past cx cy released x y ty apart qx hx y_time inside x_in y_in sx there back =
     let frame = data_frame X key bytes course in
@@ -100,7 +107,8 @@ ack_is_no_data Desktop Desktop key course = refl
 ack_late : (X Y : End) (key : Key) (course : Course) → is_end X Y ≡ false → late_of X (ack_frame Y key course) ≡ true → ⊥
 ack_late X Y key course apart late = (let parts = and_parts (is_end X Y) _ late in both_ways _ apart parts.0)
 
-pub time_takes : (X Y : End) (key : Key) (course : Course) (past : List Sent) (fx fy : Bool) (cx cy released : ℕ) (x y y' : Side) (tx ty : ℕ) (frame : Sent) (older : List Sent) → Apart X Y → Timed X Y past cx cy released x tx → Timed Y X past cy cx released y ty → released ≤ length past
+pub time_takes : (X Y : End) (key : Key) (course : Course) (past : List Sent) (fx fy : Bool) (cx cy released : ℕ) (x y y' : Side) (tx ty : ℕ) (frame : Sent) (older : List Sent)
+    → Apart X Y → Timed X Y past cx cy released x tx → Timed Y X past cy cx released y ty → released ≤ length past
     → cx < length past → cy ≤ length past → at (cx + 1) past ≡ frame ∷ older → older ≡ at cx past → data_comes X frame ≡ true
     → Counts X Y (ack_frame Y key course ∷ past) fx (cx + 1) → Counts Y X (ack_frame Y key course ∷ past) fy cy
     → (Waiting x → Progress X Y (ack_frame Y key course ∷ past) (cx + 1) cy released)

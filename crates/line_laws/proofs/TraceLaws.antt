@@ -41,12 +41,14 @@ newest_repeat-of Handheld past = omega arith
 newest_repeat-of Desktop past = omega arith
 
 -- what X sends again is a repeat; what it begins isn't
-pub again_repeats : (X : End) (key : Key) (bytes : List ℕ) (course : Course) (past : List Sent) → first (said X past) ≡ Some key → is_repeat X (data_frame X key bytes course) past ≡ true
+pub again_repeats : (X : End) (key : Key) (bytes : List ℕ) (course : Course) (past : List Sent) → first (said X past) ≡ Some key
+    → is_repeat X (data_frame X key bytes course) past ≡ true
 again_repeats X key bytes course past is =
     let f = first_is (said X past) key is in
     and_from _ _ (is_data-frame X key bytes course) (subst (λ (s : List Key). is_newest_key key s ≡ true) (sym f.1) (same_key-same key))
 
-pub begun_no_repeat : (X : End) (key : Key) (bytes : List ℕ) (course : Course) (past : List Sent) → (first (said X past) ≡ Some key → ⊥) → is_repeat X (data_frame X key bytes course) past ≡ false
+pub begun_no_repeat : (X : End) (key : Key) (bytes : List ℕ) (course : Course) (past : List Sent) → (first (said X past) ≡ Some key → ⊥)
+    → is_repeat X (data_frame X key bytes course) past ≡ false
 begun_no_repeat X key bytes course past new = elim (cases_Bool (is_repeat X (data_frame X key bytes course) past)) [
   | inl is ↦ absurd (go (said X past) new (and_parts (is_data_of X (data_frame X key bytes course)) (is_newest_key key (said X past)) is).1)
   | inr not_one ↦ not_one
@@ -74,7 +76,8 @@ taken_not_held X past cx released n release inside before held =
       go (inr repeated) near = omega (arith, near, release.late, repeated, held.no_repeat)
 
 -- a frame that is no repeat of X
-pub release_push : (X : End) (frame : Sent) (past : List Sent) (cx released : ℕ) → Release X past cx released → cx ≤ length past → is_repeat X frame past ≡ false → Release X (frame ∷ past) cx released
+pub release_push : (X : End) (frame : Sent) (past : List Sent) (cx released : ℕ) → Release X past cx released → cx ≤ length past
+    → is_repeat X frame past ≡ false → Release X (frame ∷ past) cx released
 release_push X frame past cx released release inside not_one = record {
   late = omega (arith, release.late, ap (λ (s : List Sent). newest (late_of X) s) (at_push cx frame past inside));
   repeated = elim release.repeated [
@@ -85,7 +88,8 @@ release_push X frame past cx released release inside not_one = record {
 }
 
 -- the cursor moves past a frame that isn't held
-pub release_moves : (X : End) (past : List Sent) (cx released : ℕ) (frame : Sent) → Release X past cx released → at (cx + 1) past ≡ frame ∷ at cx past → cx < length past → (late_of X frame ≡ true → cx + 1 ≤ released) → Release X past (cx + 1) released
+pub release_moves : (X : End) (past : List Sent) (cx released : ℕ) (frame : Sent) → Release X past cx released → at (cx + 1) past ≡ frame ∷ at cx past
+    → cx < length past → (late_of X frame ≡ true → cx + 1 ≤ released) → Release X past (cx + 1) released
 release_moves X past cx released frame release here inside free = record {
   late = elim (cases_Bool (late_of X frame)) [
     | inl late ↦ omega (arith, free late, ap (λ (s : List Sent). newest (late_of X) s) here, cond-true (late_of X frame) (length (at cx past) + 1) (newest (late_of X) (at cx past)) late, length-at cx past (omega arith))
@@ -96,7 +100,8 @@ release_moves X past cx released frame release here inside free = record {
 }
 
 -- the tick, once a timer ran: X's repeat, or the other's
-pub release_tick : (X : End) (past later : List Sent) (cx : ℕ) → cx ≤ length past → length past < newest_repeat later → last_repeat X later ≤ length past + 2 → at cx later ≡ at cx past → Release X later cx (length past)
+pub release_tick : (X : End) (past later : List Sent) (cx : ℕ) → cx ≤ length past → length past < newest_repeat later
+    → last_repeat X later ≤ length past + 2 → at cx later ≡ at cx past → Release X later cx (length past)
 release_tick X past later cx inside repeated near same = record {
   late = omega (arith, ap (λ (s : List Sent). newest (late_of X) s) same, newest_inside (late_of X) (at cx past), length-at cx past inside);
   repeated = inr repeated;
@@ -109,12 +114,15 @@ pub faults_push : (frame : Sent) (past : List Sent) → RepeatsHaveFaults past �
 faults_push frame past all not_one = (λ X is. absurd (both_ways _ (not_one X) is), all)
 
 -- X's repeat at a tick, the first or the second of it
-pub faults_again : (X Y : End) (frame : Sent) (past : List Sent) (released fault : ℕ) → RepeatsHaveFaults past → ((Z : End) → is_repeat Z frame past ≡ true → last_repeat Z past ≤ released + 2) → released < fault → fault ≤ newest faulted past → RepeatsHaveFaults (frame ∷ past)
+pub faults_again : (X Y : End) (frame : Sent) (past : List Sent) (released fault : ℕ) → RepeatsHaveFaults past
+    → ((Z : End) → is_repeat Z frame past ≡ true → last_repeat Z past ≤ released + 2) → released < fault → fault ≤ newest faulted past
+    → RepeatsHaveFaults (frame ∷ past)
 faults_again X Y frame past released fault all near above stays = (λ Z is. (omega (arith, above, stays), omega (arith, near Z is, above, stays)), all)
 
 -- ---- acknowledgements
 
-pub acks_taken : (X Y : End) (key : Key) (course : Course) (past : List Sent) (cx : ℕ) (frame : Sent) → AcksFollow X Y past cx → cx < length past → at (cx + 1) past ≡ frame ∷ at cx past → data_comes X frame ≡ true → frame.key ≡ key
+pub acks_taken : (X Y : End) (key : Key) (course : Course) (past : List Sent) (cx : ℕ) (frame : Sent) → AcksFollow X Y past cx → cx < length past
+    → at (cx + 1) past ≡ frame ∷ at cx past → data_comes X frame ≡ true → frame.key ≡ key
     → AcksFollow X Y (ack_frame Y key course ∷ past) (cx + 1)
 acks_taken X Y key course past cx frame follow inside here comes_here same =
     go Y ∙ ap (λ (s : List Key). key ∷ s) follow ∙ ap (λ (k : Key). k ∷ came_keys X (at cx past)) (sym same) ∙ ap (λ (b : Bool). cons_if b (frame.key) (came_keys X (at cx past))) (sym comes_here) ∙ ap (λ (s : List Sent). came_keys X s) (sym here) ∙ ap (λ (s : List Sent). came_keys X s) (sym (at_push (cx + 1) (ack_frame Y key course) past (omega arith))) where
@@ -122,8 +130,10 @@ acks_taken X Y key course past cx frame follow inside here comes_here same =
       go Handheld = refl
       go Desktop = refl
 
-pub acks_passed : (X Y : End) (past : List Sent) (cx : ℕ) (frame : Sent) → AcksFollow X Y past cx → at (cx + 1) past ≡ frame ∷ at cx past → data_comes X frame ≡ false → AcksFollow X Y past (cx + 1)
+pub acks_passed : (X Y : End) (past : List Sent) (cx : ℕ) (frame : Sent) → AcksFollow X Y past cx → at (cx + 1) past ≡ frame ∷ at cx past
+    → data_comes X frame ≡ false → AcksFollow X Y past (cx + 1)
 acks_passed X Y past cx frame follow here not_data = follow ∙ ap (λ (b : Bool). cons_if b (frame.key) (came_keys X (at cx past))) (sym not_data) ∙ ap (λ (s : List Sent). came_keys X s) (sym here)
 
-pub acks_push : (X Y : End) (frame : Sent) (past : List Sent) (cx : ℕ) → AcksFollow X Y past cx → cx ≤ length past → (is_end Y frame.from && not frame.is_data) ≡ false → AcksFollow X Y (frame ∷ past) cx
+pub acks_push : (X Y : End) (frame : Sent) (past : List Sent) (cx : ℕ) → AcksFollow X Y past cx → cx ≤ length past
+    → (is_end Y frame.from && not frame.is_data) ≡ false → AcksFollow X Y (frame ∷ past) cx
 acks_push X Y frame past cx follow inside no_ack = ap (λ (b : Bool). cons_if b (frame.key) (ack_keys Y past)) no_ack ∙ follow ∙ ap (λ (s : List Sent). came_keys X s) (sym (at_push cx frame past inside))

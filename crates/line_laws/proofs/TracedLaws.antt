@@ -24,7 +24,9 @@ traced_turned X Y past cx cy released traced = record {
 }
 
 -- a frame is passed that isn't data that comes, and isn't held
-pub traced_moves : (X Y : End) (past : List Sent) (cx cy released : ℕ) (frame : Sent) → Traced X Y past cx cy released → at (cx + 1) past ≡ frame ∷ at cx past → cx < length past → (late_of X frame ≡ true → cx + 1 ≤ released) → data_comes X frame ≡ false → Traced X Y past (cx + 1) cy released
+pub traced_moves : (X Y : End) (past : List Sent) (cx cy released : ℕ) (frame : Sent) → Traced X Y past cx cy released
+    → at (cx + 1) past ≡ frame ∷ at cx past → cx < length past → (late_of X frame ≡ true → cx + 1 ≤ released) → data_comes X frame ≡ false
+    → Traced X Y past (cx + 1) cy released
 traced_moves X Y past cx cy released frame traced here inside free other = record {
   x_release = release_moves X past cx released frame traced.x_release here inside free;
   y_release = traced.y_release;
@@ -39,18 +41,23 @@ traced_moves X Y past cx cy released frame traced here inside free other = recor
 ack_no_repeat : (X Y : End) (key : Key) (course : Course) (past : List Sent) → is_repeat X (ack_frame Y key course) past ≡ false
 ack_no_repeat X Y key course past = other_no_repeat X (ack_frame Y key course) past (ack_is_no_data X Y key course)
 
-other_ack_end : (X Y : End) (key : Key) (course : Course) → is_end X Y ≡ false → (is_end X ((ack_frame Y key course).from) && not ((ack_frame Y key course).is_data)) ≡ false
+other_ack_end : (X Y : End) (key : Key) (course : Course) → is_end X Y ≡ false
+    → (is_end X ((ack_frame Y key course).from) && not ((ack_frame Y key course).is_data)) ≡ false
 other_ack_end X Y key course apart = ap (λ (b : Bool). b && true) apart
 
-data_no_ack : (X Y : End) (key : Key) (bytes : List ℕ) (course : Course) → (is_end X ((data_frame Y key bytes course).from) && not ((data_frame Y key bytes course).is_data)) ≡ false
+data_no_ack : (X Y : End) (key : Key) (bytes : List ℕ) (course : Course)
+    → (is_end X ((data_frame Y key bytes course).from) && not ((data_frame Y key bytes course).is_data)) ≡ false
 data_no_ack Handheld Handheld key bytes course = refl
 data_no_ack Handheld Desktop key bytes course = refl
 data_no_ack Desktop Handheld key bytes course = refl
 data_no_ack Desktop Desktop key bytes course = refl
 
 -- data that comes is taken and acknowledged
-pub traced_taken : (X Y : End) (past : List Sent) (cx cy released : ℕ) (frame : Sent) (course : Course) (fx fy : Bool) → Apart X Y → Traced X Y past cx cy released → at (cx + 1) past ≡ frame ∷ at cx past → cx < length past → cy ≤ length past → (late_of X frame ≡ true → cx + 1 ≤ released) → data_comes X frame ≡ true
-    → Follows (said X (ack_frame Y (frame.key) course ∷ past)) (acked Y (ack_frame Y (frame.key) course ∷ past)) fx → Follows (said Y (ack_frame Y (frame.key) course ∷ past)) (acked X (ack_frame Y (frame.key) course ∷ past)) fy
+pub traced_taken : (X Y : End) (past : List Sent) (cx cy released : ℕ) (frame : Sent) (course : Course) (fx fy : Bool) → Apart X Y
+    → Traced X Y past cx cy released → at (cx + 1) past ≡ frame ∷ at cx past → cx < length past → cy ≤ length past
+    → (late_of X frame ≡ true → cx + 1 ≤ released) → data_comes X frame ≡ true
+    → Follows (said X (ack_frame Y (frame.key) course ∷ past)) (acked Y (ack_frame Y (frame.key) course ∷ past)) fx
+    → Follows (said Y (ack_frame Y (frame.key) course ∷ past)) (acked X (ack_frame Y (frame.key) course ∷ past)) fy
     → Traced X Y (ack_frame Y (frame.key) course ∷ past) (cx + 1) cy released
 traced_taken X Y past cx cy released frame course fx fy apart traced here x_in y_in free is there back = record {
   x_release = release_push X (ack_frame Y (frame.key) course) past (cx + 1) released (release_moves X past cx released frame traced.x_release here x_in free) (omega (arith, x_in)) (ack_no_repeat X Y (frame.key) course past);
@@ -63,8 +70,10 @@ traced_taken X Y past cx cy released frame course fx fy apart traced here x_in y
 }
 
 -- X begins a fragment
-pub traced_begins : (X Y : End) (past : List Sent) (cx cy released : ℕ) (key : Key) (bytes : List ℕ) (course : Course) (fx fy : Bool) → Apart X Y → Traced X Y past cx cy released → cx ≤ length past → cy ≤ length past → (first (said X past) ≡ Some key → ⊥)
-    → Follows (said X (data_frame X key bytes course ∷ past)) (acked Y (data_frame X key bytes course ∷ past)) fx → Follows (said Y (data_frame X key bytes course ∷ past)) (acked X (data_frame X key bytes course ∷ past)) fy
+pub traced_begins : (X Y : End) (past : List Sent) (cx cy released : ℕ) (key : Key) (bytes : List ℕ) (course : Course) (fx fy : Bool) → Apart X Y
+    → Traced X Y past cx cy released → cx ≤ length past → cy ≤ length past → (first (said X past) ≡ Some key → ⊥)
+    → Follows (said X (data_frame X key bytes course ∷ past)) (acked Y (data_frame X key bytes course ∷ past)) fx
+    → Follows (said Y (data_frame X key bytes course ∷ past)) (acked X (data_frame X key bytes course ∷ past)) fy
     → Traced X Y (data_frame X key bytes course ∷ past) cx cy released
 traced_begins X Y past cx cy released key bytes course fx fy apart traced x_in y_in new there back = record {
   x_release = release_push X (data_frame X key bytes course) past cx released traced.x_release x_in mine;
@@ -88,8 +97,10 @@ traced_begins X Y past cx cy released key bytes course fx fy apart traced x_in y
   ]
 
 -- the tick where X alone waits
-pub traced_tick : (X Y : End) (past : List Sent) (cx cy released : ℕ) (key : Key) (bytes : List ℕ) (course : Course) (fx fy : Bool) → Apart X Y → Traced X Y past cx cy released → cx ≤ length past → cy ≤ length past → first (said X past) ≡ Some key → released < newest faulted past
-    → Follows (said X (data_frame X key bytes course ∷ past)) (acked Y (data_frame X key bytes course ∷ past)) fx → Follows (said Y (data_frame X key bytes course ∷ past)) (acked X (data_frame X key bytes course ∷ past)) fy
+pub traced_tick : (X Y : End) (past : List Sent) (cx cy released : ℕ) (key : Key) (bytes : List ℕ) (course : Course) (fx fy : Bool) → Apart X Y
+    → Traced X Y past cx cy released → cx ≤ length past → cy ≤ length past → first (said X past) ≡ Some key → released < newest faulted past
+    → Follows (said X (data_frame X key bytes course ∷ past)) (acked Y (data_frame X key bytes course ∷ past)) fx
+    → Follows (said Y (data_frame X key bytes course ∷ past)) (acked X (data_frame X key bytes course ∷ past)) fy
     → Traced X Y (data_frame X key bytes course ∷ past) cx cy (length past)
 traced_tick X Y past cx cy released key bytes course fx fy apart traced x_in y_in newest_is fault there back =
     let all = release_one X Y past cx cy released key bytes course apart newest_is traced.x_release traced.y_release x_in y_in traced.faults fault in
@@ -104,9 +115,13 @@ traced_tick X Y past cx cy released key bytes course fx fy apart traced x_in y_i
     }
 
 -- and where both wait
-pub traced_tick_two : (X Y : End) (past : List Sent) (cx cy released : ℕ) (key : Key) (bytes : List ℕ) (course : Course) (key' : Key) (bytes' : List ℕ) (course' : Course) (fx fy gx gy : Bool) → Apart X Y → Traced X Y past cx cy released → cx ≤ length past → cy ≤ length past → first (said X past) ≡ Some key → first (said Y past) ≡ Some key' → released < newest faulted past
-    → Follows (said X (data_frame X key bytes course ∷ past)) (acked Y (data_frame X key bytes course ∷ past)) fx → Follows (said Y (data_frame X key bytes course ∷ past)) (acked X (data_frame X key bytes course ∷ past)) fy
-    → Follows (said X (data_frame Y key' bytes' course' ∷ data_frame X key bytes course ∷ past)) (acked Y (data_frame Y key' bytes' course' ∷ data_frame X key bytes course ∷ past)) gx → Follows (said Y (data_frame Y key' bytes' course' ∷ data_frame X key bytes course ∷ past)) (acked X (data_frame Y key' bytes' course' ∷ data_frame X key bytes course ∷ past)) gy
+pub traced_tick_two : (X Y : End) (past : List Sent) (cx cy released : ℕ) (key : Key) (bytes : List ℕ) (course : Course) (key' : Key) (bytes' : List ℕ) (course' : Course) (fx fy gx gy : Bool)
+    → Apart X Y → Traced X Y past cx cy released → cx ≤ length past → cy ≤ length past → first (said X past) ≡ Some key
+    → first (said Y past) ≡ Some key' → released < newest faulted past
+    → Follows (said X (data_frame X key bytes course ∷ past)) (acked Y (data_frame X key bytes course ∷ past)) fx
+    → Follows (said Y (data_frame X key bytes course ∷ past)) (acked X (data_frame X key bytes course ∷ past)) fy
+    → Follows (said X (data_frame Y key' bytes' course' ∷ data_frame X key bytes course ∷ past)) (acked Y (data_frame Y key' bytes' course' ∷ data_frame X key bytes course ∷ past)) gx
+    → Follows (said Y (data_frame Y key' bytes' course' ∷ data_frame X key bytes course ∷ past)) (acked X (data_frame Y key' bytes' course' ∷ data_frame X key bytes course ∷ past)) gy
     → Traced X Y (data_frame Y key' bytes' course' ∷ data_frame X key bytes course ∷ past) cx cy (length past)
 traced_tick_two X Y past cx cy released key bytes course key' bytes' course' fx fy gx gy apart traced x_in y_in newest_x newest_y fault there back there' back' =
     let mid = data_frame X key bytes course ∷ past in

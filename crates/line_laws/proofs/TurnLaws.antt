@@ -31,7 +31,8 @@ pub active_taken : (x : Side) → Waiting x → x.acknowledged + 1 < piece_count
 active_taken x waits more = record { waits = waits; due = more }
 
 -- nothing of the other end is on its way that wasn't taken
-pub active_alone : (X Y : End) (past : List Sent) (cx cy : ℕ) (x y : Side) (rx ry : ReceiverValue) (fx fy : Bool) → Core X Y past cx cy x y rx ry fx fy → Active fx x → fy ≡ false
+pub active_alone : (X Y : End) (past : List Sent) (cx cy : ℕ) (x y : Side) (rx ry : ReceiverValue) (fx fy : Bool)
+    → Core X Y past cx cy x y rx ry fx fy → Active fx x → fy ≡ false
 active_alone X Y past cx cy x y rx ry fx true core active = go fx core active where
   go : (fx : Bool) → Core X Y past cx cy x y rx ry fx true → Active fx x → true ≡ false
   go true core active = core.one refl
@@ -56,23 +57,27 @@ time_at_first X Y tries = record {
   tried = λ w. absurd (omega arith);
 }
 
-pub tenth_try : (X Y : End) (past : List Sent) (cx cy released : ℕ) (x y : Side) (rx ry : ReceiverValue) (fx fy : Bool) → Core X Y past cx cy x y rx ry fx fy → Timed X Y past cx cy released x 10 → Waiting x → Blocked X past cx released → Blocked Y past cy released
+pub tenth_try : (X Y : End) (past : List Sent) (cx cy released : ℕ) (x y : Side) (rx ry : ReceiverValue) (fx fy : Bool)
+    → Core X Y past cx cy x y rx ry fx fy → Timed X Y past cx cy released x 10 → Waiting x → Blocked X past cx released → Blocked Y past cy released
     → (f : ℕ) × (0 < f) × (length past < f + 53) × (10 + count faulted (at (f - 1) past) ≤ count faulted past)
 tenth_try X Y past cx cy released x y rx ry fx fy core time waits bx by = ten_faults X Y past fy cx cy released core.back (time.progress waits) bx by (time.tried waits)
 
 -- ---- no acknowledgement was taken
 
-pub no_ack-push : (X Y : End) (frame : Sent) (past : List Sent) (cy : ℕ) (key : Key) → NoAck X Y past cy key → cy ≤ length past → said X (frame ∷ past) ≡ said X past → NoAck X Y (frame ∷ past) cy key
+pub no_ack-push : (X Y : End) (frame : Sent) (past : List Sent) (cy : ℕ) (key : Key) → NoAck X Y past cy key → cy ≤ length past
+    → said X (frame ∷ past) ≡ said X past → NoAck X Y (frame ∷ past) cy key
 no_ack-push X Y frame past cy key none inside same n found older before here is came newest key_is =
     let e = at_push n frame past (omega (arith, before, inside)) in
     none n found older before (sym e ∙ here) is came (ap (λ (s : List Sent). length (said X s)) (sym e) ∙ newest ∙ ap (λ (s : List Key). length s) same) key_is
 
-pub no_ack-begins : (X Y : End) (frame : Sent) (past : List Sent) (cy : ℕ) (begun key : Key) → cy ≤ length past → said X (frame ∷ past) ≡ begun ∷ said X past → NoAck X Y (frame ∷ past) cy key
+pub no_ack-begins : (X Y : End) (frame : Sent) (past : List Sent) (cy : ℕ) (begun key : Key) → cy ≤ length past
+    → said X (frame ∷ past) ≡ begun ∷ said X past → NoAck X Y (frame ∷ past) cy key
 no_ack-begins X Y frame past cy begun key inside more n found older before here is came newest key_is =
     let e = at_push n frame past (omega (arith, before, inside)) in
     omega (arith, keys_below (data_of X) n past, newest, ap (λ (s : List Sent). length (said X s)) e, ap (λ (s : List Key). length s) more)
 
-pub no_ack-moves : (X Y : End) (past : List Sent) (cy : ℕ) (key : Key) (frame : Sent) → NoAck X Y past cy key → at (cy + 1) past ≡ frame ∷ at cy past → (IsAckOf Y frame → comes frame.course ≡ true → frame.key ≡ key → ⊥) → NoAck X Y past (cy + 1) key
+pub no_ack-moves : (X Y : End) (past : List Sent) (cy : ℕ) (key : Key) (frame : Sent) → NoAck X Y past cy key → at (cy + 1) past ≡ frame ∷ at cy past
+    → (IsAckOf Y frame → comes frame.course ≡ true → frame.key ≡ key → ⊥) → NoAck X Y past (cy + 1) key
 no_ack-moves X Y past cy key frame none here other n found older before found_here is came newest key_is = elim (cases_lt cy n) [
   | inl new ↦ (let e : n ≡ cy + 1 = omega arith in
       let all_of : frame ∷ at cy past ≡ found ∷ older = sym here ∙ ap (λ (k : ℕ). at k past) (sym e) ∙ found_here in
@@ -83,7 +88,8 @@ no_ack-moves X Y past cy key frame none here other n found older before found_he
 
 -- ---- what was acknowledged
 
-pub acknowledged-push : (X Y : End) (frame : Sent) (past : List Sent) (cy : ℕ) → Acknowledged X Y past cy → cy ≤ length past → said X (frame ∷ past) ≡ said X past → Acknowledged X Y (frame ∷ past) cy
+pub acknowledged-push : (X Y : End) (frame : Sent) (past : List Sent) (cy : ℕ) → Acknowledged X Y past cy → cy ≤ length past
+    → said X (frame ∷ past) ≡ said X past → Acknowledged X Y (frame ∷ past) cy
 acknowledged-push X Y frame past cy was inside same =
     let e = at_push was.n frame past (omega (arith, was.before, inside)) in
     let length_is = ap (λ (s : List Key). length s) same in

@@ -62,7 +62,8 @@ harm_in-found words fate e =
       ]
     ]
 
-word_is : (words text : List ℕ) (known fate : FateValue) → bytes_eq words text ≡ true → text ≡ fate_words known → IsScripted known → (let o : Option FateValue = Some known in o) ≡ Some fate → Reads words fate
+word_is : (words text : List ℕ) (known fate : FateValue) → bytes_eq words text ≡ true → text ≡ fate_words known → IsScripted known
+    → (let o : Option FateValue = Some known in o) ≡ Some fate → Reads words fate
 word_is words text known fate test is scripted e = subst (Reads words) (some_is known fate e) (bytes_is _ _ test ∙ is, scripted)
 
 pub fate_in-found : (words : List ℕ) (fate : FateValue) → fate_in words ≡ Some fate → Reads words fate

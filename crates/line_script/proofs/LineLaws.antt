@@ -11,7 +11,8 @@ use Rattle.line_script.proofs.WordLaws.{test_some, some_is}
 abbrev pub feed_place : List ℕ → ℕ
 feed_place bytes = position_or_len (λ byte. eqb byte 10) bytes
 
-lines_of-feed : (bytes : List ℕ) → feed_place bytes < length bytes → lines_of bytes ≡ take (feed_place bytes) bytes ∷ lines_of (drop (feed_place bytes + 1) bytes)
+lines_of-feed : (bytes : List ℕ) → feed_place bytes < length bytes
+    → lines_of bytes ≡ take (feed_place bytes) bytes ∷ lines_of (drop (feed_place bytes + 1) bytes)
 lines_of-feed [] less = absurd (omega arith)
 lines_of-feed (byte ∷ bytes) less = go (λ inside. lines_of-feed bytes inside) (eqb byte 10) refl
   where
@@ -39,7 +40,8 @@ lines_of-last (byte ∷ next ∷ bytes) some none = go (λ none. lines_of-last (
         ap (λ (b : Bool). cond b ([] ∷ lines_of (next ∷ bytes)) (begin byte (lines_of (next ∷ bytes)))) e ∙ ap (begin byte) (later (omega arith))
 
 -- where a line feed stands first, the line ends
-pub line-ended : (bytes : List ℕ) (end : ℕ) → position (λ byte. eqb byte 10) bytes ≡ Some end → lines_of bytes ≡ take end bytes ∷ lines_of (drop (end + 1) bytes)
+pub line-ended : (bytes : List ℕ) (end : ℕ) → position (λ byte. eqb byte 10) bytes ≡ Some end
+    → lines_of bytes ≡ take end bytes ∷ lines_of (drop (end + 1) bytes)
 line-ended bytes end e =
     let there = test_some (ltb (feed_place bytes) (length bytes)) _ end e in
     let is : feed_place bytes ≡ end = some_is _ _ there.1 in
@@ -68,10 +70,12 @@ line-last bytes some e = lines_of-last bytes some (omega (arith, none_place byte
 pub lent-rest : (bytes : List ℕ) (place : ℕ) → take (length bytes - place) (drop place bytes) ≡ drop place bytes
 lent-rest bytes place = take_all _ _ (omega (arith, length-drop place bytes))
 
-pub lent-line : (bytes : List ℕ) (end : ℕ) → position (λ byte. eqb byte 10) bytes ≡ Some end → lines_of bytes ≡ take end bytes ∷ lines_of (take (length bytes - (end + 1)) (drop (end + 1) bytes))
+pub lent-line : (bytes : List ℕ) (end : ℕ) → position (λ byte. eqb byte 10) bytes ≡ Some end
+    → lines_of bytes ≡ take end bytes ∷ lines_of (take (length bytes - (end + 1)) (drop (end + 1) bytes))
 lent-line bytes end e = line-ended bytes end e ∙ ap (λ (rest : List ℕ). take end bytes ∷ lines_of rest) (sym (lent-rest bytes (end + 1)))
 
-pub lent-last : (bytes : List ℕ) → 0 < length bytes → position (λ byte. eqb byte 10) bytes ≡ None → lines_of bytes ≡ bytes ∷ lines_of (take (length bytes - length bytes) (drop (length bytes) bytes))
+pub lent-last : (bytes : List ℕ) → 0 < length bytes → position (λ byte. eqb byte 10) bytes ≡ None
+    → lines_of bytes ≡ bytes ∷ lines_of (take (length bytes - length bytes) (drop (length bytes) bytes))
 lent-last bytes some e =
     let none : take (length bytes - length bytes) (drop (length bytes) bytes) ≡ [] = lent-rest bytes (length bytes) ∙ drop_of_length-le bytes (omega arith) in
     line-last bytes some e ∙ ap (λ (rest : List ℕ). bytes ∷ lines_of rest) (sym none)

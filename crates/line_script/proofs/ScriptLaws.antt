@@ -43,7 +43,8 @@ one_bad before (line ∷ lines) (suc (suc m)) (suc (suc n)) a b =
     let more = one_bad b.0.number lines (suc m) (suc n) (subst (λ (r : RuleValue). IsFirstBad r.number lines (suc m)) is a.2) b.2 in
     omega arith
 
-pub one_reading : (bytes : List ℕ) (x y : Result (List RuleValue) ScriptFault) → IsReading bytes x → IsReading bytes y → ¬ (x ≡ Err NoMemory) → ¬ (y ≡ Err NoMemory) → x ≡ y
+pub one_reading : (bytes : List ℕ) (x y : Result (List RuleValue) ScriptFault) → IsReading bytes x → IsReading bytes y → ¬ (x ≡ Err NoMemory)
+    → ¬ (y ≡ Err NoMemory) → x ≡ y
 one_reading bytes (Ok xs) (Ok ys) a b none_x none_y = let is = same_lines 0 xs ys (lines_of bytes) a.1 b.1 in cc
 one_reading bytes (Ok xs) (Err TooLong) a b none_x none_y = absurd (omega (arith, a.0, b))
 one_reading bytes (Ok xs) (Err (BadLine n)) a b none_x none_y = absurd (none_bad 0 xs (lines_of bytes) n a.1 b.1)
@@ -80,7 +81,8 @@ length_one (first ∷ rules) rule = omega (arith, length_one rules rule)
 counted : (lines later : List (List ℕ)) (line : List ℕ) → lines ≡ line ∷ later → length lines ≡ length later + 1
 counted lines later line is = rw is (omega arith)
 
-pub goes-on : (bytes : List ℕ) (rules : List RuleValue) (before : ℕ) (rest line behind : List ℕ) (rule : RuleValue) → Goes bytes rules before rest → lines_of rest ≡ line ∷ lines_of behind → IsLine before rule line → Goes bytes (rules ++ rule ∷ []) rule.number behind
+pub goes-on : (bytes : List ℕ) (rules : List RuleValue) (before : ℕ) (rest line behind : List ℕ) (rule : RuleValue) → Goes bytes rules before rest
+    → lines_of rest ≡ line ∷ lines_of behind → IsLine before rule line → Goes bytes (rules ++ rule ∷ []) rule.number behind
 goes-on bytes rules before rest line behind rule goes split says =
     let len = length_one rules rule in
     record {
@@ -92,7 +94,8 @@ goes-on bytes rules before rest line behind rule goes split says =
       count = omega (arith, goes.count, counted (lines_of rest) (lines_of behind) line split);
     }
 
-pub goes-bad : (bytes : List ℕ) (rules : List RuleValue) (before : ℕ) (rest line behind : List ℕ) → Goes bytes rules before rest → lines_of rest ≡ line ∷ lines_of behind → ((rule : RuleValue) → ¬ (IsLine before rule line)) → IsFirstBad 0 (lines_of bytes) (length rules + 1)
+pub goes-bad : (bytes : List ℕ) (rules : List RuleValue) (before : ℕ) (rest line behind : List ℕ) → Goes bytes rules before rest
+    → lines_of rest ≡ line ∷ lines_of behind → ((rule : RuleValue) → ¬ (IsLine before rule line)) → IsFirstBad 0 (lines_of bytes) (length rules + 1)
 goes-bad bytes rules before rest line behind goes split none =
     goes.bad 0 (subst (λ (ls : List (List ℕ)). IsFirstBad before ls 1) (sym split) none)
 
@@ -100,7 +103,8 @@ append_none : (rules : List RuleValue) → rules ++ [] ≡ rules
 append_none [] = refl
 append_none (rule ∷ rules) = ap (λ (xs : List RuleValue). rule ∷ xs) (append_none rules)
 
-pub goes-end : (bytes : List ℕ) (rules : List RuleValue) (before : ℕ) (rest : List ℕ) → Goes bytes rules before rest → rest ≡ [] → AreLines 0 rules (lines_of bytes)
+pub goes-end : (bytes : List ℕ) (rules : List RuleValue) (before : ℕ) (rest : List ℕ) → Goes bytes rules before rest → rest ≡ []
+    → AreLines 0 rules (lines_of bytes)
 goes-end bytes rules before rest goes end =
     let none : lines_of rest ≡ [] = ap lines_of end in
     subst (λ (rs : List RuleValue). AreLines 0 rs (lines_of bytes)) (append_none rules) (goes.lines [] (subst (AreLines before []) (sym none) tt))

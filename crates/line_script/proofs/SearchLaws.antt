@@ -15,35 +15,42 @@ rise-above before [] rise i d less = absurd (omega arith)
 rise-above before (rule ∷ rules) rise zero d less = rise.0
 rise-above before (rule ∷ rules) rise (suc i) d less = omega (arith, rise.0, rise-above rule.number rules rise.1 i d (omega arith))
 
-rise-between : (before : ℕ) (rules : List Rule) → Rise before (map rule_value rules) → (i j : ℕ) (d : Rule) → i < j → j < length rules → (get_or rules i d).number < (get_or rules j d).number
+rise-between : (before : ℕ) (rules : List Rule) → Rise before (map rule_value rules) → (i j : ℕ) (d : Rule) → i < j → j < length rules
+    → (get_or rules i d).number < (get_or rules j d).number
 rise-between before [] rise i j d less inside = absurd (omega arith)
 rise-between before (rule ∷ rules) rise i zero d less inside = absurd (omega arith)
 rise-between before (rule ∷ rules) rise zero (suc j) d less inside = rise-above rule.number rules rise.1 j d (omega arith)
 rise-between before (rule ∷ rules) rise (suc i) (suc j) d less inside = rise-between rule.number rules rise.1 i j d (omega arith) (omega arith)
 
-comparisons_rise : (rules : List Rule) → Rise 0 (map rule_value rules) → (number : ℕ) → IsNonDecreasingBy (λ rule. ordering_index (nat_cmp rule.number number)) rules
+comparisons_rise : (rules : List Rule) → Rise 0 (map rule_value rules) → (number : ℕ)
+    → IsNonDecreasingBy (λ rule. ordering_index (nat_cmp rule.number number)) rules
 comparisons_rise rules rise number i j d le inside =
     let keys_rise : (get_or rules i d).number ≤ (get_or rules j d).number = grind (arith, rise-between 0 rules rise i j d, λ (same : i ≡ j). ap (λ (k : ℕ). (get_or rules k d).number) same) in
     grind (arith, nat_tests)
 
-fate-there : (before : ℕ) (rules : List Rule) (at : ℕ) (d : Rule) (number : ℕ) → Rise before (map rule_value rules) → at < length rules → (get_or rules at d).number ≡ number → fate_value (get_or rules at d).fate ≡ fate_by (map rule_value rules) number
+fate-there : (before : ℕ) (rules : List Rule) (at : ℕ) (d : Rule) (number : ℕ) → Rise before (map rule_value rules) → at < length rules
+    → (get_or rules at d).number ≡ number → fate_value (get_or rules at d).fate ≡ fate_by (map rule_value rules) number
 fate-there before [] at d number rise less is = absurd (omega arith)
 fate-there before (rule ∷ rules) zero d number rise less is = rw (eq-eqb rule.number number is) refl
 fate-there before (rule ∷ rules) (suc at) d number rise less is =
     let above = rise-above rule.number rules rise.1 at d (omega arith) in
     rw (ne_eqb rule.number number (λ same. omega arith)) (fate-there rule.number rules at d number rise.1 (omega arith) is)
 
-fate-nowhere : (rules : List Rule) (number : ℕ) → ((i : ℕ) (d : Rule) → i < length rules → (get_or rules i d).number ≡ number → ⊥) → Untouched ≡ fate_by (map rule_value rules) number
+fate-nowhere : (rules : List Rule) (number : ℕ) → ((i : ℕ) (d : Rule) → i < length rules → (get_or rules i d).number ≡ number → ⊥)
+    → Untouched ≡ fate_by (map rule_value rules) number
 fate-nowhere [] number none = refl
 fate-nowhere (rule ∷ rules) number none =
     rw (ne_eqb rule.number number (λ same. none 0 rule (omega arith) same)) (fate-nowhere rules number (λ i d less same. none (suc i) d (omega arith) same))
 
 -- a binary search finds the rule of this number
-pub found-fate : (rules : List Rule) (number at : ℕ) (d : Rule) → Rise 0 (map rule_value rules) → at < length rules → IsBinarySearchResult (λ rule. nat_cmp rule.number number) rules (Ok at) → fate_value (get_or rules at d).fate ≡ fate_by (map rule_value rules) number
+pub found-fate : (rules : List Rule) (number at : ℕ) (d : Rule) → Rise 0 (map rule_value rules) → at < length rules
+    → IsBinarySearchResult (λ rule. nat_cmp rule.number number) rules (Ok at)
+    → fate_value (get_or rules at d).fate ≡ fate_by (map rule_value rules) number
 found-fate rules number at d rise inside equal = fate-there 0 rules at d number rise inside (ranked _ number _ (sym (equal d)))
 
 -- and where it finds none there is none
-pub missing-fate : (rules : List Rule) (number at : ℕ) → Rise 0 (map rule_value rules) → IsBinarySearchResult (λ rule. nat_cmp rule.number number) rules (Err at) → Untouched ≡ fate_by (map rule_value rules) number
+pub missing-fate : (rules : List Rule) (number at : ℕ) → Rise 0 (map rule_value rules)
+    → IsBinarySearchResult (λ rule. nat_cmp rule.number number) rules (Err at) → Untouched ≡ fate_by (map rule_value rules) number
 missing-fate rules number at rise parted =
     fate-nowhere rules number (λ i d less same.
     let below : i < at → ⊥ = λ before. let smaller : (get_or rules i d).number < number = ranked _ number _ (sym ((parted (comparisons_rise rules rise number)).0 i d (omega arith) before)) in omega arith in

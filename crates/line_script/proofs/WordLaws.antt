@@ -100,14 +100,17 @@ short_in-only number small =
 
 -- ---- bytes
 
-spelled : (text : List ℕ) (r : Result (List ℕ) FromHexError) (bytes : List ℕ) → option_and_then (λ found. cond (bytes_eq (encode_lower found) text) (Some found) None) (result_ok r) ≡ Some bytes → (r ≡ Ok bytes) × (text ≡ encode_lower bytes)
+spelled : (text : List ℕ) (r : Result (List ℕ) FromHexError) (bytes : List ℕ)
+    → option_and_then (λ found. cond (bytes_eq (encode_lower found) text) (Some found) None) (result_ok r) ≡ Some bytes
+    → (r ≡ Ok bytes) × (text ≡ encode_lower bytes)
 spelled text (Err fault) bytes e = absurd cc
 spelled text (Ok found) bytes e =
     let test = test_some (bytes_eq (encode_lower found) text) (Some found) bytes e in
     let is : found ≡ bytes = some_is found bytes test.1 in
     (ap (λ (b : List ℕ). let r : Result (List ℕ) FromHexError = Ok b in r) is, sym (bytes_is _ _ test.0) ∙ ap encode_lower is)
 
-pub bytes_in-found : (most : ℕ) (word bytes : List ℕ) → bytes_in most word ≡ Some bytes → (word ≡ encode_lower bytes) × IsBytes bytes × (0 < length bytes) × (length bytes ≤ most)
+pub bytes_in-found : (most : ℕ) (word bytes : List ℕ) → bytes_in most word ≡ Some bytes
+    → (word ≡ encode_lower bytes) × IsBytes bytes × (0 < length bytes) × (length bytes ≤ most)
 unfolding bytes_in
 bytes_in-found most word bytes e =
     let some = guard_some (eqb (length word) 0) _ bytes e in
@@ -162,7 +165,8 @@ split_at_space-found words parts e =
 digit_is_none : (byte : ℕ) → digit_value byte < 10 → eqb byte 32 ≡ false
 digit_is_none byte digit = ne_eqb _ _ (λ e. let space : digit_value 32 < 10 = subst (λ (b : ℕ). digit_value b < 10) e digit in omega arith)
 
-front_of : (front back : List ℕ) → AllDigits 10 front → (space_place (front ++ 32 ∷ back) ≡ length front) × (take (length front) (front ++ 32 ∷ back) ≡ front) × (drop (length front + 1) (front ++ 32 ∷ back) ≡ back)
+front_of : (front back : List ℕ) → AllDigits 10 front
+    → (space_place (front ++ 32 ∷ back) ≡ length front) × (take (length front) (front ++ 32 ∷ back) ≡ front) × (drop (length front + 1) (front ++ 32 ∷ back) ≡ back)
 front_of [] back digits = (refl, refl, refl)
 front_of (byte ∷ front) back digits =
     let other = digit_is_none byte digits.0 in
