@@ -41,7 +41,8 @@ impl<'a> Basis<'a> {
 
 // Whether a row in front is without a base row: its id came before, or the base has none.
 pub fn is_loose(id: RecordId, base: Option<(usize, &Record)>, next: u32) -> bool
-    ensures { result ≡ (nat_lt id next || not (is_row (based_under false id (option_map (λ e. e.1.now) base.entry)))) }
+    ensures { let basis = based_under false id (option_map (λ e. e.1.now) base.entry) in
+        result ≡ (nat_lt id next || not (is_row basis)) }
 {
     id.number() < next || !Basis::in_front(id, base, false).is_row()
 }

@@ -100,7 +100,8 @@ impl Draft {
         desktop: Holding<'_>,
     ) -> Result<(), AllocError>
         ensures grows { OnOk result (next ≤ id → Grew self.old self.new id
-            (fate_under action (based_of basis.entry) (held_of handheld.entry) (held_of desktop.entry)) (held_of handheld.entry)
+            (fate_under action (based_of basis.entry) (held_of handheld.entry) (held_of desktop.entry))
+            (held_of handheld.entry)
             (partner_under action (based_of basis.entry) (held_of handheld.entry))) }
         ensures stays { id < next → self.new ≡ self.old }
     {
@@ -114,8 +115,11 @@ impl Draft {
 
     // The plan of the database that this is the draft of, with its rows without a base row at their places.
     pub fn finished(self, alloc: Global, slots: &[Option<&Record>]) -> Result<Plan, AllocError>
-        ensures { (a : Action) (s : Sides) → IsDraft a s self → live_contents (found_in (map option_copied slots.now)) ≡ loose_for a s.loose_live
-            → archived_records (found_in (map option_copied slots.now)) ≡ loose_for a s.loose_archived → IfOk result (λ plan. IsPlan a s plan) }
+        ensures { (a : Action) (s : Sides) → IsDraft a s self
+            → let rows = found_in (map option_copied slots.now) in
+            live_contents rows ≡ loose_for a s.loose_live
+            → archived_records rows ≡ loose_for a s.loose_archived
+            → IfOk result (λ plan. IsPlan a s plan) }
     {
         let Draft {
             kept,

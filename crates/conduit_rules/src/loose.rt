@@ -54,8 +54,10 @@ pub fn collect_loose(
     offers: &mut Vec<Content>,
     archive: &mut Vec<(RecordId, Content)>,
 ) -> Result<(), AllocError>
-    ensures offers { OnOk result (offers.new.items ≡ offers.old.items ++ live_contents (found_in (map option_copied slots.now))) }
-    ensures archive { OnOk result (archive.new.items ≡ archive.old.items ++ map (λ c. (0, c)) (archived_records (found_in (map option_copied slots.now)))) }
+    ensures offers { OnOk result (offers.new.items
+        ≡ offers.old.items ++ live_contents (found_in (map option_copied slots.now))) }
+    ensures archive { OnOk result (archive.new.items ≡ archive.old.items
+        ++ map (λ c. (0, c)) (archived_records (found_in (map option_copied slots.now)))) }
 {
     for slot in slots {
         if let Some(item) = slot {

@@ -38,7 +38,8 @@ pub fn plan(
     gone_counts: bool,
     action: Action,
 ) -> Result<Plan, AllocError>
-    ensures { IfOk result (λ plan. IsPlan action (sides_of view.now.seen.items rows.now base.now gone_counts) plan) }
+    ensures { IfOk result
+        (λ plan. IsPlan action (sides_of view.now.seen.items rows.now base.now gone_counts) plan) }
 {
     let view = Run::new(alloc, &view.seen)?;
     let rows = Run::new(alloc, rows)?;
@@ -60,8 +61,10 @@ pub fn plan_counted<'a, L: Ledger>(
     requires view { IsFresh seen_id view }
     requires rows { IsFresh record_id rows }
     requires base { IsFresh record_id base }
-    ensures plan { IfOk result (λ plan. IsPlan action (sides_of view.entry.list rows.entry.list base.entry.list gone_counts) plan) }
-    ensures bound { steps.new ≤ steps.old + (4 * (length view.entry.list + length rows.entry.list + length base.entry.list) + 3) }
+    ensures plan { let sides = sides_of view.entry.list rows.entry.list base.entry.list gone_counts in
+        IfOk result (λ plan. IsPlan action sides plan) }
+    ensures bound { let all = length view.entry.list + length rows.entry.list + length base.entry.list in
+        steps.new ≤ steps.old + (4 * all + 3) }
 {
     let mut draft = Draft::new(alloc);
     let mut slots = empty_slots(alloc, rows.len())?;
@@ -102,7 +105,8 @@ fn plan_uncounted<'a, L: Ledger>(
     requires name { blank.name ≡ L.name }
     requires parts { blank.parts ≡ L.parts }
     requires some { 0 < blank.parts }
-    ensures { IfOk result (λ plan. IsPlan action (sides_of view.entry.list rows.entry.list base.entry.list gone_counts) plan) }
+    ensures { let sides = sides_of view.entry.list rows.entry.list base.entry.list gone_counts in
+        IfOk result (λ plan. IsPlan action sides plan) }
 {
     let mut steps: Steps<L> = Steps::new(blank);
     plan_counted(alloc, view, rows, base, gone_counts, action, &mut steps)
