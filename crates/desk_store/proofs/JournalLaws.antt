@@ -15,58 +15,62 @@ use Rattle.folder_files.specs.FileNames.{desktop_info_file, is_kept_file}
 use Rattle.desk_journal.specs.Entries.{AreEntries, EntryValue, IsJournal, entry_values, is_named}
 use Rattle.desk_journal.specs.declared.entry.Entry.{Entry}
 use Rattle.desk_journal.proofs.OverlayLaws.{last_of, same_name, same_name-is, same_name-other}
-use Rattle.desk_store.specs.DeskFiles.{file_in, role_file}
+use Rattle.desk_store.specs.DeskFiles.{file_in, slot_file}
 use Rattle.desk_store.specs.declared.role.Role.{Role}
 use Rattle.desk_store.specs.declared.role.Role.TheVariants.{Rows, Base, Archive}
-use Rattle.desk_store.proofs.OwnLaws.{same_file}
-use Rattle.desk_store.specs.Changes.{IsDbChange, IsDbWritten, IsDeskChange, archive_entries, change_entries, changed, changed_to, database_entry, db_entries, marks_entry}
+use Rattle.desk_store.proofs.OwnLaws.{each-append, same_file}
+use Rattle.desk_store.specs.Changes.{IsDbChange, IsDbWritten, IsDeskChange, archive_entries, changed, changed_to, database_entry, db_entries, slot_entries, slots_entry}
 use Rattle.desk_store.specs.Shelves.{if_bad}
 use Rattle.desk_store.specs.declared.change.DbChange.{DbChange}
 use Rattle.desk_store.specs.declared.change.DeskChange.{DeskChange}
 use Rattle.desk_store.proofs.ChangedLaws.{IsChanged, changed_none, changed_to_is, rows_of}
-use Rattle.desk_store.proofs.FileLaws.{database_read, file_kept, marks_read, not_info}
-use Rattle.desk_store.proofs.SizeLaws.{canonical-short, file-short, marks-short}
+use Rattle.desk_store.proofs.FileLaws.{database_read, file_kept, not_info, slots_read}
+use Rattle.desk_store.proofs.SizeLaws.{canonical-short, file-short, slots-short}
 use Rattle.pdb_values.specs.NamedDatabases.{NamesRise, comes_before}
 use Rattle.pdb_values.proofs.NamedLaws.{bytes_eq-is, bytes_eq-other, bytes_eq-own}
 
 -- ---- each file
 
--- a file that a journal can hold, and that is read
-pub record IsFile (entry : EntryValue) : Type 0 where
+-- a file that a journal can hold, and that is read on a desktop with so many slots
+pub record IsFile (slots : ℕ) (entry : EntryValue) : Type 0 where
   pub short_name : length entry.name < 2 ^ 8
   pub kept : is_kept_file entry.name ≡ true
   pub short_bytes : length entry.bytes < 2 ^ 32
-  pub good : if_bad (file_in entry.name entry.bytes) ≡ None
+  pub good : if_bad (file_in slots entry.name entry.bytes) ≡ None
 
-database_file : (role : Role) (name : List ℕ) (database : DatabaseValue) → IsChanged name database → IsFile (database_entry role database)
-database_file role name database is = record {
-  short_name = file-short role database.head.name is.text.head.name;
-  kept = file_kept role database.head.name;
+-- a slot of so many
+pub record IsSlot (slots slot : ℕ) : Type 0 where
+  pub there : slot < slots
+  pub few : slots ≤ 16
+
+database_file : (slots slot : ℕ) (role : Role) (name : List ℕ) (database : DatabaseValue) → IsSlot slots slot → IsChanged name database → IsFile slots (database_entry slot role database)
+database_file slots slot role name database at is = record {
+  short_name = file-short slot role database.head.name (omega (arith, at.there, at.few)) is.text.head.name;
+  kept = file_kept slot role database.head.name;
   short_bytes = canonical-short database is.records is.text;
-  good = ap if_bad (database_read role database (canonical database) is.records is.text);
+  good = ap if_bad (database_read slots slot role database (canonical database) at.there is.records is.text).1;
 }
 
-each-append : (P : EntryValue → Type 0) (xs ys : List EntryValue) → AllByRecursion P xs → AllByRecursion P ys → AllByRecursion P (xs ++ ys)
-each-append P [] ys p q = q
-each-append P (x ∷ xs) ys p q = (p.0, each-append P xs ys p.1 q)
+archive_file : (slots slot : ℕ) (name : List ℕ) (archive : Option DatabaseValue) → IsSlot slots slot → ((database : DatabaseValue) → archive ≡ Some database → IsChanged name database) → AllByRecursion (IsFile slots) (archive_entries slot archive)
+archive_file slots slot name None at is = tt
+archive_file slots slot name (Some archive) at is = (database_file slots slot Archive name archive at (is archive refl), tt)
 
-archive_file : (name : List ℕ) (archive : Option DatabaseValue) → ((database : DatabaseValue) → archive ≡ Some database → IsChanged name database) → AllByRecursion IsFile (archive_entries archive)
-archive_file name None is = tt
-archive_file name (Some archive) is = (database_file Archive name archive (is archive refl), tt)
+db_files : (slots slot : ℕ) (change : DbChange) → IsSlot slots slot → IsDbChange change → IsDbWritten change → AllByRecursion (IsFile slots) (db_entries slot change)
+db_files slots slot change at is written =
+    let name = change.rows.head.name in (
+      database_file slots slot Rows name change.rows at (changed_to_is Rows change change.rows is written refl),
+      (database_file slots slot Base name change.base at (changed_to_is Base change change.base is written refl), archive_file slots slot name change.archive at (λ database here. changed_to_is Archive change database is written here)),
+    )
 
-db_files : (change : DbChange) → IsDbChange change → IsDbWritten change → AllByRecursion IsFile (db_entries change)
-db_files change is written =
-    let name = change.rows.head.name in
-    (database_file Rows name change.rows (changed_to_is Rows change change.rows is written refl), (database_file Base name change.base (changed_to_is Base change change.base is written refl), archive_file name change.archive (λ database here. changed_to_is Archive change database is written here)))
+databases_files : (slots slot : ℕ) (changes : List DbChange) → IsSlot slots slot → AllByRecursion IsDbChange changes → AllByRecursion IsDbWritten changes → AllByRecursion (IsFile slots) (flat_map (db_entries slot) changes)
+databases_files slots slot [] at each written = tt
+databases_files slots slot (change ∷ changes) at each written =
+    each-append (IsFile slots) (db_entries slot change) (flat_map (db_entries slot) changes) (db_files slots slot change at each.0 written.0) (databases_files slots slot changes at each.1 written.1)
 
-databases_files : (changes : List DbChange) → AllByRecursion IsDbChange changes → AllByRecursion IsDbWritten changes → AllByRecursion IsFile (flat_map db_entries changes)
-databases_files [] each written = tt
-databases_files (change ∷ changes) each written = each-append IsFile (db_entries change) (flat_map db_entries changes) (db_files change each.0 written.0) (databases_files changes each.1 written.1)
-
-pub change_files : (change : DeskChange) → IsDeskChange change → AllByRecursion IsDbWritten change.databases.items → IsDesktopFile change.marks (desktop_text change.marks) → AllByRecursion IsFile (change_entries change)
-change_files change is written marks =
-    each-append IsFile (flat_map db_entries change.databases.items) _ (databases_files change.databases.items is.each written)
-    (record { short_name = omega arith; kept = refl; short_bytes = marks-short change.marks _ marks; good = ap if_bad (marks_read change.marks _ marks) }, tt)
+pub change_files : (slots slot : ℕ) (changes : List DbChange) (marks : List Marks) → IsSlot slots slot → AllByRecursion IsDbChange changes → AllByRecursion IsDbWritten changes → IsDesktopFile marks (desktop_text marks) → AllByRecursion (IsFile slots) (slot_entries slot changes marks)
+change_files slots slot changes marks at each written text =
+    each-append (IsFile slots) (flat_map (db_entries slot) changes) _ (databases_files slots slot changes at each written)
+    (record { short_name = omega arith; kept = refl; short_bytes = slots-short marks _ text; good = ap if_bad (slots_read slots marks _ text) }, tt)
 
 -- ---- the last file of a name
 
@@ -82,53 +86,58 @@ last_of-append q (x ∷ xs) ys = ap (λ (o : Option (List ℕ)). option_or o (co
     regroup (Some y) b c = refl
     regroup None b c = refl
 
--- the file of a database, by its name
-same_role : (role : Role) (name named : List ℕ) → same_name (role_file role name) (role_file role named) ≡ bytes_eq named name
-same_role role name named = by (bytes_eq named name) refl
+-- the file of a database, by its slot, its role and its name
+same_role : (slot : ℕ) (role : Role) (name named : List ℕ) → slot < 16 → same_name (slot_file slot role name) (slot_file slot role named) ≡ bytes_eq named name
+same_role slot role name named few = by (bytes_eq named name) refl
   where
-    by : (b : Bool) → bytes_eq named name ≡ b → same_name (role_file role name) (role_file role named) ≡ b
-    by true is = same_name-is (role_file role name) (role_file role named) ∙ (ap (λ (n : List ℕ). bytes_eq (role_file role name) (role_file role n)) (bytes_eq-is named name is) ∙ bytes_eq-own (role_file role name))
-    by false is = same_name-other (role_file role name) (role_file role named) (λ e. let same : named ≡ name = sym (same_file role role name named e).1 in let yes : bytes_eq named name ≡ true = ap (λ (n : List ℕ). bytes_eq n name) same ∙ bytes_eq-own name in cc (sym is ∙ yes))
+    by : (b : Bool) → bytes_eq named name ≡ b → same_name (slot_file slot role name) (slot_file slot role named) ≡ b
+    by true is = same_name-is (slot_file slot role name) (slot_file slot role named) ∙ (ap (λ (n : List ℕ). bytes_eq (slot_file slot role name) (slot_file slot role n)) (bytes_eq-is named name is) ∙ bytes_eq-own (slot_file slot role name))
+    by false is =
+        same_name-other (slot_file slot role name) (slot_file slot role named)
+        (λ e. let same : named ≡ name = sym (same_file slot slot role role name named few few e).2 in let yes : bytes_eq named name ≡ true = ap (λ (n : List ℕ). bytes_eq n name) same ∙ bytes_eq-own name in cc (sym is ∙ yes))
 
-other_role : (role other : Role) (name named : List ℕ) → (role ≡ other → ⊥) → same_name (role_file role name) (role_file other named) ≡ false
-other_role role other name named apart = same_name-other _ _ (λ e. apart (same_file role other name named e).0)
+other_role : (slot : ℕ) (role other : Role) (name named : List ℕ) → slot < 16 → (role ≡ other → ⊥) → same_name (slot_file slot role name) (slot_file slot other named) ≡ false
+other_role slot role other name named few apart = same_name-other _ _ (λ e. apart (same_file slot slot role other name named few few e).1)
 
 -- the file of an archive that is given, by its name
-last_archive : (name named : List ℕ) (archive : Option DatabaseValue) → ((database : DatabaseValue) → archive ≡ Some database → database.head.name ≡ named) → last_of (role_file Archive name) (archive_entries archive) ≡ cond (bytes_eq named name) (option_map canonical archive) None
-last_archive name named None is = same (bytes_eq named name)
+last_archive : (slot : ℕ) (name named : List ℕ) (archive : Option DatabaseValue) → slot < 16 → ((database : DatabaseValue) → archive ≡ Some database → database.head.name ≡ named)
+    → last_of (slot_file slot Archive name) (archive_entries slot archive) ≡ cond (bytes_eq named name) (option_map canonical archive) None
+last_archive slot name named None few is = same (bytes_eq named name)
   where
     same : (b : Bool) → (let o : Option (List ℕ) = None in o) ≡ cond b None None
     same true = refl
     same false = refl
-last_archive name named (Some archive) is = ap (λ (b : Bool). cond b (Some (canonical archive)) None) (same_role Archive name archive.head.name ∙ ap (λ (n : List ℕ). bytes_eq n name) (is archive refl))
+last_archive slot name named (Some archive) few is = ap (λ (b : Bool). cond b (Some (canonical archive)) None) (same_role slot Archive name archive.head.name few ∙ ap (λ (n : List ℕ). bytes_eq n name) (is archive refl))
 
-no_archive : (role : Role) (name : List ℕ) (archive : Option DatabaseValue) → (role ≡ Archive → ⊥) → last_of (role_file role name) (archive_entries archive) ≡ None
-no_archive role name None other = refl
-no_archive role name (Some archive) other = ap (λ (b : Bool). cond b (Some (canonical archive)) None) (other_role role Archive name archive.head.name other)
+no_archive : (slot : ℕ) (role : Role) (name : List ℕ) (archive : Option DatabaseValue) → slot < 16 → (role ≡ Archive → ⊥) → last_of (slot_file slot role name) (archive_entries slot archive) ≡ None
+no_archive slot role name None few other = refl
+no_archive slot role name (Some archive) few other = ap (λ (b : Bool). cond b (Some (canonical archive)) None) (other_role slot role Archive name archive.head.name few other)
 
 -- what a change of a database writes
-last_here : (role : Role) (name : List ℕ) (change : DbChange) → IsDbChange change → IsDbWritten change → last_of (role_file role name) (db_entries change) ≡ cond (bytes_eq change.rows.head.name name) (option_map canonical (changed_to role change)) None
-last_here Rows name change is written =
-    let base = other_role Rows Base name change.base.head.name (λ e. cc) in
-    let rows = same_role Rows name change.rows.head.name in
-    rw (no_archive Rows name change.archive (λ e. cc), base, rows) refl
-last_here Base name change is written =
-    let base = same_role Base name change.base.head.name ∙ ap (λ (n : List ℕ). bytes_eq n name) is.base.named in
-    let rows = other_role Base Rows name change.rows.head.name (λ e. cc) in
-    rw (no_archive Base name change.archive (λ e. cc), base, rows) (none_behind (cond (bytes_eq change.rows.head.name name) (Some (canonical change.base)) None))
-last_here Archive name change is written =
-    let archive = last_archive name change.rows.head.name change.archive (λ database here. (changed_to_is Archive change database is written here).named) in
-    let base = other_role Archive Base name change.base.head.name (λ e. cc) in
-    let rows = other_role Archive Rows name change.rows.head.name (λ e. cc) in
+last_here : (slot : ℕ) (role : Role) (name : List ℕ) (change : DbChange) → slot < 16 → IsDbChange change → IsDbWritten change
+    → last_of (slot_file slot role name) (db_entries slot change) ≡ cond (bytes_eq change.rows.head.name name) (option_map canonical (changed_to role change)) None
+last_here slot Rows name change few is written =
+    let base = other_role slot Rows Base name change.base.head.name few (λ e. cc) in
+    let rows = same_role slot Rows name change.rows.head.name few in
+    rw (no_archive slot Rows name change.archive few (λ e. cc), base, rows) refl
+last_here slot Base name change few is written =
+    let base = same_role slot Base name change.base.head.name few ∙ ap (λ (n : List ℕ). bytes_eq n name) is.base.named in
+    let rows = other_role slot Base Rows name change.rows.head.name few (λ e. cc) in
+    rw (no_archive slot Base name change.archive few (λ e. cc), base, rows) (none_behind (cond (bytes_eq change.rows.head.name name) (Some (canonical change.base)) None))
+last_here slot Archive name change few is written =
+    let archive = last_archive slot name change.rows.head.name change.archive few (λ database here. (changed_to_is Archive change database is written here).named) in
+    let base = other_role slot Archive Base name change.base.head.name few (λ e. cc) in
+    let rows = other_role slot Archive Rows name change.rows.head.name few (λ e. cc) in
     rw (archive, base, rows) (let here = cond (bytes_eq change.rows.head.name name) (option_map canonical change.archive) None in none_behind (option_or here None) ∙ none_behind here)
 
 -- what a change writes of the database of a role and a name
-last_databases : (role : Role) (name : List ℕ) (changes : List DbChange) → NamesRise (rows_of changes) → AllByRecursion IsDbChange changes → AllByRecursion IsDbWritten changes → last_of (role_file role name) (flat_map db_entries changes) ≡ option_map canonical (changed role name changes)
-last_databases role name [] rise each written = refl
-last_databases role name (change ∷ changes) rise each written =
-    last_of-append (role_file role name) (db_entries change) (flat_map db_entries changes)
-    ∙ (ap (λ (o : Option (List ℕ)). option_or o (last_of (role_file role name) (db_entries change))) (last_databases role name changes rise.1 each.1 written.1)
-    ∙ (ap (option_or (option_map canonical (changed role name changes))) (last_here role name change each.0 written.0)
+last_databases : (slot : ℕ) (role : Role) (name : List ℕ) (changes : List DbChange) → slot < 16 → NamesRise (rows_of changes) → AllByRecursion IsDbChange changes → AllByRecursion IsDbWritten changes
+    → last_of (slot_file slot role name) (flat_map (db_entries slot) changes) ≡ option_map canonical (changed role name changes)
+last_databases slot role name [] few rise each written = refl
+last_databases slot role name (change ∷ changes) few rise each written =
+    last_of-append (slot_file slot role name) (db_entries slot change) (flat_map (db_entries slot) changes)
+    ∙ (ap (λ (o : Option (List ℕ)). option_or o (last_of (slot_file slot role name) (db_entries slot change))) (last_databases slot role name changes few rise.1 each.1 written.1)
+    ∙ (ap (option_or (option_map canonical (changed role name changes))) (last_here slot role name change few each.0 written.0)
     ∙ by (bytes_eq change.rows.head.name name) refl))
   where
     by : (here : Bool) → bytes_eq change.rows.head.name name ≡ here
@@ -138,16 +147,40 @@ last_databases role name (change ∷ changes) rise each written =
         ap (λ (o : Option DatabaseValue). option_or (option_map canonical o) (option_map canonical (changed_to role change))) none
     by false is = none_behind (option_map canonical (changed role name changes))
 
-pub last_database : (role : Role) (name : List ℕ) (change : DeskChange) → IsDeskChange change → AllByRecursion IsDbWritten change.databases.items → last_of (role_file role name) (change_entries change) ≡ option_map canonical (changed role name change.databases.items)
-last_database role name change is written =
-    last_of-append (role_file role name) (flat_map db_entries change.databases.items) (marks_entry change.marks ∷ [])
-    ∙ (ap (λ (b : Bool). option_or (cond b (Some (desktop_text change.marks)) None) (last_of (role_file role name) (flat_map db_entries change.databases.items))) (same_name-other (role_file role name) desktop_info_file (not_info role name))
-    ∙ last_databases role name change.databases.items is.rise is.each written)
+-- the information file comes behind them and is none of theirs
+last_behind_all : (slot slot' : ℕ) (role : Role) (name : List ℕ) (changes : List DbChange) (marks : List Marks) → last_of (slot_file slot role name) (slot_entries slot' changes marks) ≡ last_of (slot_file slot role name) (flat_map (db_entries slot') changes)
+last_behind_all slot slot' role name changes marks =
+    last_of-append (slot_file slot role name) (flat_map (db_entries slot') changes) (slots_entry marks ∷ [])
+    ∙ ap (λ (b : Bool). option_or (cond b (Some (desktop_text marks)) None) (last_of (slot_file slot role name) (flat_map (db_entries slot') changes))) (same_name-other (slot_file slot role name) desktop_info_file (not_info slot role name))
 
-pub last_marks : (change : DeskChange) → last_of desktop_info_file (change_entries change) ≡ Some (desktop_text change.marks)
-last_marks change =
-    last_of-append desktop_info_file (flat_map db_entries change.databases.items) (marks_entry change.marks ∷ [])
-    ∙ ap (λ (b : Bool). option_or (cond b (Some (desktop_text change.marks)) None) (last_of desktop_info_file (flat_map db_entries change.databases.items))) (same_name-is desktop_info_file desktop_info_file ∙ bytes_eq-own desktop_info_file)
+pub last_database : (slot : ℕ) (role : Role) (name : List ℕ) (changes : List DbChange) (marks : List Marks) → slot < 16 → NamesRise (rows_of changes) → AllByRecursion IsDbChange changes → AllByRecursion IsDbWritten changes
+    → last_of (slot_file slot role name) (slot_entries slot changes marks) ≡ option_map canonical (changed role name changes)
+last_database slot role name changes marks few rise each written = last_behind_all slot slot role name changes marks ∙ last_databases slot role name changes few rise each written
+
+-- no file of another slot is written
+other_slot : (slot other : ℕ) (role own : Role) (name named bytes : List ℕ) (rest : List EntryValue) → slot < 16 → other < 16 → (slot ≡ other → ⊥) → last_of (slot_file slot role name) rest ≡ None
+    → last_of (slot_file slot role name) (record { name = slot_file other own named; bytes = bytes } ∷ rest) ≡ None
+other_slot slot other role own name named bytes rest few less apart none = rw (none, same_name-other (slot_file slot role name) (slot_file other own named) (λ e. apart (same_file slot other role own name named few less e).0)) refl
+
+other_databases : (slot other : ℕ) (role : Role) (name : List ℕ) (changes : List DbChange) → slot < 16 → other < 16 → (slot ≡ other → ⊥) → last_of (slot_file slot role name) (flat_map (db_entries other) changes) ≡ None
+other_databases slot other role name [] few less apart = refl
+other_databases slot other role name (change ∷ changes) few less apart =
+    let rest = flat_map (db_entries other) changes in
+    let later = other_databases slot other role name changes few less apart in
+    other_slot slot other role Rows name change.rows.head.name (canonical change.rows) (database_entry other Base change.base ∷ archive_entries other change.archive ++ rest) few less apart
+    (other_slot slot other role Base name change.base.head.name (canonical change.base) (archive_entries other change.archive ++ rest) few less apart (by change.archive later))
+  where
+    by : (archive : Option DatabaseValue) → last_of (slot_file slot role name) (flat_map (db_entries other) changes) ≡ None → last_of (slot_file slot role name) (archive_entries other archive ++ flat_map (db_entries other) changes) ≡ None
+    by None later = later
+    by (Some archive) later = other_slot slot other role Archive name archive.head.name (canonical archive) (flat_map (db_entries other) changes) few less apart later
+
+pub last_other : (slot other : ℕ) (role : Role) (name : List ℕ) (changes : List DbChange) (marks : List Marks) → slot < 16 → other < 16 → (slot ≡ other → ⊥) → last_of (slot_file slot role name) (slot_entries other changes marks) ≡ None
+last_other slot other role name changes marks few less apart = last_behind_all slot other role name changes marks ∙ other_databases slot other role name changes few less apart
+
+pub last_info : (slot : ℕ) (changes : List DbChange) (marks : List Marks) → last_of desktop_info_file (slot_entries slot changes marks) ≡ Some (desktop_text marks)
+last_info slot changes marks =
+    last_of-append desktop_info_file (flat_map (db_entries slot) changes) (slots_entry marks ∷ [])
+    ∙ ap (λ (b : Bool). option_or (cond b (Some (desktop_text marks)) None) (last_of desktop_info_file (flat_map (db_entries slot) changes))) (same_name-is desktop_info_file desktop_info_file ∙ bytes_eq-own desktop_info_file)
 
 -- ---- no name twice
 
@@ -184,48 +217,45 @@ new_behind before entry (first ∷ entries) none new = by (last_of entry.name en
     by None true is none rest = absurd cc
     by None false is none rest = (named-append before entry first.name new.0 (sym (same_name-is entry.name first.name) ∙ is), rest refl)
 
-are_entries : (before entries : List EntryValue) → AllByRecursion IsFile entries → AllByRecursion (λ e. is_utf8 e.name ≡ true) entries → AllByRecursion (λ e. is_named before e.name ≡ false) entries → AreApart entries → AreEntries before entries
-are_entries before [] files texts new apart = tt
-are_entries before (entry ∷ entries) files texts new apart = (
+are_entries : (slots : ℕ) (before entries : List EntryValue) → AllByRecursion (IsFile slots) entries → AllByRecursion (λ e. is_utf8 e.name ≡ true) entries → AllByRecursion (λ e. is_named before e.name ≡ false) entries → AreApart entries → AreEntries before entries
+are_entries slots before [] files texts new apart = tt
+are_entries slots before (entry ∷ entries) files texts new apart = (
   record { short_name = files.0.short_name; utf8 = texts.0; kept = files.0.kept; short_bytes = files.0.short_bytes },
   new.0,
-  are_entries (before ++ entry ∷ []) entries files.1 texts.1 (new_behind before entry entries apart.0 new.1) apart.1,
+  are_entries slots (before ++ entry ∷ []) entries files.1 texts.1 (new_behind before entry entries apart.0 new.1) apart.1,
 )
 
 new_in_none : (entries : List EntryValue) → AllByRecursion (λ e. is_named [] e.name ≡ false) entries
 new_in_none [] = tt
 new_in_none (entry ∷ entries) = (refl, new_in_none entries)
 
-over_one : (role other : Role) (name named bytes : List ℕ) (rest : List EntryValue) → (role ≡ other → ⊥) → last_of (role_file role name) rest ≡ None → last_of (role_file role name) (record { name = role_file other named; bytes = bytes } ∷ rest) ≡ None
-over_one role other name named bytes rest apart none = rw (none, other_role role other name named apart) refl
+over_one : (slot : ℕ) (role other : Role) (name named bytes : List ℕ) (rest : List EntryValue) → slot < 16 → (role ≡ other → ⊥) → last_of (slot_file slot role name) rest ≡ None → last_of (slot_file slot role name) (record { name = slot_file slot other named; bytes = bytes } ∷ rest) ≡ None
+over_one slot role other name named bytes rest few apart none = rw (none, other_role slot role other name named few apart) refl
 
-apart_db : (rows base : DatabaseValue) (archive : Option DatabaseValue) (rest : List EntryValue) → base.head.name ≡ rows.head.name → ((database : DatabaseValue) → archive ≡ Some database → database.head.name ≡ rows.head.name) → ((role : Role) → last_of (role_file role rows.head.name) rest ≡ None) → AreApart rest
-    → AreApart (database_entry Rows rows ∷ database_entry Base base ∷ archive_entries archive ++ rest)
-apart_db rows base None rest named given none apart = (
-  over_one Rows Base rows.head.name base.head.name (canonical base) rest (λ e. cc) (none Rows),
-  (ap (λ (n : List ℕ). last_of (role_file Base n) rest) named ∙ none Base, apart),
+apart_db : (slot : ℕ) (rows base : DatabaseValue) (archive : Option DatabaseValue) (rest : List EntryValue) → slot < 16 → base.head.name ≡ rows.head.name → ((database : DatabaseValue) → archive ≡ Some database → database.head.name ≡ rows.head.name)
+    → ((role : Role) → last_of (slot_file slot role rows.head.name) rest ≡ None) → AreApart rest → AreApart (database_entry slot Rows rows ∷ database_entry slot Base base ∷ archive_entries slot archive ++ rest)
+apart_db slot rows base None rest few named given none apart = (
+  over_one slot Rows Base rows.head.name base.head.name (canonical base) rest few (λ e. cc) (none Rows),
+  (ap (λ (n : List ℕ). last_of (slot_file slot Base n) rest) named ∙ none Base, apart),
 )
-apart_db rows base (Some archive) rest named given none apart = (
-  over_one Rows Base rows.head.name base.head.name (canonical base) (database_entry Archive archive ∷ rest) (λ e. cc) (over_one Rows Archive rows.head.name archive.head.name (canonical archive) rest (λ e. cc) (none Rows)),
+apart_db slot rows base (Some archive) rest few named given none apart = (
+  over_one slot Rows Base rows.head.name base.head.name (canonical base) (database_entry slot Archive archive ∷ rest) few (λ e. cc) (over_one slot Rows Archive rows.head.name archive.head.name (canonical archive) rest few (λ e. cc) (none Rows)),
   (
-    over_one Base Archive base.head.name archive.head.name (canonical archive) rest (λ e. cc) (ap (λ (n : List ℕ). last_of (role_file Base n) rest) named ∙ none Base),
-    (ap (λ (n : List ℕ). last_of (role_file Archive n) rest) (given archive refl) ∙ none Archive, apart),
+    over_one slot Base Archive base.head.name archive.head.name (canonical archive) rest few (λ e. cc) (ap (λ (n : List ℕ). last_of (slot_file slot Base n) rest) named ∙ none Base),
+    (ap (λ (n : List ℕ). last_of (slot_file slot Archive n) rest) (given archive refl) ∙ none Archive, apart),
   ),
 )
 
-last_behind : (role : Role) (name : List ℕ) (changes : List DbChange) (marks : Marks) → list_all (λ later. comes_before name later.head.name) (rows_of changes) ≡ true → NamesRise (rows_of changes) → AllByRecursion IsDbChange changes → AllByRecursion IsDbWritten changes
-    → last_of (role_file role name) (flat_map db_entries changes ++ marks_entry marks ∷ []) ≡ None
-last_behind role name changes marks behind rise each written =
-    last_of-append (role_file role name) (flat_map db_entries changes) (marks_entry marks ∷ [])
-    ∙ (ap (λ (b : Bool). option_or (cond b (Some (desktop_text marks)) None) (last_of (role_file role name) (flat_map db_entries changes))) (same_name-other (role_file role name) desktop_info_file (not_info role name))
-    ∙ (last_databases role name changes rise each written ∙ ap (option_map canonical) (changed_none role name changes behind)))
+last_behind : (slot : ℕ) (role : Role) (name : List ℕ) (changes : List DbChange) (marks : List Marks) → slot < 16 → list_all (λ later. comes_before name later.head.name) (rows_of changes) ≡ true → NamesRise (rows_of changes) → AllByRecursion IsDbChange changes → AllByRecursion IsDbWritten changes
+    → last_of (slot_file slot role name) (slot_entries slot changes marks) ≡ None
+last_behind slot role name changes marks few behind rise each written = last_database slot role name changes marks few rise each written ∙ ap (option_map canonical) (changed_none role name changes behind)
 
-apart_databases : (changes : List DbChange) (marks : Marks) → NamesRise (rows_of changes) → AllByRecursion IsDbChange changes → AllByRecursion IsDbWritten changes → AreApart (flat_map db_entries changes ++ marks_entry marks ∷ [])
-apart_databases [] marks rise each written = (refl, tt)
-apart_databases (change ∷ changes) marks rise each written =
-    subst AreApart (sym (append_assoc (db_entries change) (flat_map db_entries changes) (marks_entry marks ∷ [])))
-    (apart_db change.rows change.base change.archive (flat_map db_entries changes ++ marks_entry marks ∷ []) each.0.base.named (λ database here. (changed_to_is Archive change database each.0 written.0 here).named)
-    (λ role. last_behind role change.rows.head.name changes marks rise.0 rise.1 each.1 written.1) (apart_databases changes marks rise.1 each.1 written.1))
+apart_databases : (slot : ℕ) (changes : List DbChange) (marks : List Marks) → slot < 16 → NamesRise (rows_of changes) → AllByRecursion IsDbChange changes → AllByRecursion IsDbWritten changes → AreApart (slot_entries slot changes marks)
+apart_databases slot [] marks few rise each written = (refl, tt)
+apart_databases slot (change ∷ changes) marks few rise each written =
+    subst AreApart (sym (append_assoc (db_entries slot change) (flat_map (db_entries slot) changes) (slots_entry marks ∷ [])))
+    (apart_db slot change.rows change.base change.archive (slot_entries slot changes marks) few each.0.base.named (λ database here. (changed_to_is Archive change database each.0 written.0 here).named)
+    (λ role. last_behind slot role change.rows.head.name changes marks few rise.0 rise.1 each.1 written.1) (apart_databases slot changes marks few rise.1 each.1 written.1))
 
 -- ---- texts
 
@@ -233,22 +263,24 @@ texts_of : (entries : List Entry) → AllByRecursion (λ e. is_utf8 e.name ≡ t
 texts_of [] = tt
 texts_of (entry ∷ entries) = (is_utf8-from_IsUtf8 (string_bytes entry.name) (IsUtf8-had (string_bytes entry.name) entry.name.ok), texts_of entries)
 
-db-length : (change : DbChange) → length (db_entries change) ≤ 3
-db-length change = by change.archive
+db-length : (slot : ℕ) (change : DbChange) → length (db_entries slot change) ≤ 3
+db-length slot change = by change.archive
   where
-    by : (archive : Option DatabaseValue) → length (database_entry Rows change.rows ∷ database_entry Base change.base ∷ archive_entries archive) ≤ 3
+    by : (archive : Option DatabaseValue) → length (database_entry slot Rows change.rows ∷ database_entry slot Base change.base ∷ archive_entries slot archive) ≤ 3
     by None = omega arith
     by (Some archive) = omega arith
 
-databases-length : (changes : List DbChange) → length (flat_map db_entries changes) ≤ 3 * length changes
-databases-length [] = omega arith
-databases-length (change ∷ changes) = omega (arith, length-append (db_entries change) (flat_map db_entries changes), db-length change, databases-length changes, mul-suc 3 (length changes))
+databases-length : (slot : ℕ) (changes : List DbChange) → length (flat_map (db_entries slot) changes) ≤ 3 * length changes
+databases-length slot [] = omega arith
+databases-length slot (change ∷ changes) = omega (arith, length-append (db_entries slot change) (flat_map (db_entries slot) changes), db-length slot change, databases-length slot changes, mul-suc 3 (length changes))
 
 -- ---- the change
 
-pub change_is_journal : (change : DeskChange) (entries : List Entry) → IsDeskChange change → AllByRecursion IsDbWritten change.databases.items → IsDesktopFile change.marks (desktop_text change.marks) → entry_values entries ≡ change_entries change → IsJournal (entry_values entries)
-change_is_journal change entries is written marks are =
+pub change_is_journal : (slots slot : ℕ) (change : DeskChange) (marks : List Marks) (entries : List Entry) → IsSlot slots slot → IsDeskChange change → AllByRecursion IsDbWritten change.databases.items → IsDesktopFile marks (desktop_text marks) → entry_values entries ≡ slot_entries slot change.databases.items marks → IsJournal (entry_values entries)
+change_is_journal slots slot change marks entries at is written text are =
+    let changes = change.databases.items in
+    let few : slot < 16 = omega (arith, at.there, at.few) in
     subst IsJournal (sym are) (
-      omega (arith, is.few, databases-length change.databases.items, length-append (flat_map db_entries change.databases.items) (marks_entry change.marks ∷ [])),
-      are_entries [] (change_entries change) (change_files change is written marks) (subst (AllByRecursion (λ e. is_utf8 e.name ≡ true)) are (texts_of entries)) (new_in_none (change_entries change)) (apart_databases change.databases.items change.marks is.rise is.each written),
+      omega (arith, is.few, databases-length slot changes, length-append (flat_map (db_entries slot) changes) (slots_entry marks ∷ [])),
+      are_entries slots [] (slot_entries slot changes marks) (change_files slots slot changes marks at is.each written text) (subst (AllByRecursion (λ e. is_utf8 e.name ≡ true)) are (texts_of entries)) (new_in_none (slot_entries slot changes marks)) (apart_databases slot changes marks few is.rise is.each written),
     )

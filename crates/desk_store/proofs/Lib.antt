@@ -1,4 +1,5 @@
 pub mod OwnLaws
+pub mod SlotListLaws
 pub mod FindLaws
 pub mod LoopLaws
 pub mod OpenLaws
@@ -7,5 +8,6 @@ pub mod SizeLaws
 pub mod FileLaws
 pub mod ChangedLaws
 pub mod JournalLaws
+pub mod BearLaws
 pub mod CommitLaws
 pub mod CountLaws

@@ -8,10 +8,9 @@ use Rattle.std.proofs.lemmas.List.Elements.{filter-append}
 use Rattle.hs_folders.specs.FileMaps.{FileMap}
 use Rattle.folder_files.specs.FileNames.{has_ending}
 use Rattle.desk_store.specs.Finds.{AddsAny, FindsAll, RefusesAmong, RefusesAt, first_bad, rows_count}
-use Rattle.desk_store.specs.Shelves.{bad_at, file_at}
-use Rattle.desk_store.specs.declared.found.Found.{Found}
+use Rattle.desk_store.specs.Shelves.{SlotValue, bad_at, file_at, slots_in}
 use Rattle.desk_store.specs.declared.fault.DeskOpenFault.{DeskOpenFault}
-use Rattle.desk_store.proofs.FindLaws.{found_more, found_none, refused_among}
+use Rattle.desk_store.proofs.FindLaws.{found_more, refused_among}
 
 -- one more of a list
 pub map_more : {X Y : Type 0} (f : X → Y) (xs : List X) (place : ℕ) (x : X) → place < length xs → x ≡ get_or xs place x → take (place + 1) (map f xs) ≡ take place (map f xs) ++ f x ∷ []
@@ -40,23 +39,21 @@ rows_more names place item less is =
 -- ---- files, where contents are told or not
 
 -- what was found in these files, where contents are told
-abbrev pub FindsTold : Option FileMap → List (List ℕ) → Found → Type 0
-FindsTold told names found = IfSome told (λ held. FindsAll held names found)
+abbrev pub FindsTold : Option FileMap → List (List ℕ) → List SlotValue → Type 0
+FindsTold told names slots = IfSome told (λ held. FindsAll held names slots)
 
-pub told_none : (told : Option FileMap) (found : Found) → found ≡ record { marks = None; shelves = record { rows = []; bases = []; archives = [] } } → FindsTold told [] found
-told_none None found is = tt
-told_none (Some held) found is = found_none held found is
+pub told_more : (told : Option FileMap) (names : List (List ℕ)) (file : List ℕ) (old new : List SlotValue) → length old ≤ 16 → FindsTold told names old → IfSome told (λ held. AddsAny (file_at held (length old) file) old new) → FindsTold told (names ++ file ∷ []) new
+told_more None names file old new few so_far adds = tt
+told_more (Some held) names file old new few so_far adds = found_more held names file old new few so_far adds
 
-pub told_more : (told : Option FileMap) (names : List (List ℕ)) (file : List ℕ) (old new : Found) → FindsTold told names old → IfSome told (λ held. AddsAny (file_at held file) old new) → FindsTold told (names ++ file ∷ []) new
-told_more None names file old new so_far adds = tt
-told_more (Some held) names file old new so_far adds = found_more held names file old new so_far adds
-
-pub told_refused : (told : Option FileMap) (names : List (List ℕ)) (place : ℕ) (file : List ℕ) (found : Found) (fault : DeskOpenFault) → place < length names → file ≡ get_or names place file
-    → FindsTold told (take place names) found → IfSome told (λ held. RefusesAt file (bad_at held file) fault) → IfSome told (λ held. RefusesAmong (first_bad held names) fault)
+pub told_refused : (told : Option FileMap) (names : List (List ℕ)) (place : ℕ) (file : List ℕ) (found : List SlotValue) (fault : DeskOpenFault) → place < length names → file ≡ get_or names place file
+    → FindsTold told (take place names) found → IfSome told (λ held. RefusesAt file (bad_at held (length found) file) fault) → IfSome told (λ held. RefusesAmong (first_bad held (length (slots_in held)) names) fault)
 told_refused None names place file found fault less is so_far refused = tt
 told_refused (Some held) names place file found fault less is so_far refused =
     let all : names ≡ take place names ++ file ∷ drop (suc place) names = split_at names place file less ∙ ap (λ (n : List ℕ). take place names ++ n ∷ drop (suc place) names) (sym is) in
-    subst (λ (ns : List (List ℕ)). RefusesAmong (first_bad held ns) fault) (sym all) (refused_among held (take place names) (drop (suc place) names) file fault so_far.good refused)
+    let count : length found ≡ length (slots_in held) = sym (length-map found (λ slot. slot.marks)) ∙ ap length so_far.marked in
+    subst (λ (n : ℕ). RefusesAmong (first_bad held n names) fault) count
+    (subst (λ (ns : List (List ℕ)). RefusesAmong (first_bad held (length found) ns) fault) (sym all) (refused_among held (length found) (take place names) (drop (suc place) names) file fault so_far.good refused))
 
 -- an item of a list, mapped
 pub mapped_at : {X Y : Type 0} (f : X → Y) (xs : List X) (place : ℕ) (x : X) → place < length xs → x ≡ get_or xs place x → f x ≡ get_or (map f xs) place (f x)

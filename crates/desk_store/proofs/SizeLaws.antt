@@ -1,6 +1,8 @@
 -- How long the files of a change are.
-use Rattle.std.proofs.Common.{◌≡◌, ℕ, ◌+◌, ◌*◌, ◌/◌, ◌%◌, ◌^◌, ◌<◌, ◌≤◌, ltb, Bool, true, false, List, [], ◌∷◌, ◌++◌, length, Option, None, Some, refl, ap, subst, ◌∙◌, arith}
+use Rattle.std.proofs.Common.{◌≡◌, ℕ, zero, suc, inl, inr, ◌+◌, ◌*◌, ◌/◌, ◌%◌, ◌^◌, ◌<◌, ◌≤◌, ltb, Bool, true, false, List, [], ◌∷◌, ◌++◌, length, Option, None, Some, refl, ap, subst, ◌∙◌, arith}
 use Rattle.std.specs.Prelude.{◌||◌, cond, codes}
+use Rattle.std.specs.Fmt.{decimal}
+use Rattle.std.proofs.lemmas.Fmt.{length-decimal-le}
 use Rattle.std.specs.Int.{w32, to_be_bytes}
 use Rattle.std.specs.List.{AllByRecursion, concat}
 use Rattle.std.proofs.Math.Nat.{mul-suc}
@@ -20,10 +22,12 @@ use Rattle.pdb_files.specs.Entries.{record_data, record_entries, record_entry}
 use Rattle.pdb_files.specs.Files.{IsFileText, app_begin, blocks_of, canonical, data_begin, data_of, entries_text, entry_count, file_text, has_resources, sort_begin}
 use Rattle.pdb_files.specs.Headers.{header_text, zeros_behind}
 use Rattle.pdb_files.proofs.WriteLaws.{length-zeros_behind}
-use Rattle.folder_files.specs.InfoFiles.{IsDesktopFile, desktop_forms, desktop_values}
+use Rattle.folder_files.specs.FileNames.{slot_prefix}
+use Rattle.folder_files.specs.InfoFiles.{IsDesktopFile, desktop_forms, desktop_values, one_user_forms, one_user_values, slot_forms}
 use Rattle.folder_files.specs.Hexadecimal.{bytes_text}
-use Rattle.folder_files.specs.Lines.{AreLines, Date, Form, Kind, Name, Number, Password, Positive, Says, Title, Value, Values}
-use Rattle.desk_store.specs.DeskFiles.{role_file}
+use Rattle.folder_files.specs.Lines.{AreLines, Count, Date, Form, Kind, Name, Number, Password, Positive, Says, Slot, Title, Value, Values}
+use Rattle.desk_store.specs.DeskFiles.{slot_file}
+use Rattle.desk_store.proofs.OwnLaws.{ending_of, slot_file-ends, slot_stem}
 use Rattle.desk_store.specs.declared.role.Role.{Role}
 use Rattle.desk_store.specs.declared.role.Role.TheVariants.{Rows, Base, Archive}
 
@@ -37,10 +41,18 @@ stem-length : (name : List ℕ) → length (stem_of name) ≤ 3 * length name
 stem-length [] = omega arith
 stem-length (byte ∷ name) = omega (arith, length-append (stem_byte byte) (stem_of name), stem_byte-length byte, stem-length name, mul-suc 3 (length name))
 
-pub file-short : (role : Role) (name : List ℕ) → IsName name → length (role_file role name) < 2 ^ 8
-file-short Rows name is = omega (arith, is.short, stem-length name, length-append (stem_of name) (codes ".pdb"))
-file-short Base name is = omega (arith, is.short, stem-length name, length-append (stem_of name) (codes ".base"))
-file-short Archive name is = omega (arith, is.short, stem-length name, length-append (stem_of name) (codes ".arc"))
+ending-length : (role : Role) → length (ending_of role) ≤ 5
+ending-length Rows = omega arith
+ending-length Base = omega arith
+ending-length Archive = omega arith
+
+prefix-length : (slot : ℕ) → slot < 16 → length (slot_prefix slot) ≤ 4
+prefix-length zero few = omega arith
+prefix-length (suc slot) few = omega (arith, length-append (decimal (suc slot)) (codes "."), length-decimal-le 2 (suc slot) (omega arith) (omega arith) (omega arith))
+
+pub file-short : (slot : ℕ) (role : Role) (name : List ℕ) → slot < 16 → IsName name → length (slot_file slot role name) < 2 ^ 8
+file-short slot role name few is =
+    omega (arith, ap length (slot_file-ends slot role name), length-append (slot_stem slot name) (ending_of role), length-append (slot_prefix slot) (stem_of name), is.short, stem-length name, ending-length role, prefix-length slot few)
 
 -- ---- databases
 
@@ -83,7 +95,7 @@ canonical-short database records is =
     omega (arith, length-append (block_list database.app) (block_list database.sort ++ data_of database), length-append (block_list database.sort) (data_of database), block_list-length database.app, block_list-length database.sort, ap length data-is, length-map database.records (λ item. item.content.bytes)) in
     omega (arith, few, top-length, middle-length, number, blocks-length blocks is.short, length-append ((top ++ middle) ++ filler) (concat blocks), length-append (top ++ middle) filler, length-append top middle)
 
--- ---- marks
+-- ---- slots
 
 few_bytes : (bytes : List ℕ) (most : Bool) → cond (ltb 40 (length bytes) || most) None (Some bytes) ≡ Some bytes → length bytes ≤ 40
 few_bytes bytes most is = by (ltb 40 (length bytes)) refl is
@@ -103,18 +115,42 @@ text-length : (bytes : List ℕ) → length bytes ≤ 40 → length (bytes_text 
 text-length [] few = omega arith
 text-length (byte ∷ bytes) few = omega (arith, few, length-encode_with lower_digits (byte ∷ bytes))
 
-value-length : (kind : Kind) (value : Value kind) (text : List ℕ) → Says kind value text → length text ≤ 80
+value-length : (kind : Kind) (value : Value kind) (text : List ℕ) → Says kind value text → length text ≤ 130
 value-length Title value text is = omega (arith, ap length is)
 value-length Number number text is = omega (arith, ap length is.0, length-encode_with lower_digits (to_be_bytes w32 number))
 value-length Positive number text is = omega (arith, ap length is.0, length-encode_with lower_digits (to_be_bytes w32 number))
 value-length Date seconds text is = omega (arith, ap length is.1, length-encode_with lower_digits is.0, is.2.eight)
 value-length Name name text is = omega (arith, ap length is.0, text-length name (few_bytes name _ is.2))
 value-length Password password text is = omega (arith, ap length is.0, text-length password (few_password password is.2))
+value-length Count number text is = omega (arith, ap length is.0, length-decimal-le 2 number (omega arith) (omega (arith, is.2)) (omega (arith, is.2)))
+value-length Slot value text is =
+    let user : length is.0 ≡ 8 = ap length is.4.0 ∙ length-encode_with lower_digits (to_be_bytes w32 value.0) in
+    let last : length is.1 ≡ 16 = omega (arith, ap length is.5.1, length-encode_with lower_digits is.5.0, is.5.2.eight) in
+    let name : length is.2 ≤ 80 = omega (arith, ap length is.6.0, text-length value.2 (few_bytes value.2 _ is.6.2)) in
+    omega (arith, ap length is.3, length-append (codes "user ") (is.0 ++ (codes " last " ++ (is.1 ++ (codes " name " ++ is.2)))), length-append is.0 (codes " last " ++ (is.1 ++ (codes " name " ++ is.2))), length-append is.1 (codes " name " ++ is.2), user, last, name)
 
-lines-length : (forms : List Form) (values : Values forms) (bytes : List ℕ) → AllByRecursion (λ form. length form.key ≤ 19) forms → AreLines forms values bytes → length bytes ≤ 100 * length forms
+lines-length : (forms : List Form) (values : Values forms) (bytes : List ℕ) → AllByRecursion (λ form. length form.key ≤ 19) forms → AreLines forms values bytes → length bytes ≤ 150 * length forms
 lines-length [] values bytes keys are = omega (arith, ap length are)
 lines-length (form ∷ forms) values bytes keys are =
-    omega (arith, ap length are.2, length-append form.key (are.0 ++ 10 ∷ are.1), length-append are.0 (10 ∷ are.1), keys.0, value-length form.kind values.0 are.0 are.3, lines-length forms values.1 are.1 keys.1 are.4, mul-suc 100 (length forms))
+    omega (arith, ap length are.2, length-append form.key (are.0 ++ 10 ∷ are.1), length-append are.0 (10 ∷ are.1), keys.0, value-length form.kind values.0 are.0 are.3, lines-length forms values.1 are.1 keys.1 are.4, mul-suc 150 (length forms))
 
-pub marks-short : (marks : Marks) (bytes : List ℕ) → IsDesktopFile marks bytes → length bytes < 2 ^ 32
-marks-short marks bytes is = let few = lines-length desktop_forms (desktop_values marks) bytes (omega arith, (omega arith, (omega arith, (omega arith, (omega arith, tt))))) is in omega (arith, few)
+slot_keys : (number : ℕ) (slots : List Marks) → number + length slots ≤ 16 → AllByRecursion (λ form. length form.key ≤ 19) (slot_forms number slots)
+slot_keys number [] few = tt
+slot_keys number (marks ∷ slots) few =
+    (omega (arith, length-append (decimal number) (codes " "), length-decimal-le 2 number (omega arith) (omega arith) (omega arith)), slot_keys (suc number) slots (omega arith))
+
+slot_forms-length : (number : ℕ) (slots : List Marks) → length (slot_forms number slots) ≡ length slots
+slot_forms-length number [] = refl
+slot_forms-length number (marks ∷ slots) = ap (λ (n : ℕ). suc n) (slot_forms-length (suc number) slots)
+
+one_user-length : (marks : Marks) (bytes : List ℕ) → AreLines one_user_forms (one_user_values marks) bytes → length bytes < 2 ^ 32
+one_user-length marks bytes is = let few = lines-length one_user_forms (one_user_values marks) bytes (omega arith, (omega arith, (omega arith, (omega arith, (omega arith, tt))))) is in omega (arith, few)
+
+pub slots-short : (slots : List Marks) (bytes : List ℕ) → IsDesktopFile slots bytes → length bytes < 2 ^ 32
+slots-short slots bytes is =
+    elim is.lines [
+      | inl one ↦ one_user-length one.marks bytes one.lines
+      | inr many ↦
+          let few = lines-length (desktop_forms slots) (desktop_values slots) bytes (omega arith, (omega arith, (omega arith, slot_keys 0 slots (omega (arith, is.formed.few))))) many in
+          omega (arith, few, slot_forms-length 0 slots, is.formed.few)
+    ]

@@ -1,5 +1,5 @@
 -- Changes of a desktop: the files that each writes, and the databases that it leaves.
-use Rattle.std.specs.Prelude.{◌≡◌, ◌<◌, ◌≤◌, ℕ, false, bytes_eq, List, [], ◌∷◌, ◌++◌, length, map, if◌then◌else◌, Option, None, Some, IfSome}
+use Rattle.std.specs.Prelude.{◌≡◌, ◌≢◌, ◌<◌, ◌≤◌, ℕ, false, bytes_eq, List, [], ◌∷◌, ◌++◌, length, map, slice_index, slice_set, if◌then◌else◌, Option, None, Some, IfSome}
 use Rattle.std.specs.List.{AllByRecursion, flat_map}
 use Rattle.pdb_values.specs.Databases.{DatabaseValue}
 use Rattle.pdb_values.specs.declared.user.Marks.{Marks}
@@ -8,10 +8,11 @@ use Rattle.pdb_files.specs.Files.{IsFileText, canonical}
 use Rattle.folder_files.specs.InfoFiles.{desktop_text}
 use Rattle.folder_files.specs.FileNames.{desktop_info_file}
 use Rattle.desk_journal.specs.Entries.{EntryValue}
-use Rattle.desk_store.specs.DeskFiles.{role_file}
+use Rattle.folder_files.specs.Slots.{users_of}
+use Rattle.desk_store.specs.DeskFiles.{slot_file}
 use Rattle.desk_store.specs.declared.role.Role.{Role}
 use Rattle.desk_store.specs.declared.role.Role.TheVariants.{Rows, Base, Archive}
-use Rattle.desk_store.specs.Shelves.{ShelvesValue, with_database}
+use Rattle.desk_store.specs.Shelves.{ShelvesValue, SlotValue, marks_of, number_of, slot_at, with_database, with_place}
 use Rattle.desk_store.specs.declared.change.DbChange.{DbChange}
 use Rattle.desk_store.specs.declared.change.DeskChange.{DeskChange}
 use Rattle.pdb_values.specs.NamedDatabases.{NamesRise}
@@ -27,35 +28,44 @@ pub record IsDbChange (change : DbChange) : Type 0 where
   pub base : IsOf change.rows.head.name change.base
   pub archive : IfSome change.archive (λ archive. IsOf change.rows.head.name archive × (0 < length archive.records))
 
--- the number of the marks isn't 0, and at most 200 databases change, whose names rise in byte order
+-- at most 200 databases change, whose names rise in byte order
 pub record IsDeskChange (change : DeskChange) : Type 0 where
-  pub number : change.marks.pc ≡ 0 → ⊥
   pub few : length change.databases.items ≤ 200
   pub rise : NamesRise (map (λ database. database.rows) change.databases.items)
   pub each : AllByRecursion IsDbChange change.databases.items
 
+-- no other slot than that at this place has this user
+abbrev pub IsFree : List SlotValue → ℕ → ℕ → Type 0
+IsFree slots place user = (other : ℕ) → other < length slots → other ≢ place → slice_index (users_of (marks_of slots)) other ≢ user
+
+-- the slot at this place may get these marks: they bear the desktop's number and a user that no other slot has, 0 only in slot 0
+pub record MayBear (slots : List SlotValue) (place : ℕ) (marks : Marks) : Type 0 where
+  pub number : marks.pc ≡ number_of slots
+  pub own : IsFree slots place marks.user
+  pub first : marks.user ≡ 0 → place ≡ 0
+
 -- ---- files
 
--- the file of a database, in its canonical bytes
-abbrev pub database_entry : Role → DatabaseValue → EntryValue
-database_entry role database = record { name = role_file role database.head.name; bytes = canonical database }
+-- the file of a database in a slot, in its canonical bytes
+abbrev pub database_entry : ℕ → Role → DatabaseValue → EntryValue
+database_entry slot role database = record { name = slot_file slot role database.head.name; bytes = canonical database }
 
 -- the file of an archive that is given
-abbrev pub archive_entries : Option DatabaseValue → List EntryValue
-archive_entries None = []
-archive_entries (Some archive) = database_entry Archive archive ∷ []
+abbrev pub archive_entries : ℕ → Option DatabaseValue → List EntryValue
+archive_entries slot None = []
+archive_entries slot (Some archive) = database_entry slot Archive archive ∷ []
 
 -- the files of a database that changes: rows, base rows and archive
-abbrev pub db_entries : DbChange → List EntryValue
-db_entries change = database_entry Rows change.rows ∷ database_entry Base change.base ∷ archive_entries change.archive
+abbrev pub db_entries : ℕ → DbChange → List EntryValue
+db_entries slot change = database_entry slot Rows change.rows ∷ database_entry slot Base change.base ∷ archive_entries slot change.archive
 
 -- the information file
-abbrev pub marks_entry : Marks → EntryValue
-marks_entry marks = record { name = desktop_info_file; bytes = desktop_text marks }
+abbrev pub slots_entry : List Marks → EntryValue
+slots_entry slots = record { name = desktop_info_file; bytes = desktop_text slots }
 
--- the files of a change: those of each database in order, and then the information file
-abbrev pub change_entries : DeskChange → List EntryValue
-change_entries change = flat_map db_entries change.databases.items ++ marks_entry change.marks ∷ []
+-- the files of a change of a slot: those of each database in order, and then the information file
+abbrev pub slot_entries : ℕ → List DbChange → List Marks → List EntryValue
+slot_entries slot changes slots = flat_map (db_entries slot) changes ++ slots_entry slots ∷ []
 
 -- ---- databases
 
@@ -83,6 +93,20 @@ with_change change shelves = with_archive change.archive (with_database Base cha
 abbrev pub with_changes : List DbChange → ShelvesValue → ShelvesValue
 with_changes [] shelves = shelves
 with_changes (change ∷ changes) shelves = with_change change (with_changes changes shelves)
+
+-- ---- slots
+
+-- a slot that changed
+abbrev pub changed_slot : DeskChange → SlotValue → SlotValue
+changed_slot change slot = record { marks = change.marks; shelves = with_changes change.databases.items slot.shelves }
+
+-- the slots of a desktop whose slot at this place changed, all others as they were; behind the last one it is new
+abbrev pub with_commit : DeskChange → ℕ → List SlotValue → List SlotValue
+with_commit change place slots = slice_set (with_place slots place) place (changed_slot change (slot_at slots place))
+
+-- the files that this writes
+abbrev pub change_entries : DeskChange → ℕ → List SlotValue → List EntryValue
+change_entries change place slots = slot_entries place change.databases.items (marks_of (with_commit change place slots))
 
 -- ---- what was written
 

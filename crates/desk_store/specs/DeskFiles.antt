@@ -1,5 +1,6 @@
--- What each file of a desktop holds, by its name and its bytes, or its first failing test.
-use Rattle.std.specs.Prelude.{◌≡◌, ⊤, ◌&&◌, ℕ, Bool, not, bytes_eq, codes, List, if◌then◌else◌, Option, None, Some, Result, Ok, Err, option_and_then}
+-- What each file of a desktop holds, by its name, its bytes and how many slots the desktop has, or its first failing test.
+use Rattle.std.specs.Prelude.{◌≡◌, ⊤, ◌&&◌, ◌++◌, ℕ, zero, suc, Bool, not, bytes_eq, codes, List, if◌then◌else◌, Option, None, Some, Result, Ok, Err, option_and_then}
+use Rattle.std.specs.Option.{option_or}
 use Rattle.pdb_values.specs.Databases.{DatabaseValue}
 use Rattle.pdb_values.specs.Heads.{holds_resources}
 use Rattle.pdb_values.specs.declared.user.Marks.{Marks}
@@ -8,7 +9,7 @@ use Rattle.pdb_files.specs.Faults.{file_fault}
 use Rattle.pdb_files.specs.Reading.{database_in}
 use Rattle.pdb_files.specs.declared.bad_kind.BadKind.{BadKind}
 use Rattle.pdb_files.specs.declared.bad_kind.BadKind.TheVariants as kinds
-use Rattle.folder_files.specs.FileNames.{archive_file, base_file, desktop_info_file, has_ending, journal_file, rows_file}
+use Rattle.folder_files.specs.FileNames.{archive_file, base_file, desktop_info_file, has_ending, journal_file, rows_file, slot_prefix}
 use Rattle.folder_files.specs.InfoFiles.{desktop_in}
 use Rattle.folder_files.specs.declared.bad_line.BadLine.{BadLine}
 use Rattle.desk_journal.specs.Overlays.{bad_of}
@@ -35,23 +36,37 @@ role_file Rows name = rows_file name
 role_file Base name = base_file name
 role_file Archive name = archive_file name
 
--- the database has records, and the file bears the name that it asks for
-abbrev pub is_own_file : Role → List ℕ → DatabaseValue → Bool
-is_own_file role name database = not (holds_resources database.head.attributes) && bytes_eq name (role_file role database.head.name)
+-- the file of a database of this name in a slot
+abbrev pub slot_file : ℕ → Role → List ℕ → List ℕ
+slot_file slot role name = slot_prefix slot ++ role_file role name
 
--- a bad file, unless the database stands in its own file and breaks no rule of the format
-abbrev pub if_own : Role → List ℕ → DatabaseValue → Option (BadKind × ℕ) → Result DeskFile BadDeskFile
-if_own role name database (Some rule) = Err (record { kind = rule.0; place = rule.1 })
-if_own role name database None = if is_own_file role name database then Ok (files.Database role database) else Err (record { kind = kinds.FileName; place = 0 })
+-- the database has records, and the file bears the name that it asks for in this slot
+abbrev pub is_own_file : ℕ → Role → List ℕ → DatabaseValue → Bool
+is_own_file slot role name database = not (holds_resources database.head.attributes) && bytes_eq name (slot_file slot role database.head.name)
+
+-- the first of so many slots in which the file is the database's own
+abbrev pub own_slot : ℕ → Role → List ℕ → DatabaseValue → Option ℕ
+own_slot zero role name database = None
+own_slot (suc slots) role name database = option_or (own_slot slots role name database) (if is_own_file slots role name database then Some slots else None)
+
+-- a bad file, unless it is the database's own in a slot
+abbrev pub if_slot : Role → DatabaseValue → Option ℕ → Result DeskFile BadDeskFile
+if_slot role database None = Err (record { kind = kinds.FileName; place = 0 })
+if_slot role database (Some slot) = Ok (files.Database slot role database)
+
+-- the same, unless a rule of the format is broken
+abbrev pub if_own : Role → DatabaseValue → Option ℕ → Option (BadKind × ℕ) → Result DeskFile BadDeskFile
+if_own role database slot (Some rule) = Err (record { kind = rule.0; place = rule.1 })
+if_own role database slot None = if_slot role database slot
 
 -- the first rule of the format that bytes break
 abbrev pub broken_rule : List ℕ → Option (BadKind × ℕ)
 broken_rule bytes = option_and_then bad_file (file_fault bytes)
 
--- marks, or the first bad line
-abbrev pub if_marks : Result Marks BadLine → Result DeskFile BadDeskFile
-if_marks (Ok marks) = Ok (files.Marks marks)
-if_marks (Err line) = Err (record { kind = kinds.Info; place = line.place })
+-- an information file in its form, or its first bad line
+abbrev pub if_slots : Result (List Marks) BadLine → Result DeskFile BadDeskFile
+if_slots (Ok slots) = Ok files.Other
+if_slots (Err line) = Err (record { kind = kinds.Info; place = line.place })
 
 -- a journal is no file that is kept; it is bad where it is out of its form
 abbrev pub if_journal : Option BadJournal → Result DeskFile BadDeskFile
@@ -61,18 +76,18 @@ if_journal (Some journal) = Err (record { kind = kinds.Journal; place = journal.
 -- what a file holds that is no database
 abbrev pub other_in : List ℕ → List ℕ → Result DeskFile BadDeskFile
 other_in name bytes =
-    if bytes_eq name desktop_info_file then if_marks (desktop_in bytes)
+    if bytes_eq name desktop_info_file then if_slots (desktop_in bytes)
     else if bytes_eq name journal_file then if_journal (bad_of (Some bytes))
     else Ok files.Other
 
--- what a file holds, by what its database is to a desktop
-abbrev pub by_role : Option Role → List ℕ → List ℕ → Result DeskFile BadDeskFile
-by_role (Some role) name bytes = if_own role name (database_in bytes) (broken_rule bytes)
-by_role None name bytes = other_in name bytes
+-- what a file holds, by what its database is to a desktop with so many slots
+abbrev pub by_role : ℕ → Option Role → List ℕ → List ℕ → Result DeskFile BadDeskFile
+by_role slots (Some role) name bytes = if_own role (database_in bytes) (own_slot slots role name (database_in bytes)) (broken_rule bytes)
+by_role slots None name bytes = other_in name bytes
 
--- what the file of this name and these bytes holds, or its first failing test
-unfoldable pub file_in : List ℕ → List ℕ → Result DeskFile BadDeskFile
-file_in name bytes = by_role (role_of name) name bytes
+-- what the file of this name and these bytes holds on a desktop with so many slots, or its first failing test
+unfoldable pub file_in : ℕ → List ℕ → List ℕ → Result DeskFile BadDeskFile
+file_in slots name bytes = by_role slots (role_of name) name bytes
 
 -- the answer is this, unless memory ran out
 abbrev pub Reads : Result DeskFile DeskFileFault → Result DeskFile BadDeskFile → Type 0

@@ -1,12 +1,16 @@
--- What a desktop's folder holds: the database in each file, and the marks; and the databases of a desktop in byte order of their names.
-use Rattle.std.specs.Prelude.{ℕ, List, [], Option, None, Some, option_and_then, Result, Ok, Err}
+-- What a desktop's folder holds: its slots, and the database in each file; and the databases of a slot in byte order of their names.
+use Rattle.std.specs.Prelude.{ℕ, nat_lt, List, [], ◌∷◌, ◌++◌, length, map, slice_index_or, if◌then◌else◌, Option, None, Some, option_and_then, Result, Ok, Err}
 use Rattle.std.specs.FinMap as finmap
+use Rattle.std.specs.List.{AllByRecursion}
 use Rattle.std.specs.Option.{option_map}
 use Rattle.hs_folders.specs.FileMaps.{FileMap}
 use Rattle.pdb_values.specs.Databases.{DatabaseValue}
 use Rattle.pdb_values.specs.declared.user.Marks.{Marks}
 use Rattle.folder_files.specs.FileNames.{desktop_info_file}
-use Rattle.desk_store.specs.DeskFiles.{file_in, role_file}
+use Rattle.folder_files.specs.InfoFiles.{desktop_in}
+use Rattle.folder_files.specs.Slots.{pc_of}
+use Rattle.folder_files.specs.declared.bad_line.BadLine.{BadLine}
+use Rattle.desk_store.specs.DeskFiles.{file_in, slot_file}
 use Rattle.desk_store.specs.declared.file_fault.BadDeskFile.{BadDeskFile}
 use Rattle.desk_store.specs.declared.file.DeskFile.{DeskFile}
 use Rattle.desk_store.specs.declared.file.DeskFile.TheVariants as files
@@ -16,48 +20,46 @@ use Rattle.pdb_values.specs.NamedDatabases.{NamesRise, with_put}
 
 -- ---- files
 
+-- the slots of a desktop that no session has touched: one, without a user; the desktop's number is 1
+abbrev pub first_slots : List Marks
+first_slots = record { pc = 1; user = 0; last = 0; name = [] } ∷ []
+
+-- the slots of an information file in its form, else those
+abbrev pub slots_or_first : Option (Result (List Marks) BadLine) → List Marks
+slots_or_first None = first_slots
+slots_or_first (Some (Ok slots)) = slots
+slots_or_first (Some (Err line)) = first_slots
+
+-- what a desktop knows of the user of each slot: its information file says it
+abbrev pub slots_in : FileMap → List Marks
+slots_in held = slots_or_first (option_map desktop_in (finmap.get held desktop_info_file))
+
 -- the database of a good file
 abbrev pub if_database : Result DeskFile BadDeskFile → Option DatabaseValue
-if_database (Ok (files.Database role database)) = Some database
-if_database (Ok (files.Marks marks)) = None
+if_database (Ok (files.Database slot role database)) = Some database
 if_database (Ok files.Other) = None
 if_database (Err bad) = None
-
--- the marks of a good file
-abbrev pub if_marks : Result DeskFile BadDeskFile → Option Marks
-if_marks (Ok (files.Database role database)) = None
-if_marks (Ok (files.Marks marks)) = Some marks
-if_marks (Ok files.Other) = None
-if_marks (Err bad) = None
 
 -- the first failing test of a bad file
 abbrev pub if_bad : Result DeskFile BadDeskFile → Option BadDeskFile
 if_bad (Ok file) = None
 if_bad (Err bad) = Some bad
 
--- what the file of this name holds
-abbrev pub file_at : FileMap → List ℕ → Option (Result DeskFile BadDeskFile)
-file_at held name = option_map (file_in name) (finmap.get held name)
+-- what the file of this name holds, on a desktop with so many slots
+abbrev pub file_at : FileMap → ℕ → List ℕ → Option (Result DeskFile BadDeskFile)
+file_at held slots name = option_map (file_in slots name) (finmap.get held name)
 
 -- the first failing test of the file of this name
-abbrev pub bad_at : FileMap → List ℕ → Option BadDeskFile
-bad_at held name = option_and_then if_bad (file_at held name)
+abbrev pub bad_at : FileMap → ℕ → List ℕ → Option BadDeskFile
+bad_at held slots name = option_and_then if_bad (file_at held slots name)
 
--- the rows, base rows or archive of the database of this name
-abbrev pub database_at : FileMap → Role → List ℕ → Option DatabaseValue
-database_at held role name = option_and_then (λ bytes. if_database (file_in (role_file role name) bytes)) (finmap.get held (role_file role name))
-
--- the marks
-abbrev pub marks_in : FileMap → Option Marks
-marks_in held = option_and_then (λ bytes. if_marks (file_in desktop_info_file bytes)) (finmap.get held desktop_info_file)
-
--- the marks of a desktop that no session has touched: its number is 1
-abbrev pub first_marks : Marks
-first_marks = record { pc = 1; user = 0; last = 0; name = [] }
+-- the rows, base rows or archive of the database of this name in a slot
+abbrev pub database_at : FileMap → ℕ → ℕ → Role → List ℕ → Option DatabaseValue
+database_at held slots slot role name = option_and_then (λ bytes. if_database (file_in slots (slot_file slot role name) bytes)) (finmap.get held (slot_file slot role name))
 
 -- ---- databases
 
--- the databases of a desktop, by what they are to it
+-- the databases of a slot, by what they are to the desktop
 pub record ShelvesValue : Type 0 where
   pub rows : List DatabaseValue
   pub bases : List DatabaseValue
@@ -80,3 +82,42 @@ abbrev pub with_database : Role → DatabaseValue → ShelvesValue → ShelvesVa
 with_database Rows database shelves = record shelves { rows = with_put database shelves.rows }
 with_database Base database shelves = record shelves { bases = with_put database shelves.bases }
 with_database Archive database shelves = record shelves { archives = with_put database shelves.archives }
+
+-- ---- slots
+
+-- a slot is what the desktop knows of its user, and its databases
+pub record SlotValue : Type 0 where
+  pub marks : Marks
+  pub shelves : ShelvesValue
+
+-- a slot without a database
+abbrev pub empty_slot : Marks → SlotValue
+empty_slot marks = record { marks = marks; shelves = record { rows = []; bases = []; archives = [] } }
+
+-- a slot of a desktop with this number, without a user and without a database
+abbrev pub new_slot : ℕ → SlotValue
+new_slot pc = empty_slot (record { pc = pc; user = 0; last = 0; name = [] })
+
+-- what is known of the user of each slot
+abbrev pub marks_of : List SlotValue → List Marks
+marks_of slots = map (λ slot. slot.marks) slots
+
+-- the number of the desktop
+abbrev pub number_of : List SlotValue → ℕ
+number_of slots = pc_of (marks_of slots)
+
+-- the slot at a place, or a new one behind the last
+abbrev pub slot_at : List SlotValue → ℕ → SlotValue
+slot_at slots place = slice_index_or slots place (new_slot (number_of slots))
+
+-- the databases of a role in the slot at a place
+abbrev pub shelf_at : List SlotValue → ℕ → Role → List DatabaseValue
+shelf_at slots place role = shelf_of (slot_at slots place).shelves role
+
+-- in each slot the databases are in byte order of their names
+abbrev pub AreInOrder : List SlotValue → Type 0
+AreInOrder slots = AllByRecursion (λ slot. AreOrdered slot.shelves) slots
+
+-- the slot at a place is there: behind the last one a new one comes
+abbrev pub with_place : List SlotValue → ℕ → List SlotValue
+with_place slots place = if nat_lt place (length slots) then slots else slots ++ new_slot (number_of slots) ∷ []

@@ -1,20 +1,24 @@
 -- What contracts see of an opened desktop, and of what a call answers.
-use Rattle.std.specs.Prelude.{List, Result, Ok, Err}
-use Rattle.pdb_values.specs.Databases.{DatabaseValue}
+use Rattle.std.specs.Prelude.{ℕ, List, Result, Ok, Err}
 use Rattle.pdb_values.specs.declared.user.Marks.{Marks}
-use Rattle.desk_store.specs.Shelves.{ShelvesValue}
+use Rattle.desk_store.specs.Shelves.{ShelvesValue, SlotValue, slot_at}
 
--- a desktop is its folder, its marks, and its rows, base rows and archives
+-- a desktop is its folder, its slots in the order of their numbers, and the place of the picked one
 pub record DeskValue (F : Type 0) : Type 0 where
   pub folder : F
-  pub marks : Marks
-  pub rows : List DatabaseValue
-  pub bases : List DatabaseValue
-  pub archives : List DatabaseValue
+  pub slots : List SlotValue
+  pub picked : ℕ
 
--- its databases by what they are to it
-abbrev pub shelves_of : {F : Type 0} → DeskValue F → ShelvesValue
-shelves_of desk = record { rows = desk.rows; bases = desk.bases; archives = desk.archives }
+-- the picked slot: one of them, or a new one behind the last
+abbrev pub picked_slot : {F : Type 0} → DeskValue F → SlotValue
+picked_slot desk = slot_at desk.slots desk.picked
+
+-- what is known of its user, and its databases
+abbrev pub marks_in : {F : Type 0} → DeskValue F → Marks
+marks_in desk = (picked_slot desk).marks
+
+abbrev pub shelves_in : {F : Type 0} → DeskValue F → ShelvesValue
+shelves_in desk = (picked_slot desk).shelves
 
 -- the folder that is handed back, or that the desktop has
 abbrev pub folder_in : {F E : Type 0} → Result (DeskValue F) (E × F) → F

@@ -7,10 +7,10 @@ use crate::shelves::Shelves;
 use pdb_values::{Database, Marks};
 use std::alloc::AllocError;
 
-/// What a desktop is to hold from now on.
+/// What the picked slot of a desktop is to hold from now on.
 #[derive(Drop)]
 pub struct DeskChange {
-    /// The marks. Their number isn't 0.
+    /// What the desktop knows of the user of the picked slot from now on.
     pub marks: Marks,
     /// The databases that change, at most 200, in rising byte order of their names.
     pub databases: Vec<DbChange>,

@@ -1,52 +1,94 @@
 // Carrying out a change.
-ghost use Rattle.std.specs.Prelude.{◌≡◌, ◌≤◌, ◌⊎◌, IfOk, IfSome, IsErrOf, OnErr, OnOk};
-ghost use Rattle.std.specs.List.{AllByRecursion};
+ghost use Rattle.std.specs.Prelude.{◌≡◌, ◌≤◌, ◌⊎◌, ◌++◌, ◌∷◌, [], IfOk, IfSome, IsErrOf, OnErr, OnOk};
 ghost use Rattle.std.specs.Option.{option_map};
 ghost use Rattle.hs_folders.specs.Causes.{HasCause};
 ghost use Rattle.hs_folders.specs.Moments.{EachMomentSince};
 ghost use Rattle.folder_files.specs.InfoFiles.{IsDesktopFile, desktop_text};
-ghost use Rattle.desk_journal.specs.Overlays.{HasNoJournal, StandsAs, put_all};
+ghost use Rattle.folder_files.specs.Slots.{AreSlots};
+ghost use Rattle.desk_journal.specs.Entries.{entry_values};
+ghost use Rattle.desk_journal.specs.Overlays.{StandsAs, put_all};
 ghost use Rattle.desk_store.specs.Changes as changes;
-ghost use Rattle.desk_store.specs.Changes.{IsDbWritten, IsDeskChange, with_changes};
+ghost use Rattle.desk_store.specs.Changes.{IsDeskChange, MayBear, with_commit};
+ghost use Rattle.desk_store.specs.Desks.{IsDesk, IsPlace};
+ghost use Rattle.desk_store.specs.Shelves.{marks_of as marks_in, new_slot, number_of};
 
 use crate::change::{DeskChange, put_changes};
-use crate::entries::change_entries;
+use crate::entries::{database_entries, slots_entry};
 use crate::fault::CommitFault;
-use crate::shelves::Shelves;
-use desk_journal::commit_files;
+use crate::slot::{DeskSlot, marks_of};
+use desk_journal::{Entry, commit_files};
 use hs_folders::Folder;
-use pdb_values::Marks;
-use std::alloc::Global;
+use std::alloc::{AllocError, Global};
 
-// Writes a change into the folder, puts its databases among the others, and hands its marks back.
+// Writes a change of the slot at this place into the folder, and hands the slots of the desktop back.
 pub(crate) fn write_change<F: Folder>(
     alloc: Global,
     folder: &mut F,
-    shelves: &mut Shelves,
+    slots: Vec<DeskSlot>,
+    place: usize,
+    newcomer: DeskSlot,
     change: DeskChange,
-) -> Result<Marks, CommitFault>
+) -> Result<Vec<DeskSlot>, CommitFault>
+    requires desk { IsDesk (F.contents folder.old) slots.items }
+    requires place { IsPlace slots.items place }
+    requires newcomer { newcomer ≡ new_slot (number_of slots.items) }
     requires change { IsDeskChange change }
-    requires no_journal { IfSome (F.contents folder.old) HasNoJournal }
+    requires marks { MayBear slots.items place change.marks }
 
     ensures written { OnOk result (F.contents folder.new ≡ option_map
-        (put_all (changes.change_entries change)) (F.contents folder.old)) }
-    ensures marks { IfOk result (λ marks. marks ≡ change.marks) }
-    ensures shelves { OnOk result (shelves.new ≡ with_changes change.databases.items shelves.old) }
-    ensures database_texts { OnOk result (AllByRecursion IsDbWritten change.databases.items) }
-    ensures marks_text { OnOk result (IsDesktopFile change.marks (desktop_text change.marks)) }
+        (put_all (changes.change_entries change place slots.items)) (F.contents folder.old)) }
+    ensures slots { IfOk result (λ after. after.items ≡ with_commit change place slots.items) }
+    ensures desk { IfOk result (λ after. IsDesk (F.contents folder.new) after.items) }
 
     ensures refused { OnErr result (StandsAs (F.contents folder.old) (F.contents folder.new)
-        ⊎ StandsAs (option_map (put_all (changes.change_entries change)) (F.contents folder.old)) (F.contents folder.new)) }
-    ensures each_moment { EachMomentSince (StandsAs
-        (option_map (put_all (changes.change_entries change)) (F.contents folder.old)))
+        ⊎ StandsAs (option_map (put_all (changes.change_entries change place slots.items))
+        (F.contents folder.old)) (F.contents folder.new)) }
+    ensures each_moment { EachMomentSince (StandsAs (option_map
+        (put_all (changes.change_entries change place slots.items)) (F.contents folder.old)))
         (F.moments folder.old) (F.moments folder.new) }
     ensures cause { HasCause (F.faults folder.old) (F.faults folder.new)
         (IsErrOf result CommitFault.DeskFault) }
     ensures paths { F.paths folder.new ≡ F.paths folder.old }
 {
-    let entries = change_entries(alloc, &change)?;
-    let DeskChange { marks, databases } = change;
-    put_changes(shelves, databases)?;
+    let mut entries = database_entries(alloc, place, &change.databases)?;
+    let after = put_change(slots, place, newcomer, change)?;
+    push_slots(alloc, &mut entries, &after)?;
     commit_files(alloc, folder, &entries)?;
-    Ok(marks)
+    Ok(after)
+}
+
+// Appends the information file.
+fn push_slots(alloc: Global, entries: &mut Vec<Entry>, slots: &[DeskSlot]) -> Result<(), AllocError>
+    requires { AreSlots (marks_in slots.now) }
+    ensures entries { OnOk result (entry_values entries.new.items
+        ≡ entry_values entries.old.items ++ changes.slots_entry (marks_in slots.now) ∷ []) }
+    ensures written { OnOk result (IsDesktopFile (marks_in slots.now)
+        (desktop_text (marks_in slots.now))) }
+{
+    let marks = marks_of(alloc, slots)?;
+    let entry = slots_entry(alloc, &marks)?;
+    entries.push(entry)?;
+    Ok(())
+}
+
+// Puts a change into the slot at this place, which may be the new one behind the last.
+fn put_change(
+    slots: Vec<DeskSlot>,
+    place: usize,
+    newcomer: DeskSlot,
+    change: DeskChange,
+) -> Result<Vec<DeskSlot>, AllocError>
+    requires place { IsPlace slots.items place }
+    requires newcomer { newcomer ≡ new_slot (number_of slots.items) }
+    ensures { IfOk result (λ after. after.items ≡ with_commit change place slots.items) }
+{
+    let mut slots = slots;
+    if place == slots.len() {
+        slots.push(newcomer)?;
+    }
+    let DeskChange { marks, databases } = change;
+    let slot = &mut slots[place];
+    slot.marks = marks;
+    put_changes(&mut slot.shelves, databases)?;
+    Ok(slots)
 }

@@ -1,71 +1,69 @@
 // A desktop's folder, opened.
-ghost use Rattle.std.specs.Prelude.{◌≡◌, ◌+◌, ◌<◌, ◌≤◌, ◌^◌, ◌⊎◌, ℕ, List, IfErr, IfOk, IfSome, IsErrAnd, IsErrOf, OnErr, codes, if◌then◌else◌, length, map, slice_get, string_bytes, unwrap_or};
+ghost use Rattle.std.specs.Prelude.{◌≡◌, ◌<◌, ◌≤◌, ◌⊎◌, ◌↔◌, ℕ, IsTrue, List, IfErr, IfOk, IfSome, IsErrAnd, OnErr, Some, length, map, min, slice_get, vec_len};
 ghost use Rattle.std.specs.FinMap as finmap;
 ghost use Rattle.std.specs.Option.{option_copied, option_map, option_or};
-ghost use Rattle.folder_files.specs.FileNames.{has_ending};
 ghost use Rattle.hs_folders.specs.Causes.{HasCause};
 ghost use Rattle.hs_folders.specs.Moments.{EachMomentSince};
-ghost use Rattle.desk_store.specs.declared.role.Role.{Role};
-ghost use Rattle.desk_journal.specs.Overlays.{HasNoJournal, StandsAs, finished, put_all};
-ghost use Rattle.desk_store.specs.Changes.{IsDeskChange, change_entries, changed};
-ghost use Rattle.desk_store.specs.Desks.{AreRowsOf, IsDesk, IsJudged, IsReadable, Shows};
-ghost use Rattle.desk_store.specs.Finds.{FindsAll, rows_count};
-ghost use Rattle.desk_store.specs.Shelves.{AreOrdered, first_marks, shelf_of};
-ghost use Rattle.desk_store.specs.Views.{folder_in, shelves_of};
 ghost use Rattle.pdb_values.specs.NamedDatabases.{NamesRise, database_of};
+ghost use Rattle.folder_files.specs.Slots.{AreSlots, users_of as users_in};
+ghost use Rattle.desk_journal.specs.Overlays.{StandsAs, finished, put_all};
+ghost use Rattle.desk_store.specs.declared.role.Role.{Role};
+ghost use Rattle.desk_store.specs.Changes.{IsDeskChange, MayBear, change_entries, changed, with_commit};
+ghost use Rattle.desk_store.specs.Desks.{IsDesk, IsJudged, IsPickable, IsReadable, Shows, all_rows, place_of};
+ghost use Rattle.desk_store.specs.Finds.{rows_count};
+ghost use Rattle.desk_store.specs.Shelves.{marks_of, number_of, shelf_of};
+ghost use Rattle.desk_store.specs.Views.{folder_in, marks_in, picked_slot, shelves_in};
 
+use crate::bearing::may_bear;
 use crate::change::DeskChange;
 use crate::commit::write_change;
 use crate::fault::{CommitFault, DeskOpenFault};
-use crate::found::Found;
-use crate::reading::read_files;
+use crate::opening::open_files;
 use crate::role::Role;
-use crate::shelves::Shelves;
-use desk_journal::finish_journal;
+use crate::slot::{DeskSlot, users_of};
 use hs_folders::Folder;
-use pdb_values::{Database, DbName, Marks, PalmDate, UserName};
-use std::alloc::Global;
+use pdb_values::{Database, DbName, Marks, Slot};
+use std::alloc::{AllocError, Global};
 use std::marker::Model;
 
-// The most files of rows that a folder may have.
-const MOST: usize = 200;
-
-/// A desktop's folder with all that it holds.
+/// A desktop's folder with all that it holds. One of its slots is picked, slot 0 after opening.
 #[derive(Drop)]
 pub struct Desk<F: Folder> {
     alloc: Global,
     folder: F,
-    marks: Marks,
-    shelves: Shelves,
+    slots: Vec<DeskSlot>,
+    picked: usize,
+    newcomer: DeskSlot,
 }
 
 impl<F: Folder> Model for Desk<F> {
-    ghost use Rattle.desk_store.specs.Desks.{IsDesk};
+    ghost use Rattle.std.specs.Prelude.{◌≡◌};
+    ghost use Rattle.desk_store.specs.Desks.{IsDesk, IsPlace};
+    ghost use Rattle.desk_store.specs.Shelves.{new_slot, number_of};
     ghost use Rattle.desk_store.specs.Views.{DeskValue};
 
     ghost Value = { DeskValue F };
 
     ghost view = { λ desk. record {
       folder = desk.folder;
-      marks = desk.marks;
-      rows = desk.shelves.rows;
-      bases = desk.shelves.bases;
-      archives = desk.shelves.archives;
+      slots = desk.slots.items;
+      picked = desk.picked;
     } };
 
-    ghost invariant = { λ desk. IsDesk (F.contents desk.folder) desk.marks desk.shelves };
+    ghost invariant = { λ desk. IsDesk (F.contents desk.folder) desk.slots.items
+        × IsPlace desk.slots.items desk.picked
+        × (desk.newcomer ≡ new_slot (number_of desk.slots.items)) };
 }
 
 impl<F: Folder> Desk<F> {
     /// Opens a folder as a desktop: finishes the journal of an earlier change, and reads each file. A refusal hands the
     /// folder back.
-    #[tactic(auto, using(crate::proofs::OpenLaws::told_desk))]
     pub fn open(alloc: Global, folder: F) -> Result<Desk<F>, (DeskOpenFault, F)>
-        // The journal is finished, and the desktop has what the folder then holds.
+        // The journal is finished, and the desktop has what the folder then holds. Slot 0 is picked.
         ensures opened { IfOk result (λ desk. F.contents desk.folder ≡ option_map finished
             (F.contents folder)) }
-        ensures desk { IfOk result (λ desk. IsDesk (F.contents desk.folder) desk.marks
-            (shelves_of desk)) }
+        ensures desk { IfOk result (λ desk. IsDesk (F.contents desk.folder) desk.slots) }
+        ensures picked { IfOk result (λ desk. desk.picked ≡ 0) }
 
         // Which answer comes.
         ensures readable { IfOk result (λ desk. IfSome (F.contents desk.folder) IsReadable) }
@@ -86,47 +84,64 @@ impl<F: Folder> Desk<F> {
     {
         let mut folder = folder;
         match open_files(alloc, &mut folder) {
-            Ok(found) => {
-                let Found { marks, shelves } = found;
-                let marks = marks_or_first(marks);
+            Ok(slots) => {
+                let newcomer = DeskSlot::unclaimed(alloc, slots[0].marks.pc);
                 Ok(Desk {
                     alloc,
                     folder,
-                    marks,
-                    shelves,
+                    slots,
+                    picked: 0,
+                    newcomer,
                 })
             }
             Err(fault) => Err((fault, folder)),
         }
     }
 
-    /// Carries out a change: replaces the files of each database in order of names, its rows, its base rows and its archive
-    /// where one is given, and then the information file, all of them or none.
+    /// Picks a slot: an old one that is there, or a new one where there are fewer than sixteen. The other calls speak of it
+    /// from then on. A new one has no user and no database, and comes into the folder with its first commit.
+    pub fn pick(&mut self, slot: Slot)
+        requires { IsPickable (length self.old.slots) slot }
+        ensures { self.new ≡ record self.old { picked = place_of (length self.old.slots) slot } }
+    {
+        self.picked = match slot {
+            Slot::Old(place) => place,
+            Slot::New | Slot::Refused | Slot::Full => self.slots.len(),
+        };
+    }
+
+    /// Carries out a change of the picked slot: replaces the files of each database in order of names, its rows, its base
+    /// rows and its archive where one is given, and then the information file, all of them or none.
     ///
-    /// The number of the marks isn't 0. At most 200 databases change, in rising byte order of their names, which differ. The
-    /// rows, base rows and archive of one change hold records under one name, and an archive has an entry. A refusal hands
-    /// the folder back; opening it again finishes what was begun.
+    /// The marks bear the desktop's number, and a user that no other slot has, 0 only in slot 0. At most 200 databases
+    /// change, in rising byte order of their names, which differ. The rows, base rows and archive of one change hold records
+    /// under one name, and an archive has an entry. A refusal hands the folder back; opening it again finishes what was begun.
     pub fn commit(self, change: DeskChange) -> Result<Desk<F>, (CommitFault, F)>
-        requires { IsDeskChange change }
+        requires change { IsDeskChange change }
+        requires marks { MayBear self.slots self.picked change.marks }
 
         // The folder holds the files of the change, and all others as they were.
         ensures written { IfOk result (λ desk. F.contents desk.folder ≡ option_map
-            (put_all (change_entries change)) (F.contents self.folder)) }
-        // The desktop is what the folder then stands for: the marks and databases of the change, and the other databases as they were.
-        ensures desk { IfOk result (λ desk. IsDesk (F.contents desk.folder) desk.marks
-            (shelves_of desk)) }
-        ensures marks { IfOk result (λ desk. desk.marks ≡ change.marks) }
+            (put_all (change_entries change self.picked self.slots)) (F.contents self.folder)) }
+        // The picked slot has the marks and databases of the change and its other databases as they were. All other slots are
+        // as they were, and the desktop is what the folder then stands for.
+        ensures slots { IfOk result (λ desk. desk.slots
+            ≡ with_commit change self.picked self.slots) }
+        ensures picked { IfOk result (λ desk. desk.picked ≡ self.picked) }
+        ensures desk { IfOk result (λ desk. IsDesk (F.contents desk.folder) desk.slots) }
+        ensures marks { IfOk result (λ desk. marks_in desk ≡ change.marks) }
         ensures databases { IfOk result (λ desk. (role : Role) (name : List ℕ) → database_of name
-            (shelf_of (shelves_of desk) role) ≡ option_or
+            (shelf_of (shelves_in desk) role) ≡ option_or
             (changed role name change.databases.items)
-            (database_of name (shelf_of (shelves_of self) role))) }
+            (database_of name (shelf_of (shelves_in self) role))) }
 
         // After a refusal the folder stands for what it stood for, or for the whole change.
         ensures refused { OnErr result (StandsAs (F.contents self.folder) (F.contents (folder_in result))
-            ⊎ StandsAs (option_map (put_all (change_entries change)) (F.contents self.folder)) (F.contents (folder_in result))) }
+            ⊎ StandsAs (option_map (put_all (change_entries change self.picked self.slots))
+            (F.contents self.folder)) (F.contents (folder_in result))) }
         // From the first moment of the call on it stands for the whole change.
-        ensures each_moment { EachMomentSince (StandsAs
-            (option_map (put_all (change_entries change)) (F.contents self.folder)))
+        ensures each_moment { EachMomentSince (StandsAs (option_map
+            (put_all (change_entries change self.picked self.slots)) (F.contents self.folder)))
             (F.moments self.folder) (F.moments (folder_in result)) }
         ensures cause { HasCause (F.faults self.folder) (F.faults (folder_in result))
             (IsErrAnd result (λ refusal. refusal.0 ≡ CommitFault.DeskFault)) }
@@ -135,72 +150,110 @@ impl<F: Folder> Desk<F> {
         let Desk {
             alloc,
             folder,
-            shelves,
-            ..
+            slots,
+            picked,
+            newcomer,
         } = self;
         let mut folder = folder;
-        let mut shelves = shelves;
-        match write_change(alloc, &mut folder, &mut shelves, change) {
-            Ok(marks) => Ok(Desk {
-                alloc,
-                folder,
-                marks,
-                shelves,
-            }),
+        match write_change(alloc, &mut folder, slots, picked, newcomer, change) {
+            Ok(slots) => {
+                let newcomer = DeskSlot::unclaimed(alloc, slots[0].marks.pc);
+                Ok(Desk {
+                    alloc,
+                    folder,
+                    slots,
+                    picked,
+                    newcomer,
+                })
+            }
             Err(fault) => Err((fault, folder)),
         }
     }
 
-    /// The marks.
-    pub fn marks(&self) -> &Marks
-        ensures { result.now ≡ self.now.marks }
+    /// The users of the slots, in the order of their numbers: 1 to 16, all different, and only the first may be 0.
+    pub fn users(&self, alloc: Global) -> Result<Vec<u32>, AllocError>
+        ensures users { IfOk result (λ users. users.items ≡ users_in (marks_of self.now.slots)) }
+        ensures count { IfOk result (λ users. vec_len users ≡ length self.now.slots) }
+        ensures formed { AreSlots (marks_of self.now.slots) }
     {
-        &self.marks
+        users_of(alloc, &self.slots)
     }
 
-    /// How many databases have rows, which is the number of files of rows: each has its file, and each file its database.
-    #[tactic(auto, using(crate::proofs::OpenLaws::told_rows, crate::proofs::CountLaws::told_number))]
-    pub fn len(&self) -> usize
-        ensures count { result ≡ length self.now.rows }
-        ensures number { IfSome (F.contents self.now.folder)
-            (λ held. result ≡ rows_count (finmap.keys held)) }
-        ensures files { IfSome (F.contents self.now.folder) (λ held. AreRowsOf held self.now.rows) }
+    // The picked slot.
+    #[tactic(auto, using(crate::proofs::OpenLaws::picked_number, crate::proofs::OpenLaws::picked_rise))]
+    fn slot(&self) -> &DeskSlot
+        ensures slot { result.now ≡ picked_slot self.now }
+        ensures number { (marks_in self.now).pc ≡ number_of self.now.slots }
+        ensures rise { NamesRise (shelves_in self.now).rows }
     {
-        self.shelves.rows.len()
+        match self.slots.get(self.picked) {
+            Some(slot) => slot,
+            None => &self.newcomer,
+        }
+    }
+
+    /// Whether the picked slot may get these marks: they bear the desktop's number, and a user that no other slot has, 0 only
+    /// in slot 0.
+    pub fn may_bear(&self, marks: &Marks) -> bool
+        ensures { IsTrue result ↔ MayBear self.now.slots self.now.picked marks.now }
+    {
+        may_bear(&self.slots, self.picked, marks)
+    }
+
+    /// The marks. They bear the desktop's number.
+    pub fn marks(&self) -> &Marks
+        ensures marks { result.now ≡ marks_in self.now }
+        ensures number { result.now.pc ≡ number_of self.now.slots }
+    {
+        &self.slot().marks
+    }
+
+    /// How many databases have rows in all slots, which is the number of files of rows; the greatest number, were there more.
+    #[tactic(auto, using(crate::proofs::CountLaws::told_number))]
+    pub fn all_len(&self) -> usize
+        ensures count { result ≡ min (all_rows self.now.slots) usize.MAX }
+        ensures number { IfSome (F.contents self.now.folder)
+            (λ held. all_rows self.now.slots ≡ rows_count (finmap.keys held)) }
+    {
+        count_rows(&self.slots)
+    }
+
+    /// How many databases have rows.
+    pub fn len(&self) -> usize
+        ensures { result ≡ length (shelves_in self.now).rows }
+    {
+        self.slot().shelves.rows.len()
     }
 
     /// The name of a database that has rows. Names stand in rising byte order, and None is answered exactly past the last
     /// one.
     pub fn name(&self, index: usize) -> Option<&DbName>
         ensures name { option_copied result ≡ option_map (λ database. database.head.name)
-            (slice_get self.now.rows index) }
-        ensures rise { NamesRise self.now.rows }
+            (slice_get (shelves_in self.now).rows index) }
+        ensures rise { NamesRise (shelves_in self.now).rows }
     {
-        match self.shelves.rows.get(index) {
-            Some(database) => Some(&database.head().name),
-            None => None,
-        }
+        self.slot().name(index)
     }
 
     /// The rows of the database of this name.
     pub fn rows(&self, name: &DbName) -> Option<&Database>
-        ensures { option_copied result ≡ database_of name.now self.entry.now.rows }
+        ensures { option_copied result ≡ database_of name.now (shelves_in self.entry.now).rows }
     {
-        self.shelves.database(Role::Rows, name)
+        self.slot().shelves.database(Role::Rows, name)
     }
 
     /// The base rows of the database of this name, live and gone ones.
     pub fn base(&self, name: &DbName) -> Option<&Database>
-        ensures { option_copied result ≡ database_of name.now self.entry.now.bases }
+        ensures { option_copied result ≡ database_of name.now (shelves_in self.entry.now).bases }
     {
-        self.shelves.database(Role::Base, name)
+        self.slot().shelves.database(Role::Base, name)
     }
 
     /// What was archived of the database of this name.
     pub fn archive(&self, name: &DbName) -> Option<&Database>
-        ensures { option_copied result ≡ database_of name.now self.entry.now.archives }
+        ensures { option_copied result ≡ database_of name.now (shelves_in self.entry.now).archives }
     {
-        self.shelves.database(Role::Archive, name)
+        self.slot().shelves.database(Role::Archive, name)
     }
 
     /// The folder.
@@ -212,69 +265,13 @@ impl<F: Folder> Desk<F> {
     }
 }
 
-// Finishes the journal, and reads the files that then stand.
-fn open_files<F: Folder>(alloc: Global, folder: &mut F) -> Result<Found, DeskOpenFault>
-    ensures finished { IfOk result (λ found. F.contents folder.new ≡ option_map finished
-        (F.contents folder.old)) }
-    ensures found { IfOk result (λ found. IfSome (F.contents folder.new)
-        (λ held. FindsAll held (finmap.keys held) found × (rows_count (finmap.keys held) ≤ 200))) }
-    ensures ordered { IfOk result (λ found. AreOrdered found.shelves) }
-    ensures no_journal { IfOk result (λ found. IfSome (F.contents folder.new) HasNoJournal) }
-    ensures shown { IfErr result (λ fault. IfSome (F.contents folder.old)
-        (λ held. Shows (finished held) fault)) }
-    ensures judged { IfErr result (λ fault. IsJudged fault → F.contents folder.new
-        ≡ option_map finished (F.contents folder.old)) }
-    ensures cause { HasCause (F.faults folder.old) (F.faults folder.new)
-        (IsErrOf result DeskOpenFault.DeskFault) }
-    ensures stands { StandsAs (F.contents folder.old) (F.contents folder.new) }
-    ensures each_moment { EachMomentSince (StandsAs (F.contents folder.old)) (F.moments folder.old)
-        (F.moments folder.new) }
-    ensures paths { F.paths folder.new ≡ F.paths folder.old }
+// How many databases have rows in these slots.
+fn count_rows(slots: &[DeskSlot]) -> usize
+    ensures { result ≡ min (all_rows slots.now) usize.MAX }
 {
-    finish_journal(alloc, folder)?;
-    let names = folder.list(alloc)?;
-    if count_rows(&names) > MOST {
-        return Err(DeskOpenFault::TooMany);
-    }
-    let found = read_files(alloc, folder, &names)?;
-    Ok(found)
-}
-
-// How many files hold rows.
-fn count_rows(names: &[String]) -> usize
-    ensures { result ≡ rows_count (map string_bytes names.now) }
-{
-    let mut count = 0;
-    for name in names {
-        count = count_more(count, name.as_str());
+    let mut count = 0usize;
+    for slot in slots {
+        count = count.saturating_add(slot.shelves.rows.len());
     }
     count
-}
-
-// One more where a file of this name holds rows.
-fn count_more(count: usize, name: &str) -> usize
-    requires { count < 2 ^ 63 }
-    ensures count { result ≡ count + (if has_ending (codes ".pdb") name.now then 1 else 0) }
-    ensures bound { result ≤ count + 1 }
-{
-    if name.as_bytes().ends_with(b".pdb") {
-        count + 1
-    } else {
-        count
-    }
-}
-
-// The marks, or those of a desktop that no session has touched.
-fn marks_or_first(marks: Option<Marks>) -> Marks
-    ensures { result ≡ unwrap_or marks first_marks }
-{
-    match marks {
-        Some(marks) => marks,
-        None => Marks {
-            pc: 1,
-            user: 0,
-            last: PalmDate::of_seconds(0),
-            name: UserName::new(&[]).unwrap(),
-        },
-    }
 }

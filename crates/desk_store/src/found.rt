@@ -1,36 +1,31 @@
 // What was found in the files of a folder.
-ghost use Rattle.std.specs.Prelude.{◌≡◌, IfErr, OnOk};
+ghost use Rattle.std.specs.Prelude.{◌≡◌, IfErr, OnOk, length};
 ghost use Rattle.desk_store.specs.DeskFiles.{file_in};
-ghost use Rattle.desk_store.specs.Finds.{Adds, Refuses};
-ghost use Rattle.desk_store.specs.Shelves.{AreOrdered, if_bad};
+ghost use Rattle.desk_store.specs.Finds.{Adds, Refuses, with_database_at};
+ghost use Rattle.desk_store.specs.Shelves.{if_bad};
 
 use crate::fault::DeskOpenFault;
 use crate::file::DeskFile;
 use crate::file_fault::DeskFileFault;
 use crate::reader::read_desk_file;
-use crate::shelves::Shelves;
-use pdb_values::Marks;
-use std::alloc::Global;
-
-// The marks, where their file was there, and the databases.
-#[derive(Drop)]
-pub(crate) struct Found {
-    pub(crate) marks: Option<Marks>,
-    pub(crate) shelves: Shelves,
-}
+use crate::role::Role;
+use crate::slot::DeskSlot;
+use pdb_values::Database;
+use std::alloc::{AllocError, Global};
 
 // Adds what the file of this name and these bytes holds.
 pub(crate) fn add_file(
     alloc: Global,
     name: &str,
     bytes: &[u8],
-    found: &mut Found,
+    slots: &mut Vec<DeskSlot>,
 ) -> Result<(), DeskOpenFault>
-    ensures added { OnOk result (Adds (file_in name.now bytes.now) found.old found.new) }
-    ensures ordered { AreOrdered found.old.shelves → OnOk result (AreOrdered found.new.shelves) }
-    ensures refused { IfErr result (Refuses name.now (if_bad (file_in name.now bytes.now))) }
+    ensures added { OnOk result (Adds (file_in (length slots.old.items) name.now bytes.now)
+        slots.old.items slots.new.items) }
+    ensures refused { IfErr result
+        (Refuses name.now (if_bad (file_in (length slots.old.items) name.now bytes.now))) }
 {
-    let file = match read_desk_file(alloc, name, bytes) {
+    let file = match read_desk_file(alloc, slots.len(), name, bytes) {
         Ok(file) => file,
         Err(DeskFileFault::Bad(bad)) => {
             return Err(DeskOpenFault::BadFile {
@@ -42,9 +37,23 @@ pub(crate) fn add_file(
         Err(DeskFileFault::NoMemory) => return Err(DeskOpenFault::NoMemory),
     };
     match file {
-        DeskFile::Database(role, database) => found.shelves.put(role, database)?,
-        DeskFile::Marks(marks) => found.marks = Some(marks),
+        DeskFile::Database(slot, role, database) => put_at(slots, slot, role, database)?,
         DeskFile::Other => {}
     }
     Ok(())
+}
+
+// Puts a database into the slot at this place, where it is there.
+fn put_at(
+    slots: &mut Vec<DeskSlot>,
+    place: usize,
+    role: Role,
+    database: Database,
+) -> Result<(), AllocError>
+    ensures { OnOk result (slots.new.items ≡ with_database_at place role database slots.old.items) }
+{
+    match slots.get_mut(place) {
+        Some(slot) => slot.shelves.put(role, database),
+        None => Ok(()),
+    }
 }

@@ -1,15 +1,17 @@
-//! A desktop's folder: for each database its rows, its base rows and its archive, and the marks that say whom the desktop
-//! synchronized with and when.
+//! A desktop's folder: for each user a slot with databases of its own, of each database the rows, the base rows and the
+//! archive, and the marks that say when the user was synchronized last.
 //!
-//! For each database a desktop keeps up to three files of the Palm File Format Specification: `STEM.pdb` holds the rows,
-//! `STEM.base` what the last synchronization left on both sides, `STEM.arc` what was archived. The marks of the last
-//! synchronization stand in `desktop.inf`, and a change that is being carried out in `hotsync.journal`. Other files are
-//! not looked at.
+//! For each database a slot keeps up to three files of the Palm File Format Specification: `STEM.pdb` holds the rows,
+//! `STEM.base` what the last synchronization left on both sides, `STEM.arc` what was archived. The files of slot 0 have
+//! these names, those of slot 1 have `s1.` in front, and so on up to slot 15. The marks of all slots stand in
+//! `desktop.inf`, and a change that is being carried out in `hotsync.journal`. Other files are not looked at.
 //!
-//! Opening a folder finishes the journal of an earlier change and reads every file that a desktop keeps. A change of marks and
-//! databases is then committed as a whole: at each moment the folder stands for the desktop before it or for the one after it.
+//! Opening a folder finishes the journal of an earlier change and reads every file that a desktop keeps. One slot is picked:
+//! the calls speak of it, and a change of its marks and databases is committed as a whole. At each moment the folder stands
+//! for the desktop before the change or for the one after it, and no other slot changes.
 #![tactic(auto)]
 
+mod bearing;
 mod change;
 mod commit;
 mod desk;
@@ -18,10 +20,12 @@ mod fault;
 mod file;
 mod file_fault;
 mod found;
+mod opening;
 mod reader;
 mod reading;
 mod role;
 mod shelves;
+mod slot;
 
 pub use change::{DbChange, DeskChange};
 pub use desk::Desk;

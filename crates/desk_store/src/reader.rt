@@ -3,27 +3,32 @@ ghost use Rattle.std.specs.Prelude.{◌≡◌, IfOk, Some};
 ghost use Rattle.pdb_files.specs.Reading.{database_in};
 ghost use Rattle.folder_files.specs.InfoFiles.{desktop_in};
 ghost use Rattle.desk_journal.specs.Overlays.{bad_of};
-ghost use Rattle.desk_store.specs.DeskFiles.{Reads, broken_rule, file_in, if_journal, if_marks, if_own, is_own_file as stands_in_its_file, other_in};
+ghost use Rattle.desk_store.specs.DeskFiles.{Reads, broken_rule, file_in, if_journal, if_own, if_slots, is_own_file as stands_in_its_file, other_in, own_slot as slot_of_own};
 
 use crate::file::DeskFile;
 use crate::file_fault::{BadDeskFile, DeskFileFault};
 use crate::role::Role;
 use desk_journal::{JournalFault, read_journal};
-use folder_files::{DESKTOP_INFO, JOURNAL, read_desktop_info};
+use folder_files::{DESKTOP_INFO, InfoFault, JOURNAL, read_desktop_info};
 use pdb_files::{BadKind, read_database};
 use pdb_values::Database;
 use std::alloc::{AllocError, Global};
 
-/// Reads the file of this name, which is all of the bytes.
+/// Reads the file of this name, which is all of the bytes, of a desktop with so many slots.
 ///
 /// The tests on a database stand in this order: the rules of its format; it has records, and the file bears the name that
-/// it asks for.
+/// it asks for in one of the slots.
 #[tactic(auto, unfolding(crate::specs::DeskFiles::file_in))]
-pub fn read_desk_file(alloc: Global, name: &str, bytes: &[u8]) -> Result<DeskFile, DeskFileFault>
-    ensures { Reads result (file_in name.now bytes.now) }
+pub fn read_desk_file(
+    alloc: Global,
+    slots: usize,
+    name: &str,
+    bytes: &[u8],
+) -> Result<DeskFile, DeskFileFault>
+    ensures { Reads result (file_in slots name.now bytes.now) }
 {
     match Role::of_file(name) {
-        Some(role) => read_own_database(alloc, role, name, bytes),
+        Some(role) => read_own_database(alloc, slots, role, name, bytes),
         None => read_other(alloc, name, bytes),
     }
 }
@@ -31,11 +36,13 @@ pub fn read_desk_file(alloc: Global, name: &str, bytes: &[u8]) -> Result<DeskFil
 // The database of a file that bears its name.
 fn read_own_database(
     alloc: Global,
+    slots: usize,
     role: Role,
     name: &str,
     bytes: &[u8],
 ) -> Result<DeskFile, DeskFileFault>
-    ensures { Reads result (if_own role name.now (database_in bytes.now) (broken_rule bytes.now)) }
+    ensures { let database = database_in bytes.now in Reads result
+        (if_own role database (slot_of_own slots role name.now database) (broken_rule bytes.now)) }
 {
     let database = match read_database(alloc, bytes) {
         Ok(database) => database,
@@ -46,30 +53,49 @@ fn read_own_database(
             });
         }
     };
-    let own = is_own_file(alloc, role, name, &database)?;
-    if !own {
-        return Err(DeskFileFault::Bad(BadDeskFile {
+    match own_slot(alloc, slots, role, name, &database)? {
+        Some(slot) => Ok(DeskFile::Database(slot, role, database)),
+        None => Err(DeskFileFault::Bad(BadDeskFile {
             kind: BadKind::FileName,
             place: 0,
-        }));
+        })),
     }
-    Ok(DeskFile::Database(role, database))
 }
 
-// Whether a database has records, and the file bears the name that it asks for.
+// The slot in which a database has records and the file bears the name that it asks for.
+fn own_slot(
+    alloc: Global,
+    slots: usize,
+    role: Role,
+    name: &str,
+    database: &Database,
+) -> Result<Option<usize>, AllocError>
+    ensures { IfOk result (λ slot. slot ≡ slot_of_own slots role name.now database.now) }
+{
+    for slot in 0..slots {
+        let own = is_own_file(alloc, slot, role, name, database)?;
+        if own {
+            return Ok(Some(slot));
+        }
+    }
+    Ok(None)
+}
+
+// Whether a database has records, and the file bears the name that it asks for in a slot.
 fn is_own_file(
     alloc: Global,
+    slot: usize,
     role: Role,
     name: &str,
     database: &Database,
 ) -> Result<bool, AllocError>
-    ensures { IfOk result (λ own. own ≡ stands_in_its_file role name.now database.now) }
+    ensures { IfOk result (λ own. own ≡ stands_in_its_file slot role name.now database.now) }
 {
     let head = database.head();
     if head.holds_resources() {
         return Ok(false);
     }
-    let file = role.file(alloc, &head.name)?;
+    let file = role.file(alloc, slot, &head.name)?;
     Ok(name == file.as_str())
 }
 
@@ -78,7 +104,7 @@ fn read_other(alloc: Global, name: &str, bytes: &[u8]) -> Result<DeskFile, DeskF
     ensures { Reads result (other_in name.now bytes.now) }
 {
     if name == DESKTOP_INFO {
-        return read_marks(bytes);
+        return read_info(alloc, bytes);
     }
     if name == JOURNAL {
         return read_pending(alloc, bytes);
@@ -86,16 +112,17 @@ fn read_other(alloc: Global, name: &str, bytes: &[u8]) -> Result<DeskFile, DeskF
     Ok(DeskFile::Other)
 }
 
-// The marks of the information file.
-fn read_marks(bytes: &[u8]) -> Result<DeskFile, DeskFileFault>
-    ensures { Reads result (if_marks (desktop_in bytes.now)) }
+// The information file, which is tested alone.
+fn read_info(alloc: Global, bytes: &[u8]) -> Result<DeskFile, DeskFileFault>
+    ensures { Reads result (if_slots (desktop_in bytes.now)) }
 {
-    match read_desktop_info(bytes) {
-        Ok(marks) => Ok(DeskFile::Marks(marks)),
-        Err(bad) => Err(DeskFileFault::Bad(BadDeskFile {
+    match read_desktop_info(alloc, bytes) {
+        Ok(_) => Ok(DeskFile::Other),
+        Err(InfoFault::Bad(bad)) => Err(DeskFileFault::Bad(BadDeskFile {
             kind: BadKind::Info,
             place: bad.place,
         })),
+        Err(InfoFault::NoMemory) => Err(DeskFileFault::NoMemory),
     }
 }
 

@@ -1,8 +1,8 @@
 // What a database is to a desktop.
 ghost use Rattle.std.specs.Prelude.{◌≡◌, IfOk, string_bytes};
-ghost use Rattle.desk_store.specs.DeskFiles.{role_file, role_of};
+ghost use Rattle.desk_store.specs.DeskFiles.{role_file, role_of, slot_file};
 
-use folder_files::{archive_file, base_file, rows_file};
+use folder_files::{archive_file, base_file, rows_file, slot_prefix};
 use pdb_values::DbName;
 use std::alloc::{AllocError, Global};
 
@@ -34,8 +34,18 @@ impl Role {
         }
     }
 
-    /// The name of the file in which a database of this name has this role.
-    pub fn file(self, alloc: Global, name: &DbName) -> Result<String, AllocError>
+    /// The name of the file in which a database of this name has this role in a slot.
+    pub fn file(self, alloc: Global, slot: usize, name: &DbName) -> Result<String, AllocError>
+        ensures { IfOk result (λ file. string_bytes file ≡ slot_file slot self name.now) }
+    {
+        let mut file = slot_prefix(alloc, slot)?;
+        let own = self.own_file(alloc, name)?;
+        file.push_str(own.as_str())?;
+        Ok(file)
+    }
+
+    // The same in slot 0.
+    fn own_file(self, alloc: Global, name: &DbName) -> Result<String, AllocError>
         ensures { IfOk result (λ file. string_bytes file ≡ role_file self name.now) }
     {
         match self {

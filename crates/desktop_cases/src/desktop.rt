@@ -8,7 +8,7 @@ use crate::{bytes_of, number_of};
 use desk_store::{CommitFault, DbChange, Desk, DeskChange, DeskOpenFault};
 use hs_folders::MemFolder;
 use pdb_files::read_database;
-use pdb_values::{Database, DbName, Marks, PalmDate, UserName};
+use pdb_values::{Database, DbName, Marks, PalmDate, Slot, UserName};
 use std::alloc::{AllocError, Global};
 use std::mem;
 
@@ -52,6 +52,7 @@ impl Desktop {
                 }
             }
             ["commit", ..] => self.commit(words, folded).map(Some),
+            ["pick", _] => self.pick(number_of(words, 1) as usize).map(Some),
             ["close"] => {
                 if let Some(desk) = self.desk.take() {
                     folded.folder = desk.into_folder();
@@ -65,15 +66,29 @@ impl Desktop {
         }
     }
 
+    fn pick(&mut self, place: usize) -> Result<String, AllocError> {
+        let alloc = self.alloc;
+        let Some(mut desk) = self.desk.take() else {
+            return String::from_str(alloc, "not open");
+        };
+        let picked = pick_slot(alloc, &mut desk, place)?;
+        self.desk = Some(desk);
+        String::from_str(alloc, if picked { "picked" } else { "no slot" })
+    }
+
     fn commit(&mut self, words: &[&str], folded: &mut Folded) -> Result<String, AllocError> {
         let alloc = self.alloc;
         let Some(desk) = self.desk.take() else {
             return String::from_str(alloc, "not open");
         };
-        let Some(change) = change_of(alloc, words)? else {
+        let Some(change) = change_of(alloc, desk.marks().pc, words)? else {
             self.desk = Some(desk);
             return String::from_str(alloc, "no change");
         };
+        if !desk.may_bear(&change.marks) {
+            self.desk = Some(desk);
+            return String::from_str(alloc, "other user");
+        }
         match desk.commit(change) {
             Ok(desk) => {
                 self.desk = Some(desk);
@@ -100,6 +115,7 @@ fn look(
         return match words {
             ["marks"] => marks_line(alloc, desk.marks()).map(Some),
             ["list"] => list(alloc, desk).map(Some),
+            ["users"] => users(alloc, desk).map(Some),
             _ => Ok(None),
         };
     };
@@ -110,6 +126,30 @@ fn look(
         _ => return Ok(None),
     };
     records(alloc, found).map(Some)
+}
+
+// Picks the slot at this place, or a new one behind the last. False: there is none.
+fn pick_slot(alloc: Global, desk: &mut Desk<MemFolder>, place: usize) -> Result<bool, AllocError> {
+    let count = desk.users(alloc)?.len();
+    if place < count {
+        desk.pick(Slot::Old(place));
+        return Ok(true);
+    }
+    if place == count && count < Slot::MOST {
+        desk.pick(Slot::New);
+        return Ok(true);
+    }
+    Ok(false)
+}
+
+// The users of the slots, and how many databases have rows in all of them.
+fn users(alloc: Global, desk: &Desk<MemFolder>) -> Result<String, AllocError> {
+    let mut said = format!(in alloc; "{}", desk.all_len())?;
+    for user in desk.users(alloc)? {
+        let line = format!(in alloc; " {user}")?;
+        said.push_str(line.as_str())?;
+    }
+    Ok(said)
 }
 
 // The names of the databases that have rows.
@@ -143,12 +183,25 @@ fn records(alloc: Global, database: Option<&Database>) -> Result<String, AllocEr
     Ok(said)
 }
 
-// All that a folder stands for: the marks, and of each database with rows these, its base rows and its archive.
+// All that a folder stands for: of each slot the marks, and of each database with rows these, its base rows and its archive.
 fn whole(alloc: Global, folder: MemFolder) -> Result<String, AllocError> {
-    let desk = match Desk::open(alloc, folder) {
+    let mut desk = match Desk::open(alloc, folder) {
         Ok(desk) => desk,
         Err((fault, _folder)) => return refusal(alloc, fault),
     };
+    let mut said = slot(alloc, &desk)?;
+    for place in 1..desk.users(alloc)?.len() {
+        if pick_slot(alloc, &mut desk, place)? {
+            let line = slot(alloc, &desk)?;
+            said.push_str(" | ")?;
+            said.push_str(line.as_str())?;
+        }
+    }
+    Ok(said)
+}
+
+// The picked slot.
+fn slot(alloc: Global, desk: &Desk<MemFolder>) -> Result<String, AllocError> {
     let mut said = marks_line(alloc, desk.marks())?;
     for index in 0..desk.len() {
         if let Some(name) = desk.name(index) {
@@ -174,29 +227,26 @@ fn refusal(alloc: Global, fault: DeskOpenFault) -> Result<String, AllocError> {
 }
 
 // The change that a line gives, where it is one: of one database of records, under one name.
-fn change_of(alloc: Global, words: &[&str]) -> Result<Option<DeskChange>, AllocError>
+fn change_of(alloc: Global, pc: u32, words: &[&str]) -> Result<Option<DeskChange>, AllocError>
     ensures { IfOk result (λ found. IfSome found IsDeskChange) }
 {
-    let pc = number_of(words, 1);
-    let Ok(name) = DbName::new(&bytes_of(alloc, words, 2)) else {
+    let Ok(name) = DbName::new(&bytes_of(alloc, words, 4)) else {
         return Ok(None);
     };
-    let rows = database_of(alloc, words, 3, &name);
-    let base = database_of(alloc, words, 4, &name);
-    let (Some(rows), Some(base), Some(user)) = (rows, base, UserName::new(b"Jane")) else {
+    let rows = database_of(alloc, words, 5, &name);
+    let base = database_of(alloc, words, 6, &name);
+    let user = UserName::new(&bytes_of(alloc, words, 3));
+    let (Some(rows), Some(base), Some(user)) = (rows, base, user) else {
         return Ok(None);
     };
-    if pc == 0 {
-        return Ok(None);
-    }
-    let archive = match database_of(alloc, words, 5, &name) {
+    let archive = match database_of(alloc, words, 7, &name) {
         Some(archive) if !archive.records().is_empty() => Some(archive),
         _ => None,
     };
     let marks = Marks {
         pc,
-        user: 0,
-        last: PalmDate::of_seconds(0),
+        user: number_of(words, 1),
+        last: PalmDate::of_seconds(number_of(words, 2)),
         name: user,
     };
     let database = DbChange {

@@ -2,8 +2,9 @@
 use crate::{bytes_of, number_of, word};
 use desk_store::{DeskFile, DeskFileFault, Role, read_desk_file};
 use folder_files::{
-    archive_file, base_file, database_file, is_handheld_file, is_kept_file, read_desktop_info,
-    read_device_info, rows_file, write_desktop_info, write_device_info,
+    InfoFault, archive_file, base_file, database_file, is_handheld_file, is_kept_file,
+    read_desktop_info, read_device_info, rows_file, slot_prefix, write_desktop_info,
+    write_device_info,
 };
 use pdb_values::{DbHead, DbName, FourCc, Marks, PalmDate};
 use std::alloc::{AllocError, Global};
@@ -51,7 +52,8 @@ fn names(alloc: Global, words: &[&str]) -> Result<String, AllocError> {
     let rows = rows_file(alloc, &head.name)?;
     let base = base_file(alloc, &head.name)?;
     let archive = archive_file(alloc, &head.name)?;
-    format!(in alloc; "{database} {rows} {base} {archive}")
+    let prefix = slot_prefix(alloc, number_of(words, 3) as usize)?;
+    format!(in alloc; "{database} {rows} {base} {archive} -{prefix}")
 }
 
 fn device(alloc: Global, words: &[&str]) -> Result<String, AllocError> {
@@ -74,13 +76,20 @@ fn device(alloc: Global, words: &[&str]) -> Result<String, AllocError> {
 }
 
 fn desktop(alloc: Global, words: &[&str]) -> Result<String, AllocError> {
-    match read_desktop_info(&bytes_of(alloc, words, 1)) {
-        Ok(marks) => {
-            let text = write_desktop_info(alloc, &marks)?;
-            let said = marks_line(alloc, &marks)?;
-            format!(in alloc; "{said}\n{text}")
+    match read_desktop_info(alloc, &bytes_of(alloc, words, 1)) {
+        Ok(slots) => {
+            let text = write_desktop_info(alloc, &slots)?;
+            let mut said = String::new(alloc);
+            for marks in &slots {
+                let line = marks_line(alloc, marks)?;
+                said.push_str(line.as_str())?;
+                said.push_str("\n")?;
+            }
+            said.push_str(text.as_str())?;
+            Ok(said)
         }
-        Err(bad) => format!(in alloc; "bad {}", bad.place),
+        Err(InfoFault::Bad(bad)) => format!(in alloc; "bad {}", bad.place),
+        Err(InfoFault::NoMemory) => Err(AllocError),
     }
 }
 
@@ -96,17 +105,17 @@ pub fn marks_line(alloc: Global, marks: &Marks) -> Result<String, AllocError> {
 }
 
 fn holds(alloc: Global, words: &[&str]) -> Result<String, AllocError> {
-    match read_desk_file(alloc, word(words, 1), &bytes_of(alloc, words, 2)) {
-        Ok(DeskFile::Database(role, database)) => {
+    let slots = number_of(words, 1) as usize;
+    match read_desk_file(alloc, slots, word(words, 2), &bytes_of(alloc, words, 3)) {
+        Ok(DeskFile::Database(slot, role, database)) => {
             let role = match role {
                 Role::Rows => "rows",
                 Role::Base => "base rows",
                 Role::Archive => "archive",
             };
             let name = hex::encode(alloc, database.head().name.as_bytes())?;
-            format!(in alloc; "{role} of {name}")
+            format!(in alloc; "{role} of {name} in slot {slot}")
         }
-        Ok(DeskFile::Marks(marks)) => marks_line(alloc, &marks),
         Ok(DeskFile::Other) => String::from_str(alloc, "other"),
         Err(DeskFileFault::Bad(bad)) => format!(in alloc; "bad {} {}", bad.kind.word(), bad.place),
         Err(DeskFileFault::NoMemory) => Err(AllocError),

@@ -2,14 +2,16 @@
 //!
 //! Bytes are hexadecimal, `-` stands for none.
 //!
-//! - `names H ATTRIBUTES`, the files of the database of this name; `reads NAME`, whether a handheld reads this file and whether a
-//!   desktop keeps it; `device H` and `desktop H`, an information file, read and written again; `holds NAME H`, what a
-//!   file of a desktop holds.
+//! - `names H ATTRIBUTES SLOT`, the files of the database of this name and what stands in front of them in a slot; `reads
+//!   NAME`, whether a handheld reads this file and whether a desktop keeps it; `device H` and `desktop H`, an information
+//!   file, read and written again; `holds SLOTS NAME H`, what a file of a desktop with so many slots holds.
 //! - `case TEXT` begins with an empty folder; `file NAME H` and `many N` put files into it, `fail N` makes its Nth call
 //!   fail, `works` none, `files` shows it.
 //! - `journal H`, read and written again; `finish`, the folder's; `change H`, its entries carried out.
-//! - `open`; of the opened desktop `marks`, `list`, `rows H`, `base H` and `archive H` by name; `commit PC ROWS BASE ARCHIVE`, a
-//!   change of one database whose files are given; `close`; `moment N`, the desktop of the folder at one moment.
+//! - `open`; of the opened desktop `users`, and how many databases have rows in all slots; `pick PLACE`, an old slot or a new
+//!   one behind the last; of the picked one `marks`, `list`, `rows H`, `base H` and `archive H` by name; `commit USER SECONDS
+//!   NAME H ROWS BASE ARCHIVE`, new marks and a change of one database whose files are given; `close`; `moment N`, the
+//!   desktop of the folder at one moment, slot after slot.
 #![tactic(auto)]
 
 mod desktop;

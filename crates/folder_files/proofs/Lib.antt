@@ -1,3 +1,5 @@
 pub mod HexLaws
-pub mod InfoLaws
+pub mod ValueLaws
 pub mod LineLaws
+pub mod SlotLaws
+pub mod InfoLaws

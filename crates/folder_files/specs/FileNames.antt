@@ -1,5 +1,6 @@
 -- The names of the files in a handheld's folder and in a desktop's.
-use Rattle.std.specs.Prelude.{ℕ, List, ◌++◌, Bool, ◌||◌, nat_eq, bytes_eq, codes, if◌then◌else◌}
+use Rattle.std.specs.Prelude.{ℕ, zero, suc, List, [], ◌∷◌, ◌++◌, Bool, ◌||◌, nat_eq, bytes_eq, codes, if◌then◌else◌}
+use Rattle.std.specs.Fmt.{decimal}
 use Rattle.std.specs.List.{ends_with}
 use Rattle.pdb_values.specs.declared.head.DbHead.{DbHead}
 use Rattle.pdb_values.specs.Heads.{holds_resources}
@@ -28,6 +29,11 @@ archive_file name = stem_of name ++ codes ".arc"
 -- the file of a database, by what it holds
 abbrev pub database_file : DbHead → List ℕ
 database_file head = if holds_resources head.attributes then resources_file head.name else rows_file head.name
+
+-- what stands in front of the name of a file of a desktop's slot: nothing for slot 0, else `s`, the number of the slot and a dot
+abbrev pub slot_prefix : ℕ → List ℕ
+slot_prefix zero = []
+slot_prefix (suc number) = codes "s" ++ (decimal (suc number) ++ codes ".")
 
 -- the information file of a handheld
 abbrev pub device_info_file : List ℕ

@@ -44,3 +44,14 @@ pub fn archive_file(alloc: Global, name: &DbName) -> Result<String, AllocError>
     file.push_str(".arc")?;
     Ok(file)
 }
+
+/// What stands in front of the name of a file of this slot of a desktop.
+pub fn slot_prefix(alloc: Global, slot: usize) -> Result<String, AllocError>
+    ensures { IfOk result (λ prefix. string_bytes prefix ≡ names.slot_prefix slot) }
+{
+    if slot == 0 {
+        Ok(String::new(alloc))
+    } else {
+        format!(in alloc; "s{slot}.")
+    }
+}

@@ -5,28 +5,35 @@
 //! the base rows of a database in `STEM.base` and its archive in `STEM.arc`. The endings `.pdb` and `.prc` are those of the
 //! Palm File Format Specification; the other names are this program's own.
 //!
-//! `device.inf` is what a handheld knows of its user, `desktop.inf` what a desktop knows of the handheld that it
+//! A desktop has up to sixteen slots, one for each user. The files of slot 0 have these names; those of another slot have
+//! `s`, the number of the slot in decimal and a dot in front.
+//!
+//! `device.inf` is what a handheld knows of its user, `desktop.inf` what a desktop knows of the handhelds that it
 //! synchronized with. Both are text in lines, each with a key and ended by a line feed. Numbers stand in eight hexadecimal
 //! digits of lower case, dates in the sixteen of their eight bytes on the wire, whose last byte is zero, and names and
 //! passwords in the two digits of each of their bytes, or as `-` where there are none. The files are this program's own; the
 //! values are those of pilot-link's `pi-dlp.h`, as `pdb_values` has them.
 //!
 //! ```text
-//! hotsync-device 1            hotsync-desktop 1
+//! hotsync-device 1            hotsync-desktop 2
 //! user 0000002a               pc 00000001
-//! viewer 00000000             user 0000002a
-//! pc 00000001                 last 07d10909012e2800
-//! good 07d10909012e2800       name 4a616e65
+//! viewer 00000000             slots 2
+//! pc 00000001                 slot 0 user 0000002a last 07d10909012e2800 name 4a616e65
+//! good 07d10909012e2800       slot 1 user 0000002b last 0000000000000000 name -
 //! last 07d10909012e2800
 //! name 4a616e65
 //! password -
 //! ```
+//!
+//! A desktop's file of version 1 is read as one slot: behind `hotsync-desktop 1` it has the lines `pc`, `user`, `last` and
+//! `name`.
 #![tactic(auto)]
 
 mod bad_line;
 mod database;
 mod desktop;
 mod device;
+mod fault;
 mod folder;
 mod line;
 mod unread;
@@ -34,7 +41,8 @@ mod value;
 mod word;
 
 pub use bad_line::BadLine;
-pub use database::{archive_file, base_file, database_file, rows_file};
+pub use database::{archive_file, base_file, database_file, rows_file, slot_prefix};
 pub use desktop::{read_desktop_info, write_desktop_info};
 pub use device::{read_device_info, write_device_info};
+pub use fault::InfoFault;
 pub use folder::{DESKTOP_INFO, DEVICE_INFO, JOURNAL, is_handheld_file, is_kept_file};

@@ -1,12 +1,12 @@
 // A cursor over the lines of an information file.
 ghost use Rattle.std.specs.Prelude.{◌≡◌, ◌==◌, ◌<◌, [], length, position, IfSome};
 ghost use Rattle.std.specs.Option.{option_map};
-ghost use Rattle.folder_files.specs.Lines.{Title, Number, Positive, Date, Name as UserText, Password as SecretText};
-ghost use Rattle.folder_files.specs.Reading.{behind as behind_key, line_at, lines_at, split_at_key as split_key};
+ghost use Rattle.folder_files.specs.Lines.{Title, Number, Positive, Date, Name as UserText, Password as SecretText, Count, Slot};
+ghost use Rattle.folder_files.specs.Reading.{line_at, lines_at, split_at_key as split_key};
 ghost use Rattle.folder_files.specs.Views.{Finds};
 
 use crate::unread::Unread;
-use crate::value::{date_of, name_of, number_of, positive_of, word_of};
+use crate::value::{behind, count_of, date_of, name_of, number_of, positive_of, slot_of, word_of};
 use pdb_values::{PalmDate, Password, UserName};
 
 // Where the line at the front ends.
@@ -15,18 +15,6 @@ fn line_end(bytes: &[u8]) -> Option<usize>
     ensures bound { IfSome result (λ end. end < length bytes.now) }
 {
     bytes.iter().position(|byte| *byte == b'\n')
-}
-
-// What stands behind the key at the front of a line.
-#[tactic(auto, unfolding(crate::specs::Reading::behind))]
-fn behind<'a>(key: &[u8], line: &'a [u8]) -> Option<&'a [u8]>
-    ensures { option_map (λ text. text.now) result ≡ behind_key key.now line.now }
-{
-    if line.starts_with(key) {
-        Some(&line[key.len()..])
-    } else {
-        None
-    }
 }
 
 // What stands behind the key in the line at the front, and the bytes behind the line.
@@ -110,6 +98,28 @@ impl Lines<'_> {
         let unread = Unread(self.rest.len());
         let (text, rest) = split_at_key(key, self.rest).ok_or(unread)?;
         let found = word_of(text).ok_or(unread)?;
+        self.rest = rest;
+        Ok(found)
+    }
+
+    // How many slots there are.
+    pub(crate) fn count(&mut self, key: &[u8]) -> Result<usize, Unread>
+        ensures { Finds (λ found. (found, self.new.rest.now)) result (line_at (record { key = key.now; kind = Count }) self.old.rest.now) }
+    {
+        let unread = Unread(self.rest.len());
+        let (text, rest) = split_at_key(key, self.rest).ok_or(unread)?;
+        let found = count_of(text).ok_or(unread)?;
+        self.rest = rest;
+        Ok(found)
+    }
+
+    // What is known of the user of a slot.
+    pub(crate) fn slot(&mut self, key: &[u8]) -> Result<(u32, PalmDate, UserName), Unread>
+        ensures { Finds (λ found. (found, self.new.rest.now)) result (line_at (record { key = key.now; kind = Slot }) self.old.rest.now) }
+    {
+        let unread = Unread(self.rest.len());
+        let (text, rest) = split_at_key(key, self.rest).ok_or(unread)?;
+        let found = slot_of(text).ok_or(unread)?;
         self.rest = rest;
         Ok(found)
     }

@@ -1,5 +1,5 @@
 // What stands behind the key of a line.
-ghost use Rattle.std.specs.Prelude.{◌≡◌, ◌≤◌, ◌*◌, length, bytes_eq, option_and_then};
+ghost use Rattle.std.specs.Prelude.{◌≡◌, ◌≤◌, ◌*◌, codes, length, bytes_eq, option_and_then};
 ghost use Rattle.std.specs.Option.{option_map};
 ghost use Rattle.hex.specs.Hex.{encode_lower};
 ghost use Rattle.pdb_values.specs.Users.{password_of, user_name_of};
@@ -107,4 +107,54 @@ pub(crate) fn word_of(text: &[u8]) -> Option<Password>
 {
     let bytes = few_bytes_of(text)?;
     Password::new(bytes.as_slice())
+}
+
+// The number of a desktop's slots, 1 to 16 in decimal.
+pub(crate) fn count_of(text: &[u8]) -> Option<usize>
+    ensures { result ≡ reading.count_in text.now }
+{
+    match text {
+        [digit @ b'1'..=b'9'] => Some(usize::from(*digit - b'0')),
+        [b'1', digit @ b'0'..=b'6'] => Some(usize::from(*digit - b'0') + 10),
+        _ => None,
+    }
+}
+
+// What stands behind the key at the front of a text.
+#[tactic(auto, unfolding(crate::specs::Reading::behind))]
+pub(crate) fn behind<'a>(key: &[u8], text: &'a [u8]) -> Option<&'a [u8]>
+    ensures { option_map (λ rest. rest.now) result ≡ reading.behind key.now text.now }
+{
+    if text.starts_with(key) {
+        Some(&text[key.len()..])
+    } else {
+        None
+    }
+}
+
+// So many bytes behind a key, and what stands behind them.
+#[tactic(auto, unfolding(crate::specs::Reading::field_at))]
+fn field_of<'a>(key: &[u8], size: usize, text: &'a [u8]) -> Option<(&'a [u8], &'a [u8])>
+    ensures { option_map (λ parts. (parts.0.now, parts.1.now)) result ≡ reading.field_at key.now size text.now }
+{
+    let rest = behind(key, text)?;
+    if rest.len() < size {
+        None
+    } else {
+        Some(rest.split_at(size))
+    }
+}
+
+// The user of a slot, when it was synchronized last, and the name.
+#[tactic(auto, unfolding(crate::specs::Reading::slot_in))]
+pub(crate) fn slot_of(text: &[u8]) -> Option<(u32, PalmDate, UserName)>
+    ensures { result ≡ reading.slot_in text.now }
+{
+    let (user, rest) = field_of(b"user ", 8, text)?;
+    let (last, rest) = field_of(b" last ", 16, rest)?;
+    let name = behind(b" name ", rest)?;
+    let user = number_of(user)?;
+    let last = date_of(last)?;
+    let name = name_of(name)?;
+    Some((user, last, name))
 }

@@ -1,10 +1,7 @@
-use Rattle.std.proofs.Common.{◌≡◌, ◌≤◌, take}
-use Rattle.std.specs.Prelude.{map, string_bytes}
-use Rattle.desk_store.specs.Finds.{rows_count}
+use Rattle.std.proofs.Common.{◌≡◌, ◌-◌, ◌^◌, take}
+use Rattle.std.specs.Prelude.{min}
+use Rattle.desk_store.specs.Desks.{all_rows}
 use Rattle.desk_store.proofs.desk.count_rows.Given as goal
 
-abbrev pub invariant-loop-name : goal.invariant-loop-name
-invariant-loop-name l = record {
-  counted : l.count ≡ rows_count (take l.name-index (map string_bytes l.names));
-  bound : l.count ≤ l.name-index;
-}
+abbrev pub invariant-loop-slot : goal.invariant-loop-slot
+invariant-loop-slot l = l.count ≡ min (all_rows (take l.slot-index l.slots)) (2 ^ 64 - 1)

@@ -2,7 +2,7 @@
 use Rattle.std.proofs.Common.{◌≡◌, ◌≤◌, ℕ, List, subst, false, length, eqb}
 use Rattle.hex.specs.Hex.{IsBytes}
 use Rattle.std.specs.List.{list_any}
-use Rattle.folder_files.proofs.LineLaws.{name_says}
+use Rattle.folder_files.proofs.ValueLaws.{name_says}
 use Rattle.folder_files.proofs.word.name_word.Goals as goal
 
 pub returns-clause-says : goal.returns-clause-says

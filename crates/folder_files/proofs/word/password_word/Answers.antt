@@ -1,7 +1,7 @@
 -- A password keeps the bound of passwords.
 use Rattle.std.proofs.Common.{◌≤◌, ℕ, List, subst, length}
 use Rattle.hex.specs.Hex.{IsBytes}
-use Rattle.folder_files.proofs.LineLaws.{password_says}
+use Rattle.folder_files.proofs.ValueLaws.{password_says}
 use Rattle.folder_files.proofs.word.password_word.Goals as goal
 
 pub returns-clause-says : goal.returns-clause-says

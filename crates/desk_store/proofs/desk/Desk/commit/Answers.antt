@@ -1,18 +1,30 @@
--- The desktop is that of its folder once more, with the databases of the change.
-use Rattle.std.proofs.Common.{ap}
-use Rattle.desk_store.specs.Views.{shelves_of}
-use Rattle.desk_store.proofs.CommitLaws.{databases_kept, desk_kept}
+-- What holds of the slots inside holds of the desktop.
+use Rattle.std.proofs.Common.{◌≡◌, ◌⊎◌, ℕ, List}
+use Rattle.std.specs.Option.{option_map, option_or}
+use Rattle.hs_folders.specs.Moments.{EachMomentSince}
+use Rattle.pdb_values.specs.NamedDatabases.{database_of}
+use Rattle.desk_journal.specs.Overlays.{StandsAs, put_all}
+use Rattle.desk_store.specs.Changes.{change_entries, changed}
+use Rattle.desk_store.specs.Shelves.{shelf_at, shelf_of}
+use Rattle.desk_store.specs.Views.{shelves_in}
+use Rattle.desk_store.specs.declared.role.Role.{Role}
+use Rattle.desk_store.proofs.CommitLaws.{databases_after, seen}
 use Rattle.desk_store.proofs.desk.Desk.commit.Goals as goal
 
-pub invariant_of-result : goal.invariant_of-result
-invariant_of-result g c =
-    let made = c.in-Ok.ensures in
-    desk_kept _ _ c.self.inside.marks c.in-Ok.marks c.self.inside.shelves c.write_change.new.shelves c.args.change c.self.invariant c.requires made.database_texts made.marks_text made.written made.marks made.shelves
-
-pub returns-in-Ok-clause-desk : goal.returns-in-Ok-clause-desk
-returns-in-Ok-clause-desk g c =
-    let made = c.in-Ok.ensures in
-    desk_kept _ _ c.self.inside.marks c.in-Ok.marks c.self.inside.shelves c.write_change.new.shelves c.args.change c.self.invariant c.requires made.database_texts made.marks_text made.written made.marks made.shelves
-
 pub returns-in-Ok-clause-databases : goal.returns-in-Ok-clause-databases
-returns-in-Ok-clause-databases g c = databases_kept (shelves_of c.args.self) c.self.inside.shelves c.write_change.new.shelves c.args.change (ap shelves_of c.self.view_is) c.requires c.in-Ok.ensures.shelves
+returns-in-Ok-clause-databases g c =
+    let picked = c.self.inside.picked in
+    let changes = c.args.change.databases.items in
+    seen (λ d. (role : Role) (name : List ℕ) → database_of name (shelf_at c.in-Ok.slots.items picked role) ≡ option_or (changed role name changes) (database_of name (shelf_of (shelves_in d) role))) _ _ c.self.view_is
+    (databases_after c.args.change picked c.self.inside.slots.items c.in-Ok.slots.items c.self.invariant.0.formed c.self.invariant.1 c.requires.change c.in-Ok.ensures.slots)
+
+pub returns-in-Ok-clause-each_moment : goal.returns-in-Ok-clause-each_moment
+returns-in-Ok-clause-each_moment g c = seen (λ d. EachMomentSince (StandsAs (option_map (put_all (change_entries c.args.change d.picked d.slots)) (g.F.Folder.contents d.folder))) (g.F.Folder.moments d.folder) (g.F.Folder.moments c.write_change.new.folder)) _ _ c.self.view_is c.in-Ok.ensures.each_moment
+
+pub returns-in-Err-clause-refused : goal.returns-in-Err-clause-refused
+returns-in-Err-clause-refused g c =
+    let now = g.F.Folder.contents c.write_change.new.folder in
+    seen (λ d. StandsAs (g.F.Folder.contents d.folder) now ⊎ StandsAs (option_map (put_all (change_entries c.args.change d.picked d.slots)) (g.F.Folder.contents d.folder)) now) _ _ c.self.view_is c.in-Err.ensures.refused
+
+pub returns-in-Err-clause-each_moment : goal.returns-in-Err-clause-each_moment
+returns-in-Err-clause-each_moment g c = seen (λ d. EachMomentSince (StandsAs (option_map (put_all (change_entries c.args.change d.picked d.slots)) (g.F.Folder.contents d.folder))) (g.F.Folder.moments d.folder) (g.F.Folder.moments c.write_change.new.folder)) _ _ c.self.view_is c.in-Err.ensures.each_moment

@@ -4,7 +4,7 @@ use Rattle.std.specs.Prelude.{codes, string_bytes}
 use Rattle.folder_files.specs.FileNames.{has_ending}
 use Rattle.desk_store.specs.Finds.{rows_count}
 use Rattle.desk_store.proofs.LoopLaws.{all_taken, rows_more}
-use Rattle.desk_store.proofs.desk.count_rows.Goals as goal
+use Rattle.desk_store.proofs.opening.count_rows.Goals as goal
 
 pub loop-name-preserved : goal.loop-name-preserved
 loop-name-preserved c =

@@ -1,0 +1,140 @@
+// Opening a folder as a desktop.
+ghost use Rattle.std.specs.Prelude.{◌≡◌, ◌+◌, ◌<◌, ◌≤◌, ◌^◌, [], IfErr, IfOk, IfSome, IsErrOf, Some, codes, if◌then◌else◌, map, string_bytes};
+ghost use Rattle.std.specs.FinMap as finmap;
+ghost use Rattle.std.specs.Option.{option_map};
+ghost use Rattle.hs_folders.specs.Causes.{HasCause};
+ghost use Rattle.hs_folders.specs.Moments.{EachMomentSince, OnlyRead};
+ghost use Rattle.folder_files.specs.FileNames.{has_ending};
+ghost use Rattle.folder_files.specs.InfoFiles.{desktop_in};
+ghost use Rattle.folder_files.specs.Slots.{AreSlots};
+ghost use Rattle.desk_journal.specs.Overlays.{HasNoJournal, StandsAs, finished};
+ghost use Rattle.desk_store.specs.Desks.{IsDesk, IsJudged, IsReadable, Shows};
+ghost use Rattle.desk_store.specs.Finds.{FindsAll, rows_count};
+ghost use Rattle.desk_store.specs.Shelves.{AreInOrder, first_slots as untouched, marks_of, slots_in, slots_or_first};
+
+use crate::fault::DeskOpenFault;
+use crate::reading::read_files;
+use crate::slot::{DeskSlot, empty_slots, unclaimed_marks};
+use desk_journal::finish_journal;
+use folder_files::{DESKTOP_INFO, InfoFault, read_desktop_info};
+use hs_folders::{Folder, FolderFault};
+use pdb_values::Marks;
+use std::alloc::{AllocError, Global};
+
+// The most files of rows that a folder may have.
+const MOST: usize = 200;
+
+// Finishes the journal, and reads the files that then stand: the information file first, which says how many slots there are.
+pub(crate) fn open_files<F: Folder>(
+    alloc: Global,
+    folder: &mut F,
+) -> Result<Vec<DeskSlot>, DeskOpenFault>
+    ensures finished { IfOk result (λ slots. F.contents folder.new ≡ option_map finished
+        (F.contents folder.old)) }
+    ensures desk { IfOk result (λ slots. IsDesk (F.contents folder.new) slots.items) }
+    ensures readable { IfOk result (λ slots. IfSome (F.contents folder.new) IsReadable) }
+    ensures shown { IfErr result (λ fault. IfSome (F.contents folder.old)
+        (λ held. Shows (finished held) fault)) }
+    ensures judged { IfErr result (λ fault. IsJudged fault → F.contents folder.new
+        ≡ option_map finished (F.contents folder.old)) }
+    ensures cause { HasCause (F.faults folder.old) (F.faults folder.new)
+        (IsErrOf result DeskOpenFault.DeskFault) }
+    ensures stands { StandsAs (F.contents folder.old) (F.contents folder.new) }
+    ensures each_moment { EachMomentSince (StandsAs (F.contents folder.old)) (F.moments folder.old)
+        (F.moments folder.new) }
+    ensures paths { F.paths folder.new ≡ F.paths folder.old }
+{
+    finish_journal(alloc, folder)?;
+    let names = folder.list(alloc)?;
+    if count_rows(&names) > MOST {
+        return Err(DeskOpenFault::TooMany);
+    }
+    let slots = read_slots(alloc, folder)?;
+    let found = read_files(alloc, folder, &names, slots)?;
+    Ok(found)
+}
+
+// The slots of the folder, without databases.
+fn read_slots<F: Folder>(alloc: Global, folder: &mut F) -> Result<Vec<DeskSlot>, DeskOpenFault>
+    ensures found { IfOk result (λ slots. IfSome (F.contents folder.old)
+        (λ held. FindsAll held [] slots.items)) }
+    ensures formed { IfOk result (λ slots. AreSlots (marks_of slots.items)) }
+    ensures ordered { IfOk result (λ slots. AreInOrder slots.items) }
+    ensures unjudged { IfErr result (λ fault. ¬ IsJudged fault) }
+    ensures cause { HasCause (F.faults folder.old) (F.faults folder.new)
+        (IsErrOf result DeskOpenFault.DeskFault) }
+    ensures read { OnlyRead F.contents F.moments F.paths F.faults folder.old folder.new }
+{
+    let marks = read_marks(alloc, folder)?;
+    let slots = empty_slots(alloc, marks)?;
+    Ok(slots)
+}
+
+// What the information file says of the slots; those of a desktop that no session touched where it is missing or bad.
+fn read_marks<F: Folder>(alloc: Global, folder: &mut F) -> Result<Vec<Marks>, DeskOpenFault>
+    ensures slots { IfOk result (λ slots. IfSome (F.contents folder.old)
+        (λ held. slots.items ≡ slots_in held)) }
+    ensures formed { IfOk result (λ slots. AreSlots slots.items) }
+    ensures unjudged { IfErr result (λ fault. ¬ IsJudged fault) }
+    ensures cause { HasCause (F.faults folder.old) (F.faults folder.new)
+        (IsErrOf result DeskOpenFault.DeskFault) }
+    ensures read { OnlyRead F.contents F.moments F.paths F.faults folder.old folder.new }
+{
+    match folder.read(alloc, DESKTOP_INFO) {
+        Ok(bytes) => {
+            let slots = info_slots(alloc, &bytes)?;
+            Ok(slots)
+        }
+        Err(FolderFault::Missing) => {
+            let slots = first_slots(alloc)?;
+            Ok(slots)
+        }
+        Err(fault) => Err(DeskOpenFault::from(fault)),
+    }
+}
+
+// The slots of an information file in its form, else those of a desktop that no session touched.
+fn info_slots(alloc: Global, bytes: &[u8]) -> Result<Vec<Marks>, AllocError>
+    ensures slots { IfOk result (λ slots. slots.items
+        ≡ slots_or_first (Some (desktop_in bytes.now))) }
+    ensures formed { IfOk result (λ slots. AreSlots slots.items) }
+{
+    match read_desktop_info(alloc, bytes) {
+        Ok(slots) => Ok(slots),
+        Err(InfoFault::Bad(_)) => first_slots(alloc),
+        Err(InfoFault::NoMemory) => Err(AllocError),
+    }
+}
+
+// The slots of a desktop that no session touched.
+fn first_slots(alloc: Global) -> Result<Vec<Marks>, AllocError>
+    ensures slots { IfOk result (λ slots. slots.items ≡ untouched) }
+    ensures formed { IfOk result (λ slots. AreSlots slots.items) }
+{
+    let slots = vec![in alloc; unclaimed_marks(1)]?;
+    Ok(slots)
+}
+
+// How many files hold rows.
+fn count_rows(names: &[String]) -> usize
+    ensures { result ≡ rows_count (map string_bytes names.now) }
+{
+    let mut count = 0;
+    for name in names {
+        count = count_more(count, name.as_str());
+    }
+    count
+}
+
+// One more where a file of this name holds rows.
+fn count_more(count: usize, name: &str) -> usize
+    requires { count < 2 ^ 63 }
+    ensures count { result ≡ count + (if has_ending (codes ".pdb") name.now then 1 else 0) }
+    ensures bound { result ≤ count + 1 }
+{
+    if name.as_bytes().ends_with(b".pdb") {
+        count + 1
+    } else {
+        count
+    }
+}

@@ -1,0 +1,14 @@
+use Rattle.std.proofs.Common.{◌≡◌, ◌++◌, length, take}
+use Rattle.std.specs.Prelude.{codes, string_bytes}
+use Rattle.std.specs.Fmt.{decimal}
+use Rattle.std.specs.List.{AllByRecursion}
+use Rattle.folder_files.specs.InfoFiles.{IsSlotSaid, slot_forms, slot_values}
+use Rattle.folder_files.specs.Lines.{lines_text, Positive, text_of}
+use Rattle.folder_files.specs.Slots.{pc_of}
+use Rattle.folder_files.proofs.desktop.write.Given as goal
+
+abbrev pub invariant-loop-number : goal.invariant-loop-number
+invariant-loop-number l = record {
+  text : string_bytes l.text ≡ string_bytes l.initial.text ++ lines_text (slot_forms 0 (take l.number l.slots)) (slot_values 0 (take l.number l.slots));
+  said : AllByRecursion IsSlotSaid (take l.number l.slots);
+}
