@@ -13,3 +13,4 @@ pub mod SaysLaws
 pub mod StopLaws
 pub mod TellLaws
 pub mod UserLaws
+pub mod WholeListLaws

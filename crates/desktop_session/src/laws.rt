@@ -1,12 +1,14 @@
 // What holds of what a session says.
-ghost use Rattle.std.specs.Prelude.{◌≡◌, ◌++◌, ℕ, List, Ok};
+ghost use Rattle.std.specs.Prelude.{◌≡◌, ◌++◌, ◌+◌, ◌-◌, ◌<◌, ◌≤◌, ◌⊎◌, ℕ, List, Ok, false, length, map, max, true};
 ghost use Rattle.dlp_replies.specs.ReplyReading.{reply_at};
 ghost use Rattle.dlp_replies.specs.ReplyValues as reply;
 ghost use Rattle.palm_device.specs.Devices.{Device};
 ghost use Rattle.palm_device.specs.Handles.{no_handles};
 ghost use Rattle.dlp_commands.specs.DeviceRuns.{Ran};
+ghost use Rattle.dlp_commands.specs.DatabaseFunctions.{listed};
 ghost use Rattle.dlp_commands.specs.Talks.{Talk};
 ghost use Rattle.desktop_session.specs.Acts.{Act, acted};
+ghost use Rattle.desktop_session.specs.Lists.{has_more, heads_listed, list_reply};
 ghost use Rattle.desktop_session.specs.Requests.{opening_in};
 ghost use Rattle.desktop_session.specs.Says.{said};
 ghost use Rattle.desktop_session.specs.Tellings.{AreSayable, IsProper, IsSayable, device_after, exchanges, number_of, told};
@@ -36,4 +38,15 @@ pub fn first_handle_is_one()
     ensures { (device : Device) (mode : ℕ) (name : List ℕ) (handle : ℕ) → device.handles
         ≡ no_handles
         → told (opening_in mode name) device ≡ reply.OpenDb handle → handle ≡ 1 }
+{}
+
+/// Over a device whose values keep their bounds a list of its databases takes as many requests as there are, and one where there
+/// is none; and it is the list of their heads, without their seeds.
+pub fn lists_are_whole()
+    ensures heads { (device : Device) (count : ℕ) → IsProper device → length device.databases ≤ count
+        → count ≤ 65536 → heads_listed device count ≡ map (λ database. listed database.head) device.databases }
+    ensures count { (device : Device) (count : ℕ) → IsProper device → 0 < count → count ≤ 65536
+        → ((k : ℕ) → k + 1 < count → has_more (list_reply device k) ≡ true)
+        → (count ≡ 65536) ⊎ (has_more (list_reply device (count - 1)) ≡ false)
+        → count ≡ max 1 (length device.databases) }
 {}
