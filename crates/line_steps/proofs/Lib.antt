@@ -11,4 +11,5 @@ pub mod SendingLaws
 pub mod StartingLaws
 pub mod TakingLaws
 pub mod TurnLaws
+pub mod WorkLaws
 pub mod XorLaws

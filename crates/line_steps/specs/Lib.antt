@@ -5,3 +5,4 @@ pub mod Running
 pub mod Taking
 pub mod Ticking
 pub mod Turning
+pub mod Working
