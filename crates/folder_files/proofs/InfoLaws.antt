@@ -1,14 +1,14 @@
 -- Information files: what is read is one, each one is read, and what is written is one.
-use Rattle.std.proofs.Common.{◌≡◌, ◌⊎◌, ℕ, suc, ◌<◌, ◌≤◌, Bool, true, false, cond, List, [], ◌∷◌, ◌++◌, length, Result, Ok, Err, refl, sym, ap, subst, ◌∙◌, arith, inl, inr}
+use Rattle.std.proofs.Common.{◌≡◌, ℕ, suc, ◌<◌, ◌≤◌, Bool, true, false, cond, List, [], ◌∷◌, ◌++◌, length, Result, Ok, Err, refl, sym, ap, subst, ◌∙◌, arith, inl, inr}
 use Rattle.std.specs.Prelude.{IfOk, String, codes, string_bytes}
 use Rattle.std.specs.declared.alloc.Global.{Global}
 use Rattle.std.specs.Global.{Vec}
 use Rattle.std.specs.List.{AllByRecursion}
 use Rattle.pdb_values.specs.declared.user.Marks.{Marks}
 use Rattle.pdb_values.specs.declared.user.UserInfo.{UserInfo}
-use Rattle.folder_files.specs.InfoFiles.{AreSaid, IsDesktopFile, IsDeviceFile, IsOneUserFile, IsSlotSaid, count_form, desktop_forms, desktop_in, desktop_text, desktop_values, device_forms, device_in, device_of, device_values, is_one_user, made, many_slots_at}
+use Rattle.folder_files.specs.InfoFiles.{AreSaid, IsDesktopFile, IsDeviceFile, IsSlotSaid, count_form, desktop_forms, desktop_in, desktop_text, desktop_values, device_forms, device_in, device_of, device_values, is_one_user, made, many_slots_at}
 use Rattle.folder_files.specs.InfoFiles.{one_slot_at, one_slot_of, one_user_forms, one_user_values, pc_form, slot_forms, slot_values, title_form}
-use Rattle.folder_files.specs.Lines.{AreLines, Count, Positive, Says, Values, text_of}
+use Rattle.folder_files.specs.Lines.{AreLines, Count, Positive, Says, Values}
 use Rattle.folder_files.specs.Reading.{◌>>=◌, line_at, lines_at}
 use Rattle.folder_files.specs.Slots.{AreSlots, AreUsers, pc_of, users_of}
 use Rattle.folder_files.specs.Views.{Reads}

@@ -1,18 +1,13 @@
 -- Lines: what is read is lines of their forms, such lines are read, and what is written is such lines.
-use Rattle.std.proofs.Common.{◌≡◌, ◌⊎◌, ℕ, suc, ◌+◌, ◌^◌, ◌<◌, ◌≤◌, Bool, true, false, cond, eqb, ltb, List, [], ◌∷◌, ◌++◌, length, take, drop, Option, Some, None, Result, Ok, Err, refl, sym, ap, subst, ◌∙◌, arith, inl, inr}
-use Rattle.std.specs.Prelude.{option_and_then, position, slice_index, ◌||◌}
-use Rattle.std.specs.List.{list_any, starts_with}
-use Rattle.std.proofs.lemmas.Bool.{eqb-true, eq-eqb, ne_eqb, ltb-true, ltb-false, lt-ltb, le-ltb, eqb-false}
-use Rattle.std.proofs.lemmas.List.{append_assoc, nil_from_length, take_at, drop_at, take-append-drop, length-append}
-use Rattle.hex.specs.Hex.{IsBytes, encode_lower}
-use Rattle.pdb_values.specs.PalmDates.{read_wire}
-use Rattle.pdb_values.specs.Users.{password_of, user_name_of}
-use Rattle.folder_files.specs.Hexadecimal.{IsWireDate, bytes_in, bytes_text, date_in, few_bytes_in}
-use Rattle.folder_files.specs.Lines.{Kind, Title, Number, Positive, Date, Name, Password, Form, Value, Says, Values, AreLines, text_of, lines_text}
-use Rattle.folder_files.specs.Reading.{◌>>=◌, behind, if_positive, line_at, lines_at, number_in, or_unread, split_at_key, value_in}
+use Rattle.std.proofs.Common.{◌≡◌, ℕ, suc, ◌+◌, ◌<◌, Bool, true, false, cond, eqb, ltb, List, [], ◌∷◌, ◌++◌, length, take, drop, Option, Some, None, Result, Ok, Err, refl, sym, ap, subst, ◌∙◌, arith, inl, inr}
+use Rattle.std.specs.Prelude.{position}
+use Rattle.std.proofs.lemmas.Bool.{eqb-true, ltb-true, lt-ltb}
+use Rattle.std.proofs.lemmas.List.{append_assoc, nil_from_length, take_at, length-append}
+use Rattle.folder_files.specs.Lines.{Form, Value, Says, Values, AreLines, text_of, lines_text}
+use Rattle.folder_files.specs.Reading.{◌>>=◌, behind, line_at, lines_at, or_unread, split_at_key, value_in}
 use Rattle.folder_files.specs.declared.unread.Unread.{Unread}
 use Rattle.folder_files.proofs.ValueLaws.{behind_found, behind_only, feed_is, no_feed_append, on_one_line, value_found, value_only}
-use Rattle.folder_files.proofs.HexLaws.{HasNoFeed, bind_some, bytes_is, bytes_same, bytes_in-found, bytes_in-only, bytes_text-no_feed, encode_lower-no_feed, feed_past, feed_place, few_bytes_in-found, few_bytes_in-only, guard_some, map_some, some_is, test_some}
+use Rattle.folder_files.proofs.HexLaws.{HasNoFeed, bind_some, feed_past, feed_place, map_some, some_is, test_some}
 
 -- ---- the line at the front
 

@@ -1,6 +1,6 @@
 -- The lines of slots: what is read is such lines, and such lines are read.
-use Rattle.std.proofs.Common.{◌≡◌, ◌⊎◌, ℕ, zero, suc, ◌+◌, ◌<◌, ◌≤◌, Bool, true, false, cond, eqb, List, [], ◌∷◌, ◌++◌, length, map, get_or, take, Result, Ok, Err, refl, sym, ap, subst, ◌∙◌, arith, inl, inr}
-use Rattle.std.specs.Prelude.{◌||◌, ◌&&◌, ◌≢◌, not}
+use Rattle.std.proofs.Common.{◌≡◌, ℕ, zero, suc, ◌+◌, ◌<◌, ◌≤◌, Bool, true, false, cond, eqb, List, [], ◌∷◌, ◌++◌, length, get_or, take, Result, Ok, Err, refl, sym, ap, subst, ◌∙◌, arith, inl, inr}
+use Rattle.std.specs.Prelude.{◌||◌, ◌≢◌, not}
 use Rattle.std.specs.List.{AllByRecursion}
 use Rattle.std.proofs.lemmas.Bool.{and_parts, or_parts, cases_lt, eqb-false, eqb-true, ne_eqb}
 use Rattle.std.proofs.lemmas.List.{append-nil, append_assoc, get_or-append-add, get_or_append_left, length-append, length-map, length-take, map-append, nil_from_length, take_all, take_more}
@@ -8,7 +8,7 @@ use Rattle.pdb_values.specs.declared.user.Marks.{Marks}
 use Rattle.folder_files.specs.InfoFiles.{AreSaid, IsSlotSaid, if_follows, marks_of, said_of, slot_form, slot_forms, slot_line, slot_values, slots_at}
 use Rattle.folder_files.specs.Lines.{AreLines, Number, SaysNumber, Slot, Value, lines_text, text_of}
 use Rattle.folder_files.specs.Reading.{◌>>=◌, line_at, lines_at}
-use Rattle.folder_files.specs.Slots.{AreUsers, is_user, may_follow, pc_of, users_of}
+use Rattle.folder_files.specs.Slots.{AreUsers, is_user, may_follow, users_of}
 use Rattle.folder_files.specs.declared.unread.Unread.{Unread}
 use Rattle.folder_files.proofs.LineLaws.{ArePlain, bind_ok, line_found, line_only, ok_is}
 use Rattle.folder_files.proofs.ValueLaws.{slot_key-no_feed}

@@ -1,5 +1,5 @@
 -- Each line by itself, and then the next one.
-use Rattle.std.proofs.Common.{rules, refl, sym, ap, ◌∙◌}
+use Rattle.std.proofs.Common.{rules, sym, ◌∙◌}
 use Rattle.folder_files.specs.InfoFiles.{one_slot_at}
 use Rattle.folder_files.proofs.desktop.read_one_slot.Goals as goal
 

@@ -1,5 +1,5 @@
 -- The line of one slot more.
-use Rattle.std.proofs.Common.{◌≡◌, ◌∙◌, ◌-◌, ◌+◌, ◌<◌, ◌++◌, ◌∷◌, [], ℕ, suc, List, true, false, rules, arith, sym, ap, length}
+use Rattle.std.proofs.Common.{◌≡◌, ◌∙◌, ◌-◌, ◌+◌, ◌<◌, ℕ, suc, List, true, false, rules, arith, sym, ap, length}
 use Rattle.std.proofs.lemmas.List.{length-append}
 use Rattle.pdb_values.specs.declared.user.Marks.{Marks}
 use Rattle.folder_files.specs.InfoFiles.{slot_form, slots_at}

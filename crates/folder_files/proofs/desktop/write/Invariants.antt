@@ -1,10 +1,8 @@
-use Rattle.std.proofs.Common.{◌≡◌, ◌++◌, length, take}
-use Rattle.std.specs.Prelude.{codes, string_bytes}
-use Rattle.std.specs.Fmt.{decimal}
+use Rattle.std.proofs.Common.{◌≡◌, ◌++◌, take}
+use Rattle.std.specs.Prelude.{string_bytes}
 use Rattle.std.specs.List.{AllByRecursion}
 use Rattle.folder_files.specs.InfoFiles.{IsSlotSaid, slot_forms, slot_values}
-use Rattle.folder_files.specs.Lines.{lines_text, Positive, text_of}
-use Rattle.folder_files.specs.Slots.{pc_of}
+use Rattle.folder_files.specs.Lines.{lines_text}
 use Rattle.folder_files.proofs.desktop.write.Given as goal
 
 abbrev pub invariant-loop-number : goal.invariant-loop-number
