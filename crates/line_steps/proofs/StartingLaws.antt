@@ -102,7 +102,7 @@ waits_now half is_half waits = subst (λ (n : ℕ). half.sender.acknowledged < p
 waits_then : (half : Half) → IsHalf half → Waiting (side_of half) → Waits half.sender
 waits_then half is_half waits = subst (λ (n : ℕ). half.sender.acknowledged < piece_count n) (sym is_half.length_is) waits
 
-abbrev again : Half → Half
+abbrev pub again : Half → Half
 again half = record half { sender = record half.sender { tries = half.sender.tries + 1 } }
 
 one_again : (wire new : Wire) (x y : Half) (given : FateValue) → Holds wire x y → Blocked x.end (past_now wire.frames.items) x.taken wire.released → Blocked y.end (past_now wire.frames.items) y.taken wire.released → Waits x.sender → (Waits y.sender → ⊥)

@@ -1,5 +1,5 @@
 -- Each step leaves less to do.
-use Rattle.std.proofs.Common.{◌≡◌, ℕ, suc, ◌+◌, ◌<◌, ◌≤◌, Bool, true, false, ◌&&◌, List, [], ◌∷◌, length, Some, None, refl, sym, ap, subst, ◌∙◌, arith}
+use Rattle.std.proofs.Common.{◌≡◌, ◌⊎◌, inl, inr, ℕ, suc, ◌+◌, ◌<◌, ◌≤◌, Bool, true, false, ◌&&◌, List, [], ◌∷◌, length, Some, None, refl, sym, ap, subst, ◌∙◌, arith}
 use Rattle.std.specs.Prelude.{slice_get}
 use Rattle.padp_link.specs.declared.piece.Key.{Key}
 use Rattle.padp_link.specs.declared.receiver.Taken.{Taken}
@@ -13,17 +13,20 @@ use Rattle.trace_text.specs.Past.{Sent, is_end, is_data_of}
 use Rattle.line_laws.specs.Core.{Apart, Waiting, key_now, part_now, data_frame, ack_frame}
 use Rattle.line_laws.specs.Measure.{measure}
 use Rattle.line_laws.proofs.TakeLaws.{acknowledged}
-use Rattle.line_laws.proofs.MeasureLaws.{rest-idle, measure_passes, measure_copy, measure_newest, measure_last_ack, measure_next_piece, measure_again}
+use Rattle.line_laws.proofs.MeasureLaws.{rest-idle, measure_passes, measure_copy, measure_newest, measure_last_ack, measure_next_piece, measure_again, measure_turned}
 use Rattle.line_steps.specs.declared.half.Half.{Half}
 use Rattle.line_steps.specs.declared.half.Wire.{Wire}
-use Rattle.line_steps.specs.Running.{sent_of, past_now, side_of, Holds, Read}
+use Rattle.line_steps.specs.Running.{sent_of, past_now, side_of, IsHalf, AllGo, Holds, Read}
 use Rattle.line_steps.specs.Sending.{Sends, ack_fragment}
 use Rattle.line_steps.specs.Taking.{AckNext, DataHeard}
+use Rattle.line_steps.specs.Ticking.{SendsAgain}
 use Rattle.line_steps.specs.Working.{work_left}
 use Rattle.line_steps.proofs.DataLaws.{NewSender}
 use Rattle.line_steps.proofs.FrameLaws.{length-past}
 use Rattle.line_steps.proofs.HoldsLaws.{moved}
 use Rattle.line_steps.proofs.SendingLaws.{Extends, sends_in, extends}
+use Rattle.line_steps.proofs.StartingLaws.{again}
+use Rattle.line_steps.proofs.TurnLaws.{holds_turned}
 use Rattle.line_steps.proofs.TakingLaws.{Head, head, waits_with, advanced}
 
 other_data : (X Y : End) → Apart X Y → (key : Key) (bytes : List ℕ) (course : _) → is_data_of X (data_frame Y key bytes course) ≡ false
@@ -95,17 +98,44 @@ took_data-less wire new x y key taken given sender heard after sends released = 
 
 -- ---- a piece is sent again
 
-pub again_less : (wire new : Wire) (x y : Half) (given : FateValue) → Holds wire x y → Waits x.sender → x.sender.tries < 10 → Sends wire.frames.items x.end x.sender.id (part_now (side_of x)) given None new.frames.items
-    → work_left new (record x { sender = record x.sender { tries = x.sender.tries + 1 } }) y < work_left wire x y
-again_less wire new x y given holds waits few sends =
+again_less : (wire new : Wire) (x y : Half) (given : FateValue) → AllGo 1 wire.frames.items → is_end y.end x.end ≡ false → IsHalf x → x.taken ≤ length (past_now wire.frames.items) → y.taken ≤ length (past_now wire.frames.items) → Waits x.sender → SendsAgain wire x given new (again x) → work_left new (again x) y < work_left wire x y
+again_less wire new x y given go apart half x_in y_in waits sent =
     let past = past_now wire.frames.items in
     let side = side_of x in
-    let longer = extends wire (record new { released = wire.released }) x.end x.sender.id (part_now side) given holds.go sends tt refl in
-    let now : Waiting side = subst (λ (n : ℕ). x.sender.acknowledged < piece_count n) holds.x_half.length_is waits in
-    let less = measure_again x.end y.end past x.taken y.taken side (side_of y) x.sender.tries y.sender.tries (key_now side) ((part_now side).bytes) (course_of given) (ap (λ (b : Bool). b && true) holds.apart.back) holds.line.core.there.cur_in holds.line.core.back.cur_in now few in
+    let longer = extends wire new x.end x.sender.id (part_now side) given go sent.sends tt sent.released in
+    let now : Waiting side = subst (λ (n : ℕ). x.sender.acknowledged < piece_count n) half.length_is waits in
+    let less = measure_again x.end y.end past x.taken y.taken side (side_of y) x.sender.tries y.sender.tries (key_now side) ((part_now side).bytes) (course_of given) (ap (λ (b : Bool). b && true) apart) x_in y_in now sent.few in
     let more : suc x.sender.tries ≡ x.sender.tries + 1 = omega arith in
     subst (λ (t : ℕ). measure x.end y.end (past_now new.frames.items) x.taken y.taken side (side_of y) t y.sender.tries < work_left wire x y) more
     (subst (λ (p : List Sent). measure x.end y.end p x.taken y.taken side (side_of y) (suc x.sender.tries) y.sender.tries < work_left wire x y) (sym longer.past) less)
+
+pub tick_one-less : (wire new : Wire) (r : ℕ) (x y later : Half) (given : FateValue) → Holds wire x y → Waits x.sender → SendsAgain (record wire { released = r }) x given new later → work_left new later y < work_left wire x y
+tick_one-less wire new r x y later given holds waits sent =
+    let now = subst (λ (h : Half). SendsAgain (record wire { released = r }) x given new h) sent.counted sent in
+    subst (λ (h : Half). work_left new h y < work_left wire x y) (sym sent.counted)
+    (again_less (record wire { released = r }) new x y given holds.go holds.apart.back holds.x_half holds.line.core.there.cur_in holds.line.core.back.cur_in waits now)
+
+work_turned : (wire : Wire) (x y : Half) → work_left wire x y ≡ work_left wire y x
+work_turned wire x y = measure_turned x.end y.end (past_now wire.frames.items) x.taken y.taken (side_of x) (side_of y) x.sender.tries y.sender.tries
+
+pub tick_other-less : (wire new : Wire) (r : ℕ) (x y later : Half) (given : FateValue) → Holds wire x y → Waits y.sender → SendsAgain (record wire { released = r }) y given new later → work_left new x later < work_left wire x y
+tick_other-less wire new r x y later given holds waits sent =
+    omega (arith, tick_one-less wire new r y x later given (holds_turned wire x y holds) waits sent, work_turned wire x y, work_turned new x later)
+
+pub other_waits : {A B : Type 0} → (A → ⊥) → A ⊎ B → B
+other_waits idle (inl waits) = absurd (idle waits)
+other_waits idle (inr waits) = waits
+
+pub tick_two-less : (wire first new : Wire) (r : ℕ) (x y x_later y_later : Half) (given other : FateValue) → Holds wire x y → Waits x.sender → Waits y.sender → SendsAgain (record wire { released = r }) x given first x_later → SendsAgain first y other new y_later
+    → work_left new x_later y_later < work_left wire x y
+tick_two-less wire first new r x y x_later y_later given other holds x_waits y_waits x_sent y_sent =
+    let longer = extends (record wire { released = r }) first x.end x.sender.id (part_now (side_of x)) given holds.go x_sent.sends tt x_sent.released in
+    let size : length (past_now first.frames.items) ≡ suc (length (past_now wire.frames.items)) = ap (λ (p : List Sent). length p) longer.past in
+    let one = tick_one-less wire first r x y x_later given holds x_waits x_sent in
+    let now = subst (λ (h : Half). SendsAgain first y other new h) y_sent.counted y_sent in
+    let two = again_less first new y (again x) other longer.go holds.apart.there holds.y_half (omega (arith, holds.line.core.back.cur_in, size)) (omega (arith, holds.line.core.there.cur_in, size)) y_waits now in
+    let two_later = subst (λ (h : Half). work_left new h x_later < work_left first y x_later) (sym y_sent.counted) (subst (λ (h : Half). work_left new (again y) h < work_left first y h) (sym x_sent.counted) two) in
+    omega (arith, one, two_later, work_turned new x_later y_later, work_turned first x_later y)
 
 pub skips_less : (wire : Wire) (x0 y0 x y new : Half) → Holds wire x y → work_left wire x y ≤ work_left wire x0 y0 → x.taken < length wire.frames.items → Read y new → work_left wire (moved x) new ≤ work_left wire x0 y0
 skips_less wire x0 y0 x y new holds before inside read = omega (arith, before, skip_less wire x y new holds inside read)

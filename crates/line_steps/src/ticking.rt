@@ -1,10 +1,11 @@
 //! What happens where nothing can be delivered.
-ghost use Rattle.std.specs.Prelude.{◌≡◌, ◌⊎◌, OnOk, IsTrue, false, length};
+ghost use Rattle.std.specs.Prelude.{◌≡◌, ◌⊎◌, ◌<◌, OnOk, IsTrue, false, length};
 ghost use Rattle.padp_link.specs.Senders.{Waits};
 ghost use Rattle.line_laws.specs.Progress.{Blocked};
 ghost use Rattle.line_steps.specs.Running.{AllGo, AtHead, Holds, IsHalf, past_now};
 ghost use Rattle.line_steps.specs.Taking.{Delivers};
 ghost use Rattle.line_steps.specs.Ticking.{SendsAgain};
+ghost use Rattle.line_steps.specs.Working.{work_left};
 ghost use Rattle.trace_text.specs.Fates.{fate_value};
 
 use crate::half::{Half, Wire};
@@ -44,7 +45,8 @@ pub fn tick(
     requires y_blocked {
         Blocked y.old.end (past_now wire.old.frames.items) y.old.taken wire.old.released }
     requires waits { Waits x.old.sender ⊎ Waits y.old.sender }
-    ensures { OnOk result (Holds wire.new x.new y.new) }
+    ensures holds { OnOk result (Holds wire.new x.new y.new) }
+    ensures less { OnOk result (work_left wire.new x.new y.new < work_left wire.old x.old y.old) }
 {
     wire.released = wire.frames.len();
     if x.sender.current().is_none() {

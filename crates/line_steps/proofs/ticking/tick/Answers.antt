@@ -3,29 +3,44 @@ use Rattle.std.specs.Option.{is_some}
 use Rattle.std.proofs.lemmas.Result.{on_ok_weaker}
 use Rattle.trace_text.specs.Fates.{fate_value}
 use Rattle.line_steps.proofs.TakingLaws.{some_waits, waits_not}
+use Rattle.line_steps.proofs.WorkLaws.{other_waits, tick_one-less, tick_other-less, tick_two-less}
 use Rattle.line_steps.proofs.StartingLaws.{ticks_one, ticks_other, ticks_two}
 use Rattle.line_steps.proofs.ticking.tick.Goals as goal
 
--- src/ticking.rt:49:9
-pub returns-then-is_none : goal.returns-then-is_none
-returns-then-is_none c =
+pub returns-then-is_none-clause-holds : goal.returns-then-is_none-clause-holds
+returns-then-is_none-clause-holds c =
     let size : c.len-wire.result ≡ length c.args.wire.now.frames.items = omega (arith, c.len-wire.ensures) in
     let idle = waits_not c.args.x.now.sender (ap is_some (sym c.current.ensures.piece) ∙ c.if-is_none.ensures) in
     on_ok_weaker c.send_again.result (λ sent. ticks_other c.args.wire.now c.send_again.new.wire c.len-wire.result c.args.x.now c.args.y.now c.send_again.new.half (fate_value c.args.fate) size c.requires.holds c.requires.x_blocked c.requires.y_blocked idle c.requires.waits sent) c.send_again.ensures
 
--- src/ticking.rt:53:9
-pub returns-then-is_none-2 : goal.returns-then-is_none-2
-returns-then-is_none-2 c =
+pub returns-then-is_none-2-clause-holds : goal.returns-then-is_none-2-clause-holds
+returns-then-is_none-2-clause-holds c =
     let size : c.len-wire.result ≡ length c.args.wire.now.frames.items = omega (arith, c.len-wire.ensures) in
     let waits = some_waits c.args.x.now.sender (ap is_some (sym c.current.ensures.piece) ∙ c.if-is_none.ensures) in
     let idle = waits_not c.args.y.now.sender (ap is_some (sym c.current-2.ensures.piece) ∙ c.if-is_none-2.ensures) in
     ticks_one c.args.wire.now c.send_again-2.new.wire c.len-wire.result c.args.x.now c.args.y.now c.send_again-2.new.half (fate_value c.args.fate) size c.requires.holds c.requires.x_blocked c.requires.y_blocked waits idle c.in_ok-send_again.ensures
 
--- src/ticking.rt:34:1
-pub returns : goal.returns
-returns c =
+pub returns-clause-holds : goal.returns-clause-holds
+returns-clause-holds c =
     let size : c.len-wire.result ≡ length c.args.wire.now.frames.items = omega (arith, c.len-wire.ensures) in
     let x_waits = some_waits c.args.x.now.sender (ap is_some (sym c.current.ensures.piece) ∙ c.if-is_none.ensures) in
     let y_waits = some_waits c.args.y.now.sender (ap is_some (sym c.current-2.ensures.piece) ∙ c.if-is_none-2.ensures) in
     on_ok_weaker c.send_again-3.result (λ sent. ticks_two c.args.wire.now c.send_again-2.new.wire c.send_again-3.new.wire c.len-wire.result c.args.x.now c.args.y.now c.send_again-2.new.half c.send_again-3.new.half (fate_value c.args.fate) (fate_value c.args.other) size
     c.requires.holds c.requires.x_blocked c.requires.y_blocked x_waits y_waits c.in_ok-send_again.ensures sent) c.send_again-3.ensures
+
+pub returns-then-is_none-clause-less : goal.returns-then-is_none-clause-less
+returns-then-is_none-clause-less c =
+    let idle = waits_not c.args.x.now.sender (ap is_some (sym c.current.ensures.piece) ∙ c.if-is_none.ensures) in
+    on_ok_weaker c.send_again.result (λ sent. tick_other-less c.args.wire.now c.send_again.new.wire c.len-wire.result c.args.x.now c.args.y.now c.send_again.new.half (fate_value c.args.fate) c.requires.holds (other_waits idle c.requires.waits) sent) c.send_again.ensures
+
+pub returns-then-is_none-2-clause-less : goal.returns-then-is_none-2-clause-less
+returns-then-is_none-2-clause-less c =
+    let waits = some_waits c.args.x.now.sender (ap is_some (sym c.current.ensures.piece) ∙ c.if-is_none.ensures) in
+    tick_one-less c.args.wire.now c.send_again-2.new.wire c.len-wire.result c.args.x.now c.args.y.now c.send_again-2.new.half (fate_value c.args.fate) c.requires.holds waits c.in_ok-send_again.ensures
+
+pub returns-clause-less : goal.returns-clause-less
+returns-clause-less c =
+    let x_waits = some_waits c.args.x.now.sender (ap is_some (sym c.current.ensures.piece) ∙ c.if-is_none.ensures) in
+    let y_waits = some_waits c.args.y.now.sender (ap is_some (sym c.current-2.ensures.piece) ∙ c.if-is_none-2.ensures) in
+    on_ok_weaker c.send_again-3.result (λ sent. tick_two-less c.args.wire.now c.send_again-2.new.wire c.send_again-3.new.wire c.len-wire.result c.args.x.now c.args.y.now c.send_again-2.new.half c.send_again-3.new.half (fate_value c.args.fate) (fate_value c.args.other)
+    c.requires.holds x_waits y_waits c.in_ok-send_again.ensures sent) c.send_again-3.ensures
