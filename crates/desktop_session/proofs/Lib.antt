@@ -1,6 +1,7 @@
 pub mod ActLaws
 pub mod AnswerLaws
 pub mod AskLaws
+pub mod CopyLaws
 pub mod GreetLaws
 pub mod GrowLaws
 pub mod IdListLaws

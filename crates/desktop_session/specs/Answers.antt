@@ -1,5 +1,6 @@
 -- What a call of a session answers: its link's fault, or what the reply says.
-use Rattle.std.specs.Prelude.{ℕ, Bool, true, false, List, [], ◌==◌, Option, None, Some, Result, Ok, Err, if◌then◌else◌}
+use Rattle.std.specs.Prelude.{◌≡◌, ℕ, Bool, true, false, List, [], ◌==◌, Option, None, Some, Result, Ok, Err, if◌then◌else◌}
+use Rattle.std.specs.Option.{option_map}
 use Rattle.pdb_values.specs.declared.head.DbHead.{DbHead}
 use Rattle.pdb_values.specs.declared.user.UserInfo.{UserInfo}
 use Rattle.dlp_replies.specs.declared.fault.ReplyFault.{ReplyFault}
@@ -38,6 +39,12 @@ abbrev pub or_false : Result (Unit {0}) SessionFault → Result Bool SessionFaul
 or_false (Ok done) = Ok true
 or_false (Err (session.Refused code)) = if code.0 == 5 then Ok false else Err (session.Refused code)
 or_false (Err fault) = Err fault
+
+-- a copy of what was found, by its bytes; where there is none nothing is copied, and only a copy wants memory
+abbrev pub IsCopy : {X : Type 0} → (X → List ℕ) → Result (Option X) SessionFault → Result (Option (List ℕ)) SessionFault → Type 0
+IsCopy bytes (Ok copy) said = said ≡ Ok (option_map bytes copy)
+IsCopy bytes (Err fault) (Ok (Some found)) = fault ≡ session.NoMemory
+IsCopy bytes (Err fault) said = said ≡ Err fault
 
 -- nothing but that it was done
 abbrev pub no_more : ReplyValue → Unit {0}

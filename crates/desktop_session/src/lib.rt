@@ -7,6 +7,7 @@
 //! `pi-dlp.h` and `dlp.c`.
 #![tactic(auto)]
 
+mod blocks;
 mod databases;
 mod ending;
 mod fault;

@@ -7,9 +7,9 @@ ghost use mir.Syntax.{named};
 ghost use Rattle.dlp_args.specs.Views.{Gives};
 ghost use Rattle.dlp_replies.specs.ReplyReading.{reply_at};
 ghost use Rattle.desktop_session.specs.contracts.open_db.OpenDb as open_row;
-ghost use Rattle.desktop_session.specs.Answers.{answer_by, block_of, count_of, or_none, record_of, resource_of, said_in};
+ghost use Rattle.desktop_session.specs.Answers.{answer_by, count_of, or_none, record_of, resource_of, said_in};
 ghost use Rattle.desktop_session.specs.Lent.{lent_resource, lent_value};
-ghost use Rattle.desktop_session.specs.Requests.{counting, reading_app, reading_at, reading_next, reading_of, reading_resource, reading_sort};
+ghost use Rattle.desktop_session.specs.Requests.{counting, reading_at, reading_next, reading_of, reading_resource};
 ghost use Rattle.desktop_session.specs.Stops.{Asked};
 
 use crate::fault::SessionFault;

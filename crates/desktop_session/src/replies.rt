@@ -5,7 +5,7 @@ ghost use Rattle.dlp_args.specs.Views.{Gives};
 ghost use Rattle.dlp_replies.specs.ReplyReading.{reply_at};
 ghost use Rattle.dlp_replies.specs.Views.{reply_value};
 ghost use Rattle.desktop_session.specs.Answers as answers;
-ghost use Rattle.desktop_session.specs.Answers.{count_of, handle_of, id_of, ids_of, list_of, no_more};
+ghost use Rattle.desktop_session.specs.Answers.{block_of, count_of, handle_of, id_of, ids_of, list_of, no_more};
 ghost use Rattle.desktop_session.specs.Answers.{record_of, resource_of, said_in, user_of};
 ghost use Rattle.desktop_session.specs.Lent.{lent_resource, lent_value};
 ghost use Rattle.desktop_session.specs.Lists as lists;
@@ -171,6 +171,26 @@ pub(crate) fn resource_in(bytes: &[u8]) -> Result<ResourceLent<'_>, SessionFault
             bytes,
             ..
         } => Ok(ResourceLent { kind, id, bytes }),
+        _ => unreachable!(),
+    }
+}
+
+// The app block in a reply to ReadAppBlock.
+pub(crate) fn app_in(bytes: &[u8]) -> Result<&[u8], SessionFault>
+    ensures { Gives (λ block. block.now) result (said_in block_of (reply_at 0x1B bytes.now)) }
+{
+    match reply_in(0x1B, bytes)? {
+        Reply::ReadAppBlock { bytes } => Ok(bytes),
+        _ => unreachable!(),
+    }
+}
+
+// The sort block in a reply to ReadSortBlock.
+pub(crate) fn sort_in(bytes: &[u8]) -> Result<&[u8], SessionFault>
+    ensures { Gives (λ block. block.now) result (said_in block_of (reply_at 0x1D bytes.now)) }
+{
+    match reply_in(0x1D, bytes)? {
+        Reply::ReadSortBlock { bytes } => Ok(bytes),
         _ => unreachable!(),
     }
 }
