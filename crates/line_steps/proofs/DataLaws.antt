@@ -30,7 +30,7 @@ use Rattle.line_steps.specs.Sending.{Sends, ack_fragment}
 use Rattle.line_steps.specs.Taking.{DataHeard}
 use Rattle.line_steps.proofs.HoldsLaws.{moved, going}
 use Rattle.line_steps.proofs.SendingLaws.{extends, lined}
-use Rattle.line_steps.specs.Turning.{Settled, Turn, TurnAfter}
+use Rattle.line_steps.specs.Turning.{Settled, Turn}
 use Rattle.line_steps.proofs.TakingLaws.{head}
 use Rattle.line_steps.proofs.TurnLaws.{settled_turned, settled_holds}
 

@@ -1,11 +1,10 @@
 -- The message that an end made whole is the other one's.
-use Rattle.std.proofs.Common.{◌≡◌, ℕ, ◌*◌, ◌+◌, ◌<◌, ◌≤◌, min, Bool, true, false, ◌&&◌, List, ◌∷◌, length, Some, None, refl, sym, ap, subst, ◌∙◌, arith, inl, inr}
+use Rattle.std.proofs.Common.{◌≡◌, ℕ, ◌+◌, ◌≤◌, Bool, true, false, ◌&&◌, List, ◌∷◌, length, Some, None, sym, ap, subst, ◌∙◌, arith, inl, inr}
 use Rattle.std.proofs.lemmas.Bool.{eqb-true, eq-eqb}
 use Rattle.padp_link.specs.declared.piece.Key.{Key}
 use Rattle.padp_link.specs.declared.receiver.Taken.{Taken}
 use Rattle.padp_link.specs.declared.receiver.Taken.TheVariants.{Accepted, Whole, Repeated, Dropped}
 use Rattle.padp_link.specs.Collecting.{data_fragment, taken_pieces}
-use Rattle.padp_link.specs.FragmentText.{FragmentValue}
 use Rattle.padp_link.specs.Pieces.{piece_count}
 use Rattle.padp_link.specs.Receivers.{ReceiverValue, Answers, after_answer, whole_of}
 use Rattle.padp_link.specs.Senders.{SenderValue}

@@ -11,5 +11,6 @@ pub mod SendingLaws
 pub mod StartingLaws
 pub mod TakingLaws
 pub mod TurnLaws
+pub mod UnderwayLaws
 pub mod WorkLaws
 pub mod XorLaws

@@ -96,7 +96,7 @@ held_back X wire n frame go comes here late above =
 abbrev pub let_go : Wire → Wire
 let_go wire = record wire { released = length wire.frames.items }
 
-waits_now : (half : Half) → IsHalf half → Waits half.sender → Waiting (side_of half)
+pub waits_now : (half : Half) → IsHalf half → Waits half.sender → Waiting (side_of half)
 waits_now half is_half waits = subst (λ (n : ℕ). half.sender.acknowledged < piece_count n) is_half.length_is waits
 
 waits_then : (half : Half) → IsHalf half → Waiting (side_of half) → Waits half.sender

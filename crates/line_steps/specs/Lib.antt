@@ -5,4 +5,5 @@ pub mod Running
 pub mod Taking
 pub mod Ticking
 pub mod Turning
+pub mod Underway
 pub mod Working

@@ -5,6 +5,7 @@ ghost use Rattle.line_steps.specs.declared.half.Half.{Half as HalfValue};
 ghost use Rattle.line_steps.specs.declared.half.Wire.{Wire as WireValue};
 ghost use Rattle.line_steps.specs.Running.{Holds};
 ghost use Rattle.line_steps.specs.Turning.{Turn};
+ghost use Rattle.line_steps.specs.Underway.{Underway};
 
 use crate::half::{Half, Wire};
 use crate::pieces::send_piece;
@@ -25,7 +26,8 @@ pub fn start(
     requires awaited { y.now.receiver.awaited ≡ Some id }
     requires none { y.now.receiver.pieces ≡ [] }
     requires short { length message.items < 65536 }
-    ensures { OnOk result (Holds wire.new x.new y.now) }
+    ensures holds { OnOk result (Holds wire.new x.new y.now) }
+    ensures underway { OnOk result (Underway wire.new x.new y.now) }
 {
     x.sender.start(id, message.len() as u16);
     x.message = message;

@@ -10,7 +10,9 @@ ghost use Rattle.line_steps.specs.Hearing.{Hears};
 ghost use Rattle.line_steps.specs.Running.{Holds, Heeded, Stays};
 ghost use Rattle.line_steps.specs.Taking.{Delivers, AckNext, DataHeard};
 ghost use Rattle.line_steps.specs.Turning.{TurnAfter, TurnBehind};
+ghost use Rattle.line_steps.specs.Underway.{StillUnderway};
 ghost use Rattle.line_steps.specs.Working.{work_left};
+ghost use Rattle.line_steps.specs.declared.hearing.Heard.TheVariants as heard_as;
 
 use crate::half::{Half, Wire};
 use crate::hearing::{Heard, hear, hear_harm};
@@ -27,6 +29,8 @@ pub fn take_next(wire: &mut Wire, x: &mut Half, y: &mut Half, fate: Fate) -> Res
     ensures turn { IfOk result (λ heard. TurnBehind heard wire.new y.new x.new) }
     ensures moved { OnOk result (x.new ≡ record x.old { taken = x.old.taken + 1 }) }
     ensures stays { OnOk result (Stays y.old y.new) }
+    ensures underway { IfOk result
+        (λ heard. StillUnderway heard wire.old x.old y.old wire.new x.new y.new) }
     ensures less { OnOk result (work_left wire.new x.new y.new < work_left wire.old x.old y.old) }
 {
     let heard = hear_frame(&wire.frames[x.taken], y);
@@ -58,6 +62,8 @@ fn take_ack(wire: &mut Wire, x: &mut Half, y: &mut Half, key: Key, fate: Fate) -
     requires holds { Holds wire.old x.old y.old }
     requires next { AckNext x.old.end wire.old x.old.taken key }
     ensures holds { OnOk result (Holds wire.new x.new y.new) }
+    ensures underway { OnOk result
+        (StillUnderway (heard_as.Ack key) wire.old x.old y.old wire.new x.new y.new) }
     ensures less { OnOk result (work_left wire.new x.new y.new < work_left wire.old x.old y.old) }
     ensures moved { x.new ≡ record x.old { taken = x.old.taken + 1 } }
     ensures stays { Stays y.old y.new }
@@ -84,6 +90,8 @@ fn take_data(
     requires { DataHeard wire.old x.old y.old key taken }
     ensures holds { OnOk result (Holds wire.new x.new y.new) }
     ensures turn { OnOk result (TurnAfter taken wire.new y.new x.new) }
+    ensures underway { OnOk result
+        (StillUnderway (heard_as.Data key taken) wire.old x.old y.old wire.new x.new y.new) }
     ensures less { OnOk result (work_left wire.new x.new y.new < work_left wire.old x.old y.old) }
     ensures moved { x.new ≡ record x.old { taken = x.old.taken + 1 } }
     ensures stays { Stays y.old y.new }

@@ -5,7 +5,9 @@ ghost use Rattle.line_laws.specs.Progress.{Blocked};
 ghost use Rattle.line_steps.specs.Running.{AllGo, AtHead, Holds, IsHalf, past_now};
 ghost use Rattle.line_steps.specs.Taking.{Delivers};
 ghost use Rattle.line_steps.specs.Ticking.{SendsAgain};
+ghost use Rattle.line_steps.specs.Underway.{StillUnderway};
 ghost use Rattle.line_steps.specs.Working.{work_left};
+ghost use Rattle.line_steps.specs.declared.hearing.Heard.TheVariants.{Nothing};
 ghost use Rattle.trace_text.specs.Fates.{fate_value};
 
 use crate::half::{Half, Wire};
@@ -47,6 +49,8 @@ pub fn tick(
     requires waits { Waits x.old.sender ⊎ Waits y.old.sender }
     ensures holds { OnOk result (Holds wire.new x.new y.new) }
     ensures less { OnOk result (work_left wire.new x.new y.new < work_left wire.old x.old y.old) }
+    ensures underway { OnOk result
+        (StillUnderway Nothing wire.old x.old y.old wire.new x.new y.new) }
 {
     wire.released = wire.frames.len();
     if x.sender.current().is_none() {

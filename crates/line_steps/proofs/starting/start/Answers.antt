@@ -5,16 +5,28 @@ use Rattle.trace_text.specs.Fates.{fate_value}
 use Rattle.line_laws.specs.Core.{part_now}
 use Rattle.line_steps.specs.Running.{side_of, Holds}
 use Rattle.line_steps.specs.Sending.{Sends}
+use Rattle.line_steps.specs.Underway.{Underway}
 use Rattle.line_steps.proofs.StartingLaws.{starts}
+use Rattle.line_steps.proofs.UnderwayLaws.{starts-underway}
 use Rattle.line_steps.proofs.starting.start.Goals as goal
 
 -- src/starting.rt:15:1
-pub returns : goal.returns
-returns c =
+pub returns-clause-holds : goal.returns-clause-holds
+returns-clause-holds c =
     let wire = c.args.wire.now in
     let x = c.args.x.now in
     let message = c.args.message in
     let fits : c.len.result ≡ length message.items = omega (arith, c.len.ensures) in
     on_ok_weaker c.send_piece.result (λ sends. subst (λ (s : SenderValue). Holds c.send_piece.new.wire (record x { sender = s; message = message }) c.args.y.now) (sym c.start.ensures)
     (starts wire c.send_piece.new.wire x c.args.y.now c.args.id c.len.result message (fate_value c.args.fate) c.requires.turn c.requires.other c.requires.awaited c.requires.none fits
+    (subst (λ (s : SenderValue). Sends wire.frames.items x.end s.id (part_now (side_of (record x { sender = s; message = message }))) (fate_value c.args.fate) None c.send_piece.new.wire.frames.items) c.start.ensures sends) c.send_piece.ensures.released)) c.send_piece.ensures.ok
+
+pub returns-clause-underway : goal.returns-clause-underway
+returns-clause-underway c =
+    let wire = c.args.wire.now in
+    let x = c.args.x.now in
+    let message = c.args.message in
+    let fits : c.len.result ≡ length message.items = omega (arith, c.len.ensures) in
+    on_ok_weaker c.send_piece.result (λ sends. subst (λ (s : SenderValue). Underway c.send_piece.new.wire (record x { sender = s; message = message }) c.args.y.now) (sym c.start.ensures)
+    (starts-underway wire c.send_piece.new.wire x c.args.y.now c.args.id c.len.result message (fate_value c.args.fate) c.requires.turn c.requires.other c.requires.awaited c.requires.none fits
     (subst (λ (s : SenderValue). Sends wire.frames.items x.end s.id (part_now (side_of (record x { sender = s; message = message }))) (fate_value c.args.fate) None c.send_piece.new.wire.frames.items) c.start.ensures sends) c.send_piece.ensures.released)) c.send_piece.ensures.ok

@@ -9,7 +9,10 @@ use Rattle.line_laws.specs.Core.{part_now}
 use Rattle.line_steps.specs.Running.{side_of, Holds}
 use Rattle.line_steps.specs.Sending.{Sends}
 use Rattle.line_steps.proofs.HoldsLaws.{moved}
+use Rattle.line_steps.specs.Underway.{StillUnderway}
 use Rattle.line_steps.specs.Working.{work_left}
+use Rattle.line_steps.specs.declared.hearing.Heard.TheVariants as heard_as
+use Rattle.line_steps.proofs.UnderwayLaws.{ack_last-underway, ack_more-underway}
 use Rattle.line_steps.proofs.WorkLaws.{ack_other-less, ack_last-less, ack_more-less}
 use Rattle.line_steps.proofs.TakingLaws.{some_waits, none_waits, ack_other, ack_last, ack_more}
 use Rattle.line_steps.proofs.taking.take_ack.Goals as goal
@@ -60,4 +63,22 @@ returns-clause-less c =
     let more : y.sender.acknowledged + 1 < piece_count y.sender.length = subst (λ (s : SenderValue). s.acknowledged < piece_count s.length) next waits in
     on_ok_weaker c.send_piece.result (λ sends. subst (λ (s : SenderValue). work_left c.send_piece.new.wire (moved c.args.x.now) (record y { sender = s }) < work_left c.args.wire.now c.args.x.now y) (sym next)
     (ack_more-less c.args.wire.now c.send_piece.new.wire c.args.x.now y c.args.key (fate_value c.args.fate) c.requires.holds c.requires.next more
+    (subst (λ (s : SenderValue). Sends c.args.wire.now.frames.items y.end s.id (part_now (side_of (record y { sender = s }))) (fate_value c.args.fate) None c.send_piece.new.wire.frames.items) next sends) c.send_piece.ensures.released)) c.send_piece.ensures.ok
+
+pub returns-then-is_none-clause-underway : goal.returns-then-is_none-clause-underway
+returns-then-is_none-clause-underway c =
+    let next = c.on_ack.ensures.next c.if-not-on_ack.false in
+    let over = none_waits c.on_ack.new.self (ap is_some (sym c.current.ensures.piece) ∙ c.if-is_none.ensures) in
+    let last : piece_count c.args.y.now.sender.length ≤ c.args.y.now.sender.acknowledged + 1 = subst (λ (s : SenderValue). piece_count s.length ≤ s.acknowledged) next over in
+    subst (λ (s : SenderValue). StillUnderway (heard_as.Ack c.args.key) c.args.wire.now c.args.x.now c.args.y.now c.args.wire.now (moved c.args.x.now) (record c.args.y.now { sender = s })) (sym next)
+    (ack_last-underway c.args.wire.now c.args.x.now c.args.y.now c.args.key c.requires.holds c.requires.next (c.on_ack.ensures.taken.0 c.if-not-on_ack.false) last)
+
+pub returns-clause-underway : goal.returns-clause-underway
+returns-clause-underway c =
+    let y = c.args.y.now in
+    let next = c.on_ack.ensures.next c.if-not-on_ack.false in
+    let waits = some_waits c.on_ack.new.self (ap is_some (sym c.current.ensures.piece) ∙ c.if-is_none.ensures) in
+    let more : y.sender.acknowledged + 1 < piece_count y.sender.length = subst (λ (s : SenderValue). s.acknowledged < piece_count s.length) next waits in
+    on_ok_weaker c.send_piece.result (λ sends. subst (λ (s : SenderValue). StillUnderway (heard_as.Ack c.args.key) c.args.wire.now c.args.x.now y c.send_piece.new.wire (moved c.args.x.now) (record y { sender = s })) (sym next)
+    (ack_more-underway c.args.wire.now c.send_piece.new.wire c.args.x.now y c.args.key (fate_value c.args.fate) c.requires.holds c.requires.next (c.on_ack.ensures.taken.0 c.if-not-on_ack.false) more
     (subst (λ (s : SenderValue). Sends c.args.wire.now.frames.items y.end s.id (part_now (side_of (record y { sender = s }))) (fate_value c.args.fate) None c.send_piece.new.wire.frames.items) next sends) c.send_piece.ensures.released)) c.send_piece.ensures.ok

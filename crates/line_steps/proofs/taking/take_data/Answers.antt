@@ -5,6 +5,7 @@ use Rattle.line_steps.specs.declared.half.Half.{Half}
 use Rattle.line_steps.specs.Sending.{Sends, ack_fragment}
 use Rattle.line_steps.proofs.DataLaws.{never_dropped, answers_wait, ack_fits, took_data, is_new_data, same_sender, idle_sender}
 use Rattle.line_steps.proofs.WorkLaws.{took_data-less}
+use Rattle.line_steps.proofs.UnderwayLaws.{took_data-underway}
 use Rattle.line_steps.proofs.DeliveredLaws.{turned_after}
 use Rattle.line_steps.proofs.taking.take_data.Goals.{in-Repeated, in-Accepted}
 use Rattle.line_steps.proofs.taking.take_data.Goals as goal
@@ -68,3 +69,19 @@ returns-clause-less c =
 
 pub returns-in-Dropped-clause-less : goal.returns-in-Dropped-clause-less
 returns-in-Dropped-clause-less c = absurd (never_dropped c.args.wire.now c.args.x.now c.args.y.now c.args.key c.args.taken c.requires c.in-Dropped.is)
+
+pub returns-clause-underway : goal.returns-clause-underway
+returns-clause-underway c =
+    let wire = c.args.wire.now in
+    let new = c.send_ack.new.wire in
+    let x = c.args.x.now in
+    let y = c.args.y.now in
+    let key = c.args.key in
+    let taken = c.args.taken in
+    elim c.match-taken.branch [
+      | in-Repeated w ↦ on_ok_weaker c.send_ack.result (λ sends. rw w.y-is (took_data-underway wire new x y key taken (fate_value c.args.fate) y.sender c.requires (same_sender taken y.sender w.in-Repeated.is)
+          (subst (λ (h : Half). Sends wire.frames.items h.end key.id (ack_fragment key) (fate_value c.args.fate) None new.frames.items) w.y-is sends) c.send_ack.ensures.released)) c.send_ack.ensures.ok
+      | in-Accepted w ↦ on_ok_weaker c.send_ack.result (λ sends. rw w.y-is (took_data-underway wire new x y key taken (fate_value c.args.fate) w.stop_waiting.new.sender c.requires
+          (idle_sender taken y.sender w.stop_waiting.new.sender w.in-Accepted.is w.stop_waiting.ensures.rest w.stop_waiting.ensures.idle)
+          (subst (λ (h : Half). Sends wire.frames.items h.end key.id (ack_fragment key) (fate_value c.args.fate) None new.frames.items) w.y-is sends) c.send_ack.ensures.released)) c.send_ack.ensures.ok
+    ]

@@ -1,6 +1,8 @@
 use Rattle.std.proofs.Common.{refl}
 use Rattle.std.proofs.lemmas.Option.{slice_get_read, slice_get_within}
 use Rattle.line_steps.proofs.HeardLaws.{heard_ack-holds, heard_ack-next, heard_data, heard_something}
+use Rattle.line_steps.specs.declared.hearing.Heard.TheVariants as heard_as
+use Rattle.line_steps.proofs.UnderwayLaws.{heeded-underway}
 use Rattle.line_steps.proofs.HoldsLaws.{going}
 use Rattle.line_steps.proofs.taking.take_next.Goals as goal
 
@@ -62,3 +64,11 @@ returns-in-Nothing-clause-less c =
     let n = c.args.x.now.taken in
     let here = slice_get_read frames _ n c.index.result.now refl (slice_get_within frames n c.requires.next.frame c.requires.next.here) c.index.ensures in
     absurd (heard_something _ c.index.result.now c.args.y.now.receiver c.hear_frame-heard.new.half.receiver (going c.args.wire.now c.args.x.now c.args.y.now n c.index.result.now c.requires.holds here) c.in-Nothing.ensures.hears)
+
+pub returns-in_ok-take_ack-in-Ack-clause-underway : goal.returns-in_ok-take_ack-in-Ack-clause-underway
+returns-in_ok-take_ack-in-Ack-clause-underway c =
+    heeded-underway (heard_as.Ack c.in-Ack.key) c.args.wire.now c.args.x.now c.args.y.now c.hear_frame-heard.new.half c.take_ack.new.wire c.take_ack.new.x c.take_ack.new.y c.in-Ack.ensures.heeded c.in_ok-take_ack-in-Ack.ensures.underway
+
+pub returns-in_ok-take_data-in-Data-clause-underway : goal.returns-in_ok-take_data-in-Data-clause-underway
+returns-in_ok-take_data-in-Data-clause-underway c =
+    heeded-underway (heard_as.Data c.in-Data.key c.in-Data.taken) c.args.wire.now c.args.x.now c.args.y.now c.hear_frame-heard.new.half c.take_data.new.wire c.take_data.new.x c.take_data.new.y c.in-Data.ensures.heeded c.in_ok-take_data-in-Data.ensures.underway

@@ -4,6 +4,7 @@ use Rattle.std.proofs.lemmas.Result.{on_ok_weaker}
 use Rattle.trace_text.specs.Fates.{fate_value}
 use Rattle.line_steps.proofs.TakingLaws.{some_waits, waits_not}
 use Rattle.line_steps.proofs.WorkLaws.{other_waits, tick_one-less, tick_other-less, tick_two-less}
+use Rattle.line_steps.proofs.UnderwayLaws.{tick_one-underway, tick_other-underway, tick_two-underway}
 use Rattle.line_steps.proofs.StartingLaws.{ticks_one, ticks_other, ticks_two}
 use Rattle.line_steps.proofs.ticking.tick.Goals as goal
 
@@ -43,4 +44,21 @@ returns-clause-less c =
     let x_waits = some_waits c.args.x.now.sender (ap is_some (sym c.current.ensures.piece) ∙ c.if-is_none.ensures) in
     let y_waits = some_waits c.args.y.now.sender (ap is_some (sym c.current-2.ensures.piece) ∙ c.if-is_none-2.ensures) in
     on_ok_weaker c.send_again-3.result (λ sent. tick_two-less c.args.wire.now c.send_again-2.new.wire c.send_again-3.new.wire c.len-wire.result c.args.x.now c.args.y.now c.send_again-2.new.half c.send_again-3.new.half (fate_value c.args.fate) (fate_value c.args.other)
+    c.requires.holds x_waits y_waits c.in_ok-send_again.ensures sent) c.send_again-3.ensures
+
+pub returns-then-is_none-clause-underway : goal.returns-then-is_none-clause-underway
+returns-then-is_none-clause-underway c =
+    let idle = waits_not c.args.x.now.sender (ap is_some (sym c.current.ensures.piece) ∙ c.if-is_none.ensures) in
+    on_ok_weaker c.send_again.result (λ sent. tick_other-underway c.args.wire.now c.send_again.new.wire c.len-wire.result c.args.x.now c.args.y.now c.send_again.new.half (fate_value c.args.fate) c.requires.holds (other_waits idle c.requires.waits) sent) c.send_again.ensures
+
+pub returns-then-is_none-2-clause-underway : goal.returns-then-is_none-2-clause-underway
+returns-then-is_none-2-clause-underway c =
+    let waits = some_waits c.args.x.now.sender (ap is_some (sym c.current.ensures.piece) ∙ c.if-is_none.ensures) in
+    tick_one-underway c.args.wire.now c.send_again-2.new.wire c.len-wire.result c.args.x.now c.args.y.now c.send_again-2.new.half (fate_value c.args.fate) c.requires.holds waits c.in_ok-send_again.ensures
+
+pub returns-clause-underway : goal.returns-clause-underway
+returns-clause-underway c =
+    let x_waits = some_waits c.args.x.now.sender (ap is_some (sym c.current.ensures.piece) ∙ c.if-is_none.ensures) in
+    let y_waits = some_waits c.args.y.now.sender (ap is_some (sym c.current-2.ensures.piece) ∙ c.if-is_none-2.ensures) in
+    on_ok_weaker c.send_again-3.result (λ sent. tick_two-underway c.args.wire.now c.send_again-2.new.wire c.send_again-3.new.wire c.len-wire.result c.args.x.now c.args.y.now c.send_again-2.new.half c.send_again-3.new.half (fate_value c.args.fate) (fate_value c.args.other)
     c.requires.holds x_waits y_waits c.in_ok-send_again.ensures sent) c.send_again-3.ensures
