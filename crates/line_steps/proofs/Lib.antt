@@ -1,4 +1,5 @@
 pub mod BytesLaws
+pub mod CarryingLaws
 pub mod DataLaws
 pub mod DeliveredLaws
 pub mod FrameLaws

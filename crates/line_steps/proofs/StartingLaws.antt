@@ -99,7 +99,7 @@ let_go wire = record wire { released = length wire.frames.items }
 pub waits_now : (half : Half) → IsHalf half → Waits half.sender → Waiting (side_of half)
 waits_now half is_half waits = subst (λ (n : ℕ). half.sender.acknowledged < piece_count n) is_half.length_is waits
 
-waits_then : (half : Half) → IsHalf half → Waiting (side_of half) → Waits half.sender
+pub waits_then : (half : Half) → IsHalf half → Waiting (side_of half) → Waits half.sender
 waits_then half is_half waits = subst (λ (n : ℕ). half.sender.acknowledged < piece_count n) (sym is_half.length_is) waits
 
 abbrev pub again : Half → Half

@@ -1,3 +1,4 @@
+pub mod Carrying
 pub mod Hearing
 pub mod Sending
 pub mod Resting

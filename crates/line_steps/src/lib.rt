@@ -4,6 +4,7 @@
 //! damaged, or comes behind noise; or it ends the run. `hear` is what an end makes of the bytes that arrive.
 #![tactic(auto)]
 
+mod carrying;
 mod half;
 mod harm;
 mod hearing;
@@ -15,6 +16,7 @@ mod starting;
 mod taking;
 mod ticking;
 
+pub use carrying::carry;
 pub use half::{Half, Wire};
 pub use harm::Stop;
 pub use hearing::{Heard, hear};

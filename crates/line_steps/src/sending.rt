@@ -11,7 +11,7 @@ use crate::harm::{Stop, stop_of};
 use arrayvec::ArrayVec;
 use padp_link::{FIRST, Fragment, LAST, PACKET_TYPE, PadpKind, SOCKET, write_fragment};
 use slp_frames::{MAX_PACKET, Packet, write_packet};
-use std::alloc::AllocFailed;
+use std::alloc::{AllocError, AllocFailed};
 use trace_text::{End, Fate, Frame};
 
 /// Why a run halts.
@@ -29,6 +29,14 @@ impl<T: Drop> From<AllocFailed<T>> for Halt {
     ghost from_gives = { λ _ halt. halt ≡ NoMemory };
 
     fn from(_: AllocFailed<T>) -> Self {
+        Halt::NoMemory
+    }
+}
+
+impl From<AllocError> for Halt {
+    ghost from_gives = { λ _ halt. halt ≡ NoMemory };
+
+    fn from(_: AllocError) -> Self {
         Halt::NoMemory
     }
 }

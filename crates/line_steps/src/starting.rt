@@ -37,7 +37,8 @@ pub fn start(
 /// Lets an end wait for the next message of the other one, of this transaction.
 pub fn expect(half: &mut Half, id: u8)
     ensures receiver { half.new ≡ record half.old {
-        receiver = record { awaited = Some id; pieces = []; last = half.old.receiver.last } } }
+      receiver = record { awaited = Some id; pieces = []; last = half.old.receiver.last };
+    } }
     ensures other { (wire : WireValue) (x : HalfValue) →
         Turn wire x half.old → Turn wire x half.new }
     ensures own { (wire : WireValue) (y : HalfValue) →

@@ -2,7 +2,7 @@
 ghost use Rattle.std.specs.Prelude.{◌≡◌, ◌⊎◌, ◌<◌, OnOk, IsTrue, false, length};
 ghost use Rattle.padp_link.specs.Senders.{Waits};
 ghost use Rattle.line_laws.specs.Progress.{Blocked};
-ghost use Rattle.line_steps.specs.Running.{AllGo, AtHead, Holds, IsHalf, past_now};
+ghost use Rattle.line_steps.specs.Running.{AllGo, AtHead, Holds, IsHalf, Stays, past_now};
 ghost use Rattle.line_steps.specs.Taking.{Delivers};
 ghost use Rattle.line_steps.specs.Ticking.{SendsAgain};
 ghost use Rattle.line_steps.specs.Underway.{StillUnderway};
@@ -42,13 +42,13 @@ pub fn tick(
     other: Fate,
 ) -> Result<(), Halt>
     requires holds { Holds wire.old x.old y.old }
-    requires x_blocked {
-        Blocked x.old.end (past_now wire.old.frames.items) x.old.taken wire.old.released }
-    requires y_blocked {
-        Blocked y.old.end (past_now wire.old.frames.items) y.old.taken wire.old.released }
+    requires x_blocked { Blocked x.old.end (past_now wire.old.frames.items) x.old.taken wire.old.released }
+    requires y_blocked { Blocked y.old.end (past_now wire.old.frames.items) y.old.taken wire.old.released }
     requires waits { Waits x.old.sender ⊎ Waits y.old.sender }
     ensures holds { OnOk result (Holds wire.new x.new y.new) }
     ensures less { OnOk result (work_left wire.new x.new y.new < work_left wire.old x.old y.old) }
+    ensures x_stays { OnOk result (Stays x.old x.new) }
+    ensures y_stays { OnOk result (Stays y.old y.new) }
     ensures underway { OnOk result
         (StillUnderway Nothing wire.old x.old y.old wire.new x.new y.new) }
 {

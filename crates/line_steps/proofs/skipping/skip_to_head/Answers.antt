@@ -46,8 +46,14 @@ loop-x-preserved c =
     let frame = c.index-frame.result.now in
     let left = λ (new : Half) (read : Read c.loop-x.y new). skips_less c.args.wire.now c.args.x.now c.args.y.now c.loop-x.x c.loop-x.y new c.loop-x.invariant.0.0 c.loop-x.invariant.1 inside read in
     elim c.if-is_from.branch [
-      | then-is_from+else-arrives w ↦ rw w.y-is (skip_step c.args.wire.now c.args.x.now c.args.y.now c.loop-x.x c.loop-x.y w.hear_harm.new.half frame c.loop-x.invariant.0 inside here
-          (and_none _ _ (sym w.arrives.ensures ∙ w.if-arrives.false)) w.hear_harm.ensures.read w.hear_harm.ensures.gap, left w.hear_harm.new.half w.hear_harm.ensures.read)
-      | else-is_from w ↦ rw w.y-is (skip_step c.args.wire.now c.args.x.now c.args.y.now c.loop-x.x c.loop-x.y c.loop-x.y frame c.loop-x.invariant.0 inside here
-          (ap (λ (b : Bool). b && arrives (fate_value frame.fate)) (sym c.is_from.ensures ∙ w.if-is_from.false)) refl c.loop-x.invariant.0.0.y_half.gap, left c.loop-x.y refl)
+      | then-is_from+else-arrives w ↦ rw w.y-is (
+        skip_step c.args.wire.now c.args.x.now c.args.y.now c.loop-x.x c.loop-x.y w.hear_harm.new.half frame c.loop-x.invariant.0 inside here
+            (and_none _ _ (sym w.arrives.ensures ∙ w.if-arrives.false)) w.hear_harm.ensures.read w.hear_harm.ensures.gap,
+        left w.hear_harm.new.half w.hear_harm.ensures.read,
+      )
+      | else-is_from w ↦ rw w.y-is (
+        skip_step c.args.wire.now c.args.x.now c.args.y.now c.loop-x.x c.loop-x.y c.loop-x.y frame c.loop-x.invariant.0 inside here
+            (ap (λ (b : Bool). b && arrives (fate_value frame.fate)) (sym c.is_from.ensures ∙ w.if-is_from.false)) refl c.loop-x.invariant.0.0.y_half.gap,
+        left c.loop-x.y refl,
+      )
     ]

@@ -1,0 +1,133 @@
+-- The steps by which a message goes over.
+use Rattle.std.specs.Prelude.{Result, Ok, Err, OnOk}
+use Rattle.std.proofs.Common.{◌≡◌, ◌<◌, ◌≤◌, Bool, true, false, refl, sym, subst, ◌∙◌, arith}
+use Rattle.padp_link.specs.declared.receiver.Taken.TheVariants.{Accepted, Whole, Repeated, Dropped}
+use Rattle.padp_link.specs.Senders.{Waits}
+use Rattle.trace_text.specs.Fates.{FateValue}
+use Rattle.line_laws.proofs.MeasureLaws.{measure_turned}
+use Rattle.line_steps.specs.declared.half.Half.{Half}
+use Rattle.line_steps.specs.declared.half.Wire.{Wire}
+use Rattle.line_steps.specs.declared.hearing.Heard.{Heard}
+use Rattle.line_steps.specs.declared.hearing.Heard.TheVariants.{Nothing, Ack, Data}
+use Rattle.line_steps.specs.Carrying.{SameMessage, Carrying, Reaches, StepTo, makes_whole}
+use Rattle.line_steps.specs.Running.{past_now, side_of, Holds, Moved, Read, Stays}
+use Rattle.line_steps.specs.Ticking.{SendsAgain}
+use Rattle.line_steps.specs.Turning.{TurnBehind}
+use Rattle.line_steps.specs.Underway.{Underway, UnderwayBehind, StillUnderway}
+use Rattle.line_steps.specs.Working.{work_left}
+use Rattle.line_steps.proofs.HoldsLaws.{moved}
+use Rattle.line_steps.proofs.StartingLaws.{waits_then}
+use Rattle.line_steps.proofs.TurnLaws.{holds_turned}
+
+pub again-stays : (wire new : Wire) (half later : Half) (given : FateValue) → SendsAgain wire half given new later → Stays half later
+again-stays wire new half later given sent = subst (λ (h : Half). Stays half h) (sym sent.counted) (record { end_is = refl; message_is = refl; taken_is = refl; id_is = refl })
+
+pub same_trans : (a b c : Half) → SameMessage a b → SameMessage b c → SameMessage a c
+same_trans a b c one two = record { end_is = two.end_is ∙ one.end_is; message_is = two.message_is ∙ one.message_is; id_is = two.id_is ∙ one.id_is }
+
+pub same_refl : (a : Half) → SameMessage a a
+same_refl a = record { end_is = refl; message_is = refl; id_is = refl }
+
+pub stays_same : (a b : Half) → Stays a b → SameMessage a b
+stays_same a b stays = record { end_is = stays.end_is; message_is = stays.message_is; id_is = stays.id_is }
+
+pub moved_same : (a b : Half) → b ≡ moved a → SameMessage a b
+moved_same a b is = subst (λ (h : Half). SameMessage a h) (sym is) (record { end_is = refl; message_is = refl; id_is = refl })
+
+pub work_turned : (wire : Wire) (x y : Half) → work_left wire x y ≡ work_left wire y x
+work_turned wire x y = measure_turned x.end y.end (past_now wire.frames.items) x.taken y.taken (side_of x) (side_of y) x.sender.tries y.sender.tries
+
+-- ---- both ends at their heads
+
+-- x skipped to x1 while y read as y1, and then y to y2 while x read as x2
+pub record Skipped (wire : Wire) (x y x1 y1 x2 y2 : Half) : Type 0 where
+  pub x_moved : Moved x x1
+  pub y_read : Read y y1
+  pub y_moved : Moved y1 y2
+  pub x_read : Read x1 x2
+  pub first : work_left wire x1 y1 ≤ work_left wire x y
+  pub second : work_left wire y2 x2 ≤ work_left wire y1 x1
+
+skip_same : (x x1 x2 : Half) → Moved x x1 → Read x1 x2 → SameMessage x x2
+skip_same x x1 x2 moved read =
+    subst (λ (h : Half). SameMessage x h) (sym read) (subst (λ (h : Half). SameMessage x (record h { reader = x2.reader })) (sym moved) (record { end_is = refl; message_is = refl; id_is = refl }))
+
+read_same : (y y1 y2 : Half) → Read y y1 → Moved y1 y2 → SameMessage y y2
+read_same y y1 y2 read moved =
+    subst (λ (h : Half). SameMessage y h) (sym moved) (subst (λ (h : Half). SameMessage y (record h { taken = y2.taken })) (sym read) (record { end_is = refl; message_is = refl; id_is = refl }))
+
+skip_underway : (wire : Wire) (x y x1 x2 : Half) → Moved x x1 → Read x1 x2 → Underway wire x y → Underway wire x2 y
+skip_underway wire x y x1 x2 moved read it =
+    subst (λ (h : Half). Underway wire h y) (sym read) (subst (λ (h : Half). Underway wire (record h { reader = x2.reader }) y) (sym moved) (record { waits = it.waits; due = it.due }))
+
+read_underway : (wire : Wire) (x y y1 y2 : Half) → Read y y1 → Moved y1 y2 → Underway wire x y → Underway wire x y2
+read_underway wire x y y1 y2 read moved it =
+    subst (λ (h : Half). Underway wire x h) (sym moved) (subst (λ (h : Half). Underway wire x (record h { taken = y2.taken })) (sym read) (record { waits = it.waits; due = it.due }))
+
+pub skipped-underway : (wire : Wire) (x y x1 y1 x2 y2 : Half) → Skipped wire x y x1 y1 x2 y2 → Underway wire x y → Underway wire x2 y2
+skipped-underway wire x y x1 y1 x2 y2 it on = read_underway wire x2 y y1 y2 it.y_read it.y_moved (skip_underway wire x y x1 x2 it.x_moved it.x_read on)
+
+pub skipped-work : (wire : Wire) (x y x1 y1 x2 y2 : Half) → Skipped wire x y x1 y1 x2 y2 → work_left wire x2 y2 ≤ work_left wire x y
+skipped-work wire x y x1 y1 x2 y2 it = omega (arith, it.first, it.second, work_turned wire y2 x2, work_turned wire y1 x1)
+
+-- so what is reached from there is reached from before
+pub skipped-steps : (whole : Bool) (wire : Wire) (x y x1 y1 x2 y2 : Half) (new : Wire) (later_x later_y : Half) → Skipped wire x y x1 y1 x2 y2 → StepTo whole wire x2 y2 new later_x later_y → StepTo whole wire x y new later_x later_y
+skipped-steps whole wire x y x1 y1 x2 y2 new later_x later_y it step = record {
+  reaches = go whole step.reaches;
+  x_same = same_trans x x2 later_x (skip_same x x1 x2 it.x_moved it.x_read) step.x_same;
+  y_same = same_trans y y2 later_y (read_same y y1 y2 it.y_read it.y_moved) step.y_same;
+} where
+  go : (whole : Bool) → Reaches whole wire x2 y2 new later_x later_y → Reaches whole wire x y new later_x later_y
+  go true carried = carried
+  go false carrying = record { holds = carrying.holds; underway = carrying.underway; less = omega (arith, carrying.less, skipped-work wire x y x1 y1 x2 y2 it) }
+
+-- ---- a step
+
+-- what five clauses on Ok give
+pub of_five : {T E A B C D F G : Type 0} (r : Result T E) → (A → B → C → D → F → G) → OnOk r A → OnOk r B → OnOk r C → OnOk r D → OnOk r F → OnOk r G
+of_five (Ok x) f a b c d e = f a b c d e
+of_five (Err y) f a b c d e = tt
+
+-- y took the next frame of x
+pub own_step : (heard : Heard) (whole : Bool) (wire : Wire) (x y : Half) (new : Wire) (later_x later_y : Half) → whole ≡ makes_whole heard → Underway wire x y → StillUnderway heard wire x y new later_x later_y → TurnBehind heard new later_y later_x → Holds new later_x later_y
+    → work_left new later_x later_y < work_left wire x y → SameMessage x later_x → SameMessage y later_y → StepTo whole wire x y new later_x later_y
+own_step heard whole wire x y new later_x later_y is on still turn holds less x_same y_same = record { reaches = subst (λ (w : Bool). Reaches w wire x y new later_x later_y) (sym is) (go heard turn (still.own on)); x_same = x_same; y_same = y_same } where
+  on_the_way : Underway new later_x later_y → Carrying wire x y new later_x later_y
+  on_the_way now = record { holds = holds; underway = now; less = less }
+
+  go : (heard : Heard) → TurnBehind heard new later_y later_x → UnderwayBehind heard new later_x later_y → Reaches (makes_whole heard) wire x y new later_x later_y
+  go Nothing turn now = on_the_way now
+  go (Ack key) turn now = on_the_way now
+  go (Data key Accepted) turn now = on_the_way now
+  go (Data key Repeated) turn now = on_the_way now
+  go (Data key Dropped) turn now = on_the_way now
+  go (Data key Whole) turn now = record { turn = turn.0; message = turn.1 }
+
+-- x took the next frame of y
+pub other_step : (heard : Heard) (wire : Wire) (x y : Half) (new : Wire) (later_x later_y : Half) → Underway wire x y → StillUnderway heard wire y x new later_y later_x → Holds new later_y later_x → work_left new later_y later_x < work_left wire y x → SameMessage x later_x → SameMessage y later_y
+    → StepTo false wire x y new later_x later_y
+other_step heard wire x y new later_x later_y on still holds less x_same y_same = record {
+  reaches = record { holds = holds_turned new later_y later_x holds; underway = still.other on; less = omega (arith, less, work_turned wire x y, work_turned new later_x later_y) };
+  x_same = x_same;
+  y_same = y_same;
+}
+
+-- a tick, with the timer of x first
+pub tick_step : (wire : Wire) (x y : Half) (new : Wire) (later_x later_y : Half) → Underway wire x y → StillUnderway Nothing wire x y new later_x later_y → Holds new later_x later_y → work_left new later_x later_y < work_left wire x y → Stays x later_x → Stays y later_y
+    → StepTo false wire x y new later_x later_y
+tick_step wire x y new later_x later_y on still holds less x_stays y_stays = record {
+  reaches = record { holds = holds; underway = still.own on; less = less };
+  x_same = stays_same x later_x x_stays;
+  y_same = stays_same y later_y y_stays;
+}
+
+-- and with the timer of y first
+pub tick_back : (wire : Wire) (x y : Half) (new : Wire) (later_x later_y : Half) → Underway wire x y → StillUnderway Nothing wire y x new later_y later_x → Holds new later_y later_x → work_left new later_y later_x < work_left wire y x → Stays y later_y → Stays x later_x
+    → StepTo false wire x y new later_x later_y
+tick_back wire x y new later_x later_y on still holds less y_stays x_stays = other_step Nothing wire x y new later_x later_y on still holds less (stays_same x later_x x_stays) (stays_same y later_y y_stays)
+
+pub false_step : (whole : Bool) (wire : Wire) (x y : Half) (new : Wire) (later_x later_y : Half) → whole ≡ false → StepTo whole wire x y new later_x later_y → Carrying wire x y new later_x later_y
+false_step whole wire x y new later_x later_y is step = subst (λ (w : Bool). Reaches w wire x y new later_x later_y) is step.reaches
+
+pub underway-waits : (wire : Wire) (x y : Half) → Holds wire x y → Underway wire x y → Waits x.sender
+underway-waits wire x y holds it = waits_then x holds.x_half it.waits

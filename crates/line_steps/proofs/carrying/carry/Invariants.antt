@@ -1,0 +1,11 @@
+use Rattle.line_steps.specs.Carrying.{SameMessage}
+use Rattle.line_steps.specs.Running.{Holds}
+use Rattle.line_steps.specs.Underway.{Underway}
+use Rattle.line_steps.specs.Working.{work_left}
+use Rattle.line_steps.proofs.carrying.carry.Given as goal
+
+abbrev pub invariant-loop : goal.invariant-loop
+invariant-loop l = Holds l.wire l.x l.y × Underway l.wire l.x l.y × SameMessage l.initial.x l.x × SameMessage l.initial.y l.y
+
+abbrev pub decreases-loop : goal.decreases-loop
+decreases-loop l = work_left l.wire l.x l.y

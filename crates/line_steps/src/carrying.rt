@@ -1,0 +1,140 @@
+//! A message goes over to the other end.
+ghost use Rattle.std.specs.Prelude.{◌≡◌, OnOk, IfOk, false};
+ghost use Rattle.line_laws.specs.Progress.{Blocked};
+ghost use Rattle.line_script.specs.Scripts.{fate_by};
+ghost use Rattle.trace_text.specs.Fates.{fate_value};
+ghost use Rattle.line_steps.specs.Carrying.{Carried, SameMessage, StepTo, IsNext, makes_whole};
+ghost use Rattle.line_steps.specs.Running.{Holds, AtHead, AllGo, past_now};
+ghost use Rattle.line_steps.specs.Underway.{Underway};
+
+use crate::half::{Half, Wire};
+use crate::hearing::Heard;
+use crate::sending::Halt;
+use crate::skipping::skip_to_head;
+use crate::taking::take_next;
+use crate::ticking::{delivers, tick};
+use line_script::Script;
+use padp_link::Taken;
+use std::alloc::AllocError;
+use trace_text::{End, Fate};
+
+/// Carries the message of the end `x`, which was begun, over to the other end. A frame has the fate that the script gives
+/// its number.
+pub fn carry(wire: &mut Wire, x: &mut Half, y: &mut Half, script: &Script) -> Result<(), Halt>
+    requires holds { Holds wire.old x.old y.old }
+    requires underway { Underway wire.old x.old y.old }
+    ensures carried { OnOk result (Carried wire.new x.new y.new) }
+    ensures x_same { OnOk result (SameMessage x.old x.new) }
+    ensures y_same { OnOk result (SameMessage y.old y.new) }
+{
+    loop {
+        if step(wire, x, y, script)? {
+            return Ok(());
+        }
+    }
+}
+
+/// Delivers the next frame, or lets time pass. Whether the message is over.
+fn step(wire: &mut Wire, x: &mut Half, y: &mut Half, script: &Script) -> Result<bool, Halt>
+    requires holds { Holds wire.old x.old y.old }
+    requires underway { Underway wire.old x.old y.old }
+    ensures { IfOk result (λ whole. StepTo whole wire.old x.old y.old wire.new x.new y.new) }
+{
+    skip_to_head(wire, x, y);
+    skip_to_head(wire, y, x);
+    deliver(wire, x, y, script)
+}
+
+/// The same where both ends are at their next frames that come.
+fn deliver(wire: &mut Wire, x: &mut Half, y: &mut Half, script: &Script) -> Result<bool, Halt>
+    requires holds { Holds wire.old x.old y.old }
+    requires underway { Underway wire.old x.old y.old }
+    requires x_head { AtHead x.old.end wire.old.frames.items x.old.taken }
+    requires y_head { AtHead y.old.end wire.old.frames.items y.old.taken }
+    ensures { IfOk result (λ whole. StepTo whole wire.old x.old y.old wire.new x.new y.new) }
+{
+    let number = wire.frames.len() as u64 + 1;
+    let fate = fate_of(script, number)?;
+    match next_of(wire, x, y) {
+        Next::Own => {
+            let heard = take_next(wire, x, y, fate)?;
+            Ok(is_whole(heard))
+        }
+        Next::Other => {
+            take_next(wire, y, x, fate)?;
+            Ok(false)
+        }
+        Next::Nothing => {
+            let other = fate_of(script, number + 1)?;
+            wait(wire, x, y, fate, other)?;
+            Ok(false)
+        }
+    }
+}
+
+/// Whose frame is delivered next: the lower one of those that aren't held.
+enum Next {
+    Own,
+    Other,
+    Nothing,
+}
+
+fn next_of(wire: &Wire, x: &Half, y: &Half) -> Next
+    requires go { AllGo 1 wire.now.frames.items }
+    requires x_head { AtHead x.now.end wire.now.frames.items x.now.taken }
+    requires y_head { AtHead y.now.end wire.now.frames.items y.now.taken }
+    ensures { IsNext wire.now x.now y.now result }
+{
+    match (delivers(wire, x), delivers(wire, y)) {
+        (true, true) => {
+            if x.taken < y.taken {
+                Next::Own
+            } else {
+                Next::Other
+            }
+        }
+        (true, false) => Next::Own,
+        (false, true) => Next::Other,
+        (false, false) => Next::Nothing,
+    }
+}
+
+/// Whether what was heard made the message whole.
+fn is_whole(heard: Heard) -> bool
+    ensures { result ≡ makes_whole heard }
+{
+    match heard {
+        Heard::Data(_, Taken::Whole) => true,
+        _ => false,
+    }
+}
+
+/// Lets time pass while the message of `x` is on its way. The desktop's timer runs first.
+fn wait(wire: &mut Wire, x: &mut Half, y: &mut Half, fate: Fate, other: Fate) -> Result<(), Halt>
+    requires holds { Holds wire.old x.old y.old }
+    requires underway { Underway wire.old x.old y.old }
+    requires x_blocked { Blocked x.old.end (past_now wire.old.frames.items) x.old.taken wire.old.released }
+    requires y_blocked { Blocked y.old.end (past_now wire.old.frames.items) y.old.taken wire.old.released }
+    ensures { OnOk result (StepTo false wire.old x.old y.old wire.new x.new y.new) }
+{
+    match x.end {
+        End::Desktop => tick(wire, x, y, fate, other),
+        End::Handheld => tick(wire, y, x, fate, other),
+    }
+}
+
+/// The fate that the script gives the frame of this number.
+fn fate_of(script: &Script, number: u64) -> Result<Fate, AllocError>
+    ensures { IfOk result (λ fate. fate_value fate ≡ fate_by script.now number) }
+{
+    Ok(match script.fate(number) {
+        Fate::Ok => Fate::Ok,
+        Fate::Lost => Fate::Lost,
+        Fate::Late => Fate::Late,
+        Fate::Cut(count) => Fate::Cut(*count),
+        Fate::Hit(place, bytes) => Fate::Hit(*place, bytes.clone()?),
+        Fate::Noise(bytes) => Fate::Noise(bytes.clone()?),
+        Fate::Unplug => Fate::Unplug,
+        Fate::Abort => Fate::Abort,
+    })
+}
