@@ -1,3 +1,4 @@
+pub mod AddingLaws
 pub mod BytesLaws
 pub mod CarryingLaws
 pub mod DataLaws

@@ -3,6 +3,7 @@ ghost use Rattle.std.specs.Prelude.{◌≡◌, OnOk, IfOk, false};
 ghost use Rattle.line_laws.specs.Progress.{Blocked};
 ghost use Rattle.line_script.specs.Scripts.{fate_by};
 ghost use Rattle.trace_text.specs.Fates.{fate_value};
+ghost use Rattle.line_steps.specs.Adding.{AddsTwo, AllBy};
 ghost use Rattle.line_steps.specs.Carrying.{Carried, SameMessage, StepTo, IsNext, makes_whole};
 ghost use Rattle.line_steps.specs.Running.{Holds, AtHead, AllGo, past_now};
 ghost use Rattle.line_steps.specs.Underway.{Underway};
@@ -23,6 +24,8 @@ use trace_text::{End, Fate};
 pub fn carry(wire: &mut Wire, x: &mut Half, y: &mut Half, script: &Script) -> Result<(), Halt>
     requires holds { Holds wire.old x.old y.old }
     requires underway { Underway wire.old x.old y.old }
+    ensures script { AllBy script.now 1 wire.old.frames.items →
+        AllBy script.now 1 wire.new.frames.items }
     ensures carried { OnOk result (Carried wire.new x.new y.new) }
     ensures x_same { OnOk result (SameMessage x.old x.new) }
     ensures y_same { OnOk result (SameMessage y.old y.new) }
@@ -38,7 +41,9 @@ pub fn carry(wire: &mut Wire, x: &mut Half, y: &mut Half, script: &Script) -> Re
 fn step(wire: &mut Wire, x: &mut Half, y: &mut Half, script: &Script) -> Result<bool, Halt>
     requires holds { Holds wire.old x.old y.old }
     requires underway { Underway wire.old x.old y.old }
-    ensures { IfOk result (λ whole. StepTo whole wire.old x.old y.old wire.new x.new y.new) }
+    ensures script { AllBy script.now 1 wire.old.frames.items →
+        AllBy script.now 1 wire.new.frames.items }
+    ensures step { IfOk result (λ whole. StepTo whole wire.old x.old y.old wire.new x.new y.new) }
 {
     skip_to_head(wire, x, y);
     skip_to_head(wire, y, x);
@@ -51,7 +56,9 @@ fn deliver(wire: &mut Wire, x: &mut Half, y: &mut Half, script: &Script) -> Resu
     requires underway { Underway wire.old x.old y.old }
     requires x_head { AtHead x.old.end wire.old.frames.items x.old.taken }
     requires y_head { AtHead y.old.end wire.old.frames.items y.old.taken }
-    ensures { IfOk result (λ whole. StepTo whole wire.old x.old y.old wire.new x.new y.new) }
+    ensures script { AllBy script.now 1 wire.old.frames.items →
+        AllBy script.now 1 wire.new.frames.items }
+    ensures step { IfOk result (λ whole. StepTo whole wire.old x.old y.old wire.new x.new y.new) }
 {
     let number = wire.frames.len() as u64 + 1;
     let fate = fate_of(script, number)?;
@@ -115,7 +122,9 @@ fn wait(wire: &mut Wire, x: &mut Half, y: &mut Half, fate: Fate, other: Fate) ->
     requires underway { Underway wire.old x.old y.old }
     requires x_blocked { Blocked x.old.end (past_now wire.old.frames.items) x.old.taken wire.old.released }
     requires y_blocked { Blocked y.old.end (past_now wire.old.frames.items) y.old.taken wire.old.released }
-    ensures { OnOk result (StepTo false wire.old x.old y.old wire.new x.new y.new) }
+    ensures adds { AddsTwo (fate_value fate) (fate_value other)
+        wire.old.frames.items wire.new.frames.items }
+    ensures step { OnOk result (StepTo false wire.old x.old y.old wire.new x.new y.new) }
 {
     match x.end {
         End::Desktop => tick(wire, x, y, fate, other),

@@ -3,6 +3,8 @@ ghost use Rattle.std.specs.Prelude.{◌≡◌, ◌≤◌, ◌<◌, [], OnOk, IfE
 ghost use Rattle.padp_link.specs.Receivers.{ReceiverValue};
 ghost use Rattle.line_steps.specs.declared.half.Half.{Half as HalfValue};
 ghost use Rattle.line_steps.specs.declared.half.Wire.{Wire as WireValue};
+ghost use Rattle.trace_text.specs.Fates.{fate_value};
+ghost use Rattle.line_steps.specs.Adding.{AddsOne};
 ghost use Rattle.line_steps.specs.Running.{Holds};
 ghost use Rattle.line_steps.specs.Turning.{Turn};
 ghost use Rattle.line_steps.specs.Underway.{Underway};
@@ -27,6 +29,7 @@ pub fn start(
     requires none { y.now.receiver.pieces ≡ [] }
     requires short { length message.items < 65536 }
     ensures holds { OnOk result (Holds wire.new x.new y.now) }
+    ensures adds { AddsOne (fate_value fate) wire.old.frames.items wire.new.frames.items }
     ensures underway { OnOk result (Underway wire.new x.new y.now) }
 {
     x.sender.start(id, message.len() as u16);

@@ -6,6 +6,7 @@ ghost use Rattle.slp_frames.specs.PacketScan.{packet_at};
 ghost use Rattle.trace_text.specs.Fates.{fate_value, ends_run};
 ghost use Rattle.trace_text.specs.Frames.{BearsFragment, fragment_in};
 ghost use Rattle.trace_text.specs.TraceLines.{frame_value};
+ghost use Rattle.line_steps.specs.Adding.{AddsOne};
 ghost use Rattle.line_steps.specs.Hearing.{Hears};
 ghost use Rattle.line_steps.specs.Running.{Holds, Heeded, Stays};
 ghost use Rattle.line_steps.specs.Taking.{Delivers, AckNext, DataHeard};
@@ -31,6 +32,7 @@ pub fn take_next(wire: &mut Wire, x: &mut Half, y: &mut Half, fate: Fate) -> Res
     ensures stays { OnOk result (Stays y.old y.new) }
     ensures underway { IfOk result
         (λ heard. StillUnderway heard wire.old x.old y.old wire.new x.new y.new) }
+    ensures adds { AddsOne (fate_value fate) wire.old.frames.items wire.new.frames.items }
     ensures less { OnOk result (work_left wire.new x.new y.new < work_left wire.old x.old y.old) }
 {
     let heard = hear_frame(&wire.frames[x.taken], y);
@@ -64,6 +66,7 @@ fn take_ack(wire: &mut Wire, x: &mut Half, y: &mut Half, key: Key, fate: Fate) -
     ensures holds { OnOk result (Holds wire.new x.new y.new) }
     ensures underway { OnOk result
         (StillUnderway (heard_as.Ack key) wire.old x.old y.old wire.new x.new y.new) }
+    ensures adds { AddsOne (fate_value fate) wire.old.frames.items wire.new.frames.items }
     ensures less { OnOk result (work_left wire.new x.new y.new < work_left wire.old x.old y.old) }
     ensures moved { x.new ≡ record x.old { taken = x.old.taken + 1 } }
     ensures stays { Stays y.old y.new }
@@ -92,6 +95,7 @@ fn take_data(
     ensures turn { OnOk result (TurnAfter taken wire.new y.new x.new) }
     ensures underway { OnOk result
         (StillUnderway (heard_as.Data key taken) wire.old x.old y.old wire.new x.new y.new) }
+    ensures adds { AddsOne (fate_value fate) wire.old.frames.items wire.new.frames.items }
     ensures less { OnOk result (work_left wire.new x.new y.new < work_left wire.old x.old y.old) }
     ensures moved { x.new ≡ record x.old { taken = x.old.taken + 1 } }
     ensures stays { Stays y.old y.new }

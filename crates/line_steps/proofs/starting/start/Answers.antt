@@ -7,6 +7,7 @@ use Rattle.line_steps.specs.Running.{side_of, Holds}
 use Rattle.line_steps.specs.Sending.{Sends}
 use Rattle.line_steps.specs.Underway.{Underway}
 use Rattle.line_steps.proofs.StartingLaws.{starts}
+use Rattle.line_steps.proofs.AddingLaws.{adds_of}
 use Rattle.line_steps.proofs.UnderwayLaws.{starts-underway}
 use Rattle.line_steps.proofs.starting.start.Goals as goal
 
@@ -30,3 +31,8 @@ returns-clause-underway c =
     on_ok_weaker c.send_piece.result (λ sends. subst (λ (s : SenderValue). Underway c.send_piece.new.wire (record x { sender = s; message = message }) c.args.y.now) (sym c.start.ensures)
     (starts-underway wire c.send_piece.new.wire x c.args.y.now c.args.id c.len.result message (fate_value c.args.fate) c.requires.turn c.requires.other c.requires.awaited c.requires.none fits
     (subst (λ (s : SenderValue). Sends wire.frames.items x.end s.id (part_now (side_of (record x { sender = s; message = message }))) (fate_value c.args.fate) None c.send_piece.new.wire.frames.items) c.start.ensures sends) c.send_piece.ensures.released)) c.send_piece.ensures.ok
+
+pub returns-clause-adds : goal.returns-clause-adds
+returns-clause-adds c =
+    let half = record c.args.x.now { sender = c.start.new.self; message = c.args.message } in
+    adds_of c.send_piece.result c.args.wire.now.frames.items c.send_piece.new.wire.frames.items c.args.x.now.end c.start.new.self.id (part_now (side_of half)) (fate_value c.args.fate) c.send_piece.ensures.ok c.send_piece.ensures.halt

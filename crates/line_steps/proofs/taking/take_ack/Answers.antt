@@ -12,6 +12,7 @@ use Rattle.line_steps.proofs.HoldsLaws.{moved}
 use Rattle.line_steps.specs.Underway.{StillUnderway}
 use Rattle.line_steps.specs.Working.{work_left}
 use Rattle.line_steps.specs.declared.hearing.Heard.TheVariants as heard_as
+use Rattle.line_steps.proofs.AddingLaws.{adds_of}
 use Rattle.line_steps.proofs.UnderwayLaws.{ack_last-underway, ack_more-underway}
 use Rattle.line_steps.proofs.WorkLaws.{ack_other-less, ack_last-less, ack_more-less}
 use Rattle.line_steps.proofs.TakingLaws.{some_waits, none_waits, ack_other, ack_last, ack_more}
@@ -82,3 +83,7 @@ returns-clause-underway c =
     on_ok_weaker c.send_piece.result (λ sends. subst (λ (s : SenderValue). StillUnderway (heard_as.Ack c.args.key) c.args.wire.now c.args.x.now y c.send_piece.new.wire (moved c.args.x.now) (record y { sender = s })) (sym next)
     (ack_more-underway c.args.wire.now c.send_piece.new.wire c.args.x.now y c.args.key (fate_value c.args.fate) c.requires.holds c.requires.next (c.on_ack.ensures.taken.0 c.if-not-on_ack.false) more
     (subst (λ (s : SenderValue). Sends c.args.wire.now.frames.items y.end s.id (part_now (side_of (record y { sender = s }))) (fate_value c.args.fate) None c.send_piece.new.wire.frames.items) next sends) c.send_piece.ensures.released)) c.send_piece.ensures.ok
+
+pub returns-clause-adds : goal.returns-clause-adds
+returns-clause-adds c =
+    adds_of c.send_piece.result c.args.wire.now.frames.items c.send_piece.new.wire.frames.items c.args.y.now.end c.on_ack.new.self.id (part_now (side_of (record c.args.y.now { sender = c.on_ack.new.self }))) (fate_value c.args.fate) c.send_piece.ensures.ok c.send_piece.ensures.halt
