@@ -4,6 +4,7 @@ pub mod CarryingLaws
 pub mod DataLaws
 pub mod DeliveredLaws
 pub mod FrameLaws
+pub mod HaltingLaws
 pub mod HearLaws
 pub mod HeardLaws
 pub mod HoldsLaws

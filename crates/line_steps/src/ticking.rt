@@ -1,8 +1,9 @@
 //! What happens where nothing can be delivered.
-ghost use Rattle.std.specs.Prelude.{◌≡◌, ◌⊎◌, ◌<◌, OnOk, IsTrue, false, length};
+ghost use Rattle.std.specs.Prelude.{◌≡◌, ◌⊎◌, ◌<◌, OnOk, IfErr, IsTrue, false, length};
 ghost use Rattle.padp_link.specs.Senders.{Waits};
 ghost use Rattle.line_laws.specs.Progress.{Blocked};
 ghost use Rattle.line_steps.specs.Adding.{AddsOne, AddsTwo};
+ghost use Rattle.line_steps.specs.Halting.{DownBy, Spent};
 ghost use Rattle.line_steps.specs.Running.{AllGo, AtHead, Holds, IsHalf, Stays, past_now};
 ghost use Rattle.line_steps.specs.Taking.{Delivers};
 ghost use Rattle.line_steps.specs.Ticking.{SendsAgain};
@@ -50,6 +51,7 @@ pub fn tick(
     ensures less { OnOk result (work_left wire.new x.new y.new < work_left wire.old x.old y.old) }
     ensures adds { AddsTwo (fate_value fate) (fate_value other)
         wire.old.frames.items wire.new.frames.items }
+    ensures down { IfErr result (λ halt. DownBy halt (past_now wire.new.frames.items)) }
     ensures x_stays { OnOk result (Stays x.old x.new) }
     ensures y_stays { OnOk result (Stays y.old y.new) }
     ensures underway { OnOk result
@@ -71,6 +73,7 @@ fn send_again(wire: &mut Wire, half: &mut Half, fate: Fate) -> Result<(), Halt>
     requires waits { Waits half.old.sender }
     requires half { IsHalf half.old }
     ensures adds { AddsOne (fate_value fate) wire.old.frames.items wire.new.frames.items }
+    ensures spent { IfErr result (λ halt. Spent halt half.old wire.old wire.new) }
     ensures again { OnOk result (SendsAgain wire.old half.old (fate_value fate) wire.new half.new) }
 {
     if half.sender.on_timer().is_err() {
