@@ -5,8 +5,10 @@ pub mod CopyLaws
 pub mod GreetLaws
 pub mod GrowLaws
 pub mod IdListLaws
+pub mod LentLaws
 pub mod ListLaws
 pub mod ListedLaws
+pub mod OpenLaws
 pub mod PutLaws
 pub mod RequestFits
 pub mod RowLaws

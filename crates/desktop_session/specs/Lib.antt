@@ -5,6 +5,7 @@ pub mod Faults
 pub mod Greetings
 pub mod Lent
 pub mod Lists
+pub mod Opens
 pub mod Puts
 pub mod Replies
 pub mod Requests

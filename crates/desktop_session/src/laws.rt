@@ -1,15 +1,24 @@
 // What holds of what a session says.
-ghost use Rattle.std.specs.Prelude.{◌≡◌, ◌++◌, ◌+◌, ◌-◌, ◌<◌, ◌≤◌, ◌⊎◌, ℕ, List, Ok, false, length, map, max, true};
+ghost use Rattle.std.specs.Prelude.{◌≡◌, ◌++◌, ◌+◌, ◌-◌, ◌^◌, ◌<◌, ◌≤◌, ◌⊎◌, ℕ, List, Ok, Some, false, length, map, max, slice_get, true};
+ghost use Rattle.pdb_values.specs.declared.head.DbHead.{DbHead};
+ghost use Rattle.pdb_values.specs.declared.record.Record.{Record};
+ghost use Rattle.pdb_values.specs.declared.resource.Resource.{Resource};
 ghost use Rattle.dlp_replies.specs.ReplyReading.{reply_at};
 ghost use Rattle.dlp_replies.specs.ReplyValues as reply;
 ghost use Rattle.palm_device.specs.Devices.{Device};
-ghost use Rattle.palm_device.specs.Handles.{no_handles};
+ghost use Rattle.palm_device.specs.Handles.{Base, base_at, no_handles};
+ghost use Rattle.palm_device.specs.Records.{next_changed, place_of_id};
+ghost use Rattle.palm_device.specs.Soundness.{ids_of};
 ghost use Rattle.dlp_commands.specs.DeviceRuns.{Ran};
 ghost use Rattle.dlp_commands.specs.DatabaseFunctions.{listed};
+ghost use Rattle.dlp_commands.specs.Holding.{on_records, on_resources};
 ghost use Rattle.dlp_commands.specs.Talks.{Talk};
 ghost use Rattle.desktop_session.specs.Acts.{Act, acted};
-ghost use Rattle.desktop_session.specs.Lists.{has_more, heads_listed, list_reply};
-ghost use Rattle.desktop_session.specs.Requests.{opening_in};
+ghost use Rattle.desktop_session.specs.Answers.{record_of, resource_of, said_in};
+ghost use Rattle.desktop_session.specs.Lent.{record_lent, resource_lent};
+ghost use Rattle.desktop_session.specs.Lists.{has_more, heads_listed, id_parts, ids_listed, list_reply};
+ghost use Rattle.desktop_session.specs.Opens.{IsOpenAs, LeavesOpen};
+ghost use Rattle.desktop_session.specs.Requests.{closing, making, opening_in, reading_at, reading_next, reading_of, reading_resource};
 ghost use Rattle.desktop_session.specs.Says.{said};
 ghost use Rattle.desktop_session.specs.Tellings.{AreSayable, IsProper, IsSayable, device_after, exchanges, number_of, told};
 
@@ -49,4 +58,53 @@ pub fn lists_are_whole()
         → ((k : ℕ) → k + 1 < count → has_more (list_reply device k) ≡ true)
         → (count ≡ 65536) ⊎ (has_more (list_reply device (count - 1)) ≡ false)
         → count ≡ max 1 (length device.databases) }
+{}
+
+/// An open database's handle stands for it, in its mode, from the opening to the closing, whatever is
+/// asked in between.
+pub fn open_ones_stay_open()
+    ensures opened { (device : Device) (mode handle : ℕ) (name : List ℕ)
+        → told (opening_in mode name) device ≡ reply.OpenDb handle
+        → IsOpenAs handle name mode (acted (opening_in mode name) device).1 }
+    ensures made { (device : Device) (head : DbHead) (handle : ℕ)
+        → told (making head) device ≡ reply.CreateDb handle
+        → IsOpenAs handle head.name 0xC0 (acted (making head) device).1 }
+    ensures stays { (one : Act) (device : Device) (handle mode : ℕ) (name : List ℕ)
+        → LeavesOpen one.asks.form → IsOpenAs handle name mode device
+        → IsOpenAs handle name mode (acted one device).1 }
+    ensures closes { (device : Device) (handle mode : ℕ) (name : List ℕ)
+        → IsOpenAs handle name mode device → told (closing handle) device ≡ reply.CloseDb }
+{}
+
+/// Over a device whose values keep their bounds what is lent says what its record or its resource
+/// says, with all its bytes, and the ids are those of the database's records, in their order.
+pub fn lent_ones_are_the_devices()
+    ensures at { (device : Device) (handle place : ℕ) (base : Base) (item : Record)
+        → IsProper device → handle < 2 ^ 8 → place < 2 ^ 16 → base_at device handle ≡ Some base
+        → on_records base.database ≡ true → slice_get base.database.records place ≡ Some item
+        → said_in record_of (reply_at 0x20 (acted (reading_at handle place) device).0)
+        ≡ Ok (record_lent item) }
+    ensures by_id { (device : Device) (handle id place : ℕ) (base : Base) (item : Record)
+        → IsProper device → handle < 2 ^ 8 → id < 2 ^ 32 → base_at device handle ≡ Some base
+        → on_records base.database ≡ true → place_of_id id base.database.records ≡ Some place
+        → slice_get base.database.records place ≡ Some item
+        → said_in record_of (reply_at 0x20 (acted (reading_of handle id) device).0)
+        ≡ Ok (record_lent item) }
+    ensures next { (device : Device) (handle place : ℕ) (base : Base) (item : Record)
+        → IsProper device → handle < 2 ^ 8 → base_at device handle ≡ Some base
+        → on_records base.database ≡ true
+        → next_changed base.opened.next base.database.records ≡ Some place
+        → slice_get base.database.records place ≡ Some item
+        → said_in record_of (reply_at 0x1F (acted (reading_next handle) device).0)
+        ≡ Ok (record_lent item) }
+    ensures resource { (device : Device) (handle place : ℕ) (base : Base) (resource : Resource)
+        → IsProper device → handle < 2 ^ 8 → place < 2 ^ 16 → base_at device handle ≡ Some base
+        → on_resources base.database ≡ true
+        → slice_get base.database.resources place ≡ Some resource
+        → said_in resource_of (reply_at 0x23 (acted (reading_resource handle place) device).0)
+        ≡ Ok (resource_lent resource) }
+    ensures ids { (device : Device) (handle count : ℕ) (base : Base) → IsProper device
+        → handle < 2 ^ 8 → count < 2 ^ 16 → base_at device handle ≡ Some base
+        → on_records base.database ≡ true → length (ids_of base.database.records) ≤ count
+        → ids_listed device handle (id_parts count) ≡ ids_of base.database.records }
 {}

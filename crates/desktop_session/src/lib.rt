@@ -25,7 +25,10 @@ mod writing;
 pub use ending::{Ended, Halted};
 pub use fault::SessionFault;
 pub use idle::Idle;
-pub use laws::{acts_are_steps, first_handle_is_one, lists_are_whole, replies_tell};
+pub use laws::{
+    acts_are_steps, first_handle_is_one, lent_ones_are_the_devices, lists_are_whole,
+    open_ones_stay_open, replies_tell,
+};
 pub use lent::{RecordLent, ResourceLent};
 pub use linked::Linked;
 pub use open_db::OpenDb;
