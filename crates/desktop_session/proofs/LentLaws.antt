@@ -167,7 +167,8 @@ ids_reply : (device : Device) (handle start : ℕ) (base : Base) → IsProper de
     → on_records base.database ≡ true
     → ids_in (reply_at 0x31 (acted (listing_ids handle start) device).0) ≡ take 8000 (drop start (ids_of base.database.records))
 ids_reply device handle start base proper byte half is records =
-    let read = acted_reads (listing_ids handle start) device proper (act_sayable (listing_ids handle start).asks device (ids_fit handle start byte half) refl) in
+    let read = acted_reads (listing_ids handle start) device proper
+    (act_sayable (listing_ids handle start).asks device (ids_fit handle start byte half) refl) in
     ap ids_in (read ∙ ap Ok (told_ids device handle start base is records))
 
 ids_so_far : (device : Device) (handle parts : ℕ) (base : Base) → IsProper device → handle < 2 ^ 8 → parts ≤ 9 → base_at device handle ≡ Some base
