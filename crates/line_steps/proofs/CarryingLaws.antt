@@ -1,22 +1,28 @@
 -- The steps by which a message goes over.
 use Rattle.std.specs.Prelude.{Result, Ok, Err, OnOk}
-use Rattle.std.proofs.Common.{◌≡◌, ◌<◌, ◌≤◌, Bool, true, false, refl, sym, subst, ◌∙◌, arith}
+use Rattle.std.proofs.Common.{◌≡◌, ◌+◌, ◌<◌, ◌≤◌, Bool, true, false, List, length, refl, sym, ap, subst, ◌∙◌, arith, inl, inr}
+use Rattle.std.proofs.lemmas.Bool.{cases_lt}
 use Rattle.padp_link.specs.declared.receiver.Taken.TheVariants.{Accepted, Whole, Repeated, Dropped}
+use Rattle.padp_link.specs.declared.piece.Key.{Key}
+use Rattle.padp_link.specs.Pieces.{piece_count}
 use Rattle.padp_link.specs.Senders.{Waits}
 use Rattle.trace_text.specs.Fates.{FateValue}
+use Rattle.line_laws.specs.Core.{Side, Waiting}
+use Rattle.line_laws.specs.Line.{Line}
 use Rattle.line_laws.proofs.MeasureLaws.{measure_turned}
 use Rattle.line_steps.specs.declared.half.Half.{Half}
 use Rattle.line_steps.specs.declared.half.Wire.{Wire}
 use Rattle.line_steps.specs.declared.hearing.Heard.{Heard}
 use Rattle.line_steps.specs.declared.hearing.Heard.TheVariants.{Nothing, Ack, Data}
-use Rattle.line_steps.specs.Carrying.{SameMessage, Carrying, Reaches, StepTo, makes_whole}
+use Rattle.line_steps.specs.Carrying.{SameMessage, Carried, Reaches, StepTo, makes_whole}
 use Rattle.line_steps.specs.Running.{past_now, side_of, Holds, Moved, Read, Stays}
 use Rattle.line_steps.specs.Ticking.{SendsAgain}
-use Rattle.line_steps.specs.Turning.{TurnBehind}
+use Rattle.line_steps.specs.Settling.{AllTaken}
+use Rattle.line_steps.specs.Turning.{Turn, TurnBehind}
 use Rattle.line_steps.specs.Underway.{Underway, UnderwayBehind, StillUnderway}
 use Rattle.line_steps.specs.Working.{work_left}
 use Rattle.line_steps.proofs.HoldsLaws.{moved}
-use Rattle.line_steps.proofs.StartingLaws.{waits_then}
+use Rattle.line_steps.proofs.StartingLaws.{waits_now, waits_then}
 use Rattle.line_steps.proofs.TurnLaws.{holds_turned}
 
 pub again-stays : (wire new : Wire) (half later : Half) (given : FateValue) → SendsAgain wire half given new later → Stays half later
@@ -70,16 +76,27 @@ skipped-underway wire x y x1 y1 x2 y2 it on = read_underway wire x2 y y1 y2 it.y
 pub skipped-work : (wire : Wire) (x y x1 y1 x2 y2 : Half) → Skipped wire x y x1 y1 x2 y2 → work_left wire x2 y2 ≤ work_left wire x y
 skipped-work wire x y x1 y1 x2 y2 it = omega (arith, it.first, it.second, work_turned wire y2 x2, work_turned wire y1 x1)
 
+-- what was all taken is so still, where x waits
+pub skipped-taken : (wire : Wire) (x y x1 y1 x2 y2 : Half) → Skipped wire x y x1 y1 x2 y2 → Waiting (side_of x) → AllTaken wire x y → AllTaken wire x2 y2
+skipped-taken wire x y x1 y1 x2 y2 it waits all =
+    subst (λ (h : Half). AllTaken wire h y2) (sym it.x_read) (subst (λ (h : Half). AllTaken wire (record h { reader = x2.reader }) y2) (sym it.x_moved)
+    (subst (λ (h : Half). AllTaken wire (record x { taken = x1.taken; reader = x2.reader }) h) (sym it.y_moved) (subst (λ (h : Half). AllTaken wire (record x { taken = x1.taken; reader = x2.reader }) (record h { taken = y2.taken })) (sym it.y_read)
+    (record { all = all.all; idle = all.idle; last = all.last; knows = λ over. absurd (omega (arith, waits, over)) }))))
+
 -- so what is reached from there is reached from before
-pub skipped-steps : (whole : Bool) (wire : Wire) (x y x1 y1 x2 y2 : Half) (new : Wire) (later_x later_y : Half) → Skipped wire x y x1 y1 x2 y2 → StepTo whole wire x2 y2 new later_x later_y → StepTo whole wire x y new later_x later_y
-skipped-steps whole wire x y x1 y1 x2 y2 new later_x later_y it step = record {
-  reaches = go whole step.reaches;
+pub skipped-steps : (whole : Bool) (wire : Wire) (x y x1 y1 x2 y2 : Half) (new : Wire) (later_x later_y : Half) → Skipped wire x y x1 y1 x2 y2 → Waiting (side_of x) → StepTo whole wire x2 y2 new later_x later_y → StepTo whole wire x y new later_x later_y
+skipped-steps whole wire x y x1 y1 x2 y2 new later_x later_y it waits step = record {
+  holds = step.holds;
+  less = omega (arith, step.less, skipped-work wire x y x1 y1 x2 y2 it);
+  underway = λ on. step.underway (skipped-underway wire x y x1 y1 x2 y2 it on);
+  taken = λ all. step.taken (skipped-taken wire x y x1 y1 x2 y2 it waits all);
   x_same = same_trans x x2 later_x (skip_same x x1 x2 it.x_moved it.x_read) step.x_same;
   y_same = same_trans y y2 later_y (read_same y y1 y2 it.y_read it.y_moved) step.y_same;
-} where
-  go : (whole : Bool) → Reaches whole wire x2 y2 new later_x later_y → Reaches whole wire x y new later_x later_y
-  go true carried = carried
-  go false carrying = record { holds = carrying.holds; underway = carrying.underway; less = omega (arith, carrying.less, skipped-work wire x y x1 y1 x2 y2 it) }
+}
+
+-- x waits there, too
+pub skipped-waits : (x x1 x2 : Half) → Moved x x1 → Read x1 x2 → Waits x.sender → Waits x2.sender
+skipped-waits x x1 x2 moved read waits = subst (λ (h : Half). Waits h.sender) (sym read) (subst (λ (h : Half). Waits h.sender) (sym moved) waits)
 
 -- ---- a step
 
@@ -88,46 +105,93 @@ pub of_five : {T E A B C D F G : Type 0} (r : Result T E) → (A → B → C →
 of_five (Ok x) f a b c d e = f a b c d e
 of_five (Err y) f a b c d e = tt
 
--- y took the next frame of x
-pub own_step : (heard : Heard) (whole : Bool) (wire : Wire) (x y : Half) (new : Wire) (later_x later_y : Half) → whole ≡ makes_whole heard → Underway wire x y → StillUnderway heard wire x y new later_x later_y → TurnBehind heard new later_y later_x → Holds new later_x later_y
-    → work_left new later_x later_y < work_left wire x y → SameMessage x later_x → SameMessage y later_y → StepTo whole wire x y new later_x later_y
-own_step heard whole wire x y new later_x later_y is on still turn holds less x_same y_same = record { reaches = subst (λ (w : Bool). Reaches w wire x y new later_x later_y) (sym is) (go heard turn (still.own on)); x_same = x_same; y_same = y_same } where
-  on_the_way : Underway new later_x later_y → Carrying wire x y new later_x later_y
-  on_the_way now = record { holds = holds; underway = now; less = less }
+-- y took the next frame of x, which waits
+pub own_step : (heard : Heard) (whole : Bool) (wire : Wire) (x y : Half) (new : Wire) (later_x later_y : Half) → whole ≡ makes_whole heard → Holds wire x y → Waits x.sender → StillUnderway heard wire x y new later_x later_y → TurnBehind heard new later_y later_x
+    → Holds new later_x later_y → work_left new later_x later_y < work_left wire x y → later_x ≡ moved x → SameMessage y later_y → StepTo whole wire x y new later_x later_y
+own_step heard whole wire x y new later_x later_y is before waits still turn holds less x_moved y_same = record {
+  holds = holds;
+  less = less;
+  underway = λ on. subst (λ (w : Bool). Reaches w new later_x later_y) (sym is) (go heard turn (still.own on));
+  taken = λ all. still.own_taken (waits_now x before.x_half waits) all;
+  x_same = moved_same x later_x x_moved;
+  y_same = y_same;
+} where
+  go : (heard : Heard) → TurnBehind heard new later_y later_x → UnderwayBehind heard new later_x later_y → Reaches (makes_whole heard) new later_x later_y
+  go Nothing turn now = now
+  go (Ack key) turn now = now
+  go (Data key Accepted) turn now = now
+  go (Data key Repeated) turn now = now
+  go (Data key Dropped) turn now = now
+  go (Data key Whole) turn now = record { turn = turn.0; waits = subst (λ (h : Half). Waits h.sender) (sym x_moved) waits; message = turn.1 }
 
-  go : (heard : Heard) → TurnBehind heard new later_y later_x → UnderwayBehind heard new later_x later_y → Reaches (makes_whole heard) wire x y new later_x later_y
-  go Nothing turn now = on_the_way now
-  go (Ack key) turn now = on_the_way now
-  go (Data key Accepted) turn now = on_the_way now
-  go (Data key Repeated) turn now = on_the_way now
-  go (Data key Dropped) turn now = on_the_way now
-  go (Data key Whole) turn now = record { turn = turn.0; message = turn.1 }
-
--- x took the next frame of y
-pub other_step : (heard : Heard) (wire : Wire) (x y : Half) (new : Wire) (later_x later_y : Half) → Underway wire x y → StillUnderway heard wire y x new later_y later_x → Holds new later_y later_x → work_left new later_y later_x < work_left wire y x → SameMessage x later_x → SameMessage y later_y
+-- x, which waits, took the next frame of y
+pub other_step : (heard : Heard) (wire : Wire) (x y : Half) (new : Wire) (later_x later_y : Half) → Waiting (side_of x) → StillUnderway heard wire y x new later_y later_x → Holds new later_y later_x → work_left new later_y later_x < work_left wire y x → SameMessage x later_x → SameMessage y later_y
     → StepTo false wire x y new later_x later_y
-other_step heard wire x y new later_x later_y on still holds less x_same y_same = record {
-  reaches = record { holds = holds_turned new later_y later_x holds; underway = still.other on; less = omega (arith, less, work_turned wire x y, work_turned new later_x later_y) };
+other_step heard wire x y new later_x later_y waits still holds less x_same y_same = record {
+  holds = holds_turned new later_y later_x holds;
+  less = omega (arith, less, work_turned wire x y, work_turned new later_x later_y);
+  underway = λ on. still.other on;
+  taken = λ all. still.other_taken waits all;
   x_same = x_same;
   y_same = y_same;
 }
 
 -- a tick, with the timer of x first
-pub tick_step : (wire : Wire) (x y : Half) (new : Wire) (later_x later_y : Half) → Underway wire x y → StillUnderway Nothing wire x y new later_x later_y → Holds new later_x later_y → work_left new later_x later_y < work_left wire x y → Stays x later_x → Stays y later_y
+pub tick_step : (wire : Wire) (x y : Half) (new : Wire) (later_x later_y : Half) → Waiting (side_of x) → StillUnderway Nothing wire x y new later_x later_y → Holds new later_x later_y → work_left new later_x later_y < work_left wire x y → Stays x later_x → Stays y later_y
     → StepTo false wire x y new later_x later_y
-tick_step wire x y new later_x later_y on still holds less x_stays y_stays = record {
-  reaches = record { holds = holds; underway = still.own on; less = less };
+tick_step wire x y new later_x later_y waits still holds less x_stays y_stays = record {
+  holds = holds;
+  less = less;
+  underway = λ on. still.own on;
+  taken = λ all. still.own_taken waits all;
   x_same = stays_same x later_x x_stays;
   y_same = stays_same y later_y y_stays;
 }
 
 -- and with the timer of y first
-pub tick_back : (wire : Wire) (x y : Half) (new : Wire) (later_x later_y : Half) → Underway wire x y → StillUnderway Nothing wire y x new later_y later_x → Holds new later_y later_x → work_left new later_y later_x < work_left wire y x → Stays y later_y → Stays x later_x
+pub tick_back : (wire : Wire) (x y : Half) (new : Wire) (later_x later_y : Half) → Waiting (side_of x) → StillUnderway Nothing wire y x new later_y later_x → Holds new later_y later_x → work_left new later_y later_x < work_left wire y x → Stays y later_y → Stays x later_x
     → StepTo false wire x y new later_x later_y
-tick_back wire x y new later_x later_y on still holds less y_stays x_stays = other_step Nothing wire x y new later_x later_y on still holds less (stays_same x later_x x_stays) (stays_same y later_y y_stays)
-
-pub false_step : (whole : Bool) (wire : Wire) (x y : Half) (new : Wire) (later_x later_y : Half) → whole ≡ false → StepTo whole wire x y new later_x later_y → Carrying wire x y new later_x later_y
-false_step whole wire x y new later_x later_y is step = subst (λ (w : Bool). Reaches w wire x y new later_x later_y) is step.reaches
+tick_back wire x y new later_x later_y waits still holds less y_stays x_stays = other_step Nothing wire x y new later_x later_y waits still holds less (stays_same x later_x x_stays) (stays_same y later_y y_stays)
 
 pub underway-waits : (wire : Wire) (x y : Half) → Holds wire x y → Underway wire x y → Waits x.sender
 underway-waits wire x y holds it = waits_then x holds.x_half it.waits
+
+pub not_over : (whole : Bool) (wire : Wire) (x y : Half) → whole ≡ false → Reaches whole wire x y → Underway wire x y
+not_over whole wire x y is reached = subst (λ (w : Bool). Reaches w wire x y) is reached
+
+pub is_over : (whole : Bool) (wire : Wire) (x y : Half) → whole ≡ true → Reaches whole wire x y → Carried wire x y
+is_over whole wire x y is reached = subst (λ (w : Bool). Reaches w wire x y) is reached
+
+-- ---- an end that waits until all was acknowledged
+
+pub taken-turn : (wire : Wire) (x y : Half) → Turn wire y x → Waits x.sender → AllTaken wire x y
+taken-turn wire x y turn waits =
+    let now = waits_now x turn.settled.y_half waits in
+    record { all = omega (arith, ap (λ (s : List Key). length s) turn.settled.line.core.back.follows); idle = turn.idle; last = turn.last; knows = λ over. absurd (omega (arith, now, over)) }
+
+-- what isn't awaited was taken
+none_fresh : (fresh : Bool) (side : Side) → (fresh ≡ true → Waiting side) → piece_count (length side.message) ≤ side.acknowledged → fresh ≡ false
+none_fresh false side waits over = refl
+none_fresh true side waits over = absurd (omega (arith, waits refl, over))
+
+pub taken-settled : (wire : Wire) (x y : Half) → Holds wire x y → AllTaken wire x y → (Waits x.sender → ⊥) → Turn wire x y
+taken-settled wire x y holds taken idle =
+    let over : piece_count (length x.message.items) ≤ x.sender.acknowledged = elim (cases_lt x.sender.acknowledged (piece_count (length x.message.items))) [
+      | inl waits ↦ absurd (idle (waits_then x holds.x_half waits))
+      | inr done ↦ done
+    ] in
+    let fx = none_fresh holds.fx (side_of x) holds.line.core.x_speaks.waits over in
+    let fy = none_fresh holds.fy (side_of y) holds.line.core.y_speaks.waits taken.idle in
+    record {
+      settled = record {
+        apart = holds.apart;
+        go = holds.go;
+        x_half = holds.x_half;
+        y_half = holds.y_half;
+        line = subst (λ (f : Bool). Line x.end y.end (past_now wire.frames.items) x.taken y.taken wire.released (side_of x) (side_of y) x.receiver y.receiver false f x.sender.tries y.sender.tries) fy
+            (subst (λ (f : Bool). Line x.end y.end (past_now wire.frames.items) x.taken y.taken wire.released (side_of x) (side_of y) x.receiver y.receiver f holds.fy x.sender.tries y.sender.tries) fx holds.line);
+      };
+      knows = taken.knows over;
+      idle = over;
+      last = omega (arith, taken.idle);
+    }

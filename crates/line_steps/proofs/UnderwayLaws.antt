@@ -21,6 +21,7 @@ use Rattle.line_steps.specs.declared.half.Wire.{Wire}
 use Rattle.line_steps.specs.declared.hearing.Heard.{Heard}
 use Rattle.line_steps.specs.declared.hearing.Heard.TheVariants.{Nothing, Ack, Data}
 use Rattle.line_steps.specs.Running.{sent_of, past_now, side_of, IsHalf, AllGo, Holds, Heeded}
+use Rattle.line_steps.specs.Settling.{AllTaken}
 use Rattle.line_steps.specs.Sending.{Sends, ack_fragment}
 use Rattle.line_steps.specs.Taking.{AckNext, DataHeard}
 use Rattle.line_steps.specs.Ticking.{SendsAgain}
@@ -60,12 +61,30 @@ underway wire x y past fx same follows active = record {
   due = subst (λ (p : List Sent). Due (said x.end p) (acked y.end p) (side_of x)) (sym same) (active_due fx (said x.end past) (acked y.end past) (side_of x) follows active);
 }
 
+-- ---- what was all taken
+
+none_fresh : (fresh : Bool) (said acked : List Key) → Follows said acked fresh → length said ≤ length acked → fresh ≡ false
+none_fresh false said acked follows all = refl
+none_fresh true said acked follows all = absurd (omega (arith, all, ap (λ (s : List Key). length s) (follows.1)))
+
+-- so it is behind more frames, while x waits
+all_taken : (wire new : Wire) (x y later_x later_y : Half) (past : List Sent) (fresh : Bool) → Waiting (side_of later_x) → AllTaken wire x y → fresh ≡ false → past_now new.frames.items ≡ past → Follows (said later_x.end past) (acked later_y.end past) fresh
+    → side_of later_x ≡ side_of x → side_of later_y ≡ side_of y → AllTaken new later_x later_y
+all_taken wire new x y later_x later_y past fresh waits it none same follows x_same y_same = record {
+  all = subst (λ (p : List Sent). length (said later_x.end p) ≤ length (acked later_y.end p)) (sym same) (omega (arith, ap (λ (s : List Key). length s) (subst (λ (f : Bool). Follows (said later_x.end past) (acked later_y.end past) f) none follows)));
+  idle = subst (λ (s : Side). piece_count (length s.message) ≤ s.acknowledged) (sym y_same) it.idle;
+  last = subst (λ (s : Side). piece_count (length s.message) ≤ s.acknowledged + 1) (sym x_same) it.last;
+  knows = λ over. absurd (omega (arith, waits, over));
+}
+
 -- ---- an acknowledgement
 
 pub ack_other-underway : (wire : Wire) (x y : Half) (key : Key) → StillUnderway (Ack key) wire x y wire (moved x) y
 ack_other-underway wire x y key = record {
   own = λ it. record { waits = it.waits; due = it.due };
   other = λ it. record { waits = it.waits; due = it.due };
+  own_taken = λ waits it. record { all = it.all; idle = it.idle; last = it.last; knows = λ over. absurd (omega (arith, waits, over)) };
+  other_taken = λ waits it. record { all = it.all; idle = it.idle; last = it.last; knows = λ over. absurd (omega (arith, waits, over)) };
 }
 
 pub ack_last-underway : (wire : Wire) (x y : Half) (key : Key) → Holds wire x y → AckNext x.end wire x.taken key → waiting_key y.sender ≡ Some key → piece_count y.sender.length ≤ y.sender.acknowledged + 1 → StillUnderway (Ack key) wire x y wire (moved x) (advanced y)
@@ -77,6 +96,8 @@ ack_last-underway wire x y key holds it is last =
     record {
       own = λ own. record { waits = own.waits; due = own.due };
       other = λ other. absurd (omega (arith, last, ap piece_count holds.y_half.length_is, active_goes_on (side_of y) holds.fy (back_of wire x y holds other) m.none_fresh));
+      own_taken = λ waits taken. absurd (omega (arith, w.waits, taken.idle));
+      other_taken = λ waits taken. record { all = taken.all; idle = taken.idle; last = omega (arith, taken.last); knows = λ over. m.knows };
     }
 
 pub ack_more-underway : (wire new : Wire) (x y : Half) (key : Key) (given : FateValue) → Holds wire x y → AckNext x.end wire x.taken key → waiting_key y.sender ≡ Some key → y.sender.acknowledged + 1 < piece_count y.sender.length
@@ -93,6 +114,8 @@ ack_more-underway wire new x y key given holds it is more sends released =
     let core = take_ack x.end y.end past x.taken y.taken (x.taken + 1) (side_of x) (side_of y) x.receiver y.receiver holds.fx holds.fy sent _ (course_of given) holds.apart holds.line.core (omega arith) (omega (arith, at_head.inside)) at_head.here it.is w.waits (w.key_is ∙ sym it.key_is) below in
     record {
       own = λ own. absurd ((m.alone below).1 own.waits);
+      own_taken = λ waits taken. absurd ((m.alone below).1 waits);
+      other_taken = λ waits taken. absurd (omega (arith, below, taken.last));
       other = λ other. underway new (advanced y) (moved x) (data_frame y.end (key_now next) ((part_now next).bytes) (course_of given) ∷ past) true longer.past core.back.follows (active_begun next below);
     }
 
@@ -121,6 +144,8 @@ copied-underway wire new x y key given heard sends released =
     record {
       own = λ it. underway new (moved x) y (ack ∷ past_now wire.frames.items) heard.holds.fx longer core.there.follows (active_of wire x old heard.holds (before wire x y heard.before it));
       other = λ it. underway new y (moved x) (ack ∷ past_now wire.frames.items) heard.holds.fy longer core.back.follows (back_of wire x old heard.holds (before_back wire x y heard.before it));
+      own_taken = λ waits it. all_taken wire new x y (moved x) y (ack ∷ past_now wire.frames.items) heard.holds.fx waits it (none_fresh heard.holds.fx _ _ heard.holds.line.core.there.follows it.all) longer core.there.follows refl refl;
+      other_taken = λ waits it. all_taken wire new y x y (moved x) (ack ∷ past_now wire.frames.items) heard.holds.fy waits it (none_fresh heard.holds.fy _ _ heard.holds.line.core.back.follows it.all) longer core.back.follows refl refl;
     }
 
 -- while a message of y is on its way, nothing new of x comes
@@ -148,12 +173,16 @@ accepted-underway wire new x y key given sender heard sends released =
     record {
       own = λ it. underway new (moved x) (record y { sender = sender }) (ack ∷ past_now wire.frames.items) false longer core.there.follows (active_taken (side_of x) accepting.waits more);
       other = λ it. absurd (none_new wire x old heard.holds after.0 (before_back wire x y heard.before it));
+      own_taken = λ waits it. absurd (both_ways heard.holds.fx (none_fresh heard.holds.fx _ _ heard.holds.line.core.there.follows it.all) after.0);
+      other_taken = λ waits it. absurd (omega (arith, accepting.waits, it.idle));
     }
 
 whole-underway : (wire new : Wire) (x y : Half) (key : Key) (sender : SenderValue) → (heard : DataHeard wire x y key Whole) → StillUnderway (Data key Whole) wire x y new (moved x) (record y { sender = sender })
 whole-underway wire new x y key sender heard = record {
   own = λ it. tt;
   other = λ it. absurd (none_new wire x (record y { receiver = heard.before }) heard.holds (after_heard wire x y key Whole heard).0 (before_back wire x y heard.before it));
+  own_taken = λ waits it. absurd (both_ways heard.holds.fx (none_fresh heard.holds.fx _ _ heard.holds.line.core.there.follows it.all) (after_heard wire x y key Whole heard).0);
+  other_taken = λ waits it. absurd (omega (arith, (after_heard wire x y key Whole heard).1.waits, it.idle));
 }
 
 pub took_data-underway : (wire new : Wire) (x y : Half) (key : Key) (taken : Taken) (given : FateValue) (sender : SenderValue) → DataHeard wire x y key taken → NewSender taken y.sender sender → Sends wire.frames.items y.end key.id (ack_fragment key) given None new.frames.items → new.released ≡ wire.released
@@ -171,6 +200,8 @@ heeded-underway heard wire x y h new later_x later_y heeded still =
     record {
       own = λ it. now.own (record { waits = it.waits; due = it.due });
       other = λ it. now.other (record { waits = it.waits; due = it.due });
+      own_taken = λ waits it. now.own_taken waits (record { all = it.all; idle = it.idle; last = it.last; knows = it.knows });
+      other_taken = λ waits it. now.other_taken waits (record { all = it.all; idle = it.idle; last = it.last; knows = it.knows });
     }
 
 -- ---- a message begins, and a tick
@@ -202,6 +233,8 @@ keeps : (wire new : Wire) (x y : Half) → (holds : Holds wire x y) → Core x.e
 keeps wire new x y holds core = record {
   own = λ it. underway new x y (past_now new.frames.items) holds.fx refl core.there.follows (active_of wire x y holds it);
   other = λ it. underway new y x (past_now new.frames.items) holds.fy refl core.back.follows (back_of wire x y holds it);
+  own_taken = λ waits it. all_taken wire new x y x y (past_now new.frames.items) holds.fx waits it (none_fresh holds.fx _ _ holds.line.core.there.follows it.all) refl core.there.follows refl refl;
+  other_taken = λ waits it. all_taken wire new y x y x (past_now new.frames.items) holds.fy waits it (none_fresh holds.fy _ _ holds.line.core.back.follows it.all) refl core.back.follows refl refl;
 }
 
 -- tries are no part of it
@@ -209,16 +242,20 @@ tried_x : (wire new : Wire) (x y : Half) → StillUnderway Nothing wire x y new 
 tried_x wire new x y still = record {
   own = λ it. (let now : Underway new x y = still.own it in record { waits = now.waits; due = now.due });
   other = λ it. (let now : Underway new y x = still.other it in record { waits = now.waits; due = now.due });
+  own_taken = λ waits it. (let now : AllTaken new x y = still.own_taken waits it in record { all = now.all; idle = now.idle; last = now.last; knows = now.knows });
+  other_taken = λ waits it. (let now : AllTaken new y x = still.other_taken waits it in record { all = now.all; idle = now.idle; last = now.last; knows = now.knows });
 }
 
 tried_both : (wire new : Wire) (x y : Half) → StillUnderway Nothing wire x y new x y → StillUnderway Nothing wire x y new (again x) (again y)
 tried_both wire new x y still = record {
   own = λ it. (let now : Underway new x y = still.own it in record { waits = now.waits; due = now.due });
   other = λ it. (let now : Underway new y x = still.other it in record { waits = now.waits; due = now.due });
+  own_taken = λ waits it. (let now : AllTaken new x y = still.own_taken waits it in record { all = now.all; idle = now.idle; last = now.last; knows = now.knows });
+  other_taken = λ waits it. (let now : AllTaken new y x = still.other_taken waits it in record { all = now.all; idle = now.idle; last = now.last; knows = now.knows });
 }
 
 still_turned : (wire new : Wire) (x y later_x later_y : Half) → StillUnderway Nothing wire x y new later_x later_y → StillUnderway Nothing wire y x new later_y later_x
-still_turned wire new x y later_x later_y still = record { own = still.other; other = still.own }
+still_turned wire new x y later_x later_y still = record { own = still.other; other = still.own; own_taken = still.other_taken; other_taken = still.own_taken }
 
 pub tick_one-underway : (wire new : Wire) (r : ℕ) (x y later : Half) (given : FateValue) → Holds wire x y → Waits x.sender → SendsAgain (record wire { released = r }) x given new later → StillUnderway Nothing wire x y new later y
 tick_one-underway wire new r x y later given holds waits sent =

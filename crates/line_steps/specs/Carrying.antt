@@ -1,6 +1,7 @@
 -- A message goes over to the other end, step by step.
 use Rattle.std.specs.Prelude.{◌≡◌, ◌⊎◌, ◌<◌, Bool, true, false, Some}
 use Rattle.padp_link.specs.Receivers.{whole_of}
+use Rattle.padp_link.specs.Senders.{Waits}
 use Rattle.padp_link.specs.declared.receiver.Taken.TheVariants.{Whole}
 use Rattle.line_laws.specs.Progress.{Blocked}
 use Rattle.line_steps.specs.declared.carrying.Next.{Next}
@@ -11,6 +12,7 @@ use Rattle.line_steps.specs.declared.hearing.Heard.{Heard}
 use Rattle.line_steps.specs.declared.hearing.Heard.TheVariants.{Data}
 use Rattle.line_steps.specs.Running.{Holds, past_now}
 use Rattle.line_steps.specs.Taking.{Delivers}
+use Rattle.line_steps.specs.Settling.{AllTaken}
 use Rattle.line_steps.specs.Turning.{Turn}
 use Rattle.line_steps.specs.Underway.{Underway}
 use Rattle.line_steps.specs.Working.{work_left}
@@ -21,24 +23,23 @@ pub record SameMessage (old new : Half) : Type 0 where
   pub message_is : new.message ≡ old.message
   pub id_is : new.sender.id ≡ old.sender.id
 
--- y has the message of x, which it may answer
+-- y has the message of x, which it may answer; x waits for the acknowledgement of its last piece
 pub record Carried (wire : Wire) (x y : Half) : Type 0 where
   pub turn : Turn wire y x
+  pub waits : Waits x.sender
   pub message : whole_of y.receiver.pieces ≡ Some x.message.items
 
--- a step on the way leaves less to do
-pub record Carrying (wire : Wire) (x y : Half) (new : Wire) (later_x later_y : Half) : Type 0 where
-  pub holds : Holds new later_x later_y
-  pub underway : Underway new later_x later_y
-  pub less : work_left new later_x later_y < work_left wire x y
+-- the message is over, or on its way still
+abbrev pub Reaches : Bool → Wire → Half → Half → Type 0
+Reaches true wire x y = Carried wire x y
+Reaches false wire x y = Underway wire x y
 
--- a step, and whether the message is over
-abbrev pub Reaches : Bool → Wire → Half → Half → Wire → Half → Half → Type 0
-Reaches true wire x y new later_x later_y = Carried new later_x later_y
-Reaches false wire x y new later_x later_y = Carrying wire x y new later_x later_y
-
+-- A step while x waits leaves less to do. Where a message is on its way, it may be over; and what was all taken is so still.
 pub record StepTo (whole : Bool) (wire : Wire) (x y : Half) (new : Wire) (later_x later_y : Half) : Type 0 where
-  pub reaches : Reaches whole wire x y new later_x later_y
+  pub holds : Holds new later_x later_y
+  pub less : work_left new later_x later_y < work_left wire x y
+  pub underway : Underway wire x y → Reaches whole new later_x later_y
+  pub taken : AllTaken wire x y → AllTaken new later_x later_y
   pub x_same : SameMessage x later_x
   pub y_same : SameMessage y later_y
 

@@ -5,6 +5,7 @@ pub mod Hearing
 pub mod Sending
 pub mod Resting
 pub mod Running
+pub mod Settling
 pub mod Taking
 pub mod Ticking
 pub mod Turning

@@ -1,11 +1,13 @@
 //! A message goes over to the other end.
 ghost use Rattle.std.specs.Prelude.{◌≡◌, OnOk, IfOk, false};
+ghost use Rattle.padp_link.specs.Senders.{Waits};
 ghost use Rattle.line_laws.specs.Progress.{Blocked};
 ghost use Rattle.line_script.specs.Scripts.{fate_by};
 ghost use Rattle.trace_text.specs.Fates.{fate_value};
 ghost use Rattle.line_steps.specs.Adding.{AddsTwo, AllBy};
 ghost use Rattle.line_steps.specs.Carrying.{Carried, SameMessage, StepTo, IsNext, makes_whole};
 ghost use Rattle.line_steps.specs.Running.{Holds, AtHead, AllGo, past_now};
+ghost use Rattle.line_steps.specs.Turning.{Turn};
 ghost use Rattle.line_steps.specs.Underway.{Underway};
 
 use crate::half::{Half, Wire};
@@ -37,10 +39,28 @@ pub fn carry(wire: &mut Wire, x: &mut Half, y: &mut Half, script: &Script) -> Re
     }
 }
 
-/// Delivers the next frame, or lets time pass. Whether the message is over.
+/// Lets the line run on until the end `x`, whose message the other end took whole, waits for nothing.
+pub fn settle(wire: &mut Wire, x: &mut Half, y: &mut Half, script: &Script) -> Result<(), Halt>
+    requires turn { Turn wire.old y.old x.old }
+    requires waits { Waits x.old.sender }
+    ensures script { AllBy script.now 1 wire.old.frames.items →
+        AllBy script.now 1 wire.new.frames.items }
+    ensures turn { OnOk result (Turn wire.new x.new y.new) }
+    ensures x_same { OnOk result (SameMessage x.old x.new) }
+    ensures y_same { OnOk result (SameMessage y.old y.new) }
+{
+    loop {
+        if x.sender.current().is_none() {
+            return Ok(());
+        }
+        step(wire, x, y, script)?;
+    }
+}
+
+/// Delivers the next frame, or lets time pass, while `x` waits. Whether its message is over.
 fn step(wire: &mut Wire, x: &mut Half, y: &mut Half, script: &Script) -> Result<bool, Halt>
     requires holds { Holds wire.old x.old y.old }
-    requires underway { Underway wire.old x.old y.old }
+    requires waits { Waits x.old.sender }
     ensures script { AllBy script.now 1 wire.old.frames.items →
         AllBy script.now 1 wire.new.frames.items }
     ensures step { IfOk result (λ whole. StepTo whole wire.old x.old y.old wire.new x.new y.new) }
@@ -53,7 +73,7 @@ fn step(wire: &mut Wire, x: &mut Half, y: &mut Half, script: &Script) -> Result<
 /// The same where both ends are at their next frames that come.
 fn deliver(wire: &mut Wire, x: &mut Half, y: &mut Half, script: &Script) -> Result<bool, Halt>
     requires holds { Holds wire.old x.old y.old }
-    requires underway { Underway wire.old x.old y.old }
+    requires waits { Waits x.old.sender }
     requires x_head { AtHead x.old.end wire.old.frames.items x.old.taken }
     requires y_head { AtHead y.old.end wire.old.frames.items y.old.taken }
     ensures script { AllBy script.now 1 wire.old.frames.items →
@@ -116,10 +136,10 @@ fn is_whole(heard: Heard) -> bool
     }
 }
 
-/// Lets time pass while the message of `x` is on its way. The desktop's timer runs first.
+/// Lets time pass while `x` waits. The desktop's timer runs first.
 fn wait(wire: &mut Wire, x: &mut Half, y: &mut Half, fate: Fate, other: Fate) -> Result<(), Halt>
     requires holds { Holds wire.old x.old y.old }
-    requires underway { Underway wire.old x.old y.old }
+    requires waits { Waits x.old.sender }
     requires x_blocked { Blocked x.old.end (past_now wire.old.frames.items) x.old.taken wire.old.released }
     requires y_blocked { Blocked y.old.end (past_now wire.old.frames.items) y.old.taken wire.old.released }
     ensures adds { AddsTwo (fate_value fate) (fate_value other)
@@ -133,7 +153,7 @@ fn wait(wire: &mut Wire, x: &mut Half, y: &mut Half, fate: Fate, other: Fate) ->
 }
 
 /// The fate that the script gives the frame of this number.
-fn fate_of(script: &Script, number: u64) -> Result<Fate, AllocError>
+pub fn fate_of(script: &Script, number: u64) -> Result<Fate, AllocError>
     ensures { IfOk result (λ fate. fate_value fate ≡ fate_by script.now number) }
 {
     Ok(match script.fate(number) {

@@ -16,7 +16,7 @@ mod starting;
 mod taking;
 mod ticking;
 
-pub use carrying::carry;
+pub use carrying::{carry, fate_of, settle};
 pub use half::{Half, Wire};
 pub use harm::Stop;
 pub use hearing::{Heard, hear};

@@ -28,6 +28,8 @@ pub fn start(
     requires awaited { y.now.receiver.awaited ≡ Some id }
     requires none { y.now.receiver.pieces ≡ [] }
     requires short { length message.items < 65536 }
+    ensures says { x.new ≡ record x.old { sender = x.new.sender; message = message } }
+    ensures id { x.new.sender.id ≡ id }
     ensures holds { OnOk result (Holds wire.new x.new y.now) }
     ensures adds { AddsOne (fate_value fate) wire.old.frames.items wire.new.frames.items }
     ensures underway { OnOk result (Underway wire.new x.new y.now) }

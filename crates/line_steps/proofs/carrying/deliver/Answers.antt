@@ -3,6 +3,7 @@ use Rattle.trace_text.specs.Fates.{fate_value}
 use Rattle.line_script.specs.Scripts.{fate_by}
 use Rattle.line_steps.proofs.AddingLaws.{by_one, by_two}
 use Rattle.line_steps.proofs.CarryingLaws.{own_step, other_step, stays_same, moved_same}
+use Rattle.line_steps.proofs.StartingLaws.{waits_now}
 use Rattle.line_steps.proofs.TurnLaws.{holds_turned}
 use Rattle.line_steps.proofs.carrying.deliver.Goals as goal
 
@@ -12,13 +13,12 @@ take_next-requires-in-Other-clause-holds c = holds_turned c.args.wire.now c.args
 pub returns-in_ok-heard-in-Own-clause-step : goal.returns-in_ok-heard-in-Own-clause-step
 returns-in_ok-heard-in-Own-clause-step c =
     let took = c.in_ok-heard-in-Own.ensures in
-    own_step c.in_ok-heard-in-Own.heard c.is_whole.result c.args.wire.now c.args.x.now c.args.y.now c.take_next.new.wire c.take_next.new.x c.take_next.new.y c.is_whole.ensures c.requires.underway took.underway took.turn took.holds took.less
-    (moved_same c.args.x.now c.take_next.new.x took.moved) (stays_same c.args.y.now c.take_next.new.y took.stays)
+    own_step c.in_ok-heard-in-Own.heard c.is_whole.result c.args.wire.now c.args.x.now c.args.y.now c.take_next.new.wire c.take_next.new.x c.take_next.new.y c.is_whole.ensures c.requires.holds c.requires.waits took.underway took.turn took.holds took.less took.moved (stays_same c.args.y.now c.take_next.new.y took.stays)
 
 pub returns-in_ok-take_next-in-Other-clause-step : goal.returns-in_ok-take_next-in-Other-clause-step
 returns-in_ok-take_next-in-Other-clause-step c =
     let took = c.in_ok-take_next-in-Other.ensures in
-    other_step c.in_ok-take_next-in-Other.field-0 c.args.wire.now c.args.x.now c.args.y.now c.take_next-in-Other.new.wire c.take_next-in-Other.new.y c.take_next-in-Other.new.x c.requires.underway took.underway took.holds took.less
+    other_step c.in_ok-take_next-in-Other.field-0 c.args.wire.now c.args.x.now c.args.y.now c.take_next-in-Other.new.wire c.take_next-in-Other.new.y c.take_next-in-Other.new.x (waits_now c.args.x.now c.requires.holds.x_half c.requires.waits) took.underway took.holds took.less
     (stays_same c.args.x.now c.take_next-in-Other.new.y took.stays) (moved_same c.args.y.now c.take_next-in-Other.new.x took.moved)
 
 pub returns-in_err-heard-in-Own-clause-script : goal.returns-in_err-heard-in-Own-clause-script

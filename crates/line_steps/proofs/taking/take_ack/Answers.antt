@@ -13,7 +13,7 @@ use Rattle.line_steps.specs.Underway.{StillUnderway}
 use Rattle.line_steps.specs.Working.{work_left}
 use Rattle.line_steps.specs.declared.hearing.Heard.TheVariants as heard_as
 use Rattle.line_steps.proofs.AddingLaws.{adds_of}
-use Rattle.line_steps.proofs.UnderwayLaws.{ack_last-underway, ack_more-underway}
+use Rattle.line_steps.proofs.UnderwayLaws.{ack_other-underway, ack_last-underway, ack_more-underway}
 use Rattle.line_steps.proofs.WorkLaws.{ack_other-less, ack_last-less, ack_more-less}
 use Rattle.line_steps.proofs.TakingLaws.{some_waits, none_waits, ack_other, ack_last, ack_more}
 use Rattle.line_steps.proofs.taking.take_ack.Goals as goal
@@ -87,3 +87,9 @@ returns-clause-underway c =
 pub returns-clause-adds : goal.returns-clause-adds
 returns-clause-adds c =
     adds_of c.send_piece.result c.args.wire.now.frames.items c.send_piece.new.wire.frames.items c.args.y.now.end c.on_ack.new.self.id (part_now (side_of (record c.args.y.now { sender = c.on_ack.new.self }))) (fate_value c.args.fate) c.send_piece.ensures.ok c.send_piece.ensures.halt
+
+pub returns-then-not-on_ack-clause-underway : goal.returns-then-not-on_ack-clause-underway
+returns-then-not-on_ack-clause-underway c =
+    let same = c.on_ack.ensures.stays c.if-not-on_ack.true in
+    subst (λ (s : SenderValue). StillUnderway (heard_as.Ack c.args.key) c.args.wire.now c.args.x.now c.args.y.now c.args.wire.now (moved c.args.x.now) (record c.args.y.now { sender = s })) (sym same)
+    (ack_other-underway c.args.wire.now c.args.x.now c.args.y.now c.args.key)

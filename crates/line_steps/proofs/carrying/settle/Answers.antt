@@ -1,0 +1,28 @@
+use Rattle.std.proofs.Common.{sym, ap, ◌∙◌}
+use Rattle.std.specs.Option.{is_some}
+use Rattle.line_steps.proofs.CarryingLaws.{same_refl, same_trans, taken-turn, taken-settled}
+use Rattle.line_steps.proofs.TakingLaws.{some_waits, waits_not}
+use Rattle.line_steps.proofs.TurnLaws.{settled_holds, settled_turned}
+use Rattle.line_steps.proofs.carrying.settle.Goals as goal
+
+pub loop-wire-init : goal.loop-wire-init
+loop-wire-init c = (
+  settled_holds c.args.wire.now c.args.x.now c.args.y.now (settled_turned c.args.wire.now c.args.y.now c.args.x.now c.requires.turn.settled),
+  taken-turn c.args.wire.now c.args.x.now c.args.y.now c.requires.turn c.requires.waits,
+  same_refl c.args.x.now,
+  same_refl c.args.y.now,
+  λ all. all,
+)
+
+pub returns-then-is_none-clause-turn : goal.returns-then-is_none-clause-turn
+returns-then-is_none-clause-turn c =
+    let idle = waits_not c.loop-wire.x.sender (ap is_some (sym c.current.ensures.piece) ∙ c.if-is_none.ensures) in
+    taken-settled c.loop-wire.wire c.loop-wire.x c.loop-wire.y c.loop-wire.invariant.0 c.loop-wire.invariant.1 idle
+
+pub step-requires-clause-waits : goal.step-requires-clause-waits
+step-requires-clause-waits c = some_waits c.loop-wire.x.sender (ap is_some (sym c.current.ensures.piece) ∙ c.if-is_none.ensures)
+
+pub loop-wire-preserved : goal.loop-wire-preserved
+loop-wire-preserved c =
+    let step = c.in_ok-step.ensures.step in
+    (step.holds, step.taken c.loop-wire.invariant.1, same_trans c.args.x.now c.loop-wire.x c.step.new.x c.loop-wire.invariant.2 step.x_same, same_trans c.args.y.now c.loop-wire.y c.step.new.y c.loop-wire.invariant.3 step.y_same, λ all. c.step.ensures.script (c.loop-wire.invariant.4 all))
