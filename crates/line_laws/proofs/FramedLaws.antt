@@ -54,7 +54,7 @@ framed_sends script cursor frames past frame was runs is given away inside bears
 -- ---- a frame is taken off the line
 
 -- where the cursors differ at no frame of these
-came-same : (number : ℕ) (cursor later : End → ℕ) (frames : List FrameValue) → ((Z : End) (n : ℕ) → number ≤ n → leb n (later Z) ≡ leb n (cursor Z))
+pub came-same : (number : ℕ) (cursor later : End → ℕ) (frames : List FrameValue) → ((Z : End) (n : ℕ) → number ≤ n → leb n (later Z) ≡ leb n (cursor Z))
     → CameByCursor number cursor frames → CameByCursor number later frames
 came-same number cursor later [] same was = tt
 came-same number cursor later (frame ∷ frames) same was = (
@@ -63,10 +63,10 @@ came-same number cursor later (frame ∷ frames) same was = (
 )
 
 -- the cursor of X alone moves
-abbrev OthersStay : End → (End → ℕ) → (End → ℕ) → Type 0
+abbrev pub OthersStay : End → (End → ℕ) → (End → ℕ) → Type 0
 OthersStay X cursor later = (Z : End) → is_end X Z ≡ false → later Z ≡ cursor Z
 
-same-leb : (X : End) (cursor later : End → ℕ) (n : ℕ) → OthersStay X cursor later → leb n (later X) ≡ leb n (cursor X) → (Z : End)
+pub same-leb : (X : End) (cursor later : End → ℕ) (n : ℕ) → OthersStay X cursor later → leb n (later X) ≡ leb n (cursor X) → (Z : End)
     → leb n (later Z) ≡ leb n (cursor Z)
 same-leb X cursor later n others mine Z = elim (cases_Bool (is_end X Z)) [
   | inl is ↦ subst (λ (E : End). leb n (later E) ≡ leb n (cursor E)) (sym (same_end X Z is)) mine
@@ -74,17 +74,17 @@ same-leb X cursor later n others mine Z = elim (cases_Bool (is_end X Z)) [
 ]
 
 -- behind both cursors, and before them
-leb-above : (n a b : ℕ) → a < n → b < n → leb n a ≡ leb n b
+pub leb-above : (n a b : ℕ) → a < n → b < n → leb n a ≡ leb n b
 leb-above n a b x y = lt-leb n a (omega (arith, x)) ∙ sym (lt-leb n b (omega (arith, y)))
 
-leb-below : (n a b : ℕ) → n ≤ a → n ≤ b → leb n a ≡ leb n b
+pub leb-below : (n a b : ℕ) → n ≤ a → n ≤ b → leb n a ≡ leb n b
 leb-below n a b x y = le-leb n a x ∙ sym (le-leb n b y)
 
 and_true : (b : Bool) → b ≡ (b && true)
 and_true true = refl
 and_true false = refl
 
-came-takes : (number : ℕ) (X : End) (cursor later : End → ℕ) (place : ℕ) (frames after : List FrameValue) → OthersStay X cursor later
+pub came-takes : (number : ℕ) (X : End) (cursor later : End → ℕ) (place : ℕ) (frames after : List FrameValue) → OthersStay X cursor later
     → cursor X + 1 ≡ number + place → later X ≡ number + place → PassesFrame X place frames after → CameByCursor number cursor frames
     → CameByCursor number later after
 came-takes number X cursor later place [] after others at_it next passes was = absurd passes

@@ -16,7 +16,7 @@ use Rattle.line_steps.specs.Sending.{Sends, Halts}
 use Rattle.line_steps.specs.Ticking.{SendsAgain}
 
 added : (old new : List Frame) (from : End) (id : ℕ) (fragment : FragmentValue) (given : FateValue) (stop : _) → Sends old from id fragment given stop new → Added given old new
-added old new from id fragment given stop sends = record { frame = sends.frame; is = sends.is; number_is = sends.number_is; fate_is = sends.fate_is }
+added old new from id fragment given stop sends = record { frame = sends.frame; is = sends.is; number_is = sends.number_is; fate_is = sends.fate_is; came_is = sends.came_is }
 
 pub adds_of : {T : Type 0} (r : Result T Halt) (old new : List Frame) (from : End) (id : ℕ) (fragment : FragmentValue) (given : FateValue) → OnOk r (Sends old from id fragment given None new) → IfErr r (λ halt. Halts old from id fragment given halt new) → AddsOne given old new
 adds_of (Ok x) old new from id fragment given sends halts = inr (added old new from id fragment given None sends)

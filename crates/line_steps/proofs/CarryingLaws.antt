@@ -1,13 +1,15 @@
 -- The steps by which a message goes over.
 use Rattle.std.specs.Prelude.{Result, Ok, Err, OnOk}
-use Rattle.std.proofs.Common.{◌≡◌, ◌+◌, ◌<◌, ◌≤◌, Bool, true, false, List, length, refl, sym, ap, subst, ◌∙◌, arith, inl, inr}
+use Rattle.std.proofs.Common.{◌≡◌, ◌<◌, ◌≤◌, Bool, true, false, List, length, refl, sym, ap, subst, ◌∙◌, arith, inl, inr}
 use Rattle.std.proofs.lemmas.Bool.{cases_lt}
 use Rattle.padp_link.specs.declared.receiver.Taken.TheVariants.{Accepted, Whole, Repeated, Dropped}
 use Rattle.padp_link.specs.declared.piece.Key.{Key}
 use Rattle.padp_link.specs.Pieces.{piece_count}
 use Rattle.padp_link.specs.Senders.{Waits}
+use Rattle.line_script.specs.Rules.{RuleValue}
+use Rattle.trace_text.specs.declared.frame.End.{End}
 use Rattle.trace_text.specs.Fates.{FateValue}
-use Rattle.line_laws.specs.Core.{Side, Waiting}
+use Rattle.line_laws.specs.Core.{Apart, Side, Waiting}
 use Rattle.line_laws.specs.Line.{Line}
 use Rattle.line_laws.proofs.MeasureLaws.{measure_turned}
 use Rattle.line_steps.specs.declared.half.Half.{Half}
@@ -23,7 +25,10 @@ use Rattle.line_steps.specs.Underway.{Underway, UnderwayBehind, StillUnderway}
 use Rattle.line_steps.specs.Working.{work_left}
 use Rattle.line_steps.proofs.HoldsLaws.{moved}
 use Rattle.line_steps.proofs.StartingLaws.{waits_now, waits_then}
-use Rattle.line_steps.proofs.TurnLaws.{holds_turned}
+use Rattle.line_steps.specs.Telling.{KeepsTalk, KeepsAll, Recorded}
+use Rattle.line_steps.proofs.RecordedLaws.{recorded_turned}
+use Rattle.line_steps.proofs.TalkedLaws.{talk_turned, talks_turned}
+use Rattle.line_steps.proofs.TurnLaws.{apart_turned, holds_turned}
 
 pub again-stays : (wire new : Wire) (half later : Half) (given : FateValue) → SendsAgain wire half given new later → Stays half later
 again-stays wire new half later given sent = subst (λ (h : Half). Stays half h) (sym sent.counted) (record { end_is = refl; message_is = refl; taken_is = refl; id_is = refl })
@@ -53,6 +58,7 @@ pub record Skipped (wire : Wire) (x y x1 y1 x2 y2 : Half) : Type 0 where
   pub x_read : Read x1 x2
   pub first : work_left wire x1 y1 ≤ work_left wire x y
   pub second : work_left wire y2 x2 ≤ work_left wire y1 x1
+  pub talks : KeepsTalk wire x y wire x2 y2
 
 skip_same : (x x1 x2 : Half) → Moved x x1 → Read x1 x2 → SameMessage x x2
 skip_same x x1 x2 moved read =
@@ -73,6 +79,26 @@ read_underway wire x y y1 y2 read moved it =
 pub skipped-underway : (wire : Wire) (x y x1 y1 x2 y2 : Half) → Skipped wire x y x1 y1 x2 y2 → Underway wire x y → Underway wire x2 y2
 skipped-underway wire x y x1 y1 x2 y2 it on = read_underway wire x2 y y1 y2 it.y_read it.y_moved (skip_underway wire x y x1 x2 it.x_moved it.x_read on)
 
+-- the ends are two still
+skipped_apart : (x y later_x later_y : Half) → later_x.end ≡ x.end → later_y.end ≡ y.end → Apart x.end y.end → Apart later_x.end later_y.end
+skipped_apart x y later_x later_y x_end y_end apart = subst (λ (X : End). Apart X later_y.end) (sym x_end) (subst (λ (Y : End). Apart x.end Y) (sym y_end) apart)
+
+pub skipped-talks : (wire : Wire) (x y x1 y1 x2 y2 : Half) → Apart x.end y.end → Moved x x1 → Read y y1 → Moved y1 y2 → Read x1 x2 → KeepsTalk wire x y wire x1 y1 → KeepsTalk wire y1 x1 wire y2 x2 → KeepsTalk wire x y wire x2 y2
+skipped-talks wire x y x1 y1 x2 y2 apart x_moved y_read y_moved x_read first second =
+    let x_mid = ap (λ (h : Half). h.end) x_moved in
+    let y_mid = ap (λ (h : Half). h.end) y_read in
+    let mid = skipped_apart x y x1 y1 x_mid y_mid apart in
+    let later = skipped_apart x y x2 y2 (ap (λ (h : Half). h.end) x_read ∙ x_mid) (ap (λ (h : Half). h.end) y_moved ∙ y_mid) apart in
+    λ talk talks. talks_turned talk wire y2 x2 (apart_turned x2.end y2.end later) (second talk (talks_turned talk wire x1 y1 mid (first talk talks)))
+
+pub skipped-recorded : (script : List RuleValue) (wire : Wire) (x y x1 y1 x2 y2 : Half) → Apart x.end y.end → Moved x x1 → Read y y1 → Moved y1 y2 → Read x1 x2 → KeepsAll wire x y x1 y1 → KeepsAll wire y1 x1 y2 x2 → Recorded script wire x y → Recorded script wire x2 y2
+skipped-recorded script wire x y x1 y1 x2 y2 apart x_moved y_read y_moved x_read first second was =
+    let x_mid = ap (λ (h : Half). h.end) x_moved in
+    let y_mid = ap (λ (h : Half). h.end) y_read in
+    let mid = skipped_apart x y x1 y1 x_mid y_mid apart in
+    let later = skipped_apart x y x2 y2 (ap (λ (h : Half). h.end) x_read ∙ x_mid) (ap (λ (h : Half). h.end) y_moved ∙ y_mid) apart in
+    recorded_turned script wire y2 x2 (apart_turned x2.end y2.end later) (second.recorded script (recorded_turned script wire x1 y1 mid (first.recorded script was)))
+
 pub skipped-work : (wire : Wire) (x y x1 y1 x2 y2 : Half) → Skipped wire x y x1 y1 x2 y2 → work_left wire x2 y2 ≤ work_left wire x y
 skipped-work wire x y x1 y1 x2 y2 it = omega (arith, it.first, it.second, work_turned wire y2 x2, work_turned wire y1 x1)
 
@@ -92,6 +118,7 @@ skipped-steps whole wire x y x1 y1 x2 y2 new later_x later_y it waits step = rec
   taken = λ all. step.taken (skipped-taken wire x y x1 y1 x2 y2 it waits all);
   x_same = same_trans x x2 later_x (skip_same x x1 x2 it.x_moved it.x_read) step.x_same;
   y_same = same_trans y y2 later_y (read_same y y1 y2 it.y_read it.y_moved) step.y_same;
+  talks = λ talk talks. step.talks talk (it.talks talk talks);
 }
 
 -- x waits there, too
@@ -105,6 +132,11 @@ pub of_five : {T E A B C D F G : Type 0} (r : Result T E) → (A → B → C →
 of_five (Ok x) f a b c d e = f a b c d e
 of_five (Err y) f a b c d e = tt
 
+-- what holds anyhow holds on Ok
+pub fine : {T E A : Type 0} (r : Result T E) → A → OnOk r A
+fine (Ok x) a = a
+fine (Err y) a = tt
+
 -- y took the next frame of x, which waits
 pub own_step : (heard : Heard) (whole : Bool) (wire : Wire) (x y : Half) (new : Wire) (later_x later_y : Half) → whole ≡ makes_whole heard → Holds wire x y → Waits x.sender → StillUnderway heard wire x y new later_x later_y → TurnBehind heard new later_y later_x
     → Holds new later_x later_y → work_left new later_x later_y < work_left wire x y → later_x ≡ moved x → SameMessage y later_y → StepTo whole wire x y new later_x later_y
@@ -115,6 +147,7 @@ own_step heard whole wire x y new later_x later_y is before waits still turn hol
   taken = λ all. still.own_taken (waits_now x before.x_half waits) all;
   x_same = moved_same x later_x x_moved;
   y_same = y_same;
+  talks = still.talks;
 } where
   go : (heard : Heard) → TurnBehind heard new later_y later_x → UnderwayBehind heard new later_x later_y → Reaches (makes_whole heard) new later_x later_y
   go Nothing turn now = now
@@ -125,15 +158,16 @@ own_step heard whole wire x y new later_x later_y is before waits still turn hol
   go (Data key Whole) turn now = record { turn = turn.0; waits = subst (λ (h : Half). Waits h.sender) (sym x_moved) waits; message = turn.1 }
 
 -- x, which waits, took the next frame of y
-pub other_step : (heard : Heard) (wire : Wire) (x y : Half) (new : Wire) (later_x later_y : Half) → Waiting (side_of x) → StillUnderway heard wire y x new later_y later_x → Holds new later_y later_x → work_left new later_y later_x < work_left wire y x → SameMessage x later_x → SameMessage y later_y
+pub other_step : (heard : Heard) (wire : Wire) (x y : Half) (new : Wire) (later_x later_y : Half) → Apart x.end y.end → Waiting (side_of x) → StillUnderway heard wire y x new later_y later_x → Holds new later_y later_x → work_left new later_y later_x < work_left wire y x → SameMessage x later_x → SameMessage y later_y
     → StepTo false wire x y new later_x later_y
-other_step heard wire x y new later_x later_y waits still holds less x_same y_same = record {
+other_step heard wire x y new later_x later_y apart waits still holds less x_same y_same = record {
   holds = holds_turned new later_y later_x holds;
   less = omega (arith, less, work_turned wire x y, work_turned new later_x later_y);
   underway = λ on. still.other on;
   taken = λ all. still.other_taken waits all;
   x_same = x_same;
   y_same = y_same;
+  talks = talk_turned wire y x new later_y later_x (apart_turned x.end y.end apart) holds.apart still.talks;
 }
 
 -- a tick, with the timer of x first
@@ -146,12 +180,13 @@ tick_step wire x y new later_x later_y waits still holds less x_stays y_stays = 
   taken = λ all. still.own_taken waits all;
   x_same = stays_same x later_x x_stays;
   y_same = stays_same y later_y y_stays;
+  talks = still.talks;
 }
 
 -- and with the timer of y first
-pub tick_back : (wire : Wire) (x y : Half) (new : Wire) (later_x later_y : Half) → Waiting (side_of x) → StillUnderway Nothing wire y x new later_y later_x → Holds new later_y later_x → work_left new later_y later_x < work_left wire y x → Stays y later_y → Stays x later_x
+pub tick_back : (wire : Wire) (x y : Half) (new : Wire) (later_x later_y : Half) → Apart x.end y.end → Waiting (side_of x) → StillUnderway Nothing wire y x new later_y later_x → Holds new later_y later_x → work_left new later_y later_x < work_left wire y x → Stays y later_y → Stays x later_x
     → StepTo false wire x y new later_x later_y
-tick_back wire x y new later_x later_y waits still holds less y_stays x_stays = other_step Nothing wire x y new later_x later_y waits still holds less (stays_same x later_x x_stays) (stays_same y later_y y_stays)
+tick_back wire x y new later_x later_y apart waits still holds less y_stays x_stays = other_step Nothing wire x y new later_x later_y apart waits still holds less (stays_same x later_x x_stays) (stays_same y later_y y_stays)
 
 pub underway-waits : (wire : Wire) (x y : Half) → Holds wire x y → Underway wire x y → Waits x.sender
 underway-waits wire x y holds it = waits_then x holds.x_half it.waits

@@ -42,7 +42,7 @@ newest_was_new X Y past true n frame follows newest copy =
     let e : Some (follows.0) ≡ Some (frame.key) = sym (ap first (follows.1)) ∙ newest.key in
     keys_apart (data_of X) past (follows.0) (acked Y past) (follows.1) (copy ∙ sym e)
 
-copy_is : (X Y : End) (past : List Sent) (cx cy : ℕ) (x y : Side) (rx ry : ReceiverValue) (fx fy : Bool) (n : ℕ) (frame : Sent) (older : List Sent) → Core X Y past cx cy x y rx ry fx fy → cx ≤ n → n ≤ length past → at n past ≡ frame ∷ older → (is_end X frame.from && frame.is_data) ≡ true → ry.last ≡ Some frame.key → IsCopy X Y frame n past
+pub copy_is : (X Y : End) (past : List Sent) (cx cy : ℕ) (x y : Side) (rx ry : ReceiverValue) (fx fy : Bool) (n : ℕ) (frame : Sent) (older : List Sent) → Core X Y past cx cy x y rx ry fx fy → cx ≤ n → n ≤ length past → at n past ≡ frame ∷ older → (is_end X frame.from && frame.is_data) ≡ true → ry.last ≡ Some frame.key → IsCopy X Y frame n past
 copy_is X Y past cx cy x y rx ry fx fy n frame older core from inside here is last = elim (pending_data X Y past fx cx n frame older core.there from inside here is) [
   | inl copy ↦ copy
   | inr newest ↦ absurd (newest_was_new X Y past fx n frame core.there.follows newest (sym core.y_hears.last_is ∙ last))

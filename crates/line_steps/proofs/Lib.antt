@@ -1,4 +1,5 @@
 pub mod AddingLaws
+pub mod BeginningLaws
 pub mod BytesLaws
 pub mod CarryingLaws
 pub mod DataLaws
@@ -8,11 +9,15 @@ pub mod HaltingLaws
 pub mod HearLaws
 pub mod HeardLaws
 pub mod HoldsLaws
+pub mod MarkingLaws
 pub mod PieceLaws
+pub mod RecordedLaws
 pub mod RestingLaws
 pub mod SendingLaws
 pub mod StartingLaws
 pub mod TakingLaws
+pub mod TalkedLaws
+pub mod TellingLaws
 pub mod TurnLaws
 pub mod UnderwayLaws
 pub mod WorkLaws

@@ -24,6 +24,7 @@ use Rattle.line_steps.specs.Running.{sent_of, past_now, side_of, IsHalf, AllGo, 
 use Rattle.line_steps.specs.Settling.{AllTaken}
 use Rattle.line_steps.specs.Sending.{Sends, ack_fragment}
 use Rattle.line_steps.specs.Taking.{AckNext, DataHeard}
+use Rattle.line_steps.specs.Telling.{KeepsTalk}
 use Rattle.line_steps.specs.Ticking.{SendsAgain}
 use Rattle.line_steps.specs.Turning.{Turn}
 use Rattle.line_steps.specs.Underway.{Underway, StillUnderway}
@@ -32,6 +33,9 @@ use Rattle.line_steps.proofs.HoldsLaws.{moved}
 use Rattle.line_steps.proofs.SendingLaws.{extends}
 use Rattle.line_steps.proofs.StartingLaws.{begun, again, waits_now}
 use Rattle.line_steps.proofs.TurnLaws.{apart_turned, holds_turned}
+use Rattle.line_steps.proofs.BeginningLaws.{one_again-talks, two_again-talks}
+use Rattle.line_steps.proofs.TalkedLaws.{talk_turned}
+use Rattle.line_steps.proofs.TellingLaws.{ack_other-talks, ack_last-talks, ack_more-talks, took_data-talks}
 use Rattle.line_steps.proofs.TakingLaws.{head, waits_with, advanced}
 
 -- ---- by counts, and by the record of the line
@@ -79,12 +83,13 @@ all_taken wire new x y later_x later_y past fresh waits it none same follows x_s
 
 -- ---- an acknowledgement
 
-pub ack_other-underway : (wire : Wire) (x y : Half) (key : Key) → StillUnderway (Ack key) wire x y wire (moved x) y
-ack_other-underway wire x y key = record {
+pub ack_other-underway : (wire : Wire) (x y : Half) (key : Key) → Holds wire x y → AckNext x.end wire x.taken key → StillUnderway (Ack key) wire x y wire (moved x) y
+ack_other-underway wire x y key holds next = record {
   own = λ it. record { waits = it.waits; due = it.due };
   other = λ it. record { waits = it.waits; due = it.due };
   own_taken = λ waits it. record { all = it.all; idle = it.idle; last = it.last; knows = λ over. absurd (omega (arith, waits, over)) };
   other_taken = λ waits it. record { all = it.all; idle = it.idle; last = it.last; knows = λ over. absurd (omega (arith, waits, over)) };
+  talks = λ talk. ack_other-talks talk wire x y key holds next;
 }
 
 pub ack_last-underway : (wire : Wire) (x y : Half) (key : Key) → Holds wire x y → AckNext x.end wire x.taken key → waiting_key y.sender ≡ Some key → piece_count y.sender.length ≤ y.sender.acknowledged + 1 → StillUnderway (Ack key) wire x y wire (moved x) (advanced y)
@@ -98,6 +103,7 @@ ack_last-underway wire x y key holds it is last =
       other = λ other. absurd (omega (arith, last, ap piece_count holds.y_half.length_is, active_goes_on (side_of y) holds.fy (back_of wire x y holds other) m.none_fresh));
       own_taken = λ waits taken. absurd (omega (arith, w.waits, taken.idle));
       other_taken = λ waits taken. record { all = taken.all; idle = taken.idle; last = omega (arith, taken.last); knows = λ over. m.knows };
+      talks = λ talk. ack_last-talks talk wire x y key holds it is last;
     }
 
 pub ack_more-underway : (wire new : Wire) (x y : Half) (key : Key) (given : FateValue) → Holds wire x y → AckNext x.end wire x.taken key → waiting_key y.sender ≡ Some key → y.sender.acknowledged + 1 < piece_count y.sender.length
@@ -117,6 +123,7 @@ ack_more-underway wire new x y key given holds it is more sends released =
       own_taken = λ waits taken. absurd ((m.alone below).1 waits);
       other_taken = λ waits taken. absurd (omega (arith, below, taken.last));
       other = λ other. underway new (advanced y) (moved x) (data_frame y.end (key_now next) ((part_now next).bytes) (course_of given) ∷ past) true longer.past core.back.follows (active_begun next below);
+      talks = λ talk. ack_more-talks talk wire new x y key given holds it is more sends released;
     }
 
 -- ---- data, by its answer
@@ -146,6 +153,7 @@ copied-underway wire new x y key given heard sends released =
       other = λ it. underway new y (moved x) (ack ∷ past_now wire.frames.items) heard.holds.fy longer core.back.follows (back_of wire x old heard.holds (before_back wire x y heard.before it));
       own_taken = λ waits it. all_taken wire new x y (moved x) y (ack ∷ past_now wire.frames.items) heard.holds.fx waits it (none_fresh heard.holds.fx _ _ heard.holds.line.core.there.follows it.all) longer core.there.follows refl refl;
       other_taken = λ waits it. all_taken wire new y x y (moved x) (ack ∷ past_now wire.frames.items) heard.holds.fy waits it (none_fresh heard.holds.fy _ _ heard.holds.line.core.back.follows it.all) longer core.back.follows refl refl;
+      talks = λ talk. took_data-talks talk wire new x y key Repeated given y.sender heard refl sends released;
     }
 
 -- while a message of y is on its way, nothing new of x comes
@@ -160,9 +168,9 @@ more_pieces acknowledged count below other = elim (cases_lt (acknowledged + 1) c
   | inr over ↦ absurd (other (omega (arith, below, over)))
 ]
 
-accepted-underway : (wire new : Wire) (x y : Half) (key : Key) (given : FateValue) (sender : SenderValue) → (heard : DataHeard wire x y key Accepted) → Sends wire.frames.items y.end key.id (ack_fragment key) given None new.frames.items → new.released ≡ wire.released
+accepted-underway : (wire new : Wire) (x y : Half) (key : Key) (given : FateValue) (sender : SenderValue) → (heard : DataHeard wire x y key Accepted) → NewSender Accepted y.sender sender → Sends wire.frames.items y.end key.id (ack_fragment key) given None new.frames.items → new.released ≡ wire.released
     → StillUnderway (Data key Accepted) wire x y new (moved x) (record y { sender = sender })
-accepted-underway wire new x y key given sender heard sends released =
+accepted-underway wire new x y key given sender heard idle sends released =
     let old = record y { receiver = heard.before } in
     let ack = ack_frame y.end (sent_of heard.next.frame).key (course_of given) in
     let longer = acked_past wire new x y key Accepted given heard sends released in
@@ -175,22 +183,25 @@ accepted-underway wire new x y key given sender heard sends released =
       other = λ it. absurd (none_new wire x old heard.holds after.0 (before_back wire x y heard.before it));
       own_taken = λ waits it. absurd (both_ways heard.holds.fx (none_fresh heard.holds.fx _ _ heard.holds.line.core.there.follows it.all) after.0);
       other_taken = λ waits it. absurd (omega (arith, accepting.waits, it.idle));
+      talks = λ talk. took_data-talks talk wire new x y key Accepted given sender heard idle sends released;
     }
 
-whole-underway : (wire new : Wire) (x y : Half) (key : Key) (sender : SenderValue) → (heard : DataHeard wire x y key Whole) → StillUnderway (Data key Whole) wire x y new (moved x) (record y { sender = sender })
-whole-underway wire new x y key sender heard = record {
+whole-underway : (wire new : Wire) (x y : Half) (key : Key) (given : FateValue) (sender : SenderValue) → (heard : DataHeard wire x y key Whole) → NewSender Whole y.sender sender → Sends wire.frames.items y.end key.id (ack_fragment key) given None new.frames.items → new.released ≡ wire.released
+    → StillUnderway (Data key Whole) wire x y new (moved x) (record y { sender = sender })
+whole-underway wire new x y key given sender heard idle sends released = record {
   own = λ it. tt;
   other = λ it. absurd (none_new wire x (record y { receiver = heard.before }) heard.holds (after_heard wire x y key Whole heard).0 (before_back wire x y heard.before it));
   own_taken = λ waits it. absurd (both_ways heard.holds.fx (none_fresh heard.holds.fx _ _ heard.holds.line.core.there.follows it.all) (after_heard wire x y key Whole heard).0);
   other_taken = λ waits it. absurd (omega (arith, (after_heard wire x y key Whole heard).1.waits, it.idle));
+  talks = λ talk. took_data-talks talk wire new x y key Whole given sender heard idle sends released;
 }
 
 pub took_data-underway : (wire new : Wire) (x y : Half) (key : Key) (taken : Taken) (given : FateValue) (sender : SenderValue) → DataHeard wire x y key taken → NewSender taken y.sender sender → Sends wire.frames.items y.end key.id (ack_fragment key) given None new.frames.items → new.released ≡ wire.released
     → StillUnderway (Data key taken) wire x y new (moved x) (record y { sender = sender })
 took_data-underway wire new x y key Repeated given sender heard same sends released =
     subst (λ (s : SenderValue). StillUnderway (Data key Repeated) wire x y new (moved x) (record y { sender = s })) (sym same) (copied-underway wire new x y key given heard sends released)
-took_data-underway wire new x y key Accepted given sender heard idle sends released = accepted-underway wire new x y key given sender heard sends released
-took_data-underway wire new x y key Whole given sender heard idle sends released = whole-underway wire new x y key sender heard
+took_data-underway wire new x y key Accepted given sender heard idle sends released = accepted-underway wire new x y key given sender heard idle sends released
+took_data-underway wire new x y key Whole given sender heard idle sends released = whole-underway wire new x y key given sender heard idle sends released
 took_data-underway wire new x y key Dropped given sender heard none sends released = absurd none
 
 -- an end heeds what it hears first
@@ -202,6 +213,7 @@ heeded-underway heard wire x y h new later_x later_y heeded still =
       other = λ it. now.other (record { waits = it.waits; due = it.due });
       own_taken = λ waits it. now.own_taken waits (record { all = it.all; idle = it.idle; last = it.last; knows = it.knows });
       other_taken = λ waits it. now.other_taken waits (record { all = it.all; idle = it.idle; last = it.last; knows = it.knows });
+      talks = now.talks;
     }
 
 -- ---- a message begins, and a tick
@@ -229,12 +241,13 @@ again_core wire new x y fx fy given behind waits sent =
     subst (λ (p : List Sent). Core x.end y.end p x.taken y.taken (side_of x) (side_of y) x.receiver y.receiver fx fy) (sym longer.past)
     (once_more x.end y.end (past_now wire.frames.items) x.taken y.taken (side_of x) (side_of y) x.receiver y.receiver fx fy (course_of given) behind.apart behind.core (waits_now x behind.half waits))
 
-keeps : (wire new : Wire) (x y : Half) → (holds : Holds wire x y) → Core x.end y.end (past_now new.frames.items) x.taken y.taken (side_of x) (side_of y) x.receiver y.receiver holds.fx holds.fy → StillUnderway Nothing wire x y new x y
-keeps wire new x y holds core = record {
+keeps : (wire new : Wire) (x y : Half) → (holds : Holds wire x y) → Core x.end y.end (past_now new.frames.items) x.taken y.taken (side_of x) (side_of y) x.receiver y.receiver holds.fx holds.fy → KeepsTalk wire x y new x y → StillUnderway Nothing wire x y new x y
+keeps wire new x y holds core talks = record {
   own = λ it. underway new x y (past_now new.frames.items) holds.fx refl core.there.follows (active_of wire x y holds it);
   other = λ it. underway new y x (past_now new.frames.items) holds.fy refl core.back.follows (back_of wire x y holds it);
   own_taken = λ waits it. all_taken wire new x y x y (past_now new.frames.items) holds.fx waits it (none_fresh holds.fx _ _ holds.line.core.there.follows it.all) refl core.there.follows refl refl;
   other_taken = λ waits it. all_taken wire new y x y x (past_now new.frames.items) holds.fy waits it (none_fresh holds.fy _ _ holds.line.core.back.follows it.all) refl core.back.follows refl refl;
+  talks = talks;
 }
 
 -- tries are no part of it
@@ -244,6 +257,7 @@ tried_x wire new x y still = record {
   other = λ it. (let now : Underway new y x = still.other it in record { waits = now.waits; due = now.due });
   own_taken = λ waits it. (let now : AllTaken new x y = still.own_taken waits it in record { all = now.all; idle = now.idle; last = now.last; knows = now.knows });
   other_taken = λ waits it. (let now : AllTaken new y x = still.other_taken waits it in record { all = now.all; idle = now.idle; last = now.last; knows = now.knows });
+  talks = still.talks;
 }
 
 tried_both : (wire new : Wire) (x y : Half) → StillUnderway Nothing wire x y new x y → StillUnderway Nothing wire x y new (again x) (again y)
@@ -252,21 +266,24 @@ tried_both wire new x y still = record {
   other = λ it. (let now : Underway new y x = still.other it in record { waits = now.waits; due = now.due });
   own_taken = λ waits it. (let now : AllTaken new x y = still.own_taken waits it in record { all = now.all; idle = now.idle; last = now.last; knows = now.knows });
   other_taken = λ waits it. (let now : AllTaken new y x = still.other_taken waits it in record { all = now.all; idle = now.idle; last = now.last; knows = now.knows });
+  talks = still.talks;
 }
 
-still_turned : (wire new : Wire) (x y later_x later_y : Half) → StillUnderway Nothing wire x y new later_x later_y → StillUnderway Nothing wire y x new later_y later_x
-still_turned wire new x y later_x later_y still = record { own = still.other; other = still.own; own_taken = still.other_taken; other_taken = still.own_taken }
+still_turned : (wire new : Wire) (x y later_x later_y : Half) → Apart x.end y.end → Apart later_x.end later_y.end → StillUnderway Nothing wire x y new later_x later_y → StillUnderway Nothing wire y x new later_y later_x
+still_turned wire new x y later_x later_y apart later_apart still =
+    record { own = still.other; other = still.own; own_taken = still.other_taken; other_taken = still.own_taken; talks = talk_turned wire x y new later_x later_y apart later_apart still.talks }
 
 pub tick_one-underway : (wire new : Wire) (r : ℕ) (x y later : Half) (given : FateValue) → Holds wire x y → Waits x.sender → SendsAgain (record wire { released = r }) x given new later → StillUnderway Nothing wire x y new later y
 tick_one-underway wire new r x y later given holds waits sent =
     let now = subst (λ (h : Half). SendsAgain (record wire { released = r }) x given new h) sent.counted sent in
     let behind : Behind (record wire { released = r }) x y holds.fx holds.fy = record { apart = holds.apart; go = holds.go; half = holds.x_half; core = holds.line.core } in
     subst (λ (h : Half). StillUnderway Nothing wire x y new h y) (sym sent.counted)
-    (tried_x wire new x y (keeps wire new x y holds (again_core (record wire { released = r }) new x y holds.fx holds.fy given behind waits now)))
+    (tried_x wire new x y (keeps wire new x y holds (again_core (record wire { released = r }) new x y holds.fx holds.fy given behind waits now) (λ talk. one_again-talks talk wire new r x y given holds waits now)))
 
 pub tick_other-underway : (wire new : Wire) (r : ℕ) (x y later : Half) (given : FateValue) → Holds wire x y → Waits y.sender → SendsAgain (record wire { released = r }) y given new later → StillUnderway Nothing wire x y new x later
 tick_other-underway wire new r x y later given holds waits sent =
-    still_turned wire new y x later x (tick_one-underway wire new r y x later given (holds_turned wire x y holds) waits sent)
+    let apart = apart_turned x.end y.end holds.apart in
+    still_turned wire new y x later x apart (subst (λ (h : Half). Apart h.end x.end) (sym sent.counted) apart) (tick_one-underway wire new r y x later given (holds_turned wire x y holds) waits sent)
 
 pub tick_two-underway : (wire first new : Wire) (r : ℕ) (x y x_later y_later : Half) (given other : FateValue) → Holds wire x y → Waits x.sender → Waits y.sender → SendsAgain (record wire { released = r }) x given first x_later → SendsAgain first y other new y_later
     → StillUnderway Nothing wire x y new x_later y_later
@@ -285,4 +302,4 @@ tick_two-underway wire first new r x y x_later y_later given other holds x_waits
     let two = again_core first new y x holds.fy holds.fx other back y_waits y_now in
     let core = turned y.end x.end (past_now new.frames.items) y.taken x.taken (side_of y) (side_of x) y.receiver x.receiver holds.fy holds.fx two in
     subst (λ (h : Half). StillUnderway Nothing wire x y new x_later h) (sym y_sent.counted) (subst (λ (h : Half). StillUnderway Nothing wire x y new h (again y)) (sym x_sent.counted)
-    (tried_both wire new x y (keeps wire new x y holds core)))
+    (tried_both wire new x y (keeps wire new x y holds core (λ talk. two_again-talks talk wire first new r x y given other holds x_waits y_waits x_now y_now))))

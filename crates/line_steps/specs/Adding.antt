@@ -1,16 +1,17 @@
 -- The frames that a step adds, and the fates that a script gives.
-use Rattle.std.specs.Prelude.{◌≡◌, ◌⊎◌, ℕ, ◌+◌, ⊤, List, [], ◌∷◌, ◌++◌, length}
+use Rattle.std.specs.Prelude.{◌≡◌, ◌⊎◌, ℕ, ◌+◌, false, ⊤, List, [], ◌∷◌, ◌++◌, length}
 use Rattle.trace_text.specs.declared.frame.Frame.{Frame}
 use Rattle.trace_text.specs.Fates.{FateValue, fate_value}
 use Rattle.line_script.specs.Rules.{RuleValue}
 use Rattle.line_script.specs.Scripts.{fate_by}
 
--- one frame more, with the next number and this fate
+-- one frame more, with the next number and this fate, that didn't come yet
 pub record Added (given : FateValue) (old new : List Frame) : Type 0 where
   pub frame : Frame
   pub is : new ≡ old ++ frame ∷ []
   pub number_is : frame.number ≡ length old + 1
   pub fate_is : fate_value frame.fate ≡ given
+  pub came_is : frame.came ≡ false
 
 -- one or none
 abbrev pub AddsOne : FateValue → List Frame → List Frame → Type 0

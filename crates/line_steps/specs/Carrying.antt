@@ -13,6 +13,7 @@ use Rattle.line_steps.specs.declared.hearing.Heard.TheVariants.{Data}
 use Rattle.line_steps.specs.Running.{Holds, past_now}
 use Rattle.line_steps.specs.Taking.{Delivers}
 use Rattle.line_steps.specs.Settling.{AllTaken}
+use Rattle.line_steps.specs.Telling.{KeepsTalk}
 use Rattle.line_steps.specs.Turning.{Turn}
 use Rattle.line_steps.specs.Underway.{Underway}
 use Rattle.line_steps.specs.Working.{work_left}
@@ -42,6 +43,7 @@ pub record StepTo (whole : Bool) (wire : Wire) (x y : Half) (new : Wire) (later_
   pub taken : AllTaken wire x y → AllTaken new later_x later_y
   pub x_same : SameMessage x later_x
   pub y_same : SameMessage y later_y
+  pub talks : KeepsTalk wire x y new later_x later_y
 
 -- what was heard made the message whole
 abbrev pub makes_whole : Heard → Bool

@@ -2,11 +2,13 @@ pub mod Adding
 pub mod Carrying
 pub mod Halting
 pub mod Hearing
+pub mod Marking
 pub mod Sending
 pub mod Resting
 pub mod Running
 pub mod Settling
 pub mod Taking
+pub mod Telling
 pub mod Ticking
 pub mod Turning
 pub mod Underway

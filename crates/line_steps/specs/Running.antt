@@ -74,3 +74,7 @@ pub record Stays (old new : Half) : Type 0 where
   pub message_is : new.message ≡ old.message
   pub taken_is : new.taken ≡ old.taken
   pub id_is : new.sender.id ≡ old.sender.id
+
+-- it is the same end, and its cursor stays
+abbrev pub SamePlace : Half → Half → Type 0
+SamePlace old new = (new.end ≡ old.end) × (new.taken ≡ old.taken)

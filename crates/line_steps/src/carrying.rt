@@ -4,9 +4,10 @@ ghost use Rattle.padp_link.specs.Senders.{Waits};
 ghost use Rattle.line_laws.specs.Progress.{Blocked};
 ghost use Rattle.line_script.specs.Scripts.{fate_by};
 ghost use Rattle.trace_text.specs.Fates.{fate_value};
-ghost use Rattle.line_steps.specs.Adding.{AddsTwo, AllBy};
+ghost use Rattle.line_steps.specs.Adding.{AddsTwo};
 ghost use Rattle.line_steps.specs.Carrying.{Carried, SameMessage, StepTo, IsNext, makes_whole};
-ghost use Rattle.line_steps.specs.Running.{Holds, AtHead, AllGo, past_now};
+ghost use Rattle.line_steps.specs.Running.{Holds, AtHead, AllGo, SamePlace, past_now};
+ghost use Rattle.line_steps.specs.Telling.{KeepsTalk, Recorded};
 ghost use Rattle.line_steps.specs.Turning.{Turn};
 ghost use Rattle.line_steps.specs.Underway.{Underway};
 
@@ -26,11 +27,12 @@ use trace_text::{End, Fate};
 pub fn carry(wire: &mut Wire, x: &mut Half, y: &mut Half, script: &Script) -> Result<(), Halt>
     requires holds { Holds wire.old x.old y.old }
     requires underway { Underway wire.old x.old y.old }
-    ensures script { AllBy script.now 1 wire.old.frames.items →
-        AllBy script.now 1 wire.new.frames.items }
+    ensures recorded { Recorded script.now wire.old x.old y.old →
+        Recorded script.now wire.new x.new y.new }
     ensures carried { OnOk result (Carried wire.new x.new y.new) }
     ensures x_same { OnOk result (SameMessage x.old x.new) }
     ensures y_same { OnOk result (SameMessage y.old y.new) }
+    ensures talks { OnOk result (KeepsTalk wire.old x.old y.old wire.new x.new y.new) }
 {
     loop {
         if step(wire, x, y, script)? {
@@ -43,11 +45,12 @@ pub fn carry(wire: &mut Wire, x: &mut Half, y: &mut Half, script: &Script) -> Re
 pub fn settle(wire: &mut Wire, x: &mut Half, y: &mut Half, script: &Script) -> Result<(), Halt>
     requires turn { Turn wire.old y.old x.old }
     requires waits { Waits x.old.sender }
-    ensures script { AllBy script.now 1 wire.old.frames.items →
-        AllBy script.now 1 wire.new.frames.items }
+    ensures recorded { Recorded script.now wire.old x.old y.old →
+        Recorded script.now wire.new x.new y.new }
     ensures turn { OnOk result (Turn wire.new x.new y.new) }
     ensures x_same { OnOk result (SameMessage x.old x.new) }
     ensures y_same { OnOk result (SameMessage y.old y.new) }
+    ensures talks { OnOk result (KeepsTalk wire.old x.old y.old wire.new x.new y.new) }
 {
     loop {
         if x.sender.current().is_none() {
@@ -61,8 +64,8 @@ pub fn settle(wire: &mut Wire, x: &mut Half, y: &mut Half, script: &Script) -> R
 fn step(wire: &mut Wire, x: &mut Half, y: &mut Half, script: &Script) -> Result<bool, Halt>
     requires holds { Holds wire.old x.old y.old }
     requires waits { Waits x.old.sender }
-    ensures script { AllBy script.now 1 wire.old.frames.items →
-        AllBy script.now 1 wire.new.frames.items }
+    ensures recorded { Recorded script.now wire.old x.old y.old →
+        Recorded script.now wire.new x.new y.new }
     ensures step { IfOk result (λ whole. StepTo whole wire.old x.old y.old wire.new x.new y.new) }
 {
     skip_to_head(wire, x, y);
@@ -76,8 +79,8 @@ fn deliver(wire: &mut Wire, x: &mut Half, y: &mut Half, script: &Script) -> Resu
     requires waits { Waits x.old.sender }
     requires x_head { AtHead x.old.end wire.old.frames.items x.old.taken }
     requires y_head { AtHead y.old.end wire.old.frames.items y.old.taken }
-    ensures script { AllBy script.now 1 wire.old.frames.items →
-        AllBy script.now 1 wire.new.frames.items }
+    ensures recorded { Recorded script.now wire.old x.old y.old →
+        Recorded script.now wire.new x.new y.new }
     ensures step { IfOk result (λ whole. StepTo whole wire.old x.old y.old wire.new x.new y.new) }
 {
     let number = wire.frames.len() as u64 + 1;
@@ -144,6 +147,8 @@ fn wait(wire: &mut Wire, x: &mut Half, y: &mut Half, fate: Fate, other: Fate) ->
     requires y_blocked { Blocked y.old.end (past_now wire.old.frames.items) y.old.taken wire.old.released }
     ensures adds { AddsTwo (fate_value fate) (fate_value other)
         wire.old.frames.items wire.new.frames.items }
+    ensures x_place { SamePlace x.old x.new }
+    ensures y_place { SamePlace y.old y.new }
     ensures step { OnOk result (StepTo false wire.old x.old y.old wire.new x.new y.new) }
 {
     match x.end {

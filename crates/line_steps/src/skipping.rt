@@ -4,6 +4,7 @@ ghost use Rattle.trace_text.specs.Fates as fates;
 ghost use Rattle.trace_text.specs.Fates.{fate_value};
 ghost use Rattle.trace_text.specs.Past.{is_end};
 ghost use Rattle.line_steps.specs.Running.{Holds, AtHead, Moved, Read};
+ghost use Rattle.line_steps.specs.Telling.{KeepsAll};
 ghost use Rattle.line_steps.specs.Working.{work_left};
 
 use crate::half::{Half, Wire};
@@ -18,6 +19,7 @@ pub fn skip_to_head(wire: &Wire, x: &mut Half, y: &mut Half)
     ensures head { AtHead x.old.end wire.now.frames.items x.new.taken }
     ensures moved { Moved x.old x.new }
     ensures read { Read y.old y.new }
+    ensures keeps { KeepsAll wire.now x.old y.old x.new y.new }
     ensures left { work_left wire.now x.new y.new ≤ work_left wire.now x.old y.old }
 {
     while x.taken < wire.frames.len() {

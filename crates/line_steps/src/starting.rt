@@ -1,11 +1,15 @@
 //! A message begins.
-ghost use Rattle.std.specs.Prelude.{◌≡◌, ◌≤◌, ◌<◌, [], OnOk, IfErr, Some, length};
+ghost use Rattle.std.specs.Prelude.{◌≡◌, ◌≤◌, ◌<◌, ◌+◌, List, [], OnOk, IfErr, Some, length};
 ghost use Rattle.padp_link.specs.Receivers.{ReceiverValue};
 ghost use Rattle.line_steps.specs.declared.half.Half.{Half as HalfValue};
 ghost use Rattle.line_steps.specs.declared.half.Wire.{Wire as WireValue};
 ghost use Rattle.trace_text.specs.Fates.{fate_value};
-ghost use Rattle.line_steps.specs.Adding.{AddsOne};
+ghost use Rattle.trace_text.specs.Talks.{Talk};
+ghost use Rattle.line_laws.specs.Talking.{say};
+ghost use Rattle.line_script.specs.Rules.{RuleValue};
+ghost use Rattle.line_script.specs.Scripts.{fate_by};
 ghost use Rattle.line_steps.specs.Running.{Holds};
+ghost use Rattle.line_steps.specs.Telling.{IsNextTo, Recorded, Talks};
 ghost use Rattle.line_steps.specs.Turning.{Turn};
 ghost use Rattle.line_steps.specs.Underway.{Underway};
 
@@ -31,8 +35,13 @@ pub fn start(
     ensures says { x.new ≡ record x.old { sender = x.new.sender; message = message } }
     ensures id { x.new.sender.id ≡ id }
     ensures holds { OnOk result (Holds wire.new x.new y.now) }
-    ensures adds { AddsOne (fate_value fate) wire.old.frames.items wire.new.frames.items }
     ensures underway { OnOk result (Underway wire.new x.new y.now) }
+    ensures talks { OnOk result ((talk : Talk) → IsNextTo talk x.old y.now id →
+        Talks talk wire.old x.old y.now →
+        Talks (say x.old.end message.items talk) wire.new x.new y.now) }
+    ensures recorded { (script : List RuleValue) →
+        fate_value fate ≡ fate_by script (length wire.old.frames.items + 1) →
+        Recorded script wire.old x.old y.now → Recorded script wire.new x.new y.now }
 {
     x.sender.start(id, message.len() as u16);
     x.message = message;

@@ -8,6 +8,7 @@ ghost use Rattle.trace_text.specs.Frames.{BearsFragment, fragment_in};
 ghost use Rattle.trace_text.specs.TraceLines.{frame_value};
 ghost use Rattle.line_steps.specs.Adding.{AddsOne};
 ghost use Rattle.line_steps.specs.Hearing.{Hears};
+ghost use Rattle.line_steps.specs.Marking.{marked, Marks};
 ghost use Rattle.line_steps.specs.Running.{Holds, Heeded, Stays};
 ghost use Rattle.line_steps.specs.Taking.{Delivers, AckNext, DataHeard};
 ghost use Rattle.line_steps.specs.Turning.{TurnAfter, TurnBehind};
@@ -28,8 +29,26 @@ pub fn take_next(wire: &mut Wire, x: &mut Half, y: &mut Half, fate: Fate) -> Res
     requires next { Delivers x.old.end wire.old x.old.taken }
     ensures holds { OnOk result (Holds wire.new x.new y.new) }
     ensures turn { IfOk result (λ heard. TurnBehind heard wire.new y.new x.new) }
-    ensures moved { OnOk result (x.new ≡ record x.old { taken = x.old.taken + 1 }) }
-    ensures stays { OnOk result (Stays y.old y.new) }
+    ensures moved { x.new ≡ record x.old { taken = x.old.taken + 1 } }
+    ensures stays { Stays y.old y.new }
+    ensures underway { IfOk result
+        (λ heard. StillUnderway heard wire.old x.old y.old wire.new x.new y.new) }
+    ensures adds { AddsOne (fate_value fate)
+        (marked x.old.taken wire.old.frames.items) wire.new.frames.items }
+    ensures less { OnOk result (work_left wire.new x.new y.new < work_left wire.old x.old y.old) }
+{
+    mark(wire, x.taken);
+    take_marked(wire, x, y, fate)
+}
+
+/// The same where the frame bears the mark already.
+fn take_marked(wire: &mut Wire, x: &mut Half, y: &mut Half, fate: Fate) -> Result<Heard, Halt>
+    requires holds { Holds wire.old x.old y.old }
+    requires next { Delivers x.old.end wire.old x.old.taken }
+    ensures holds { OnOk result (Holds wire.new x.new y.new) }
+    ensures turn { IfOk result (λ heard. TurnBehind heard wire.new y.new x.new) }
+    ensures moved { x.new ≡ record x.old { taken = x.old.taken + 1 } }
+    ensures stays { Stays y.old y.new }
     ensures underway { IfOk result
         (λ heard. StillUnderway heard wire.old x.old y.old wire.new x.new y.new) }
     ensures adds { AddsOne (fate_value fate) wire.old.frames.items wire.new.frames.items }
@@ -42,6 +61,14 @@ pub fn take_next(wire: &mut Wire, x: &mut Half, y: &mut Half, fate: Fate) -> Res
         Heard::Nothing => {}
     }
     Ok(heard)
+}
+
+/// Marks the frame behind so many: it came.
+fn mark(wire: &mut Wire, place: usize)
+    requires { place < length wire.old.frames.items }
+    ensures { Marks place wire.old wire.new }
+{
+    wire.frames[place].came = true;
 }
 
 /// Gives a frame that comes to an end, behind its noise.

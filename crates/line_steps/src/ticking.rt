@@ -52,8 +52,8 @@ pub fn tick(
     ensures adds { AddsTwo (fate_value fate) (fate_value other)
         wire.old.frames.items wire.new.frames.items }
     ensures down { IfErr result (λ halt. DownBy halt (past_now wire.new.frames.items)) }
-    ensures x_stays { OnOk result (Stays x.old x.new) }
-    ensures y_stays { OnOk result (Stays y.old y.new) }
+    ensures x_stays { Stays x.old x.new }
+    ensures y_stays { Stays y.old y.new }
     ensures underway { OnOk result
         (StillUnderway Nothing wire.old x.old y.old wire.new x.new y.new) }
 {
@@ -74,6 +74,7 @@ fn send_again(wire: &mut Wire, half: &mut Half, fate: Fate) -> Result<(), Halt>
     requires half { IsHalf half.old }
     ensures adds { AddsOne (fate_value fate) wire.old.frames.items wire.new.frames.items }
     ensures spent { IfErr result (λ halt. Spent halt half.old wire.old wire.new) }
+    ensures stays { Stays half.old half.new }
     ensures again { OnOk result (SendsAgain wire.old half.old (fate_value fate) wire.new half.new) }
 {
     if half.sender.on_timer().is_err() {

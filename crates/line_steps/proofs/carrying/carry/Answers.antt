@@ -11,4 +11,13 @@ pub loop-preserved : goal.loop-preserved
 loop-preserved c =
     let step = c.in_ok-step.ensures.step in
     let on = not_over c.in_ok-step.field-0 c.step.new.wire c.step.new.x c.step.new.y c.if-branch.false (step.underway c.loop.invariant.1) in
-    (step.holds, on, same_trans c.args.x.now c.loop.x c.step.new.x c.loop.invariant.2 step.x_same, same_trans c.args.y.now c.loop.y c.step.new.y c.loop.invariant.3 step.y_same, λ all. c.step.ensures.script (c.loop.invariant.4 all))
+    (step.holds, on, same_trans c.args.x.now c.loop.x c.step.new.x c.loop.invariant.2 step.x_same, same_trans c.args.y.now c.loop.y c.step.new.y c.loop.invariant.3 step.y_same, λ was. c.step.ensures.recorded (c.loop.invariant.4 was), λ talk talks. step.talks talk (c.loop.invariant.5 talk talks))
+
+pub returns-in_err-step-clause-recorded : goal.returns-in_err-step-clause-recorded
+returns-in_err-step-clause-recorded c = λ was. c.step.ensures.recorded (c.loop.invariant.4 was)
+
+pub returns-then-branch-clause-recorded : goal.returns-then-branch-clause-recorded
+returns-then-branch-clause-recorded c = λ was. c.step.ensures.recorded (c.loop.invariant.4 was)
+
+pub returns-then-branch-clause-talks : goal.returns-then-branch-clause-talks
+returns-then-branch-clause-talks c = λ talk talks. c.in_ok-step.ensures.step.talks talk (c.loop.invariant.5 talk talks)

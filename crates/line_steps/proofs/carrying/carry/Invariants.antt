@@ -1,12 +1,12 @@
-use Rattle.line_steps.specs.Adding.{AllBy}
 use Rattle.line_steps.specs.Carrying.{SameMessage}
 use Rattle.line_steps.specs.Running.{Holds}
+use Rattle.line_steps.specs.Telling.{KeepsTalk, Recorded}
 use Rattle.line_steps.specs.Underway.{Underway}
 use Rattle.line_steps.specs.Working.{work_left}
 use Rattle.line_steps.proofs.carrying.carry.Given as goal
 
 abbrev pub invariant-loop : goal.invariant-loop
-invariant-loop l = Holds l.wire l.x l.y × Underway l.wire l.x l.y × SameMessage l.initial.x l.x × SameMessage l.initial.y l.y × (AllBy l.fn.script 1 l.initial.wire.frames.items → AllBy l.fn.script 1 l.wire.frames.items)
+invariant-loop l = Holds l.wire l.x l.y × Underway l.wire l.x l.y × SameMessage l.initial.x l.x × SameMessage l.initial.y l.y × (Recorded l.fn.script l.initial.wire l.initial.x l.initial.y → Recorded l.fn.script l.wire l.x l.y) × KeepsTalk l.initial.wire l.initial.x l.initial.y l.wire l.x l.y
 
 abbrev pub decreases-loop : goal.decreases-loop
 decreases-loop l = work_left l.wire l.x l.y

@@ -11,7 +11,8 @@ loop-wire-init c = (
   taken-turn c.args.wire.now c.args.x.now c.args.y.now c.requires.turn c.requires.waits,
   same_refl c.args.x.now,
   same_refl c.args.y.now,
-  λ all. all,
+  λ was. was,
+  λ talk talks. talks,
 )
 
 pub returns-then-is_none-clause-turn : goal.returns-then-is_none-clause-turn
@@ -25,4 +26,7 @@ step-requires-clause-waits c = some_waits c.loop-wire.x.sender (ap is_some (sym 
 pub loop-wire-preserved : goal.loop-wire-preserved
 loop-wire-preserved c =
     let step = c.in_ok-step.ensures.step in
-    (step.holds, step.taken c.loop-wire.invariant.1, same_trans c.args.x.now c.loop-wire.x c.step.new.x c.loop-wire.invariant.2 step.x_same, same_trans c.args.y.now c.loop-wire.y c.step.new.y c.loop-wire.invariant.3 step.y_same, λ all. c.step.ensures.script (c.loop-wire.invariant.4 all))
+    (step.holds, step.taken c.loop-wire.invariant.1, same_trans c.args.x.now c.loop-wire.x c.step.new.x c.loop-wire.invariant.2 step.x_same, same_trans c.args.y.now c.loop-wire.y c.step.new.y c.loop-wire.invariant.3 step.y_same, λ was. c.step.ensures.recorded (c.loop-wire.invariant.4 was), λ talk talks. step.talks talk (c.loop-wire.invariant.5 talk talks))
+
+pub returns-in_err-step-clause-recorded : goal.returns-in_err-step-clause-recorded
+returns-in_err-step-clause-recorded c = λ was. c.step.ensures.recorded (c.loop-wire.invariant.4 was)

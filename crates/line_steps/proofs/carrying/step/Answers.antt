@@ -1,6 +1,6 @@
 use Rattle.std.proofs.lemmas.Result.{IfOk-weaker}
 use Rattle.line_steps.specs.Carrying.{StepTo}
-use Rattle.line_steps.proofs.CarryingLaws.{Skipped, skipped-steps, skipped-waits}
+use Rattle.line_steps.proofs.CarryingLaws.{Skipped, skipped-steps, skipped-waits, skipped-talks, skipped-recorded}
 use Rattle.line_steps.proofs.StartingLaws.{waits_now}
 use Rattle.line_steps.proofs.TurnLaws.{holds_turned}
 use Rattle.line_steps.proofs.carrying.step.Goals as goal
@@ -17,6 +17,10 @@ deliver-requires-clause-waits c = skipped-waits c.args.x.now c.skip_to_head.new.
 pub returns-clause-step : goal.returns-clause-step
 returns-clause-step c =
     let it : Skipped c.args.wire.now c.args.x.now c.args.y.now c.skip_to_head.new.x c.skip_to_head.new.y c.skip_to_head-2.new.y c.skip_to_head-2.new.x =
-    record { x_moved = c.skip_to_head.ensures.moved; y_read = c.skip_to_head.ensures.read; y_moved = c.skip_to_head-2.ensures.moved; x_read = c.skip_to_head-2.ensures.read; first = c.skip_to_head.ensures.left; second = c.skip_to_head-2.ensures.left } in
+    record { x_moved = c.skip_to_head.ensures.moved; y_read = c.skip_to_head.ensures.read; y_moved = c.skip_to_head-2.ensures.moved; x_read = c.skip_to_head-2.ensures.read; first = c.skip_to_head.ensures.left; second = c.skip_to_head-2.ensures.left; talks = skipped-talks c.args.wire.now c.args.x.now c.args.y.now c.skip_to_head.new.x c.skip_to_head.new.y c.skip_to_head-2.new.y c.skip_to_head-2.new.x c.requires.holds.apart c.skip_to_head.ensures.moved c.skip_to_head.ensures.read c.skip_to_head-2.ensures.moved c.skip_to_head-2.ensures.read c.skip_to_head.ensures.keeps.talks c.skip_to_head-2.ensures.keeps.talks } in
     IfOk-weaker c.deliver.result (λ whole. StepTo whole c.args.wire.now c.skip_to_head-2.new.y c.skip_to_head-2.new.x c.deliver.new.wire c.deliver.new.x c.deliver.new.y)
     (λ whole. StepTo whole c.args.wire.now c.args.x.now c.args.y.now c.deliver.new.wire c.deliver.new.x c.deliver.new.y) (λ whole step. skipped-steps whole c.args.wire.now c.args.x.now c.args.y.now c.skip_to_head.new.x c.skip_to_head.new.y c.skip_to_head-2.new.y c.skip_to_head-2.new.x c.deliver.new.wire c.deliver.new.x c.deliver.new.y it (waits_now c.args.x.now c.requires.holds.x_half c.requires.waits) step) c.deliver.ensures.step
+
+pub returns-clause-recorded : goal.returns-clause-recorded
+returns-clause-recorded c = λ was. c.deliver.ensures.recorded (skipped-recorded c.args.script.now c.args.wire.now c.args.x.now c.args.y.now c.skip_to_head.new.x c.skip_to_head.new.y c.skip_to_head-2.new.y c.skip_to_head-2.new.x c.requires.holds.apart c.skip_to_head.ensures.moved c.skip_to_head.ensures.read c.skip_to_head-2.ensures.moved c.skip_to_head-2.ensures.read
+    c.skip_to_head.ensures.keeps c.skip_to_head-2.ensures.keeps was)

@@ -1,13 +1,25 @@
-use Rattle.line_steps.proofs.CarryingLaws.{of_five, tick_step, tick_back}
+use Rattle.line_steps.proofs.CarryingLaws.{of_five, fine, tick_step, tick_back}
 use Rattle.line_steps.proofs.StartingLaws.{waits_now}
 use Rattle.line_steps.proofs.carrying.wait.Goals as goal
 
 pub returns-in-Desktop-clause-step : goal.returns-in-Desktop-clause-step
 returns-in-Desktop-clause-step c =
     let done = c.tick.ensures in
-    of_five c.tick.result (tick_step c.args.wire.now c.args.x.now c.args.y.now c.tick.new.wire c.tick.new.x c.tick.new.y (waits_now c.args.x.now c.requires.holds.x_half c.requires.waits)) done.underway done.holds done.less done.x_stays done.y_stays
+    of_five c.tick.result (tick_step c.args.wire.now c.args.x.now c.args.y.now c.tick.new.wire c.tick.new.x c.tick.new.y (waits_now c.args.x.now c.requires.holds.x_half c.requires.waits)) done.underway done.holds done.less (fine c.tick.result done.x_stays) (fine c.tick.result done.y_stays)
 
 pub returns-in-Handheld-clause-step : goal.returns-in-Handheld-clause-step
 returns-in-Handheld-clause-step c =
     let done = c.tick-in-Handheld.ensures in
-    of_five c.tick-in-Handheld.result (tick_back c.args.wire.now c.args.x.now c.args.y.now c.tick-in-Handheld.new.wire c.tick-in-Handheld.new.y c.tick-in-Handheld.new.x (waits_now c.args.x.now c.requires.holds.x_half c.requires.waits)) done.underway done.holds done.less done.x_stays done.y_stays
+    of_five c.tick-in-Handheld.result (tick_back c.args.wire.now c.args.x.now c.args.y.now c.tick-in-Handheld.new.wire c.tick-in-Handheld.new.y c.tick-in-Handheld.new.x c.requires.holds.apart (waits_now c.args.x.now c.requires.holds.x_half c.requires.waits)) done.underway done.holds done.less (fine c.tick-in-Handheld.result done.x_stays) (fine c.tick-in-Handheld.result done.y_stays)
+
+pub returns-in-Desktop-clause-x_place : goal.returns-in-Desktop-clause-x_place
+returns-in-Desktop-clause-x_place c = (c.tick.ensures.x_stays.end_is, c.tick.ensures.x_stays.taken_is)
+
+pub returns-in-Desktop-clause-y_place : goal.returns-in-Desktop-clause-y_place
+returns-in-Desktop-clause-y_place c = (c.tick.ensures.y_stays.end_is, c.tick.ensures.y_stays.taken_is)
+
+pub returns-in-Handheld-clause-x_place : goal.returns-in-Handheld-clause-x_place
+returns-in-Handheld-clause-x_place c = (c.tick-in-Handheld.ensures.y_stays.end_is, c.tick-in-Handheld.ensures.y_stays.taken_is)
+
+pub returns-in-Handheld-clause-y_place : goal.returns-in-Handheld-clause-y_place
+returns-in-Handheld-clause-y_place c = (c.tick-in-Handheld.ensures.x_stays.end_is, c.tick-in-Handheld.ensures.x_stays.taken_is)

@@ -8,13 +8,14 @@ use Rattle.trace_text.specs.Fates.{fate_value, arrives}
 use Rattle.trace_text.specs.Past.{is_end}
 use Rattle.line_steps.proofs.FrameLaws.{length-past}
 use Rattle.line_steps.proofs.HoldsLaws.{skip_step, going, has_bytes, and_none}
+use Rattle.line_steps.proofs.RecordedLaws.{skip_keeps, keeps_all}
 use Rattle.line_steps.proofs.WorkLaws.{skips_less}
 use Rattle.line_steps.specs.Running.{Read}
 use Rattle.line_steps.proofs.skipping.skip_to_head.Goals.{then-is_from+else-arrives, else-is_from}
 use Rattle.line_steps.proofs.skipping.skip_to_head.Goals as goal
 
 pub loop-x-init : goal.loop-x-init
-loop-x-init c = ((c.requires, refl, refl, omega (arith, c.requires.line.core.there.cur_in, length-past c.args.wire.now.frames.items c.requires.go)), omega arith)
+loop-x-init c = ((c.requires, refl, refl, omega (arith, c.requires.line.core.there.cur_in, length-past c.args.wire.now.frames.items c.requires.go)), omega arith, keeps_all c.args.wire.now c.args.x.now c.args.y.now)
 
 pub returns-then-arrives-clause-head : goal.returns-then-arrives-clause-head
 returns-then-arrives-clause-head c =
@@ -50,10 +51,14 @@ loop-x-preserved c =
         skip_step c.args.wire.now c.args.x.now c.args.y.now c.loop-x.x c.loop-x.y w.hear_harm.new.half frame c.loop-x.invariant.0 inside here
             (and_none _ _ (sym w.arrives.ensures ∙ w.if-arrives.false)) w.hear_harm.ensures.read w.hear_harm.ensures.gap,
         left w.hear_harm.new.half w.hear_harm.ensures.read,
+        skip_keeps c.args.wire.now c.args.x.now c.args.y.now c.loop-x.x c.loop-x.y w.hear_harm.new.half frame c.loop-x.invariant.0.0 c.loop-x.invariant.2 here
+            (and_none _ _ (sym w.arrives.ensures ∙ w.if-arrives.false)) w.hear_harm.ensures.read,
       )
       | else-is_from w ↦ rw w.y-is (
         skip_step c.args.wire.now c.args.x.now c.args.y.now c.loop-x.x c.loop-x.y c.loop-x.y frame c.loop-x.invariant.0 inside here
             (ap (λ (b : Bool). b && arrives (fate_value frame.fate)) (sym c.is_from.ensures ∙ w.if-is_from.false)) refl c.loop-x.invariant.0.0.y_half.gap,
         left c.loop-x.y refl,
+        skip_keeps c.args.wire.now c.args.x.now c.args.y.now c.loop-x.x c.loop-x.y c.loop-x.y frame c.loop-x.invariant.0.0 c.loop-x.invariant.2 here
+            (ap (λ (b : Bool). b && arrives (fate_value frame.fate)) (sym c.is_from.ensures ∙ w.if-is_from.false)) refl,
       )
     ]

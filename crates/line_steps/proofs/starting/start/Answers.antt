@@ -1,13 +1,18 @@
-use Rattle.std.proofs.Common.{◌≡◌, None, length, arith, sym, subst}
+use Rattle.std.proofs.Common.{◌≡◌, None, length, arith, refl, sym, subst}
 use Rattle.std.proofs.lemmas.Result.{on_ok_weaker}
 use Rattle.padp_link.specs.Senders.{SenderValue}
 use Rattle.trace_text.specs.Fates.{fate_value}
 use Rattle.line_laws.specs.Core.{part_now}
 use Rattle.line_steps.specs.Running.{side_of, Holds}
 use Rattle.line_steps.specs.Sending.{Sends}
+use Rattle.line_laws.specs.Talking.{say}
+use Rattle.line_steps.specs.Telling.{Talks}
 use Rattle.line_steps.specs.Underway.{Underway}
 use Rattle.line_steps.proofs.StartingLaws.{starts}
 use Rattle.line_steps.proofs.AddingLaws.{adds_of}
+use Rattle.line_steps.proofs.BeginningLaws.{starts-talks}
+use Rattle.line_steps.proofs.RecordedLaws.{recorded_one}
+use Rattle.line_steps.proofs.TurnLaws.{settled_holds}
 use Rattle.line_steps.proofs.UnderwayLaws.{starts-underway}
 use Rattle.line_steps.proofs.starting.start.Goals as goal
 
@@ -32,7 +37,17 @@ returns-clause-underway c =
     (starts-underway wire c.send_piece.new.wire x c.args.y.now c.args.id c.len.result message (fate_value c.args.fate) c.requires.turn c.requires.other c.requires.awaited c.requires.none fits
     (subst (λ (s : SenderValue). Sends wire.frames.items x.end s.id (part_now (side_of (record x { sender = s; message = message }))) (fate_value c.args.fate) None c.send_piece.new.wire.frames.items) c.start.ensures sends) c.send_piece.ensures.released)) c.send_piece.ensures.ok
 
-pub returns-clause-adds : goal.returns-clause-adds
-returns-clause-adds c =
+pub returns-clause-talks : goal.returns-clause-talks
+returns-clause-talks c =
+    let wire = c.args.wire.now in
+    let x = c.args.x.now in
+    let message = c.args.message in
+    on_ok_weaker c.send_piece.result (λ sends talk next talks. subst (λ (s : SenderValue). Talks (say x.end message.items talk) c.send_piece.new.wire (record x { sender = s; message = message }) c.args.y.now) (sym c.start.ensures)
+    (starts-talks talk wire c.send_piece.new.wire x c.args.y.now c.args.id c.len.result message (fate_value c.args.fate) c.requires.turn c.requires.other c.requires.awaited c.requires.none
+    (subst (λ (s : SenderValue). Sends wire.frames.items x.end s.id (part_now (side_of (record x { sender = s; message = message }))) (fate_value c.args.fate) None c.send_piece.new.wire.frames.items) c.start.ensures sends) c.send_piece.ensures.released next talks)) c.send_piece.ensures.ok
+
+pub returns-clause-recorded : goal.returns-clause-recorded
+returns-clause-recorded c = λ script is.
     let half = record c.args.x.now { sender = c.start.new.self; message = c.args.message } in
-    adds_of c.send_piece.result c.args.wire.now.frames.items c.send_piece.new.wire.frames.items c.args.x.now.end c.start.new.self.id (part_now (side_of half)) (fate_value c.args.fate) c.send_piece.ensures.ok c.send_piece.ensures.halt
+    recorded_one script (fate_value c.args.fate) c.args.wire.now c.send_piece.new.wire c.args.x.now c.args.y.now half c.args.y.now (settled_holds c.args.wire.now c.args.x.now c.args.y.now c.requires.turn.settled) is
+    (adds_of c.send_piece.result c.args.wire.now.frames.items c.send_piece.new.wire.frames.items c.args.x.now.end c.start.new.self.id (part_now (side_of half)) (fate_value c.args.fate) c.send_piece.ensures.ok c.send_piece.ensures.halt) (refl, refl) (refl, refl)

@@ -66,6 +66,12 @@ returns-clause-less c =
     (ack_more-less c.args.wire.now c.send_piece.new.wire c.args.x.now y c.args.key (fate_value c.args.fate) c.requires.holds c.requires.next more
     (subst (λ (s : SenderValue). Sends c.args.wire.now.frames.items y.end s.id (part_now (side_of (record y { sender = s }))) (fate_value c.args.fate) None c.send_piece.new.wire.frames.items) next sends) c.send_piece.ensures.released)) c.send_piece.ensures.ok
 
+pub returns-then-not-on_ack-clause-underway : goal.returns-then-not-on_ack-clause-underway
+returns-then-not-on_ack-clause-underway c =
+    let same = c.on_ack.ensures.stays c.if-not-on_ack.true in
+    subst (λ (s : SenderValue). StillUnderway (heard_as.Ack c.args.key) c.args.wire.now c.args.x.now c.args.y.now c.args.wire.now (moved c.args.x.now) (record c.args.y.now { sender = s })) (sym same)
+    (ack_other-underway c.args.wire.now c.args.x.now c.args.y.now c.args.key c.requires.holds c.requires.next)
+
 pub returns-then-is_none-clause-underway : goal.returns-then-is_none-clause-underway
 returns-then-is_none-clause-underway c =
     let next = c.on_ack.ensures.next c.if-not-on_ack.false in
@@ -87,9 +93,3 @@ returns-clause-underway c =
 pub returns-clause-adds : goal.returns-clause-adds
 returns-clause-adds c =
     adds_of c.send_piece.result c.args.wire.now.frames.items c.send_piece.new.wire.frames.items c.args.y.now.end c.on_ack.new.self.id (part_now (side_of (record c.args.y.now { sender = c.on_ack.new.self }))) (fate_value c.args.fate) c.send_piece.ensures.ok c.send_piece.ensures.halt
-
-pub returns-then-not-on_ack-clause-underway : goal.returns-then-not-on_ack-clause-underway
-returns-then-not-on_ack-clause-underway c =
-    let same = c.on_ack.ensures.stays c.if-not-on_ack.true in
-    subst (λ (s : SenderValue). StillUnderway (heard_as.Ack c.args.key) c.args.wire.now c.args.x.now c.args.y.now c.args.wire.now (moved c.args.x.now) (record c.args.y.now { sender = s })) (sym same)
-    (ack_other-underway c.args.wire.now c.args.x.now c.args.y.now c.args.key)

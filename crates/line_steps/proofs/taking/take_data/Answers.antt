@@ -85,3 +85,6 @@ returns-clause-underway c =
           (idle_sender taken y.sender w.stop_waiting.new.sender w.in-Accepted.is w.stop_waiting.ensures.rest w.stop_waiting.ensures.idle)
           (subst (λ (h : Half). Sends wire.frames.items h.end key.id (ack_fragment key) (fate_value c.args.fate) None new.frames.items) w.y-is sends) c.send_ack.ensures.released)) c.send_ack.ensures.ok
     ]
+
+pub returns-in-Dropped-clause-underway : goal.returns-in-Dropped-clause-underway
+returns-in-Dropped-clause-underway c = absurd (never_dropped c.args.wire.now c.args.x.now c.args.y.now c.args.key c.args.taken c.requires c.in-Dropped.is)

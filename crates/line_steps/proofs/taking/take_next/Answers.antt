@@ -1,74 +1,31 @@
-use Rattle.std.proofs.Common.{refl}
-use Rattle.std.proofs.lemmas.Option.{slice_get_read, slice_get_within}
-use Rattle.line_steps.proofs.HeardLaws.{heard_ack-holds, heard_ack-next, heard_data, heard_something}
-use Rattle.line_steps.specs.declared.hearing.Heard.TheVariants as heard_as
-use Rattle.line_steps.proofs.UnderwayLaws.{heeded-underway}
-use Rattle.line_steps.proofs.HoldsLaws.{going}
+use Rattle.std.proofs.Common.{subst, List}
+use Rattle.std.proofs.lemmas.Option.{slice_get_within}
+use Rattle.std.proofs.lemmas.Result.{IfOk-weaker, on_ok_weaker}
+use Rattle.trace_text.specs.Fates.{fate_value}
+use Rattle.trace_text.specs.declared.frame.Frame.{Frame}
+use Rattle.line_steps.specs.Adding.{AddsOne}
+use Rattle.line_steps.specs.Underway.{StillUnderway}
+use Rattle.line_steps.proofs.MarkingLaws.{holds_marked, delivers_marked, less-marked, still_marked}
 use Rattle.line_steps.proofs.taking.take_next.Goals as goal
 
--- src/taking.rt:26:9
-pub hear_frame-heard-requires-clause-goes : goal.hear_frame-heard-requires-clause-goes
-hear_frame-heard-requires-clause-goes c =
-    let frames = c.args.wire.now.frames.items in
-    let n = c.args.x.now.taken in
-    let here = slice_get_read frames _ n c.index.result.now refl (slice_get_within frames n c.requires.next.frame c.requires.next.here) c.index.ensures in
-    (going c.args.wire.now c.args.x.now c.args.y.now n c.index.result.now c.requires.holds here).goes_on
+pub mark-requires : goal.mark-requires
+mark-requires c = slice_get_within c.args.wire.now.frames.items c.args.x.now.taken c.requires.next.frame c.requires.next.here
 
--- src/taking.rt:26:9
-pub hear_frame-heard-requires-clause-bears : goal.hear_frame-heard-requires-clause-bears
-hear_frame-heard-requires-clause-bears c =
-    let frames = c.args.wire.now.frames.items in
-    let n = c.args.x.now.taken in
-    let here = slice_get_read frames _ n c.index.result.now refl (slice_get_within frames n c.requires.next.frame c.requires.next.here) c.index.ensures in
-    (going c.args.wire.now c.args.x.now c.args.y.now n c.index.result.now c.requires.holds here).bears
+pub take_marked-requires-clause-holds : goal.take_marked-requires-clause-holds
+take_marked-requires-clause-holds c = holds_marked c.args.x.now.taken c.args.wire.now c.mark.new.wire c.args.x.now c.args.y.now c.mark.ensures c.requires.holds
 
--- src/taking.rt:28:28
-pub take_ack-requires-clause-holds : goal.take_ack-requires-clause-holds
-take_ack-requires-clause-holds c =
-    heard_ack-holds c.args.wire.now c.args.x.now c.args.y.now c.hear_frame-heard.new.half c.requires.holds c.in-Ack.ensures.hears.2 c.in-Ack.ensures.heeded c.in-Ack.ensures.gap
+pub take_marked-requires-clause-next : goal.take_marked-requires-clause-next
+take_marked-requires-clause-next c = delivers_marked c.args.x.now.end c.args.x.now.taken c.args.wire.now c.mark.new.wire c.mark.ensures c.requires.next
 
--- src/taking.rt:28:28
-pub take_ack-requires-clause-next : goal.take_ack-requires-clause-next
-take_ack-requires-clause-next c =
-    let frames = c.args.wire.now.frames.items in
-    let n = c.args.x.now.taken in
-    let here = slice_get_read frames _ n c.index.result.now refl (slice_get_within frames n c.requires.next.frame c.requires.next.here) c.index.ensures in
-    heard_ack-next c.args.wire.now c.args.x.now c.args.y.now c.index.result.now c.in-Ack.key c.hear_frame-heard.new.half.receiver c.requires.next here c.in-Ack.ensures.hears
+pub returns-clause-underway : goal.returns-clause-underway
+returns-clause-underway c =
+    IfOk-weaker c.take_marked.result (λ heard. StillUnderway heard c.mark.new.wire c.args.x.now c.args.y.now c.take_marked.new.wire c.take_marked.new.x c.take_marked.new.y)
+    (λ heard. StillUnderway heard c.args.wire.now c.args.x.now c.args.y.now c.take_marked.new.wire c.take_marked.new.x c.take_marked.new.y)
+    (λ heard still. still_marked heard c.args.x.now.taken c.args.wire.now c.mark.new.wire c.args.x.now c.args.y.now c.take_marked.new.wire c.take_marked.new.x c.take_marked.new.y c.mark.ensures still) c.take_marked.ensures.underway
 
--- src/taking.rt:29:36
-pub take_data-requires : goal.take_data-requires
-take_data-requires c =
-    let frames = c.args.wire.now.frames.items in
-    let n = c.args.x.now.taken in
-    let here = slice_get_read frames _ n c.index.result.now refl (slice_get_within frames n c.requires.next.frame c.requires.next.here) c.index.ensures in
-    heard_data c.args.wire.now c.args.x.now c.args.y.now c.hear_frame-heard.new.half c.index.result.now c.in-Data.key c.in-Data.taken c.requires.holds c.requires.next here c.in-Data.ensures.hears c.in-Data.ensures.heeded c.in-Data.ensures.gap
+pub returns-clause-adds : goal.returns-clause-adds
+returns-clause-adds c = subst (λ (fs : List Frame). AddsOne (fate_value c.args.fate) fs c.take_marked.new.wire.frames.items) c.mark.ensures.frames_are c.take_marked.ensures.adds
 
--- src/taking.rt:21:1
-pub returns-in-Nothing-clause-holds : goal.returns-in-Nothing-clause-holds
-returns-in-Nothing-clause-holds c =
-    let frames = c.args.wire.now.frames.items in
-    let n = c.args.x.now.taken in
-    let here = slice_get_read frames _ n c.index.result.now refl (slice_get_within frames n c.requires.next.frame c.requires.next.here) c.index.ensures in
-    absurd (heard_something _ c.index.result.now c.args.y.now.receiver c.hear_frame-heard.new.half.receiver (going c.args.wire.now c.args.x.now c.args.y.now n c.index.result.now c.requires.holds here) c.in-Nothing.ensures.hears)
-
-pub returns-in-Nothing-clause-moved : goal.returns-in-Nothing-clause-moved
-returns-in-Nothing-clause-moved c =
-    let frames = c.args.wire.now.frames.items in
-    let n = c.args.x.now.taken in
-    let here = slice_get_read frames _ n c.index.result.now refl (slice_get_within frames n c.requires.next.frame c.requires.next.here) c.index.ensures in
-    absurd (heard_something _ c.index.result.now c.args.y.now.receiver c.hear_frame-heard.new.half.receiver (going c.args.wire.now c.args.x.now c.args.y.now n c.index.result.now c.requires.holds here) c.in-Nothing.ensures.hears)
-
-pub returns-in-Nothing-clause-less : goal.returns-in-Nothing-clause-less
-returns-in-Nothing-clause-less c =
-    let frames = c.args.wire.now.frames.items in
-    let n = c.args.x.now.taken in
-    let here = slice_get_read frames _ n c.index.result.now refl (slice_get_within frames n c.requires.next.frame c.requires.next.here) c.index.ensures in
-    absurd (heard_something _ c.index.result.now c.args.y.now.receiver c.hear_frame-heard.new.half.receiver (going c.args.wire.now c.args.x.now c.args.y.now n c.index.result.now c.requires.holds here) c.in-Nothing.ensures.hears)
-
-pub returns-in_ok-take_ack-in-Ack-clause-underway : goal.returns-in_ok-take_ack-in-Ack-clause-underway
-returns-in_ok-take_ack-in-Ack-clause-underway c =
-    heeded-underway (heard_as.Ack c.in-Ack.key) c.args.wire.now c.args.x.now c.args.y.now c.hear_frame-heard.new.half c.take_ack.new.wire c.take_ack.new.x c.take_ack.new.y c.in-Ack.ensures.heeded c.in_ok-take_ack-in-Ack.ensures.underway
-
-pub returns-in_ok-take_data-in-Data-clause-underway : goal.returns-in_ok-take_data-in-Data-clause-underway
-returns-in_ok-take_data-in-Data-clause-underway c =
-    heeded-underway (heard_as.Data c.in-Data.key c.in-Data.taken) c.args.wire.now c.args.x.now c.args.y.now c.hear_frame-heard.new.half c.take_data.new.wire c.take_data.new.x c.take_data.new.y c.in-Data.ensures.heeded c.in_ok-take_data-in-Data.ensures.underway
+pub returns-clause-less : goal.returns-clause-less
+returns-clause-less c =
+    on_ok_weaker c.take_marked.result (λ less. less-marked c.args.x.now.taken c.args.wire.now c.mark.new.wire c.args.x.now c.args.y.now c.take_marked.new.wire c.take_marked.new.x c.take_marked.new.y c.mark.ensures less) c.take_marked.ensures.less

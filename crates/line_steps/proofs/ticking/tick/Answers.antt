@@ -5,7 +5,6 @@ use Rattle.trace_text.specs.Fates.{fate_value}
 use Rattle.line_steps.proofs.TakingLaws.{some_waits, waits_not}
 use Rattle.line_steps.proofs.WorkLaws.{other_waits, tick_one-less, tick_other-less, tick_two-less}
 use Rattle.line_steps.proofs.UnderwayLaws.{tick_one-underway, tick_other-underway, tick_two-underway}
-use Rattle.line_steps.proofs.CarryingLaws.{again-stays}
 use Rattle.line_steps.proofs.AddingLaws.{adds_two}
 use Rattle.line_steps.specs.Halting.{DownBy, Spent}
 use Rattle.line_steps.specs.Running.{past_now}
@@ -68,14 +67,6 @@ returns-clause-underway c =
     let y_waits = some_waits c.args.y.now.sender (ap is_some (sym c.current-2.ensures.piece) ∙ c.if-is_none-2.ensures) in
     on_ok_weaker c.send_again-3.result (λ sent. tick_two-underway c.args.wire.now c.send_again-2.new.wire c.send_again-3.new.wire c.len-wire.result c.args.x.now c.args.y.now c.send_again-2.new.half c.send_again-3.new.half (fate_value c.args.fate) (fate_value c.args.other)
     c.requires.holds x_waits y_waits c.in_ok-send_again.ensures.again sent) c.send_again-3.ensures.again
-
-pub returns-clause-x_stays : goal.returns-clause-x_stays
-returns-clause-x_stays c =
-    on_ok_weaker c.send_again-3.result (λ sent. again-stays (record c.args.wire.now { released = c.len-wire.result }) c.send_again-2.new.wire c.args.x.now c.send_again-2.new.half (fate_value c.args.fate) c.in_ok-send_again.ensures.again) c.send_again-3.ensures.again
-
-pub returns-clause-y_stays : goal.returns-clause-y_stays
-returns-clause-y_stays c =
-    on_ok_weaker c.send_again-3.result (λ sent. again-stays c.send_again-2.new.wire c.send_again-3.new.wire c.args.y.now c.send_again-3.new.half (fate_value c.args.other) sent) c.send_again-3.ensures.again
 
 pub returns-clause-adds : goal.returns-clause-adds
 returns-clause-adds c =

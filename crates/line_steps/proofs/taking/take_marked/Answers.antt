@@ -1,0 +1,81 @@
+use Rattle.std.proofs.Common.{refl}
+use Rattle.std.proofs.lemmas.Option.{slice_get_read, slice_get_within}
+use Rattle.line_steps.proofs.HeardLaws.{heard_ack-holds, heard_ack-next, heard_data, heard_something}
+use Rattle.line_steps.specs.declared.hearing.Heard.TheVariants as heard_as
+use Rattle.line_steps.proofs.UnderwayLaws.{heeded-underway}
+use Rattle.line_steps.proofs.HoldsLaws.{going}
+use Rattle.line_steps.proofs.taking.take_marked.Goals as goal
+
+-- src/taking.rt:26:9
+pub hear_frame-heard-requires-clause-goes : goal.hear_frame-heard-requires-clause-goes
+hear_frame-heard-requires-clause-goes c =
+    let frames = c.args.wire.now.frames.items in
+    let n = c.args.x.now.taken in
+    let here = slice_get_read frames _ n c.index.result.now refl (slice_get_within frames n c.requires.next.frame c.requires.next.here) c.index.ensures in
+    (going c.args.wire.now c.args.x.now c.args.y.now n c.index.result.now c.requires.holds here).goes_on
+
+-- src/taking.rt:26:9
+pub hear_frame-heard-requires-clause-bears : goal.hear_frame-heard-requires-clause-bears
+hear_frame-heard-requires-clause-bears c =
+    let frames = c.args.wire.now.frames.items in
+    let n = c.args.x.now.taken in
+    let here = slice_get_read frames _ n c.index.result.now refl (slice_get_within frames n c.requires.next.frame c.requires.next.here) c.index.ensures in
+    (going c.args.wire.now c.args.x.now c.args.y.now n c.index.result.now c.requires.holds here).bears
+
+-- src/taking.rt:28:28
+pub take_ack-requires-clause-holds : goal.take_ack-requires-clause-holds
+take_ack-requires-clause-holds c =
+    heard_ack-holds c.args.wire.now c.args.x.now c.args.y.now c.hear_frame-heard.new.half c.requires.holds c.in-Ack.ensures.hears.2 c.in-Ack.ensures.heeded c.in-Ack.ensures.gap
+
+-- src/taking.rt:28:28
+pub take_ack-requires-clause-next : goal.take_ack-requires-clause-next
+take_ack-requires-clause-next c =
+    let frames = c.args.wire.now.frames.items in
+    let n = c.args.x.now.taken in
+    let here = slice_get_read frames _ n c.index.result.now refl (slice_get_within frames n c.requires.next.frame c.requires.next.here) c.index.ensures in
+    heard_ack-next c.args.wire.now c.args.x.now c.args.y.now c.index.result.now c.in-Ack.key c.hear_frame-heard.new.half.receiver c.requires.next here c.in-Ack.ensures.hears
+
+-- src/taking.rt:29:36
+pub take_data-requires : goal.take_data-requires
+take_data-requires c =
+    let frames = c.args.wire.now.frames.items in
+    let n = c.args.x.now.taken in
+    let here = slice_get_read frames _ n c.index.result.now refl (slice_get_within frames n c.requires.next.frame c.requires.next.here) c.index.ensures in
+    heard_data c.args.wire.now c.args.x.now c.args.y.now c.hear_frame-heard.new.half c.index.result.now c.in-Data.key c.in-Data.taken c.requires.holds c.requires.next here c.in-Data.ensures.hears c.in-Data.ensures.heeded c.in-Data.ensures.gap
+
+-- src/taking.rt:21:1
+pub returns-in-Nothing-clause-holds : goal.returns-in-Nothing-clause-holds
+returns-in-Nothing-clause-holds c =
+    let frames = c.args.wire.now.frames.items in
+    let n = c.args.x.now.taken in
+    let here = slice_get_read frames _ n c.index.result.now refl (slice_get_within frames n c.requires.next.frame c.requires.next.here) c.index.ensures in
+    absurd (heard_something _ c.index.result.now c.args.y.now.receiver c.hear_frame-heard.new.half.receiver (going c.args.wire.now c.args.x.now c.args.y.now n c.index.result.now c.requires.holds here) c.in-Nothing.ensures.hears)
+
+pub returns-in-Nothing-clause-moved : goal.returns-in-Nothing-clause-moved
+returns-in-Nothing-clause-moved c =
+    let frames = c.args.wire.now.frames.items in
+    let n = c.args.x.now.taken in
+    let here = slice_get_read frames _ n c.index.result.now refl (slice_get_within frames n c.requires.next.frame c.requires.next.here) c.index.ensures in
+    absurd (heard_something _ c.index.result.now c.args.y.now.receiver c.hear_frame-heard.new.half.receiver (going c.args.wire.now c.args.x.now c.args.y.now n c.index.result.now c.requires.holds here) c.in-Nothing.ensures.hears)
+
+pub returns-in-Nothing-clause-less : goal.returns-in-Nothing-clause-less
+returns-in-Nothing-clause-less c =
+    let frames = c.args.wire.now.frames.items in
+    let n = c.args.x.now.taken in
+    let here = slice_get_read frames _ n c.index.result.now refl (slice_get_within frames n c.requires.next.frame c.requires.next.here) c.index.ensures in
+    absurd (heard_something _ c.index.result.now c.args.y.now.receiver c.hear_frame-heard.new.half.receiver (going c.args.wire.now c.args.x.now c.args.y.now n c.index.result.now c.requires.holds here) c.in-Nothing.ensures.hears)
+
+pub returns-in_ok-take_ack-in-Ack-clause-underway : goal.returns-in_ok-take_ack-in-Ack-clause-underway
+returns-in_ok-take_ack-in-Ack-clause-underway c =
+    heeded-underway (heard_as.Ack c.in-Ack.key) c.args.wire.now c.args.x.now c.args.y.now c.hear_frame-heard.new.half c.take_ack.new.wire c.take_ack.new.x c.take_ack.new.y c.in-Ack.ensures.heeded c.in_ok-take_ack-in-Ack.ensures.underway
+
+pub returns-in_ok-take_data-in-Data-clause-underway : goal.returns-in_ok-take_data-in-Data-clause-underway
+returns-in_ok-take_data-in-Data-clause-underway c =
+    heeded-underway (heard_as.Data c.in-Data.key c.in-Data.taken) c.args.wire.now c.args.x.now c.args.y.now c.hear_frame-heard.new.half c.take_data.new.wire c.take_data.new.x c.take_data.new.y c.in-Data.ensures.heeded c.in_ok-take_data-in-Data.ensures.underway
+
+pub returns-in-Nothing-clause-underway : goal.returns-in-Nothing-clause-underway
+returns-in-Nothing-clause-underway c =
+    let frames = c.args.wire.now.frames.items in
+    let n = c.args.x.now.taken in
+    let here = slice_get_read frames _ n c.index.result.now refl (slice_get_within frames n c.requires.next.frame c.requires.next.here) c.index.ensures in
+    absurd (heard_something _ c.index.result.now c.args.y.now.receiver c.hear_frame-heard.new.half.receiver (going c.args.wire.now c.args.x.now c.args.y.now n c.index.result.now c.requires.holds here) c.in-Nothing.ensures.hears)
