@@ -1,0 +1,44 @@
+-- Puts grow by one.
+use Rattle.std.proofs.Common.{◌∙◌, refl, sym, arith}
+use Rattle.std.proofs.lemmas.Result.{err_from_is_err_and}
+use Rattle.desktop_session.specs.Answers.{id_of}
+use Rattle.slow_mirror.proofs.EntryLaws.{cause_by}
+use Rattle.slow_mirror.proofs.AskLaws.{answered_none}
+use Rattle.slow_mirror.proofs.NewsLaws.{some_done, some_none, some_on, some_stop, split_at}
+use Rattle.slow_mirror.proofs.writing.replace_all.Goals as goal
+
+pub loop-entry-init : goal.loop-entry-init
+loop-entry-init g c = record {
+  reference = refl;
+  handle = refl;
+  puts = some_none g.L.Link.talk g.L.Link.since g.L.Link.fault g.L.Link.downs g.met.L.Link.since_itself c.args.db.now.handle c.args.entries.now
+      c.args.db.now.linked.now;
+}
+
+pub loop-entry-preserved : goal.loop-entry-preserved
+loop-entry-preserved g c =
+    let before = c.loop-entry.invariant in
+    record {
+      reference = c.in_ok-put.ensures.same_reference ∙ before.reference;
+      handle = c.in_ok-put.ensures.same_handle ∙ before.handle;
+      puts = some_on g.L.Link.talk g.L.Link.since g.L.Link.fault g.L.Link.downs g.met.L.Link.since_more c.args.db.now.handle c.loop-entry.db.handle
+          c.loop-entry.entry-index c.entry-item.result c.args.entries.now c.args.db.now.linked.now c.loop-entry.db.linked.now c.put.new.self.linked.now _
+          before.handle (split_at c.args.entries.now c.loop-entry.entry-index c.entry-item.result c.loop-entry-test.true c.entry-item.is)
+          (answered_none _ _ _ c.in_ok-put.ensures.answer) before.puts c.in_ok-put.ensures.puts;
+    }
+
+pub returns-in_err-put-clause-puts : goal.returns-in_err-put-clause-puts
+returns-in_err-put-clause-puts g c =
+    let p = err_from_is_err_and c.from_residual.result c.from_residual.ensures.1 in
+    let before = c.loop-entry.invariant in
+    rw (p.1, p.2)
+    (some_stop g.L.Link.talk g.L.Link.since g.L.Link.fault g.L.Link.downs g.met.L.Link.since_more c.args.db.now.handle c.loop-entry.db.handle
+    c.loop-entry.entry-index c.entry-item.result c.args.entries.now (λ given done. Unit {0}) c.args.db.now.linked.now c.loop-entry.db.linked.now
+    c.put.new.self.linked.now _ _ before.handle
+    (split_at c.args.entries.now c.loop-entry.entry-index c.entry-item.result c.loop-entry-test.true c.entry-item.is) before.puts
+    c.in_err-put.ensures.puts (cause_by id_of _ _ _ (sym c.in_err-put.ensures.answer)))
+
+pub returns-clause-puts : goal.returns-clause-puts
+returns-clause-puts g c =
+    some_done g.L.Link.talk g.L.Link.since g.L.Link.fault g.L.Link.downs c.args.db.now.handle c.loop-entry.entry-index c.args.entries.now
+    (λ given done. Unit {0}) _ c.args.db.now.linked.now c.loop-entry.db.linked.now (omega arith) (λ given. tt) c.loop-entry.invariant.puts

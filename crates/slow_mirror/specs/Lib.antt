@@ -1,0 +1,4 @@
+pub mod Asks
+pub mod Entries
+pub mod News
+pub mod Reads
