@@ -1,5 +1,6 @@
 //! A message goes over to the other end.
-ghost use Rattle.std.specs.Prelude.{◌≡◌, OnOk, IfOk, false};
+ghost use Rattle.std.specs.Prelude.{◌≡◌, ◌≤◌, OnOk, IfOk, false, length};
+ghost use Rattle.padp_link.specs.Pieces.{piece_count};
 ghost use Rattle.padp_link.specs.Senders.{Waits};
 ghost use Rattle.line_laws.specs.Progress.{Blocked};
 ghost use Rattle.line_script.specs.Scripts.{fate_by};
@@ -48,6 +49,7 @@ pub fn settle(wire: &mut Wire, x: &mut Half, y: &mut Half, script: &Script) -> R
     ensures recorded { Recorded script.now wire.old x.old y.old →
         Recorded script.now wire.new x.new y.new }
     ensures turn { OnOk result (Turn wire.new x.new y.new) }
+    ensures idle { OnOk result (piece_count (length y.new.message.items) ≤ y.new.sender.acknowledged) }
     ensures x_same { OnOk result (SameMessage x.old x.new) }
     ensures y_same { OnOk result (SameMessage y.old y.new) }
     ensures talks { OnOk result (KeepsTalk wire.old x.old y.old wire.new x.new y.new) }

@@ -1,0 +1,26 @@
+-- An end that waits for a message changes nothing of what the frames tell.
+use Rattle.std.proofs.Common.{◌≡◌, ℕ, List, [], Some, sym, subst}
+use Rattle.line_script.specs.Rules.{RuleValue}
+use Rattle.trace_text.specs.Talks.{Talk}
+use Rattle.line_steps.specs.declared.half.Half.{Half}
+use Rattle.line_steps.specs.declared.half.Wire.{Wire}
+use Rattle.line_laws.specs.Talking.{count_messages}
+use Rattle.trace_text.specs.declared.frame.End.{End}
+use Rattle.trace_text.specs.declared.frame.End.TheVariants.{Handheld, Desktop}
+use Rattle.line_steps.specs.Telling.{IsInTurn, IsNextTo, Recorded, Talks}
+
+-- it waits for a message of this transaction
+abbrev pub expecting : Half → ℕ → Half
+expecting half id = record half { receiver = record { awaited = Some id; pieces = []; last = half.receiver.last } }
+
+pub expects-recorded : (script : List RuleValue) (wire : Wire) (x y new : Half) (id : ℕ) → new ≡ expecting y id → Recorded script wire x y → Recorded script wire x new
+expects-recorded script wire x y new id is recorded = subst (λ (h : Half). Recorded script wire x h) (sym is) (record { by = recorded.by; came = recorded.came })
+
+pub expects-next : (talk : Talk) (x y new : Half) (id next : ℕ) → new ≡ expecting y id → IsNextTo talk x y next → IsNextTo talk x new next
+expects-next talk x y new id next is to = subst (λ (h : Half). IsNextTo talk x h next) (sym is) (record { turn = same x.end to.turn; id_is = to.id_is }) where
+  same : (X : End) → IsInTurn X (count_messages Handheld talk) (count_messages Desktop talk) y → IsInTurn X (count_messages Handheld talk) (count_messages Desktop talk) (expecting y id)
+  same Handheld turn = turn
+  same Desktop turn = turn
+
+pub expects-talks : (talk : Talk) (wire : Wire) (x y new : Half) (id : ℕ) → new ≡ expecting y id → Talks talk wire x y → Talks talk wire x new
+expects-talks talk wire x y new id is talks = subst (λ (h : Half). Talks talk wire x h) (sym is) talks

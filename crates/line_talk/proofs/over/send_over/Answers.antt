@@ -1,0 +1,59 @@
+use Rattle.std.specs.Prelude.{Result, Ok, Err, OnOk}
+use Rattle.std.proofs.Common.{◌≡◌, ℕ, ◌+◌, List, length, Some, ap, subst, ◌∙◌, arith}
+use Rattle.std.proofs.lemmas.Result.{on_ok_weaker}
+use Rattle.line_laws.specs.Talking.{say}
+use Rattle.line_script.specs.Scripts.{fate_by}
+use Rattle.line_steps.specs.declared.half.Half.{Half}
+use Rattle.line_steps.specs.Telling.{Talks}
+use Rattle.line_talk.proofs.OverLaws.{expects-recorded, expects-next, expects-talks}
+use Rattle.line_talk.proofs.over.send_over.Goals as goal
+
+both_ok : {T E A B C : Type 0} (r : Result T E) → (A → B → C) → OnOk r A → OnOk r B → OnOk r C
+both_ok (Ok x) f a b = f a b
+both_ok (Err y) f a b = tt
+
+pub start-requires-clause-turn : goal.start-requires-clause-turn
+start-requires-clause-turn c = c.expect.ensures.other c.args.wire.now c.args.x.now c.requires.turn
+
+pub returns-in_err-start-clause-recorded : goal.returns-in_err-start-clause-recorded
+returns-in_err-start-clause-recorded c recorded =
+    let size : c.len.result ≡ length c.args.wire.now.frames.items = omega (arith, c.len.ensures) in
+    c.start.ensures.recorded c.args.script.now (c.in_ok-fate.ensures ∙ ap (λ (n : ℕ). fate_by c.args.script.now (n + 1)) size) (expects-recorded c.args.script.now c.args.wire.now c.args.x.now c.args.y.now c.expect.new.half c.args.id c.expect.ensures.receiver recorded)
+
+pub returns-clause-recorded : goal.returns-clause-recorded
+returns-clause-recorded c recorded =
+    let size : c.len.result ≡ length c.args.wire.now.frames.items = omega (arith, c.len.ensures) in
+    c.carry.ensures.recorded (c.start.ensures.recorded c.args.script.now (c.in_ok-fate.ensures ∙ ap (λ (n : ℕ). fate_by c.args.script.now (n + 1)) size)
+    (expects-recorded c.args.script.now c.args.wire.now c.args.x.now c.args.y.now c.expect.new.half c.args.id c.expect.ensures.receiver recorded))
+
+pub returns-clause-talks : goal.returns-clause-talks
+returns-clause-talks c =
+    on_ok_weaker c.carry.result (λ keeps. λ talk next talks. subst (λ (m : List ℕ). Talks (say c.args.x.now.end m talk) c.carry.new.wire c.carry.new.x c.carry.new.y) c.in_ok-text.ensures.items
+    (keeps (say c.args.x.now.end c.in_ok-text.text.items talk)
+    (c.in_ok-start.ensures.talks talk (expects-next talk c.args.x.now c.args.y.now c.expect.new.half c.args.id c.args.id c.expect.ensures.receiver next) (expects-talks talk c.args.wire.now c.args.x.now c.args.y.now c.expect.new.half c.args.id c.expect.ensures.receiver talks)))) c.carry.ensures.talks
+
+pub returns-clause-turn : goal.returns-clause-turn
+returns-clause-turn c = on_ok_weaker c.carry.result (λ carried. carried.turn) c.carry.ensures.carried
+
+pub returns-clause-waits : goal.returns-clause-waits
+returns-clause-waits c = on_ok_weaker c.carry.result (λ carried. carried.waits) c.carry.ensures.carried
+
+pub returns-clause-whole : goal.returns-clause-whole
+returns-clause-whole c =
+    both_ok c.carry.result (λ carried same. carried.message
+    ∙ ap (λ (m : List ℕ). Some m) (ap (λ (m : _). m.items) same.message_is ∙ ap (λ (h : Half). h.message.items) c.start.ensures.says ∙ c.in_ok-text.ensures.items)) c.carry.ensures.carried c.carry.ensures.x_same
+
+pub returns-clause-own_end : goal.returns-clause-own_end
+returns-clause-own_end c = on_ok_weaker c.carry.result (λ same. same.end_is ∙ ap (λ (h : Half). h.end) c.start.ensures.says) c.carry.ensures.x_same
+
+pub returns-clause-own_id : goal.returns-clause-own_id
+returns-clause-own_id c = on_ok_weaker c.carry.result (λ same. same.id_is ∙ c.start.ensures.id) c.carry.ensures.x_same
+
+pub returns-clause-other_same : goal.returns-clause-other_same
+returns-clause-other_same c =
+    let from = c.expect.ensures.receiver in
+    on_ok_weaker c.carry.result (λ same. record {
+      end_is = same.end_is ∙ ap (λ (h : Half). h.end) from;
+      message_is = same.message_is ∙ ap (λ (h : Half). h.message) from;
+      id_is = same.id_is ∙ ap (λ (h : Half). h.sender.id) from;
+    }) c.carry.ensures.y_same

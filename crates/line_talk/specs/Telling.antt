@@ -1,0 +1,36 @@
+-- What the frames of a line with its two ends tell: the fates that a script gave them, which of them came, and the messages of both ends.
+use Rattle.std.specs.Prelude.{◌≡◌, ℕ, ◌+◌, List, [], ◌∷◌, length}
+use Rattle.cmp_hello.specs.declared.hello.Hello.{Hello}
+use Rattle.cmp_hello.specs.declared.hello.HelloKind.TheVariants.{Wake, Init}
+use Rattle.cmp_hello.specs.HelloText.{hello_bytes}
+use Rattle.line_script.specs.Rules.{RuleValue}
+use Rattle.trace_text.specs.Talks.{Talk}
+use Rattle.line_steps.specs.declared.line.Line.{Line}
+use Rattle.line_steps.specs.Telling.{Recorded, Talks}
+
+-- each frame has its number and the fate that the script gives it, and came exactly where it arrives and was taken
+abbrev pub LineRecords : List RuleValue → Line → Type 0
+LineRecords script line = Recorded script line.wire line.handheld line.desktop
+
+-- the frames so far tell these messages
+abbrev pub LineTells : Talk → Line → Type 0
+LineTells talk line = Talks talk line.wire line.handheld line.desktop
+
+-- both ends said as much: their greetings, and so many requests and replies
+pub record HasSaid (talk : Talk) (replies requests : ℕ) : Type 0 where
+  pub handheld_said : length talk.handheld ≡ replies + 1
+  pub desktop_said : length talk.desktop ≡ requests + 1
+
+-- the greetings: the wake and the init, at 9,600 bits per second
+abbrev pub wake : Hello
+wake = record { kind = Wake; flags = 0; minor = 1; rate = 9600 }
+
+abbrev pub init : Hello
+init = record { kind = Init; flags = 0; minor = 1; rate = 9600 }
+
+abbrev pub bytes_of : Hello → List ℕ
+bytes_of hello = hello_bytes hello (0 ∷ 0 ∷ [])
+
+-- both ends greeted each other
+abbrev pub greeted : Talk
+greeted = record { handheld = bytes_of wake ∷ []; desktop = bytes_of init ∷ [] }

@@ -1,0 +1,84 @@
+//! A request, and its reply.
+ghost use Rattle.std.specs.Prelude.{◌≡◌, ◌+◌, ◌<◌, OnOk, Some, length};
+ghost use Rattle.padp_link.specs.Neighbours.{session_id};
+ghost use Rattle.padp_link.specs.Receivers.{whole_of};
+ghost use Rattle.trace_text.specs.declared.frame.End.TheVariants.{Handheld, Desktop};
+ghost use Rattle.trace_text.specs.Talks.{Talk};
+ghost use Rattle.line_laws.specs.Talking.{say};
+ghost use Rattle.line_steps.specs.Adding.{AllBy};
+ghost use Rattle.line_talk.specs.Rests.{MayAnswer, MayAsk};
+ghost use Rattle.line_talk.specs.Telling.{HasSaid, LineRecords, LineTells};
+
+use crate::over::send_over;
+use line_script::Script;
+use line_steps::{Halt, Line};
+use std::alloc::Global;
+
+/// The desktop sends the request behind so many, and the handheld takes it whole.
+pub fn ask(
+    alloc: Global,
+    line: &mut Line,
+    script: &Script,
+    requests: usize,
+    request: &[u8],
+) -> Result<(), Halt>
+    requires asks { MayAsk line.old requests }
+    requires short { length request.now < 65536 }
+    ensures answers { OnOk result (MayAnswer line.new requests) }
+    ensures whole { OnOk result (whole_of line.new.handheld.receiver.pieces ≡ Some request.now) }
+
+    ensures recorded { OnOk result (
+        LineRecords script.now line.old → LineRecords script.now line.new) }
+    ensures by { LineRecords script.now line.old →
+        AllBy script.now 1 line.new.wire.frames.items }
+    ensures tells { OnOk result ((talk : Talk) → HasSaid talk requests requests →
+        LineTells talk line.old → LineTells (say Desktop request.now talk) line.new) }
+{
+    send_over(
+        alloc,
+        &mut line.wire,
+        &mut line.desktop,
+        &mut line.handheld,
+        script,
+        transaction(requests),
+        request,
+    )
+}
+
+/// The handheld sends the reply to it, and the desktop takes it whole.
+pub fn answer(
+    alloc: Global,
+    line: &mut Line,
+    script: &Script,
+    requests: usize,
+    reply: &[u8],
+) -> Result<(), Halt>
+    requires answers { MayAnswer line.old requests }
+    requires short { length reply.now < 65536 }
+    ensures asks { OnOk result (MayAsk line.new (requests + 1)) }
+    ensures whole { OnOk result (whole_of line.new.desktop.receiver.pieces ≡ Some reply.now) }
+
+    ensures recorded { OnOk result (
+        LineRecords script.now line.old → LineRecords script.now line.new) }
+    ensures by { LineRecords script.now line.old →
+        AllBy script.now 1 line.new.wire.frames.items }
+    ensures tells { OnOk result ((talk : Talk) → HasSaid talk requests (requests + 1) →
+        LineTells talk line.old → LineTells (say Handheld reply.now talk) line.new) }
+{
+    send_over(
+        alloc,
+        &mut line.wire,
+        &mut line.handheld,
+        &mut line.desktop,
+        script,
+        transaction(requests),
+        reply,
+    )
+}
+
+/// The transaction of the request behind so many, and of its reply.
+fn transaction(requests: usize) -> u8
+    ensures { result ≡ session_id (requests + 1) }
+{
+    (requests % 254) as u8 + 1
+}

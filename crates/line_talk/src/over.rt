@@ -1,0 +1,46 @@
+//! A message of one end goes over to the other one.
+ghost use Rattle.std.specs.Prelude.{◌≡◌, ◌<◌, OnOk, Some, length};
+ghost use Rattle.padp_link.specs.Receivers.{whole_of};
+ghost use Rattle.padp_link.specs.Senders.{Waits};
+ghost use Rattle.trace_text.specs.Talks.{Talk};
+ghost use Rattle.line_laws.specs.Talking.{say};
+ghost use Rattle.line_steps.specs.Carrying.{SameMessage};
+ghost use Rattle.line_steps.specs.Telling.{IsNextTo, Recorded, Talks};
+ghost use Rattle.line_steps.specs.Turning.{Turn};
+
+use line_script::Script;
+use line_steps::{Half, Halt, Wire, carry, expect, fate_of, start};
+use std::alloc::Global;
+
+/// The end `x` sends this message under this transaction, and the end `y` takes it whole.
+pub(crate) fn send_over(
+    alloc: Global,
+    wire: &mut Wire,
+    x: &mut Half,
+    y: &mut Half,
+    script: &Script,
+    id: u8,
+    message: &[u8],
+) -> Result<(), Halt>
+    requires turn { Turn wire.old x.old y.old }
+    requires other { ¬ (id ≡ x.old.sender.id) }
+    requires short { length message.now < 65536 }
+    ensures turn { OnOk result (Turn wire.new y.new x.new) }
+    ensures waits { OnOk result (Waits x.new.sender) }
+    ensures whole { OnOk result (whole_of y.new.receiver.pieces ≡ Some message.now) }
+    ensures own_end { OnOk result (x.new.end ≡ x.old.end) }
+    ensures own_id { OnOk result (x.new.sender.id ≡ id) }
+    ensures other_same { OnOk result (SameMessage y.old y.new) }
+
+    ensures recorded { Recorded script.now wire.old x.old y.old →
+        Recorded script.now wire.new x.new y.new }
+    ensures talks { OnOk result ((talk : Talk) → IsNextTo talk x.old y.old id →
+        Talks talk wire.old x.old y.old →
+        Talks (say x.old.end message.now talk) wire.new x.new y.new) }
+{
+    let text = Vec::from_slice(alloc, message)?;
+    let fate = fate_of(script, wire.frames.len() as u64 + 1)?;
+    expect(y, id);
+    start(wire, x, y, id, text, fate)?;
+    carry(wire, x, y, script)
+}
