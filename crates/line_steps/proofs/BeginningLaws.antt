@@ -87,10 +87,13 @@ none_waits X Y talk cursor past x key speech none newest =
 
 -- ---- a message begins
 
-pub starts-talks : (talk : Talk) (wire new : Wire) (x y : Half) (id size : ℕ) (message : Vec ℕ Global) (given : FateValue) → Turn wire x y → (id ≡ x.sender.id → ⊥) → y.receiver.awaited ≡ Some id → y.receiver.pieces ≡ []
-    → Sends wire.frames.items x.end id (part_now (beginning id message.items)) given None new.frames.items → new.released ≡ wire.released → IsNextTo talk x y id → Talks talk wire x y
-    → Talks (say x.end message.items talk) new (record x { sender = begun id size; message = message }) y
-starts-talks talk wire new x y id size message given turn different awaited none sends released next talks = go (answers_of x.end y.end talk y turn.settled.apart next.turn) where
+-- the first piece stands on the line
+abbrev pub first_frame : Half → ℕ → Vec ℕ Global → FateValue → Sent
+first_frame x id message given = data_frame x.end (key_now (beginning id message.items)) ((part_now (beginning id message.items)).bytes) (course_of given)
+
+pub starts-told : (talk : Talk) (wire : Wire) (x y : Half) (id : ℕ) (message : Vec ℕ Global) (given : FateValue) → Turn wire x y → (id ≡ x.sender.id → ⊥) → y.receiver.awaited ≡ Some id → y.receiver.pieces ≡ [] → IsNextTo talk x y id → Talks talk wire x y
+    → Talked x.end y.end (say x.end message.items talk) (cursor_of x y) (first_frame x id message given ∷ past_now wire.frames.items) (beginning id message.items) (side_of y)
+starts-told talk wire x y id message given turn different awaited none next talks = go (answers_of x.end y.end talk y turn.settled.apart next.turn) where
   past : List Sent
   past = past_now wire.frames.items
 
@@ -102,20 +105,19 @@ starts-talks talk wire new x y id size message given turn different awaited none
 
   told : IfAnswers (answered_by x.end (count_messages x.end talk)) talk (came_by (cursor_of x y) (past_now wire.frames.items)) (past_now wire.frames.items)
       → (Waiting (side_of y) → (0 < count_messages y.end talk) × (answer_to y.end (count_messages y.end talk - 1) ≡ Some (count_messages x.end talk)))
-      → Talks (say x.end message.items talk) new (record x { sender = begun id size; message = message }) y
+      → Talked x.end y.end (say x.end message.items talk) (cursor_of x y) (first_frame x id message given ∷ past_now wire.frames.items) (beginning id message.items) (side_of y)
   told answers waits =
-      let longer = extends wire new x.end id (part_now side) given turn.settled.go sends tt released in
       let line = running_starts x.end y.end past x.taken y.taken wire.released (side_of x) (side_of y) x.receiver y.receiver x.sender.tries y.sender.tries id message.items (course_of given) turn.settled.apart turn.settled.line turn.knows different awaited none (λ w. omega (arith, w, turn.last)) in
-      subst (λ (p : List Sent). Talked x.end y.end (say x.end message.items talk) (cursor_of x y) p side (side_of y)) (sym longer.past) (record {
+      record {
         fx = true;
         fy = false;
         there = line.core.there.follows;
         back = line.core.back.follows;
         talking = talking_starts x.end y.end talk (cursor_of x y) past x.taken y.taken wire.released (side_of x) (side_of y) x.receiver y.receiver x.sender.tries y.sender.tries id message.items (course_of given) turn.settled.apart turn.settled.line
             (λ w. omega (arith, w, turn.idle)) different next.id_is answers waits (cursor_own x.end x.taken y.taken) (cursor_other x.end y.end x.taken y.taken turn.settled.apart.there) talking;
-      })
+      }
 
-  go : Answers x.end y.end talk y → Talks (say x.end message.items talk) new (record x { sender = begun id size; message = message }) y
+  go : Answers x.end y.end talk y → Talked x.end y.end (say x.end message.items talk) (cursor_of x y) (first_frame x id message given ∷ past_now wire.frames.items) (beginning id message.items) (side_of y)
   go (answers_nothing answers zero_is) = told (subst (λ (o : Option TalkTurn). IfAnswers o talk (came_by (cursor_of x y) past) past) (sym answers) tt)
       (λ w. absurd (none_waits y.end x.end talk (cursor_of x y) past (side_of y) _ talking.y_speech zero_is (turn.settled.line.core.y_speaks.newest w)))
   go (answers_other some answers back) = told
@@ -127,46 +129,66 @@ starts-talks talk wire new x y id size message given turn different awaited none
       (last_taken x.end y.end talk (cursor_of x y) past (side_of x) talking.x_speech (omega (arith, turn.idle)) turn.settled.line.core.there.follows some))
       (λ w. absurd (omega (arith, w, idle)))
 
+pub starts-talks : (talk : Talk) (wire new : Wire) (x y : Half) (id size : ℕ) (message : Vec ℕ Global) (given : FateValue) → Turn wire x y → (id ≡ x.sender.id → ⊥) → y.receiver.awaited ≡ Some id → y.receiver.pieces ≡ []
+    → Sends wire.frames.items x.end id (part_now (beginning id message.items)) given None new.frames.items → new.released ≡ wire.released → IsNextTo talk x y id → Talks talk wire x y
+    → Talks (say x.end message.items talk) new (record x { sender = begun id size; message = message }) y
+starts-talks talk wire new x y id size message given turn different awaited none sends released next talks =
+    let longer = extends wire new x.end id (part_now (beginning id message.items)) given turn.settled.go sends tt released in
+    subst (λ (p : List Sent). Talked x.end y.end (say x.end message.items talk) (cursor_of x y) p (beginning id message.items) (side_of y)) (sym longer.past) (starts-told talk wire x y id message given turn different awaited none next talks)
+
 -- ---- a tick
 
+-- the waiting piece stands on the line again
+abbrev pub again_frame : Half → FateValue → Sent
+again_frame x given = data_frame x.end (key_now (side_of x)) ((part_now (side_of x)).bytes) (course_of given)
+
 -- x sends its piece again, whether y waits or not
-pub one_again-talks : (talk : Talk) (wire new : Wire) (r : ℕ) (x y : Half) (given : FateValue) → Holds wire x y → Waits x.sender → SendsAgain (record wire { released = r }) x given new (again x) → Talks talk wire x y → Talks talk new x y
-one_again-talks talk wire new r x y given holds waits sent talks =
+pub one_again-told : (talk : Talk) (wire : Wire) (x y : Half) (given : FateValue) → Holds wire x y → Waits x.sender → x.sender.tries < 10 → Talks talk wire x y
+    → Talked x.end y.end talk (cursor_of x y) (again_frame x given ∷ past_now wire.frames.items) (side_of x) (side_of y)
+one_again-told talk wire x y given holds waits few talks =
     let past = past_now wire.frames.items in
     let now = waits_now x holds.x_half waits in
-    let longer = extends (record wire { released = r }) new x.end x.sender.id (part_now (side_of x)) given holds.go sent.sends tt sent.released in
     let core = once_more x.end y.end past x.taken y.taken (side_of x) (side_of y) x.receiver y.receiver holds.fx holds.fy (course_of given) holds.apart holds.line.core now in
-    subst (λ (p : List Sent). Talked x.end y.end talk (cursor_of x y) p (side_of x) (side_of y)) (sym longer.past) (record {
+    record {
       fx = holds.fx;
       fy = holds.fy;
       there = core.there.follows;
       back = core.back.follows;
-      talking = talking_tick_one x.end y.end talk (cursor_of x y) past x.taken y.taken wire.released (side_of x) (side_of y) x.receiver y.receiver holds.fx holds.fy x.sender.tries y.sender.tries (course_of given) holds.apart holds.line now sent.few
+      talking = talking_tick_one x.end y.end talk (cursor_of x y) past x.taken y.taken wire.released (side_of x) (side_of y) x.receiver y.receiver holds.fx holds.fy x.sender.tries y.sender.tries (course_of given) holds.apart holds.line now few
           (cursor_own x.end x.taken y.taken) (cursor_other x.end y.end x.taken y.taken holds.apart.there) (talking_now talk wire x y holds talks);
-    })
+    }
+
+pub one_again-talks : (talk : Talk) (wire new : Wire) (r : ℕ) (x y : Half) (given : FateValue) → Holds wire x y → Waits x.sender → SendsAgain (record wire { released = r }) x given new (again x) → Talks talk wire x y → Talks talk new x y
+one_again-talks talk wire new r x y given holds waits sent talks =
+    let longer = extends (record wire { released = r }) new x.end x.sender.id (part_now (side_of x)) given holds.go sent.sends tt sent.released in
+    subst (λ (p : List Sent). Talked x.end y.end talk (cursor_of x y) p (side_of x) (side_of y)) (sym longer.past) (one_again-told talk wire x y given holds waits sent.few talks)
 
 -- x does, and then y
-pub two_again-talks : (talk : Talk) (wire mid new : Wire) (r : ℕ) (x y : Half) (given other : FateValue) → Holds wire x y → Waits x.sender → Waits y.sender → SendsAgain (record wire { released = r }) x given mid (again x) → SendsAgain mid y other new (again y)
-    → Talks talk wire x y → Talks talk new x y
-two_again-talks talk wire mid new r x y given other holds x_waits y_waits x_sent y_sent talks =
+pub two_again-told : (talk : Talk) (wire : Wire) (x y : Half) (given later : FateValue) → Holds wire x y → Waits x.sender → Waits y.sender → x.sender.tries < 10 → y.sender.tries < 10 → Talks talk wire x y
+    → Talked x.end y.end talk (cursor_of x y) (again_frame y later ∷ again_frame x given ∷ past_now wire.frames.items) (side_of x) (side_of y)
+two_again-told talk wire x y given later holds x_waits y_waits x_few y_few talks =
     let past = past_now wire.frames.items in
     let x_now = waits_now x holds.x_half x_waits in
     let y_now = waits_now y holds.y_half y_waits in
-    let one = extends (record wire { released = r }) mid x.end x.sender.id (part_now (side_of x)) given holds.go x_sent.sends tt x_sent.released in
-    let two = extends mid new y.end y.sender.id (part_now (side_of y)) other one.go y_sent.sends tt y_sent.released in
     let core = once_more x.end y.end past x.taken y.taken (side_of x) (side_of y) x.receiver y.receiver holds.fx holds.fy (course_of given) holds.apart holds.line.core x_now in
-    let x_sends = data_frame x.end (key_now (side_of x)) ((part_now (side_of x)).bytes) (course_of given) in
-    let y_sends = data_frame y.end (key_now (side_of y)) ((part_now (side_of y)).bytes) (course_of other) in
-    let back = once_more y.end x.end (x_sends ∷ past) y.taken x.taken (side_of y) (side_of x) y.receiver x.receiver holds.fy holds.fx (course_of other) (apart_turned x.end y.end holds.apart)
-    (turned x.end y.end (x_sends ∷ past) x.taken y.taken (side_of x) (side_of y) x.receiver y.receiver holds.fx holds.fy core) y_now in
-    subst (λ (p : List Sent). Talked x.end y.end talk (cursor_of x y) p (side_of x) (side_of y)) (sym two.past) (subst (λ (p : List Sent). Talked x.end y.end talk (cursor_of x y) (y_sends ∷ p) (side_of x) (side_of y)) (sym one.past) (record {
+    let back = once_more y.end x.end (again_frame x given ∷ past) y.taken x.taken (side_of y) (side_of x) y.receiver x.receiver holds.fy holds.fx (course_of later) (apart_turned x.end y.end holds.apart)
+    (turned x.end y.end (again_frame x given ∷ past) x.taken y.taken (side_of x) (side_of y) x.receiver y.receiver holds.fx holds.fy core) y_now in
+    record {
       fx = holds.fx;
       fy = holds.fy;
       there = back.back.follows;
       back = back.there.follows;
-      talking = talking_tick_two x.end y.end talk (cursor_of x y) past x.taken y.taken wire.released (side_of x) (side_of y) x.receiver y.receiver holds.fx holds.fy x.sender.tries y.sender.tries (course_of given) (course_of other) holds.apart holds.line x_now y_now x_sent.few y_sent.few
+      talking = talking_tick_two x.end y.end talk (cursor_of x y) past x.taken y.taken wire.released (side_of x) (side_of y) x.receiver y.receiver holds.fx holds.fy x.sender.tries y.sender.tries (course_of given) (course_of later) holds.apart holds.line x_now y_now x_few y_few
           (cursor_own x.end x.taken y.taken) (cursor_other x.end y.end x.taken y.taken holds.apart.there) (talking_now talk wire x y holds talks);
-    }))
+    }
+
+pub two_again-talks : (talk : Talk) (wire mid new : Wire) (r : ℕ) (x y : Half) (given later : FateValue) → Holds wire x y → Waits x.sender → Waits y.sender → SendsAgain (record wire { released = r }) x given mid (again x) → SendsAgain mid y later new (again y)
+    → Talks talk wire x y → Talks talk new x y
+two_again-talks talk wire mid new r x y given later holds x_waits y_waits x_sent y_sent talks =
+    let one = extends (record wire { released = r }) mid x.end x.sender.id (part_now (side_of x)) given holds.go x_sent.sends tt x_sent.released in
+    let two = extends mid new y.end y.sender.id (part_now (side_of y)) later one.go y_sent.sends tt y_sent.released in
+    subst (λ (p : List Sent). Talked x.end y.end talk (cursor_of x y) p (side_of x) (side_of y)) (sym two.past) (subst (λ (p : List Sent). Talked x.end y.end talk (cursor_of x y) (again_frame y later ∷ p) (side_of x) (side_of y)) (sym one.past)
+    (two_again-told talk wire x y given later holds x_waits y_waits x_sent.few y_sent.few talks))
 
 -- ---- the first state
 

@@ -39,6 +39,9 @@ same_trans a b c one two = record { end_is = two.end_is ∙ one.end_is; message_
 pub same_refl : (a : Half) → SameMessage a a
 same_refl a = record { end_is = refl; message_is = refl; id_is = refl }
 
+pub stays_refl : (a : Half) → Stays a a
+stays_refl a = record { end_is = refl; message_is = refl; taken_is = refl; id_is = refl }
+
 pub stays_same : (a b : Half) → Stays a b → SameMessage a b
 stays_same a b stays = record { end_is = stays.end_is; message_is = stays.message_is; id_is = stays.id_is }
 
@@ -80,23 +83,23 @@ pub skipped-underway : (wire : Wire) (x y x1 y1 x2 y2 : Half) → Skipped wire x
 skipped-underway wire x y x1 y1 x2 y2 it on = read_underway wire x2 y y1 y2 it.y_read it.y_moved (skip_underway wire x y x1 x2 it.x_moved it.x_read on)
 
 -- the ends are two still
-skipped_apart : (x y later_x later_y : Half) → later_x.end ≡ x.end → later_y.end ≡ y.end → Apart x.end y.end → Apart later_x.end later_y.end
-skipped_apart x y later_x later_y x_end y_end apart = subst (λ (X : End). Apart X later_y.end) (sym x_end) (subst (λ (Y : End). Apart x.end Y) (sym y_end) apart)
+pub still_apart : (x y later_x later_y : Half) → later_x.end ≡ x.end → later_y.end ≡ y.end → Apart x.end y.end → Apart later_x.end later_y.end
+still_apart x y later_x later_y x_end y_end apart = subst (λ (X : End). Apart X later_y.end) (sym x_end) (subst (λ (Y : End). Apart x.end Y) (sym y_end) apart)
 
 pub skipped-talks : (wire : Wire) (x y x1 y1 x2 y2 : Half) → Apart x.end y.end → Moved x x1 → Read y y1 → Moved y1 y2 → Read x1 x2 → KeepsTalk wire x y wire x1 y1 → KeepsTalk wire y1 x1 wire y2 x2 → KeepsTalk wire x y wire x2 y2
 skipped-talks wire x y x1 y1 x2 y2 apart x_moved y_read y_moved x_read first second =
     let x_mid = ap (λ (h : Half). h.end) x_moved in
     let y_mid = ap (λ (h : Half). h.end) y_read in
-    let mid = skipped_apart x y x1 y1 x_mid y_mid apart in
-    let later = skipped_apart x y x2 y2 (ap (λ (h : Half). h.end) x_read ∙ x_mid) (ap (λ (h : Half). h.end) y_moved ∙ y_mid) apart in
+    let mid = still_apart x y x1 y1 x_mid y_mid apart in
+    let later = still_apart x y x2 y2 (ap (λ (h : Half). h.end) x_read ∙ x_mid) (ap (λ (h : Half). h.end) y_moved ∙ y_mid) apart in
     λ talk talks. talks_turned talk wire y2 x2 (apart_turned x2.end y2.end later) (second talk (talks_turned talk wire x1 y1 mid (first talk talks)))
 
 pub skipped-recorded : (script : List RuleValue) (wire : Wire) (x y x1 y1 x2 y2 : Half) → Apart x.end y.end → Moved x x1 → Read y y1 → Moved y1 y2 → Read x1 x2 → KeepsAll wire x y x1 y1 → KeepsAll wire y1 x1 y2 x2 → Recorded script wire x y → Recorded script wire x2 y2
 skipped-recorded script wire x y x1 y1 x2 y2 apart x_moved y_read y_moved x_read first second was =
     let x_mid = ap (λ (h : Half). h.end) x_moved in
     let y_mid = ap (λ (h : Half). h.end) y_read in
-    let mid = skipped_apart x y x1 y1 x_mid y_mid apart in
-    let later = skipped_apart x y x2 y2 (ap (λ (h : Half). h.end) x_read ∙ x_mid) (ap (λ (h : Half). h.end) y_moved ∙ y_mid) apart in
+    let mid = still_apart x y x1 y1 x_mid y_mid apart in
+    let later = still_apart x y x2 y2 (ap (λ (h : Half). h.end) x_read ∙ x_mid) (ap (λ (h : Half). h.end) y_moved ∙ y_mid) apart in
     recorded_turned script wire y2 x2 (apart_turned x2.end y2.end later) (second.recorded script (recorded_turned script wire x1 y1 mid (first.recorded script was)))
 
 pub skipped-work : (wire : Wire) (x y x1 y1 x2 y2 : Half) → Skipped wire x y x1 y1 x2 y2 → work_left wire x2 y2 ≤ work_left wire x y

@@ -30,7 +30,7 @@ added number frame past goes = cond-false _ _ _ (not_abort number frame goes)
 
 -- ---- the past
 
-behind_push : (past : List Sent) (frames : List FrameValue) (frame : FrameValue) → past_behind past (frames ++ frame ∷ []) ≡ add_frame frame (past_behind past frames)
+pub behind_push : (past : List Sent) (frames : List FrameValue) (frame : FrameValue) → past_behind past (frames ++ frame ∷ []) ≡ add_frame frame (past_behind past frames)
 behind_push past [] frame = refl
 behind_push past (older ∷ frames) frame = behind_push (add_frame older past) frames frame
 

@@ -4,13 +4,16 @@ pub mod BytesLaws
 pub mod CarryingLaws
 pub mod DataLaws
 pub mod DeliveredLaws
+pub mod FairLaws
 pub mod FrameLaws
+pub mod HaltedLaws
 pub mod HaltingLaws
 pub mod HearLaws
 pub mod HeardLaws
 pub mod HoldsLaws
 pub mod MarkingLaws
 pub mod PieceLaws
+pub mod ProperLaws
 pub mod RecordedLaws
 pub mod RestingLaws
 pub mod SendingLaws

@@ -62,7 +62,7 @@ within : (wire : Wire) (x y : Half) → Holds wire x y → (Z : End) → cursor_
 within wire x y holds = each_cursor x.end x.taken y.taken (length wire.frames.items)
     (omega (arith, holds.line.core.there.cur_in, length-past wire.frames.items holds.go)) (omega (arith, holds.line.core.back.cur_in, length-past wire.frames.items holds.go))
 
-same_cursors : (x y later_x later_y : Half) → SamePlace x later_x → SamePlace y later_y → cursor_of x y ≡ cursor_of later_x later_y
+pub same_cursors : (x y later_x later_y : Half) → SamePlace x later_x → SamePlace y later_y → cursor_of x y ≡ cursor_of later_x later_y
 same_cursors x y later_x later_y x_same y_same =
     ap (λ (X : End). cursors X x.taken y.taken) (sym x_same.0) ∙ ap (λ (n : ℕ). cursors later_x.end n y.taken) (sym x_same.1) ∙ ap (λ (n : ℕ). cursors later_x.end later_x.taken n) (sym y_same.1)
 

@@ -1,5 +1,5 @@
 -- What one more frame makes of the past.
-use Rattle.std.proofs.Common.{◌≡◌, ℕ, ◌+◌, Bool, List, ◌∷◌, length, None, sym, ap, subst, ◌∙◌, arith}
+use Rattle.std.proofs.Common.{◌≡◌, ℕ, ◌+◌, Bool, List, ◌∷◌, length, Option, None, sym, ap, subst, ◌∙◌, arith}
 use Rattle.slp_frames.specs.PacketText.{PacketValue}
 use Rattle.slp_frames.specs.PacketScan.{packet_at}
 use Rattle.padp_link.specs.FragmentText.{FragmentValue, FragmentText, fragment_text}
@@ -8,20 +8,51 @@ use Rattle.padp_link.specs.Receivers.{ReceiverValue}
 use Rattle.trace_text.specs.declared.frame.End.{End}
 use Rattle.trace_text.specs.declared.frame.Frame.{Frame}
 use Rattle.trace_text.specs.Fates.{FateValue, fate_value, ends_run}
-use Rattle.trace_text.specs.Frames.{MayBear, is_data_kind, fragment_in, fields_of, padp_packet, course_of}
+use Rattle.trace_text.specs.Frames.{BearsFragment, MayBear, is_data_kind, fragment_in, fields_of, padp_packet, course_of}
 use Rattle.trace_text.specs.Past.{Sent}
 use Rattle.trace_text.specs.TraceLines.{frame_value}
 use Rattle.line_laws.specs.Core.{Side}
 use Rattle.line_laws.specs.Line.{Line}
 use Rattle.line_steps.specs.declared.half.Wire.{Wire}
 use Rattle.line_steps.specs.Running.{sent_of, past_now, Goes, AllGo}
-use Rattle.line_steps.specs.Sending.{Sends}
+use Rattle.line_steps.specs.Sending.{Sends, in_place}
+use Rattle.line_steps.specs.declared.harm.Stop.{Stop}
 use Rattle.line_steps.proofs.BytesLaws.{packet_of, packet_again, fields_again}
 use Rattle.line_steps.proofs.FrameLaws.{past_push, go_push}
 
 -- what is sent in a fragment
 abbrev pub sends_in : End → ℕ → FragmentValue → FateValue → Sent
 sends_in from id fragment given = record { from = from; is_data = is_data_kind fragment.kind; key = key_of id fragment; bytes = fragment.bytes; course = course_of given }
+
+-- a frame that was sent bears what was to be sent, or what stands in its place
+pub record Placed (frame : Frame) (from : End) (id : ℕ) (fragment : FragmentValue) (given : FateValue) : Type 0 where
+  pub bears : BearsFragment (frame_value frame)
+  pub fragment_is : fragment_in (frame_value frame) ≡ fragment
+  pub sent_is : sent_of frame ≡ sends_in from id fragment given
+
+pub placed : (old new : List Frame) (from : End) (id : ℕ) (fragment : FragmentValue) (given : FateValue) (stop : Option Stop) → (sends : Sends old from id fragment given stop new) → MayBear given (in_place stop fragment).kind → Placed sends.frame from id (in_place stop fragment) given
+placed old new from id fragment given stop sends may =
+    let bytes = sends.frame.bytes.items in
+    let now = in_place stop fragment in
+    let packet : packet_at bytes ≡ packet_of id (in_place stop fragment) = ap (λ (b : List ℕ). packet_at b) sends.bytes_are ∙ packet_again id now sends.text in
+    let id_is : (packet_at bytes).id ≡ id = ap (λ (p : PacketValue). p.id) packet in
+    let fragment_is : fragment_in (frame_value sends.frame) ≡ in_place stop fragment = ap (λ (p : PacketValue). fields_of p.body) packet ∙ fields_again now sends.text in
+    let key_is = ap (λ (n : ℕ). key_of n (fragment_in (frame_value sends.frame))) id_is ∙ ap (λ (f : FragmentValue). key_of id f) fragment_is in
+    record {
+      bears = record {
+        is = sends.bytes_are ∙ ap (λ (n : ℕ). padp_packet n now) (sym id_is) ∙ ap (λ (f : FragmentValue). padp_packet (packet_at bytes).id f) (sym fragment_is);
+        fragment = subst (λ (f : FragmentValue). FragmentText f (fragment_text f)) (sym fragment_is) sends.text;
+        kind = subst (λ (f : FragmentValue). MayBear (fate_value sends.frame.fate) f.kind) (sym fragment_is) (subst (λ (g : FateValue). MayBear g now.kind) (sym sends.fate_is) may);
+      };
+      fragment_is = fragment_is;
+      sent_is = λ i. record {
+        from = sends.from_is i;
+        is_data = is_data_kind (fragment_is i).kind;
+        key = key_is i;
+        bytes = (fragment_is i).bytes;
+        course = course_of (sends.fate_is i);
+      };
+    }
 
 pub record IsNew (frame : Frame) (number : ℕ) (from : End) (id : ℕ) (fragment : FragmentValue) (given : FateValue) : Type 0 where
   pub goes : Goes number (frame_value frame)
@@ -30,27 +61,14 @@ pub record IsNew (frame : Frame) (number : ℕ) (from : End) (id : ℕ) (fragmen
 is_new : (old new : List Frame) (from : End) (id : ℕ) (fragment : FragmentValue) (given : FateValue) → (sends : Sends old from id fragment given None new) → MayBear given fragment.kind → IsNew sends.frame (1 + length old) from id fragment given
 is_new old new from id fragment given sends may =
     let bytes = sends.frame.bytes.items in
-    let packet : packet_at bytes ≡ packet_of id fragment = ap (λ (b : List ℕ). packet_at b) sends.bytes_are ∙ packet_again id fragment sends.text in
-    let id_is : (packet_at bytes).id ≡ id = ap (λ (p : PacketValue). p.id) packet in
-    let fragment_is : fragment_in (frame_value sends.frame) ≡ fragment = ap (λ (p : PacketValue). fields_of p.body) packet ∙ fields_again fragment sends.text in
-    let key_is = ap (λ (n : ℕ). key_of n (fragment_in (frame_value sends.frame))) id_is ∙ ap (λ (f : FragmentValue). key_of id f) fragment_is in
+    let it = placed old new from id fragment given None sends may in
     record {
       goes = record {
         number_is = omega (arith, sends.number_is);
-        bears = record {
-          is = sends.bytes_are ∙ ap (λ (n : ℕ). padp_packet n fragment) (sym id_is) ∙ ap (λ (f : FragmentValue). padp_packet (packet_at bytes).id f) (sym fragment_is);
-          fragment = subst (λ (f : FragmentValue). FragmentText f (fragment_text f)) (sym fragment_is) sends.text;
-          kind = subst (λ (f : FragmentValue). MayBear (fate_value sends.frame.fate) f.kind) (sym fragment_is) (subst (λ (g : FateValue). MayBear g fragment.kind) (sym sends.fate_is) may);
-        };
+        bears = it.bears;
         goes_on = ap (λ (g : FateValue). ends_run g bytes) sends.fate_is ∙ ap (λ (b : List ℕ). ends_run given b) sends.bytes_are ∙ sends.stops;
       };
-      sent_is = λ i. record {
-        from = sends.from_is i;
-        is_data = is_data_kind (fragment_is i).kind;
-        key = key_is i;
-        bytes = (fragment_is i).bytes;
-        course = course_of (sends.fate_is i);
-      };
+      sent_is = it.sent_is;
     }
 
 -- the wire behind one more frame

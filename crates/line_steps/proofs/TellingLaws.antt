@@ -11,7 +11,7 @@ use Rattle.trace_text.specs.Faults.{comes, data_comes}
 use Rattle.trace_text.specs.Frames.{course_of}
 use Rattle.trace_text.specs.Past.{Sent, is_end, said, acked, at, IsAckOf}
 use Rattle.trace_text.specs.Talks.{Talk}
-use Rattle.line_laws.specs.Core.{Follows, ack_frame, part_now}
+use Rattle.line_laws.specs.Core.{Follows, ack_frame, part_now, data_frame, key_now}
 use Rattle.line_laws.proofs.TakeLaws.{Accepting, acknowledged, take_ack, matched}
 use Rattle.line_laws.proofs.TalkLaws.{talking_passes, talking_copy, talking_newest, talking_last_ack, talking_next_piece}
 use Rattle.line_steps.specs.declared.half.Half.{Half}
@@ -65,37 +65,44 @@ ack_last-talks talk wire x y key holds it is last talks =
           it.is it.next.comes_here w.waits (w.key_is ∙ sym it.key_is) ends (cursor_own x.end x.taken y.taken) (cursor_moves x.end y.end x.taken y.taken holds.apart.there) (talking_now talk wire x y holds talks);
     }
 
-pub ack_more-talks : (talk : Talk) (wire new : Wire) (x y : Half) (key : Key) (given : FateValue) → Holds wire x y → AckNext x.end wire x.taken key → waiting_key y.sender ≡ Some key → y.sender.acknowledged + 1 < piece_count y.sender.length
-    → Sends wire.frames.items y.end y.sender.id (part_now (side_of (advanced y))) given None new.frames.items → new.released ≡ wire.released → Talks talk wire x y → Talks talk new (moved x) (advanced y)
-ack_more-talks talk wire new x y key given holds it is more sends released talks =
+-- the next piece stands on the line
+abbrev pub next_frame : Half → FateValue → Sent
+next_frame y given = data_frame y.end (key_now (acknowledged (side_of y))) ((part_now (acknowledged (side_of y))).bytes) (course_of given)
+
+pub ack_more-told : (talk : Talk) (wire : Wire) (x y : Half) (key : Key) (given : FateValue) → Holds wire x y → AckNext x.end wire x.taken key → waiting_key y.sender ≡ Some key → y.sender.acknowledged + 1 < piece_count y.sender.length → Talks talk wire x y
+    → Talked x.end y.end talk (cursor_of (moved x) y) (next_frame y given ∷ past_now wire.frames.items) (side_of x) (acknowledged (side_of y))
+ack_more-told talk wire x y key given holds it is more talks =
     let past = past_now wire.frames.items in
-    let next = acknowledged (side_of y) in
     let sent = sent_of it.next.frame in
     let at_head = head x.end wire x.taken holds.go it.next in
     let w = waits_with y key holds.y_half is in
     let below : y.sender.acknowledged + 1 < piece_count (length y.message.items) = subst (λ (n : ℕ). y.sender.acknowledged + 1 < piece_count n) holds.y_half.length_is more in
-    let longer = extends wire new y.end y.sender.id (part_now (side_of (advanced y))) given holds.go sends tt released in
     let core = take_ack x.end y.end past x.taken y.taken (x.taken + 1) (side_of x) (side_of y) x.receiver y.receiver holds.fx holds.fy sent _ (course_of given) holds.apart holds.line.core (omega arith) (omega (arith, at_head.inside)) at_head.here it.is w.waits (w.key_is ∙ sym it.key_is) below in
-    subst (λ (p : List Sent). Talked x.end y.end talk (cursor_of (moved x) y) p (side_of x) next) (sym longer.past) (record {
+    record {
       fx = false;
       fy = true;
       there = core.there.follows;
       back = core.back.follows;
       talking = talking_next_piece x.end y.end talk (cursor_of x y) (cursor_of (moved x) y) past x.taken y.taken wire.released (side_of x) (side_of y) x.receiver y.receiver holds.fx holds.fy x.sender.tries y.sender.tries sent (course_of given) holds.apart holds.line at_head.inside at_head.here
           at_head.late it.is it.next.comes_here w.waits (w.key_is ∙ sym it.key_is) below (cursor_own x.end x.taken y.taken) (cursor_other x.end y.end x.taken y.taken holds.apart.there) (cursor_moves x.end y.end x.taken y.taken holds.apart.there) (talking_now talk wire x y holds talks);
-    })
+    }
+
+pub ack_more-talks : (talk : Talk) (wire new : Wire) (x y : Half) (key : Key) (given : FateValue) → Holds wire x y → AckNext x.end wire x.taken key → waiting_key y.sender ≡ Some key → y.sender.acknowledged + 1 < piece_count y.sender.length
+    → Sends wire.frames.items y.end y.sender.id (part_now (side_of (advanced y))) given None new.frames.items → new.released ≡ wire.released → Talks talk wire x y → Talks talk new (moved x) (advanced y)
+ack_more-talks talk wire new x y key given holds it is more sends released talks =
+    let longer = extends wire new y.end y.sender.id (part_now (side_of (advanced y))) given holds.go sends tt released in
+    subst (λ (p : List Sent). Talked x.end y.end talk (cursor_of (moved x) y) p (side_of x) (acknowledged (side_of y))) (sym longer.past) (ack_more-told talk wire x y key given holds it is more talks)
 
 -- ---- data, by its answer
 
-pub copied-talks : (talk : Talk) (wire new : Wire) (x y : Half) (key : Key) (given : FateValue) → (heard : DataHeard wire x y key Repeated) → Sends wire.frames.items y.end key.id (ack_fragment key) given None new.frames.items → new.released ≡ wire.released
-    → Talks talk wire x y → Talks talk new (moved x) y
-copied-talks talk wire new x y key given heard sends released talks =
+copied-told : (talk : Talk) (wire : Wire) (x y : Half) (key : Key) (given : FateValue) → (heard : DataHeard wire x y key Repeated) → Talks talk wire x y
+    → Talked x.end y.end talk (cursor_of (moved x) y) (ack_frame y.end key (course_of given) ∷ past_now wire.frames.items) (side_of x) (side_of y)
+copied-told talk wire x y key given heard talks =
     let holds = heard.holds in
     let old = record y { receiver = heard.before } in
     let sent = sent_of heard.next.frame in
     let past = past_now wire.frames.items in
     let at_head = head x.end wire x.taken holds.go heard.next in
-    let longer = extends wire new y.end key.id (ack_fragment key) given holds.go sends tt released in
     let last : heard.before.last ≡ Some sent.key = heard.answers ∙ ap (λ (k : Key). Some k) (sym heard.key_is) in
     let copy = copy_is x.end y.end past x.taken y.taken (side_of x) (side_of y) x.receiver heard.before holds.fx holds.fy (x.taken + 1) sent (at x.taken past) holds.line.core (omega arith) (omega (arith, at_head.inside)) at_head.here heard.is last in
     let core = after_heard wire x y key Repeated heard (course_of given) in
@@ -107,20 +114,18 @@ copied-talks talk wire new x y key given heard sends released talks =
       talking = talking_copy x.end y.end talk (cursor_of x y) (cursor_of (moved x) y) past x.taken y.taken wire.released (side_of x) (side_of y) x.receiver heard.before holds.fx holds.fy x.sender.tries y.sender.tries (course_of given) sent holds.apart holds.line at_head.inside at_head.here at_head.late
           heard.is heard.next.comes_here copy (cursor_own x.end x.taken y.taken) (cursor_other x.end y.end x.taken y.taken holds.apart.there) (cursor_moves x.end y.end x.taken y.taken holds.apart.there) (talking_now talk wire x old holds talks);
     } in
-    subst (λ (p : List Sent). Talked x.end y.end talk (cursor_of (moved x) y) p (side_of x) (side_of y)) (sym longer.past)
-    (subst (λ (k : Key). Talked x.end y.end talk (cursor_of (moved x) y) (ack_frame y.end k (course_of given) ∷ past) (side_of x) (side_of y)) heard.key_is told)
+    subst (λ (k : Key). Talked x.end y.end talk (cursor_of (moved x) y) (ack_frame y.end k (course_of given) ∷ past) (side_of x) (side_of y)) heard.key_is told
 
-accepted-talks : (talk : Talk) (wire new : Wire) (x y : Half) (key : Key) (taken : Taken) (whole : Bool) (given : FateValue) (sender : SenderValue) → (heard : DataHeard wire x y key taken)
+accepted-told : (talk : Talk) (wire : Wire) (x y : Half) (key : Key) (taken : Taken) (whole : Bool) (given : FateValue) (sender : SenderValue) → (heard : DataHeard wire x y key taken)
     → Accepting x.end y.end (past_now wire.frames.items) y.taken (x.taken + 1) (side_of x) (side_of y) x.receiver heard.before (sent_of heard.next.frame).key (sent_of heard.next.frame).bytes taken whole
-    → sender ≡ record y.sender { acknowledged = sender.acknowledged } → piece_count sender.length ≤ sender.acknowledged
-    → Sends wire.frames.items y.end key.id (ack_fragment key) given None new.frames.items → new.released ≡ wire.released → Talks talk wire x y → Talks talk new (moved x) (record y { sender = sender })
-accepted-talks talk wire new x y key taken whole given sender heard accepting rest idle sends released talks =
+    → sender ≡ record y.sender { acknowledged = sender.acknowledged } → piece_count sender.length ≤ sender.acknowledged → Talks talk wire x y
+    → Talked x.end y.end talk (cursor_of (moved x) y) (ack_frame y.end key (course_of given) ∷ past_now wire.frames.items) (side_of x) (side_of (record y { sender = sender }))
+accepted-told talk wire x y key taken whole given sender heard accepting rest idle talks =
     let holds = heard.holds in
     let old = record y { receiver = heard.before } in
     let sent = sent_of heard.next.frame in
     let past = past_now wire.frames.items in
     let at_head = head x.end wire x.taken holds.go heard.next in
-    let longer = extends wire new y.end key.id (ack_fragment key) given holds.go sends tt released in
     let k = sender.acknowledged in
     let over : piece_count (length y.message.items) ≤ k = subst (λ (n : ℕ). piece_count n ≤ k) (ap (λ (s : SenderValue). s.length) rest ∙ holds.y_half.length_is) idle in
     let core = accepting.core k (course_of given) over in
@@ -132,14 +137,20 @@ accepted-talks talk wire new x y key taken whole given sender heard accepting re
       talking = talking_newest x.end y.end talk (cursor_of x y) (cursor_of (moved x) y) past x.taken y.taken wire.released (side_of x) (side_of y) x.receiver heard.before holds.fx holds.fy x.sender.tries y.sender.tries k (course_of given) sent taken whole holds.apart holds.line at_head.inside at_head.here at_head.late
           heard.is heard.next.comes_here accepting over (cursor_own x.end x.taken y.taken) (cursor_other x.end y.end x.taken y.taken holds.apart.there) (cursor_moves x.end y.end x.taken y.taken holds.apart.there) (talking_now talk wire x old holds talks);
     } in
-    subst (λ (s : SenderValue). Talks talk new (moved x) (record y { sender = s })) (sym rest)
-    (subst (λ (p : List Sent). Talked x.end y.end talk (cursor_of (moved x) y) p (side_of x) (record (side_of y) { acknowledged = k })) (sym longer.past)
-    (subst (λ (k' : Key). Talked x.end y.end talk (cursor_of (moved x) y) (ack_frame y.end k' (course_of given) ∷ past) (side_of x) (record (side_of y) { acknowledged = k })) heard.key_is told))
+    subst (λ (s : SenderValue). Talked x.end y.end talk (cursor_of (moved x) y) (ack_frame y.end key (course_of given) ∷ past) (side_of x) (side_of (record y { sender = s }))) (sym rest)
+    (subst (λ (k' : Key). Talked x.end y.end talk (cursor_of (moved x) y) (ack_frame y.end k' (course_of given) ∷ past) (side_of x) (record (side_of y) { acknowledged = k })) heard.key_is told)
+
+-- data is acknowledged
+pub took_data-told : (talk : Talk) (wire : Wire) (x y : Half) (key : Key) (taken : Taken) (given : FateValue) (sender : SenderValue) → DataHeard wire x y key taken → NewSender taken y.sender sender → Talks talk wire x y
+    → Talked x.end y.end talk (cursor_of (moved x) y) (ack_frame y.end key (course_of given) ∷ past_now wire.frames.items) (side_of x) (side_of (record y { sender = sender }))
+took_data-told talk wire x y key Repeated given sender heard same talks =
+    subst (λ (s : SenderValue). Talked x.end y.end talk (cursor_of (moved x) y) (ack_frame y.end key (course_of given) ∷ past_now wire.frames.items) (side_of x) (side_of (record y { sender = s }))) (sym same) (copied-told talk wire x y key given heard talks)
+took_data-told talk wire x y key Accepted given sender heard idle talks = accepted-told talk wire x y key Accepted false given sender heard ((after_heard wire x y key Accepted heard).1) (idle.0) (idle.1) talks
+took_data-told talk wire x y key Whole given sender heard idle talks = accepted-told talk wire x y key Whole true given sender heard ((after_heard wire x y key Whole heard).1) (idle.0) (idle.1) talks
+took_data-told talk wire x y key Dropped given sender heard none talks = absurd none
 
 pub took_data-talks : (talk : Talk) (wire new : Wire) (x y : Half) (key : Key) (taken : Taken) (given : FateValue) (sender : SenderValue) → DataHeard wire x y key taken → NewSender taken y.sender sender → Sends wire.frames.items y.end key.id (ack_fragment key) given None new.frames.items → new.released ≡ wire.released
     → Talks talk wire x y → Talks talk new (moved x) (record y { sender = sender })
-took_data-talks talk wire new x y key Repeated given sender heard same sends released talks =
-    subst (λ (s : SenderValue). Talks talk new (moved x) (record y { sender = s })) (sym same) (copied-talks talk wire new x y key given heard sends released talks)
-took_data-talks talk wire new x y key Accepted given sender heard idle sends released talks = accepted-talks talk wire new x y key Accepted false given sender heard ((after_heard wire x y key Accepted heard).1) (idle.0) (idle.1) sends released talks
-took_data-talks talk wire new x y key Whole given sender heard idle sends released talks = accepted-talks talk wire new x y key Whole true given sender heard ((after_heard wire x y key Whole heard).1) (idle.0) (idle.1) sends released talks
-took_data-talks talk wire new x y key Dropped given sender heard none sends released talks = absurd none
+took_data-talks talk wire new x y key taken given sender heard after sends released talks =
+    let longer = extends wire new y.end key.id (ack_fragment key) given heard.holds.go sends tt released in
+    subst (λ (p : List Sent). Talked x.end y.end talk (cursor_of (moved x) y) p (side_of x) (side_of (record y { sender = sender }))) (sym longer.past) (took_data-told talk wire x y key taken given sender heard after talks)

@@ -3,6 +3,7 @@ pub mod Carrying
 pub mod Halting
 pub mod Hearing
 pub mod Marking
+pub mod Promising
 pub mod Sending
 pub mod Resting
 pub mod Running

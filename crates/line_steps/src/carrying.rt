@@ -1,5 +1,5 @@
 //! A message goes over to the other end.
-ghost use Rattle.std.specs.Prelude.{◌≡◌, ◌≤◌, OnOk, IfOk, false, length};
+ghost use Rattle.std.specs.Prelude.{◌≡◌, ◌≤◌, OnOk, IfOk, IfErr, false, length};
 ghost use Rattle.padp_link.specs.Pieces.{piece_count};
 ghost use Rattle.padp_link.specs.Senders.{Waits};
 ghost use Rattle.line_laws.specs.Progress.{Blocked};
@@ -7,6 +7,7 @@ ghost use Rattle.line_script.specs.Scripts.{fate_by};
 ghost use Rattle.trace_text.specs.Fates.{fate_value};
 ghost use Rattle.line_steps.specs.Adding.{AddsTwo};
 ghost use Rattle.line_steps.specs.Carrying.{Carried, SameMessage, StepTo, IsNext, makes_whole};
+ghost use Rattle.line_steps.specs.Halting.{Halted};
 ghost use Rattle.line_steps.specs.Running.{Holds, AtHead, AllGo, SamePlace, past_now};
 ghost use Rattle.line_steps.specs.Telling.{KeepsTalk, Recorded};
 ghost use Rattle.line_steps.specs.Turning.{Turn};
@@ -34,6 +35,8 @@ pub fn carry(wire: &mut Wire, x: &mut Half, y: &mut Half, script: &Script) -> Re
     ensures x_same { OnOk result (SameMessage x.old x.new) }
     ensures y_same { OnOk result (SameMessage y.old y.new) }
     ensures talks { OnOk result (KeepsTalk wire.old x.old y.old wire.new x.new y.new) }
+    ensures halted { IfErr result
+        (λ halt. Halted halt wire.old x.old y.old wire.new x.new y.new) }
 {
     loop {
         if step(wire, x, y, script)? {
@@ -53,6 +56,8 @@ pub fn settle(wire: &mut Wire, x: &mut Half, y: &mut Half, script: &Script) -> R
     ensures x_same { OnOk result (SameMessage x.old x.new) }
     ensures y_same { OnOk result (SameMessage y.old y.new) }
     ensures talks { OnOk result (KeepsTalk wire.old x.old y.old wire.new x.new y.new) }
+    ensures halted { IfErr result
+        (λ halt. Halted halt wire.old x.old y.old wire.new x.new y.new) }
 {
     loop {
         if x.sender.current().is_none() {
@@ -68,6 +73,8 @@ fn step(wire: &mut Wire, x: &mut Half, y: &mut Half, script: &Script) -> Result<
     requires waits { Waits x.old.sender }
     ensures recorded { Recorded script.now wire.old x.old y.old →
         Recorded script.now wire.new x.new y.new }
+    ensures halted { IfErr result
+        (λ halt. Halted halt wire.old x.old y.old wire.new x.new y.new) }
     ensures step { IfOk result (λ whole. StepTo whole wire.old x.old y.old wire.new x.new y.new) }
 {
     skip_to_head(wire, x, y);
@@ -83,6 +90,8 @@ fn deliver(wire: &mut Wire, x: &mut Half, y: &mut Half, script: &Script) -> Resu
     requires y_head { AtHead y.old.end wire.old.frames.items y.old.taken }
     ensures recorded { Recorded script.now wire.old x.old y.old →
         Recorded script.now wire.new x.new y.new }
+    ensures halted { IfErr result
+        (λ halt. Halted halt wire.old x.old y.old wire.new x.new y.new) }
     ensures step { IfOk result (λ whole. StepTo whole wire.old x.old y.old wire.new x.new y.new) }
 {
     let number = wire.frames.len() as u64 + 1;
@@ -151,6 +160,8 @@ fn wait(wire: &mut Wire, x: &mut Half, y: &mut Half, fate: Fate, other: Fate) ->
         wire.old.frames.items wire.new.frames.items }
     ensures x_place { SamePlace x.old x.new }
     ensures y_place { SamePlace y.old y.new }
+    ensures halted { IfErr result
+        (λ halt. Halted halt wire.old x.old y.old wire.new x.new y.new) }
     ensures step { OnOk result (StepTo false wire.old x.old y.old wire.new x.new y.new) }
 {
     match x.end {

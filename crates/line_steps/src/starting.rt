@@ -8,8 +8,9 @@ ghost use Rattle.trace_text.specs.Talks.{Talk};
 ghost use Rattle.line_laws.specs.Talking.{say};
 ghost use Rattle.line_script.specs.Rules.{RuleValue};
 ghost use Rattle.line_script.specs.Scripts.{fate_by};
+ghost use Rattle.line_steps.specs.Halting.{HaltsBy, Spoke};
 ghost use Rattle.line_steps.specs.Running.{Holds};
-ghost use Rattle.line_steps.specs.Telling.{IsNextTo, Recorded, Talks};
+ghost use Rattle.line_steps.specs.Telling.{IsNextTo, Recorded, Talks, cursor_of};
 ghost use Rattle.line_steps.specs.Turning.{Turn};
 ghost use Rattle.line_steps.specs.Underway.{Underway};
 
@@ -39,6 +40,11 @@ pub fn start(
     ensures talks { OnOk result ((talk : Talk) → IsNextTo talk x.old y.now id →
         Talks talk wire.old x.old y.now →
         Talks (say x.old.end message.items talk) wire.new x.new y.now) }
+    ensures halted { IfErr result
+        (λ halt. HaltsBy halt (cursor_of x.new y.now) wire.new.frames.items) }
+    ensures spoke { IfErr result (λ _. (talk : Talk) → IsNextTo talk x.old y.now id →
+        Talks talk wire.old x.old y.now →
+        Spoke (say x.old.end message.items talk) wire.new x.new y.now) }
     ensures recorded { (script : List RuleValue) →
         fate_value fate ≡ fate_by script (length wire.old.frames.items + 1) →
         Recorded script wire.old x.old y.now → Recorded script wire.new x.new y.now }

@@ -1,5 +1,5 @@
 //! An end takes the next frame of the other one.
-ghost use Rattle.std.specs.Prelude.{◌≡◌, ◌+◌, ◌≤◌, ◌<◌, [], OnOk, IfOk, false, length};
+ghost use Rattle.std.specs.Prelude.{◌≡◌, ◌+◌, ◌≤◌, ◌<◌, [], OnOk, IfOk, IfErr, false, length};
 ghost use Rattle.padp_link.specs.Pieces.{piece_count};
 ghost use Rattle.padp_link.specs.Senders.{Waits, WaitsOnLast};
 ghost use Rattle.slp_frames.specs.PacketScan.{packet_at};
@@ -7,6 +7,7 @@ ghost use Rattle.trace_text.specs.Fates.{fate_value, ends_run};
 ghost use Rattle.trace_text.specs.Frames.{BearsFragment, fragment_in};
 ghost use Rattle.trace_text.specs.TraceLines.{frame_value};
 ghost use Rattle.line_steps.specs.Adding.{AddsOne};
+ghost use Rattle.line_steps.specs.Halting.{Halted};
 ghost use Rattle.line_steps.specs.Hearing.{Hears};
 ghost use Rattle.line_steps.specs.Marking.{marked, Marks};
 ghost use Rattle.line_steps.specs.Running.{Holds, Heeded, Stays};
@@ -35,6 +36,8 @@ pub fn take_next(wire: &mut Wire, x: &mut Half, y: &mut Half, fate: Fate) -> Res
         (λ heard. StillUnderway heard wire.old x.old y.old wire.new x.new y.new) }
     ensures adds { AddsOne (fate_value fate)
         (marked x.old.taken wire.old.frames.items) wire.new.frames.items }
+    ensures halted { IfErr result
+        (λ halt. Halted halt wire.old x.old y.old wire.new x.new y.new) }
     ensures less { OnOk result (work_left wire.new x.new y.new < work_left wire.old x.old y.old) }
 {
     mark(wire, x.taken);
@@ -52,6 +55,8 @@ fn take_marked(wire: &mut Wire, x: &mut Half, y: &mut Half, fate: Fate) -> Resul
     ensures underway { IfOk result
         (λ heard. StillUnderway heard wire.old x.old y.old wire.new x.new y.new) }
     ensures adds { AddsOne (fate_value fate) wire.old.frames.items wire.new.frames.items }
+    ensures halted { IfErr result
+        (λ halt. Halted halt wire.old x.old y.old wire.new x.new y.new) }
     ensures less { OnOk result (work_left wire.new x.new y.new < work_left wire.old x.old y.old) }
 {
     let heard = hear_frame(&wire.frames[x.taken], y);
@@ -94,6 +99,8 @@ fn take_ack(wire: &mut Wire, x: &mut Half, y: &mut Half, key: Key, fate: Fate) -
     ensures underway { OnOk result
         (StillUnderway (heard_as.Ack key) wire.old x.old y.old wire.new x.new y.new) }
     ensures adds { AddsOne (fate_value fate) wire.old.frames.items wire.new.frames.items }
+    ensures halted { IfErr result
+        (λ halt. Halted halt wire.old x.old y.old wire.new x.new y.new) }
     ensures less { OnOk result (work_left wire.new x.new y.new < work_left wire.old x.old y.old) }
     ensures moved { x.new ≡ record x.old { taken = x.old.taken + 1 } }
     ensures stays { Stays y.old y.new }
@@ -123,6 +130,8 @@ fn take_data(
     ensures underway { OnOk result
         (StillUnderway (heard_as.Data key taken) wire.old x.old y.old wire.new x.new y.new) }
     ensures adds { AddsOne (fate_value fate) wire.old.frames.items wire.new.frames.items }
+    ensures halted { IfErr result
+        (λ halt. Halted halt wire.old x.old y.old wire.new x.new y.new) }
     ensures less { OnOk result (work_left wire.new x.new y.new < work_left wire.old x.old y.old) }
     ensures moved { x.new ≡ record x.old { taken = x.old.taken + 1 } }
     ensures stays { Stays y.old y.new }

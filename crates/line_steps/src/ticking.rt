@@ -3,7 +3,7 @@ ghost use Rattle.std.specs.Prelude.{◌≡◌, ◌⊎◌, ◌<◌, OnOk, IfErr, 
 ghost use Rattle.padp_link.specs.Senders.{Waits};
 ghost use Rattle.line_laws.specs.Progress.{Blocked};
 ghost use Rattle.line_steps.specs.Adding.{AddsOne, AddsTwo};
-ghost use Rattle.line_steps.specs.Halting.{DownBy, Spent};
+ghost use Rattle.line_steps.specs.Halting.{Halted, NotAgain};
 ghost use Rattle.line_steps.specs.Running.{AllGo, AtHead, Holds, IsHalf, Stays, past_now};
 ghost use Rattle.line_steps.specs.Taking.{Delivers};
 ghost use Rattle.line_steps.specs.Ticking.{SendsAgain};
@@ -51,7 +51,8 @@ pub fn tick(
     ensures less { OnOk result (work_left wire.new x.new y.new < work_left wire.old x.old y.old) }
     ensures adds { AddsTwo (fate_value fate) (fate_value other)
         wire.old.frames.items wire.new.frames.items }
-    ensures down { IfErr result (λ halt. DownBy halt (past_now wire.new.frames.items)) }
+    ensures halted { IfErr result
+        (λ halt. Halted halt wire.old x.old y.old wire.new x.new y.new) }
     ensures x_stays { Stays x.old x.new }
     ensures y_stays { Stays y.old y.new }
     ensures underway { OnOk result
@@ -73,7 +74,8 @@ fn send_again(wire: &mut Wire, half: &mut Half, fate: Fate) -> Result<(), Halt>
     requires waits { Waits half.old.sender }
     requires half { IsHalf half.old }
     ensures adds { AddsOne (fate_value fate) wire.old.frames.items wire.new.frames.items }
-    ensures spent { IfErr result (λ halt. Spent halt half.old wire.old wire.new) }
+    ensures halts { IfErr result
+        (λ halt. NotAgain halt (fate_value fate) half.old wire.old wire.new) }
     ensures stays { Stays half.old half.new }
     ensures again { OnOk result (SendsAgain wire.old half.old (fate_value fate) wire.new half.new) }
 {

@@ -1,3 +1,5 @@
+use Rattle.std.proofs.lemmas.Result.{err_from_is_err_and}
+use Rattle.line_steps.proofs.HaltedLaws.{halted_behind}
 use Rattle.line_steps.proofs.CarryingLaws.{not_over, is_over, same_trans, underway-waits}
 use Rattle.line_steps.proofs.carrying.carry.Goals as goal
 
@@ -21,3 +23,8 @@ returns-then-branch-clause-recorded c = λ was. c.step.ensures.recorded (c.loop.
 
 pub returns-then-branch-clause-talks : goal.returns-then-branch-clause-talks
 returns-then-branch-clause-talks c = λ talk talks. c.in_ok-step.ensures.step.talks talk (c.loop.invariant.5 talk talks)
+
+pub returns-in_err-step-clause-halted : goal.returns-in_err-step-clause-halted
+returns-in_err-step-clause-halted c =
+    let p = err_from_is_err_and c.from_residual.result c.from_residual.ensures.1 in
+    rw (p.1, p.2) (halted_behind c.in_err-step.field-0.0 c.args.wire.now c.args.x.now c.args.y.now c.loop.wire c.loop.x c.loop.y c.step.new.wire c.step.new.x c.step.new.y c.loop.invariant.5 c.in_err-step.ensures.halted)

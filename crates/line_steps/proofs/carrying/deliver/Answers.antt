@@ -2,9 +2,12 @@ use Rattle.std.proofs.Common.{◌≡◌, ℕ, ◌+◌, length, ap, ◌∙◌, ar
 use Rattle.trace_text.specs.Fates.{fate_value}
 use Rattle.line_script.specs.Scripts.{fate_by}
 use Rattle.line_steps.proofs.RecordedLaws.{recorded_own, recorded_other, recorded_two}
-use Rattle.line_steps.proofs.CarryingLaws.{own_step, other_step, stays_same, moved_same}
+use Rattle.line_steps.proofs.CarryingLaws.{own_step, other_step, stays_same, moved_same, still_apart}
+use Rattle.std.proofs.lemmas.Result.{err_from_is_err_and}
+use Rattle.line_steps.specs.declared.half.Half.{Half}
+use Rattle.line_steps.proofs.HaltedLaws.{no_memory, halted_turned}
 use Rattle.line_steps.proofs.StartingLaws.{waits_now}
-use Rattle.line_steps.proofs.TurnLaws.{holds_turned}
+use Rattle.line_steps.proofs.TurnLaws.{apart_turned, holds_turned}
 use Rattle.line_steps.proofs.carrying.deliver.Goals as goal
 
 pub take_next-requires-in-Other-clause-holds : goal.take_next-requires-in-Other-clause-holds
@@ -60,3 +63,35 @@ returns-in_ok-wait-in-Nothing-clause-recorded c =
     let size : c.len.result ≡ length c.args.wire.now.frames.items = omega (arith, c.len.ensures) in
     recorded_two c.args.script.now (fate_value c.in_ok-fate.fate) (fate_value c.in_ok-other-in-Nothing.other) c.args.wire.now c.wait.new.wire c.args.x.now c.args.y.now c.wait.new.x c.wait.new.y c.requires.holds
     (c.in_ok-fate.ensures ∙ ap (λ (n : ℕ). fate_by c.args.script.now (n + 1)) size) (c.in_ok-other-in-Nothing.ensures ∙ ap (λ (n : ℕ). fate_by c.args.script.now (n + 1 + 1)) size) c.wait.ensures.adds c.wait.ensures.x_place c.wait.ensures.y_place
+
+pub returns-in_err-fate-clause-halted : goal.returns-in_err-fate-clause-halted
+returns-in_err-fate-clause-halted c =
+    let p = err_from_is_err_and c.from_residual.result c.from_residual.ensures.1 in
+    rw (p.1, p.2) (no_memory c.args.wire.now c.args.x.now c.args.y.now c.requires.holds)
+
+pub returns-in_err-heard-in-Own-clause-halted : goal.returns-in_err-heard-in-Own-clause-halted
+returns-in_err-heard-in-Own-clause-halted c =
+    let p = err_from_is_err_and c.from_residual-in_err-heard-in-Own.result c.from_residual-in_err-heard-in-Own.ensures.1 in
+    rw (p.1, p.2) c.in_err-heard-in-Own.ensures.halted
+
+pub returns-in_err-take_next-in-Other-clause-halted : goal.returns-in_err-take_next-in-Other-clause-halted
+returns-in_err-take_next-in-Other-clause-halted c =
+    let x = c.args.x.now in
+    let y = c.args.y.now in
+    let took = c.take_next-in-Other.ensures in
+    let later_x = c.take_next-in-Other.new.y in
+    let later_y = c.take_next-in-Other.new.x in
+    let apart = apart_turned x.end y.end c.requires.holds.apart in
+    let p = err_from_is_err_and c.from_residual-in_err-take_next-in-Other.result c.from_residual-in_err-take_next-in-Other.ensures.1 in
+    rw (p.1, p.2) (halted_turned c.in_err-take_next-in-Other.field-0.0 c.args.wire.now y x c.take_next-in-Other.new.wire later_y later_x apart
+    (still_apart y x later_y later_x (ap (λ (h : Half). h.end) took.moved) took.stays.end_is apart) c.in_err-take_next-in-Other.ensures.halted)
+
+pub returns-in_err-other-in-Nothing-clause-halted : goal.returns-in_err-other-in-Nothing-clause-halted
+returns-in_err-other-in-Nothing-clause-halted c =
+    let p = err_from_is_err_and c.from_residual-in_err-other-in-Nothing.result c.from_residual-in_err-other-in-Nothing.ensures.1 in
+    rw (p.1, p.2) (no_memory c.args.wire.now c.args.x.now c.args.y.now c.requires.holds)
+
+pub returns-in_err-wait-in-Nothing-clause-halted : goal.returns-in_err-wait-in-Nothing-clause-halted
+returns-in_err-wait-in-Nothing-clause-halted c =
+    let p = err_from_is_err_and c.from_residual-in_err-wait-in-Nothing.result c.from_residual-in_err-wait-in-Nothing.ensures.1 in
+    rw (p.1, p.2) c.in_err-wait-in-Nothing.ensures.halted

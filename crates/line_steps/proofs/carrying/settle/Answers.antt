@@ -1,5 +1,7 @@
 use Rattle.std.proofs.Common.{sym, ap, ◌∙◌}
 use Rattle.std.specs.Option.{is_some}
+use Rattle.std.proofs.lemmas.Result.{err_from_is_err_and}
+use Rattle.line_steps.proofs.HaltedLaws.{halted_behind}
 use Rattle.line_steps.proofs.CarryingLaws.{same_refl, same_trans, taken-turn, taken-settled}
 use Rattle.line_steps.proofs.TakingLaws.{some_waits, waits_not}
 use Rattle.line_steps.proofs.TurnLaws.{settled_holds, settled_turned}
@@ -30,3 +32,8 @@ loop-wire-preserved c =
 
 pub returns-in_err-step-clause-recorded : goal.returns-in_err-step-clause-recorded
 returns-in_err-step-clause-recorded c = λ was. c.step.ensures.recorded (c.loop-wire.invariant.4 was)
+
+pub returns-in_err-step-clause-halted : goal.returns-in_err-step-clause-halted
+returns-in_err-step-clause-halted c =
+    let p = err_from_is_err_and c.from_residual.result c.from_residual.ensures.1 in
+    rw (p.1, p.2) (halted_behind c.in_err-step.field-0.0 c.args.wire.now c.args.x.now c.args.y.now c.loop-wire.wire c.loop-wire.x c.loop-wire.y c.step.new.wire c.step.new.x c.step.new.y c.loop-wire.invariant.5 c.in_err-step.ensures.halted)

@@ -2,6 +2,9 @@ use Rattle.std.proofs.lemmas.Result.{IfOk-weaker}
 use Rattle.line_steps.specs.Carrying.{StepTo}
 use Rattle.line_steps.proofs.CarryingLaws.{Skipped, skipped-steps, skipped-waits, skipped-talks, skipped-recorded}
 use Rattle.line_steps.proofs.StartingLaws.{waits_now}
+use Rattle.line_steps.specs.Halting.{Halted}
+use Rattle.line_steps.proofs.HaltedLaws.{halted_behind}
+use Rattle.line_steps.proofs.HaltingLaws.{err_weaker}
 use Rattle.line_steps.proofs.TurnLaws.{holds_turned}
 use Rattle.line_steps.proofs.carrying.step.Goals as goal
 
@@ -24,3 +27,15 @@ returns-clause-step c =
 pub returns-clause-recorded : goal.returns-clause-recorded
 returns-clause-recorded c = λ was. c.deliver.ensures.recorded (skipped-recorded c.args.script.now c.args.wire.now c.args.x.now c.args.y.now c.skip_to_head.new.x c.skip_to_head.new.y c.skip_to_head-2.new.y c.skip_to_head-2.new.x c.requires.holds.apart c.skip_to_head.ensures.moved c.skip_to_head.ensures.read c.skip_to_head-2.ensures.moved c.skip_to_head-2.ensures.read
     c.skip_to_head.ensures.keeps c.skip_to_head-2.ensures.keeps was)
+
+pub returns-clause-halted : goal.returns-clause-halted
+returns-clause-halted c =
+    let wire = c.args.wire.now in
+    let x = c.args.x.now in
+    let y = c.args.y.now in
+    let x2 = c.skip_to_head-2.new.y in
+    let y2 = c.skip_to_head-2.new.x in
+    let new = c.deliver.new.wire in
+    let keeps = skipped-talks wire x y c.skip_to_head.new.x c.skip_to_head.new.y x2 y2 c.requires.holds.apart c.skip_to_head.ensures.moved c.skip_to_head.ensures.read c.skip_to_head-2.ensures.moved c.skip_to_head-2.ensures.read c.skip_to_head.ensures.keeps.talks c.skip_to_head-2.ensures.keeps.talks in
+    err_weaker c.deliver.result (λ halt. Halted halt wire x2 y2 new c.deliver.new.x c.deliver.new.y) (λ halt. Halted halt wire x y new c.deliver.new.x c.deliver.new.y)
+    (λ halt it. halted_behind halt wire x y wire x2 y2 new c.deliver.new.x c.deliver.new.y keeps it) c.deliver.ensures.halted

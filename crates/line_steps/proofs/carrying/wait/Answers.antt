@@ -1,4 +1,8 @@
-use Rattle.line_steps.proofs.CarryingLaws.{of_five, fine, tick_step, tick_back}
+use Rattle.line_steps.specs.Halting.{Halted}
+use Rattle.line_steps.proofs.CarryingLaws.{of_five, fine, still_apart, tick_step, tick_back}
+use Rattle.line_steps.proofs.HaltedLaws.{halted_turned}
+use Rattle.line_steps.proofs.HaltingLaws.{err_weaker}
+use Rattle.line_steps.proofs.TurnLaws.{apart_turned}
 use Rattle.line_steps.proofs.StartingLaws.{waits_now}
 use Rattle.line_steps.proofs.carrying.wait.Goals as goal
 
@@ -23,3 +27,15 @@ returns-in-Handheld-clause-x_place c = (c.tick-in-Handheld.ensures.y_stays.end_i
 
 pub returns-in-Handheld-clause-y_place : goal.returns-in-Handheld-clause-y_place
 returns-in-Handheld-clause-y_place c = (c.tick-in-Handheld.ensures.x_stays.end_is, c.tick-in-Handheld.ensures.x_stays.taken_is)
+
+pub returns-in-Handheld-clause-halted : goal.returns-in-Handheld-clause-halted
+returns-in-Handheld-clause-halted c =
+    let x = c.args.x.now in
+    let y = c.args.y.now in
+    let done = c.tick-in-Handheld.ensures in
+    let new = c.tick-in-Handheld.new.wire in
+    let later_x = c.tick-in-Handheld.new.y in
+    let later_y = c.tick-in-Handheld.new.x in
+    let apart = apart_turned x.end y.end c.requires.holds.apart in
+    err_weaker c.tick-in-Handheld.result (λ halt. Halted halt c.args.wire.now y x new later_y later_x) (λ halt. Halted halt c.args.wire.now x y new later_x later_y)
+    (λ halt it. halted_turned halt c.args.wire.now y x new later_y later_x apart (still_apart y x later_y later_x done.x_stays.end_is done.y_stays.end_is apart) it) done.halted

@@ -7,12 +7,15 @@ use Rattle.padp_link.specs.Senders.{SenderValue}
 use Rattle.trace_text.specs.Fates.{fate_value}
 use Rattle.line_laws.specs.Core.{part_now}
 use Rattle.line_steps.specs.Running.{side_of, Holds}
-use Rattle.line_steps.specs.Sending.{Sends}
+use Rattle.line_steps.specs.Halting.{Halted}
+use Rattle.line_steps.specs.Sending.{Halts, Sends}
 use Rattle.line_steps.proofs.HoldsLaws.{moved}
 use Rattle.line_steps.specs.Underway.{StillUnderway}
 use Rattle.line_steps.specs.Working.{work_left}
 use Rattle.line_steps.specs.declared.hearing.Heard.TheVariants as heard_as
 use Rattle.line_steps.proofs.AddingLaws.{adds_of}
+use Rattle.line_steps.proofs.HaltedLaws.{halted_ack}
+use Rattle.line_steps.proofs.HaltingLaws.{err_weaker}
 use Rattle.line_steps.proofs.UnderwayLaws.{ack_other-underway, ack_last-underway, ack_more-underway}
 use Rattle.line_steps.proofs.WorkLaws.{ack_other-less, ack_last-less, ack_more-less}
 use Rattle.line_steps.proofs.TakingLaws.{some_waits, none_waits, ack_other, ack_last, ack_more}
@@ -93,3 +96,17 @@ returns-clause-underway c =
 pub returns-clause-adds : goal.returns-clause-adds
 returns-clause-adds c =
     adds_of c.send_piece.result c.args.wire.now.frames.items c.send_piece.new.wire.frames.items c.args.y.now.end c.on_ack.new.self.id (part_now (side_of (record c.args.y.now { sender = c.on_ack.new.self }))) (fate_value c.args.fate) c.send_piece.ensures.ok c.send_piece.ensures.halt
+
+pub returns-clause-halted : goal.returns-clause-halted
+returns-clause-halted c =
+    let wire = c.args.wire.now in
+    let new = c.send_piece.new.wire in
+    let x = c.args.x.now in
+    let y = c.args.y.now in
+    let next = c.on_ack.ensures.next c.if-not-on_ack.false in
+    let waits = some_waits c.on_ack.new.self (ap is_some (sym c.current.ensures.piece) ∙ c.if-is_none.ensures) in
+    let more : y.sender.acknowledged + 1 < piece_count y.sender.length = subst (λ (s : SenderValue). s.acknowledged < piece_count s.length) next waits in
+    let half = record y { sender = c.on_ack.new.self } in
+    err_weaker c.send_piece.result (λ halt. Halts wire.frames.items y.end c.on_ack.new.self.id (part_now (side_of half)) (fate_value c.args.fate) halt new.frames.items) (λ halt. Halted halt wire x y new (moved x) half)
+    (λ halt it. subst (λ (s : SenderValue). Halted halt wire x y new (moved x) (record y { sender = s })) (sym next) (halted_ack wire new x y c.args.key (fate_value c.args.fate) halt c.requires.holds c.requires.next (c.on_ack.ensures.taken.0 c.if-not-on_ack.false) more
+    (subst (λ (s : SenderValue). Halts wire.frames.items y.end s.id (part_now (side_of (record y { sender = s }))) (fate_value c.args.fate) halt new.frames.items) next it))) c.send_piece.ensures.halt

@@ -2,9 +2,11 @@ use Rattle.std.proofs.Common.{None, subst}
 use Rattle.std.proofs.lemmas.Result.{on_ok_weaker}
 use Rattle.trace_text.specs.Fates.{fate_value}
 use Rattle.line_steps.specs.declared.half.Half.{Half}
-use Rattle.line_steps.specs.Sending.{Sends, ack_fragment}
+use Rattle.line_steps.specs.Sending.{Halts, Sends, ack_fragment}
 use Rattle.line_steps.proofs.DataLaws.{never_dropped, answers_wait, ack_fits, took_data, is_new_data, same_sender, idle_sender}
 use Rattle.line_steps.proofs.WorkLaws.{took_data-less}
+use Rattle.line_steps.proofs.HaltedLaws.{halted_data}
+use Rattle.line_steps.proofs.HaltingLaws.{err_weaker}
 use Rattle.line_steps.proofs.UnderwayLaws.{took_data-underway}
 use Rattle.line_steps.proofs.DeliveredLaws.{turned_after}
 use Rattle.line_steps.proofs.taking.take_data.Goals.{in-Repeated, in-Accepted}
@@ -88,3 +90,19 @@ returns-clause-underway c =
 
 pub returns-in-Dropped-clause-underway : goal.returns-in-Dropped-clause-underway
 returns-in-Dropped-clause-underway c = absurd (never_dropped c.args.wire.now c.args.x.now c.args.y.now c.args.key c.args.taken c.requires c.in-Dropped.is)
+
+pub returns-clause-halted : goal.returns-clause-halted
+returns-clause-halted c =
+    let wire = c.args.wire.now in
+    let new = c.send_ack.new.wire in
+    let x = c.args.x.now in
+    let y = c.args.y.now in
+    let key = c.args.key in
+    let taken = c.args.taken in
+    elim c.match-taken.branch [
+      | in-Repeated w ↦ err_weaker c.send_ack.result _ _ (λ halt it. rw w.y-is (halted_data wire new x y key taken (fate_value c.args.fate) halt y.sender c.requires (same_sender taken y.sender w.in-Repeated.is)
+          (subst (λ (h : Half). Halts wire.frames.items h.end key.id (ack_fragment key) (fate_value c.args.fate) halt new.frames.items) w.y-is it))) c.send_ack.ensures.halt
+      | in-Accepted w ↦ err_weaker c.send_ack.result _ _ (λ halt it. rw w.y-is (halted_data wire new x y key taken (fate_value c.args.fate) halt w.stop_waiting.new.sender c.requires
+          (idle_sender taken y.sender w.stop_waiting.new.sender w.in-Accepted.is w.stop_waiting.ensures.rest w.stop_waiting.ensures.idle)
+          (subst (λ (h : Half). Halts wire.frames.items h.end key.id (ack_fragment key) (fate_value c.args.fate) halt new.frames.items) w.y-is it))) c.send_ack.ensures.halt
+    ]

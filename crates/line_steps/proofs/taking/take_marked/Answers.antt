@@ -1,5 +1,7 @@
 use Rattle.std.proofs.Common.{refl}
+use Rattle.std.proofs.lemmas.Result.{err_from_is_err_and}
 use Rattle.std.proofs.lemmas.Option.{slice_get_read, slice_get_within}
+use Rattle.line_steps.proofs.HaltedLaws.{halted_heeded}
 use Rattle.line_steps.proofs.HeardLaws.{heard_ack-holds, heard_ack-next, heard_data, heard_something}
 use Rattle.line_steps.specs.declared.hearing.Heard.TheVariants as heard_as
 use Rattle.line_steps.proofs.UnderwayLaws.{heeded-underway}
@@ -79,3 +81,13 @@ returns-in-Nothing-clause-underway c =
     let n = c.args.x.now.taken in
     let here = slice_get_read frames _ n c.index.result.now refl (slice_get_within frames n c.requires.next.frame c.requires.next.here) c.index.ensures in
     absurd (heard_something _ c.index.result.now c.args.y.now.receiver c.hear_frame-heard.new.half.receiver (going c.args.wire.now c.args.x.now c.args.y.now n c.index.result.now c.requires.holds here) c.in-Nothing.ensures.hears)
+
+pub returns-in_err-take_ack-in-Ack-clause-halted : goal.returns-in_err-take_ack-in-Ack-clause-halted
+returns-in_err-take_ack-in-Ack-clause-halted c =
+    let p = err_from_is_err_and c.from_residual.result c.from_residual.ensures.1 in
+    rw (p.1, p.2) (halted_heeded c.in_err-take_ack-in-Ack.field-0.0 c.args.wire.now c.args.x.now c.args.y.now c.hear_frame-heard.new.half c.take_ack.new.wire c.take_ack.new.x c.take_ack.new.y c.in-Ack.ensures.heeded c.in_err-take_ack-in-Ack.ensures.halted)
+
+pub returns-in_err-take_data-in-Data-clause-halted : goal.returns-in_err-take_data-in-Data-clause-halted
+returns-in_err-take_data-in-Data-clause-halted c =
+    let p = err_from_is_err_and c.from_residual-in_err-take_data-in-Data.result c.from_residual-in_err-take_data-in-Data.ensures.1 in
+    rw (p.1, p.2) (halted_heeded c.in_err-take_data-in-Data.field-0.0 c.args.wire.now c.args.x.now c.args.y.now c.hear_frame-heard.new.half c.take_data.new.wire c.take_data.new.x c.take_data.new.y c.in-Data.ensures.heeded c.in_err-take_data-in-Data.ensures.halted)

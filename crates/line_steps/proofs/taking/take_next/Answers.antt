@@ -5,7 +5,10 @@ use Rattle.trace_text.specs.Fates.{fate_value}
 use Rattle.trace_text.specs.declared.frame.Frame.{Frame}
 use Rattle.line_steps.specs.Adding.{AddsOne}
 use Rattle.line_steps.specs.Underway.{StillUnderway}
-use Rattle.line_steps.proofs.MarkingLaws.{holds_marked, delivers_marked, less-marked, still_marked}
+use Rattle.line_steps.proofs.MarkingLaws.{holds_marked, delivers_marked, less-marked, still_marked, talks_marked}
+use Rattle.line_steps.proofs.HaltedLaws.{halted_behind}
+use Rattle.line_steps.proofs.HaltingLaws.{err_weaker}
+use Rattle.line_steps.specs.Halting.{Halted}
 use Rattle.line_steps.proofs.taking.take_next.Goals as goal
 
 pub mark-requires : goal.mark-requires
@@ -29,3 +32,12 @@ returns-clause-adds c = subst (λ (fs : List Frame). AddsOne (fate_value c.args.
 pub returns-clause-less : goal.returns-clause-less
 returns-clause-less c =
     on_ok_weaker c.take_marked.result (λ less. less-marked c.args.x.now.taken c.args.wire.now c.mark.new.wire c.args.x.now c.args.y.now c.take_marked.new.wire c.take_marked.new.x c.take_marked.new.y c.mark.ensures less) c.take_marked.ensures.less
+
+pub returns-clause-halted : goal.returns-clause-halted
+returns-clause-halted c =
+    let wire = c.args.wire.now in
+    let mid = c.mark.new.wire in
+    let x = c.args.x.now in
+    let y = c.args.y.now in
+    err_weaker c.take_marked.result (λ halt. Halted halt mid x y c.take_marked.new.wire c.take_marked.new.x c.take_marked.new.y) (λ halt. Halted halt wire x y c.take_marked.new.wire c.take_marked.new.x c.take_marked.new.y)
+    (λ halt it. halted_behind halt wire x y mid x y c.take_marked.new.wire c.take_marked.new.x c.take_marked.new.y (λ talk talks. talks_marked talk x.taken wire mid x y c.mark.ensures talks) it) c.take_marked.ensures.halted

@@ -6,10 +6,11 @@ use Rattle.line_steps.proofs.TakingLaws.{some_waits, waits_not}
 use Rattle.line_steps.proofs.WorkLaws.{other_waits, tick_one-less, tick_other-less, tick_two-less}
 use Rattle.line_steps.proofs.UnderwayLaws.{tick_one-underway, tick_other-underway, tick_two-underway}
 use Rattle.line_steps.proofs.AddingLaws.{adds_two}
-use Rattle.line_steps.specs.Halting.{DownBy, Spent}
-use Rattle.line_steps.specs.Running.{past_now}
-use Rattle.line_steps.proofs.HaltingLaws.{err_weaker, down_first, down_second}
-use Rattle.line_steps.proofs.TurnLaws.{holds_turned}
+use Rattle.line_steps.specs.Halting.{Halted, NotAgain}
+use Rattle.line_steps.proofs.HaltingLaws.{err_weaker}
+use Rattle.line_steps.proofs.HaltedLaws.{first_halts, second_halts, halted_there, halted_turned}
+use Rattle.line_steps.proofs.CarryingLaws.{stays_refl}
+use Rattle.line_steps.proofs.TurnLaws.{apart_turned, holds_turned}
 use Rattle.line_steps.proofs.StartingLaws.{ticks_one, ticks_other, ticks_two}
 use Rattle.line_steps.proofs.ticking.tick.Goals as goal
 
@@ -72,20 +73,38 @@ pub returns-clause-adds : goal.returns-clause-adds
 returns-clause-adds c =
     adds_two (record c.args.wire.now { released = c.len-wire.result }) c.send_again-2.new.wire c.args.x.now c.send_again-2.new.half (fate_value c.args.fate) (fate_value c.args.other) c.send_again-3.new.wire.frames.items c.in_ok-send_again.ensures.again c.send_again-3.ensures.adds
 
-pub returns-then-is_none-clause-down : goal.returns-then-is_none-clause-down
-returns-then-is_none-clause-down c =
-    let idle = waits_not c.args.x.now.sender (ap is_some (sym c.current.ensures.piece) ∙ c.if-is_none.ensures) in
-    err_weaker c.send_again.result (λ halt. Spent halt c.args.y.now (record c.args.wire.now { released = c.len-wire.result }) c.send_again.new.wire) (λ halt. DownBy halt (past_now c.send_again.new.wire.frames.items))
-    (λ halt spent. down_first c.args.wire.now c.send_again.new.wire c.len-wire.result c.args.y.now c.args.x.now halt (holds_turned c.args.wire.now c.args.x.now c.args.y.now c.requires.holds) c.requires.y_blocked c.requires.x_blocked (other_waits idle c.requires.waits) spent) c.send_again.ensures.spent
+pub returns-then-is_none-clause-halted : goal.returns-then-is_none-clause-halted
+returns-then-is_none-clause-halted c =
+    let wire = c.args.wire.now in
+    let new = c.send_again.new.wire in
+    let x = c.args.x.now in
+    let y = c.args.y.now in
+    let holds = c.requires.holds in
+    let idle = waits_not x.sender (ap is_some (sym c.current.ensures.piece) ∙ c.if-is_none.ensures) in
+    err_weaker c.send_again.result (λ halt. NotAgain halt (fate_value c.args.fate) y (record wire { released = c.len-wire.result }) new) (λ halt. Halted halt wire x y new x c.send_again.new.half)
+    (λ halt it. halted_there halt wire x y new x c.send_again.new.half (stays_refl x) c.send_again.ensures.stays (halted_turned halt wire y x new y x (apart_turned x.end y.end holds.apart) (apart_turned x.end y.end holds.apart)
+    (first_halts wire new c.len-wire.result y x (fate_value c.args.fate) halt (holds_turned wire x y holds) c.requires.y_blocked c.requires.x_blocked (other_waits idle c.requires.waits) it))) c.send_again.ensures.halts
 
-pub returns-clause-down : goal.returns-clause-down
-returns-clause-down c =
-    let y_waits = some_waits c.args.y.now.sender (ap is_some (sym c.current-2.ensures.piece) ∙ c.if-is_none-2.ensures) in
-    err_weaker c.send_again-3.result (λ halt. Spent halt c.args.y.now c.send_again-2.new.wire c.send_again-3.new.wire) (λ halt. DownBy halt (past_now c.send_again-3.new.wire.frames.items))
-    (λ halt spent. down_second c.args.wire.now c.send_again-2.new.wire c.send_again-3.new.wire c.len-wire.result c.args.x.now c.args.y.now c.send_again-2.new.half (fate_value c.args.fate) halt c.requires.holds c.requires.x_blocked c.requires.y_blocked y_waits c.in_ok-send_again.ensures.again spent) c.send_again-3.ensures.spent
+pub returns-clause-halted : goal.returns-clause-halted
+returns-clause-halted c =
+    let wire = c.args.wire.now in
+    let mid = c.send_again-2.new.wire in
+    let new = c.send_again-3.new.wire in
+    let x = c.args.x.now in
+    let y = c.args.y.now in
+    let x_waits = some_waits x.sender (ap is_some (sym c.current.ensures.piece) ∙ c.if-is_none.ensures) in
+    let y_waits = some_waits y.sender (ap is_some (sym c.current-2.ensures.piece) ∙ c.if-is_none-2.ensures) in
+    err_weaker c.send_again-3.result (λ halt. NotAgain halt (fate_value c.args.other) y mid new) (λ halt. Halted halt wire x y new c.send_again-2.new.half c.send_again-3.new.half)
+    (λ halt it. halted_there halt wire x y new c.send_again-2.new.half c.send_again-3.new.half c.send_again-2.ensures.stays c.send_again-3.ensures.stays
+    (second_halts wire mid new c.len-wire.result x y c.send_again-2.new.half (fate_value c.args.fate) (fate_value c.args.other) halt c.requires.holds c.requires.x_blocked c.requires.y_blocked x_waits y_waits c.in_ok-send_again.ensures.again it)) c.send_again-3.ensures.halts
 
-pub returns-in_err-send_again-clause-down : goal.returns-in_err-send_again-clause-down
-returns-in_err-send_again-clause-down c =
-    let waits = some_waits c.args.x.now.sender (ap is_some (sym c.current.ensures.piece) ∙ c.if-is_none.ensures) in
+pub returns-in_err-send_again-clause-halted : goal.returns-in_err-send_again-clause-halted
+returns-in_err-send_again-clause-halted c =
+    let wire = c.args.wire.now in
+    let new = c.send_again-2.new.wire in
+    let x = c.args.x.now in
+    let y = c.args.y.now in
+    let waits = some_waits x.sender (ap is_some (sym c.current.ensures.piece) ∙ c.if-is_none.ensures) in
     let p = err_from_is_err_and c.from_residual.result c.from_residual.ensures.1 in
-    rw (p.1, p.2) (down_first c.args.wire.now c.send_again-2.new.wire c.len-wire.result c.args.x.now c.args.y.now c.in_err-send_again.field-0.0 c.requires.holds c.requires.x_blocked c.requires.y_blocked waits c.in_err-send_again.ensures.spent)
+    rw (p.1, p.2) (halted_there c.in_err-send_again.field-0.0 wire x y new c.send_again-2.new.half y c.send_again-2.ensures.stays (stays_refl y)
+    (first_halts wire new c.len-wire.result x y (fate_value c.args.fate) c.in_err-send_again.field-0.0 c.requires.holds c.requires.x_blocked c.requires.y_blocked waits c.in_err-send_again.ensures.halts))

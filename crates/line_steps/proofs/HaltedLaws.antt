@@ -1,0 +1,345 @@
+-- A run halts where a frame was to be sent: what its frames are then, and what they tell.
+use Rattle.std.proofs.Common.{◌≡◌, ℕ, ◌+◌, ◌<◌, ◌≤◌, false, Vec, List, ◌∷◌, [], length, map, Some, refl, sym, ap, subst, ◌∙◌, arith, inl, inr}
+use Rattle.std.specs.declared.alloc.Global.{Global}
+use Rattle.std.proofs.lemmas.Bool.{cases_lt, cond-true, cond-false, and_from}
+use Rattle.std.proofs.lemmas.List.{map-append}
+use Rattle.padp_link.specs.declared.fragment.PadpKind.{PadpKind}
+use Rattle.padp_link.specs.declared.fragment.PadpKind.TheVariants as kinds
+use Rattle.padp_link.specs.declared.piece.Key.{Key}
+use Rattle.padp_link.specs.declared.receiver.Taken.{Taken}
+use Rattle.padp_link.specs.FragmentText.{FragmentValue}
+use Rattle.padp_link.specs.Pieces.{piece_count}
+use Rattle.padp_link.specs.Senders.{Waits, waiting_key}
+use Rattle.trace_text.specs.declared.frame.End.{End}
+use Rattle.trace_text.specs.declared.frame.Frame.{Frame}
+use Rattle.trace_text.specs.Fates.{FateValue, holds_packet, strange_bytes}
+use Rattle.trace_text.specs.Faults.{comes, RepeatsHaveFaults}
+use Rattle.trace_text.specs.Frames.{MayBear, is_abort, fragment_in, add_frame, past_behind, padp_packet, course_of}
+use Rattle.trace_text.specs.Past.{Sent, is_data_of, at}
+use Rattle.trace_text.specs.Talks.{Talk}
+use Rattle.trace_text.specs.TraceLines.{FrameValue, frame_value}
+use Rattle.line_laws.specs.Came.{is_taken, came_by, data_taken}
+use Rattle.line_laws.specs.Core.{Apart, Side, part_now, ack_frame}
+use Rattle.line_laws.specs.Talking.{say}
+use Rattle.line_laws.proofs.RunningLaws.{running_next_piece, running_starts, running_tick_one, running_tick_two}
+use Rattle.line_laws.proofs.SpeechLaws.{speech-moves}
+use Rattle.line_laws.proofs.StoppedLaws.{speaks-more, speaks-beside, speaks-unacked}
+use Rattle.line_laws.proofs.TakeLaws.{beginning}
+use Rattle.line_laws.proofs.TalkLaws.{moves-more, speaks_properly}
+use Rattle.line_laws.proofs.TimeLaws.{ack_is_no_data}
+use Rattle.line_laws.proofs.TraceLaws.{other_no_repeat, faults_push}
+use Rattle.line_laws.specs.Progress.{Blocked}
+use Rattle.line_steps.specs.declared.half.Half.{Half}
+use Rattle.line_steps.specs.declared.half.Wire.{Wire}
+use Rattle.line_steps.specs.declared.harm.Stop.{Stop}
+use Rattle.line_steps.specs.declared.harm.Stop.TheVariants.{Unplugged, Aborted, Undetected}
+use Rattle.line_steps.specs.declared.sending.Halt.{Halt}
+use Rattle.line_steps.specs.declared.sending.Halt.TheVariants.{NoMemory, Stopped, Down}
+use Rattle.line_steps.specs.Halting.{IsSpent, is_aborted, EndsWith, HaltsBy, Spoken, Spoke, Halted, NotAgain}
+use Rattle.line_steps.specs.Running.{sent_of, past_now, side_of, AllGo, Heeded, Holds, Stays}
+use Rattle.line_steps.specs.Sending.{Sends, Halts, StopsBy, in_place, ack_fragment}
+use Rattle.line_steps.specs.Taking.{AckNext, DataHeard}
+use Rattle.line_steps.specs.Telling.{cursor_of, Talked, Talks, KeepsTalk, IsNextTo}
+use Rattle.line_steps.specs.Ticking.{SendsAgain}
+use Rattle.line_steps.specs.Turning.{Turn}
+use Rattle.line_steps.proofs.BeginningLaws.{first_frame, again_frame, starts-told, one_again-told, two_again-told}
+use Rattle.line_steps.proofs.DataLaws.{NewSender}
+use Rattle.line_steps.proofs.FrameLaws.{behind_push}
+use Rattle.line_steps.proofs.HaltingLaws.{first_spent, second_spent}
+use Rattle.line_steps.proofs.HoldsLaws.{moved}
+use Rattle.line_steps.proofs.SendingLaws.{sends_in, placed, extends}
+use Rattle.line_steps.proofs.StartingLaws.{again, waits_now}
+use Rattle.line_steps.proofs.TakingLaws.{head, waits_with, advanced}
+use Rattle.line_steps.proofs.TalkedLaws.{cursor_own, cursor_other, cursor_moves, cursor_turned, talks_turned}
+use Rattle.line_steps.proofs.RecordedLaws.{same_cursors}
+use Rattle.line_steps.proofs.TellingLaws.{next_frame, ack_other-talks, ack_more-told, took_data-told}
+use Rattle.line_steps.proofs.TurnLaws.{apart_turned}
+
+-- ---- the frames
+
+-- a fragment that may stand in any frame, and is no abort
+pub record Plain (kind : PadpKind) : Type 0 where
+  pub may : (given : FateValue) → MayBear given kind
+  pub no_abort : is_abort kind ≡ false
+
+pub data_plain : Plain kinds.Data
+data_plain = record { may = λ given. tt; no_abort = refl }
+
+pub ack_plain : Plain kinds.Ack
+ack_plain = record { may = λ given. tt; no_abort = refl }
+
+abort_stands : (stop : Stop) (fragment : FragmentValue) → Plain fragment.kind → is_abort (in_place (Some stop) fragment).kind ≡ is_aborted stop
+abort_stands Unplugged fragment plain = plain.no_abort
+abort_stands Aborted fragment plain = refl
+abort_stands Undetected fragment plain = plain.no_abort
+
+-- whatever the bytes, an abort and a pulled cable are told by the fate
+stops_any : (stop : Stop) (id : ℕ) (fragment : FragmentValue) (given : FateValue) (bytes : List ℕ) → bytes ≡ padp_packet id (in_place (Some stop) fragment) → StopsBy given (padp_packet id fragment) (Some stop) → StopsBy given bytes (Some stop)
+stops_any Unplugged id fragment given bytes same stops = stops
+stops_any Aborted id fragment given bytes same stops = stops
+stops_any Undetected id fragment given bytes same stops = (stops.0, ap (λ (b : List ℕ). holds_packet (strange_bytes given b)) same ∙ stops.1)
+
+may_bear : (stop : Stop) (id : ℕ) (fragment : FragmentValue) (given : FateValue) → Plain fragment.kind → StopsBy given (padp_packet id fragment) (Some stop) → MayBear given (in_place (Some stop) fragment).kind
+may_bear Unplugged id fragment given plain stops = plain.may given
+may_bear Aborted id fragment given plain stops = stops
+may_bear Undetected id fragment given plain stops = plain.may given
+
+ends_with : (old new : List Frame) (from : End) (id : ℕ) (fragment : FragmentValue) (given : FateValue) (stop : Stop) → Plain fragment.kind → AllGo 1 old → Sends old from id fragment given (Some stop) new → EndsWith stop new
+ends_with old new from id fragment given stop plain go sends =
+    let it = placed old new from id fragment given (Some stop) sends (may_bear stop id fragment given plain sends.stops) in
+    record {
+      before = old;
+      last = sends.frame;
+      is = sends.is;
+      go = go;
+      number_is = sends.number_is;
+      stops = subst (λ (g : FateValue). StopsBy g sends.frame.bytes.items (Some stop)) (sym sends.fate_is) (stops_any stop id fragment given sends.frame.bytes.items sends.bytes_are sends.stops);
+      bears = it.bears;
+      aborts = ap (λ (f : FragmentValue). is_abort f.kind) it.fragment_is ∙ abort_stands stop fragment plain;
+    }
+
+pub halts_by : (old new : List Frame) (from : End) (id : ℕ) (fragment : FragmentValue) (given : FateValue) (halt : Halt) (cursor : End → ℕ) → Plain fragment.kind → AllGo 1 old → Halts old from id fragment given halt new → HaltsBy halt cursor new
+halts_by old new from id fragment given NoMemory cursor plain go halts = subst (AllGo 1) (sym halts) go
+halts_by old new from id fragment given (Stopped stop) cursor plain go halts = ends_with old new from id fragment given stop plain go halts
+halts_by old new from id fragment given (Down end) cursor plain go halts = absurd halts
+
+-- what holds of the past without the frame and with it holds of the past behind a run that halted
+same_stop : (stop : Stop) (P : List Sent → Type 0) (from : End) (id : ℕ) (fragment : FragmentValue) (given : FateValue) (frame : Frame) (past : List Sent) → Plain fragment.kind → fragment_in (frame_value frame) ≡ in_place (Some stop) fragment
+    → sent_of frame ≡ sends_in from id (in_place (Some stop) fragment) given → P past → P (sends_in from id fragment given ∷ past) → P (add_frame (frame_value frame) past)
+same_stop Unplugged P from id fragment given frame past plain is sent without with_it =
+    subst P (sym (cond-false _ _ _ (ap (λ (f : FragmentValue). is_abort f.kind) is ∙ plain.no_abort) ∙ ap (λ (s : Sent). s ∷ past) sent)) with_it
+same_stop Aborted P from id fragment given frame past plain is sent without with_it =
+    subst P (sym (cond-true _ _ _ (ap (λ (f : FragmentValue). is_abort f.kind) is))) without
+same_stop Undetected P from id fragment given frame past plain is sent without with_it =
+    subst P (sym (cond-false _ _ _ (ap (λ (f : FragmentValue). is_abort f.kind) is ∙ plain.no_abort) ∙ ap (λ (s : Sent). s ∷ past) sent)) with_it
+
+pub behind_halt : (P : List Sent → Type 0) (old new : List Frame) (from : End) (id : ℕ) (fragment : FragmentValue) (given : FateValue) (halt : Halt) → Plain fragment.kind → Halts old from id fragment given halt new
+    → P (past_now old) → P (sends_in from id fragment given ∷ past_now old) → P (past_now new)
+behind_halt P old new from id fragment given NoMemory plain halts without with_it = subst (λ (fs : List Frame). P (past_now fs)) (sym halts) without
+behind_halt P old new from id fragment given (Stopped stop) plain halts without with_it =
+    let it = placed old new from id fragment given (Some stop) halts (may_bear stop id fragment given plain halts.stops) in
+    let past_is : past_now new ≡ add_frame (frame_value halts.frame) (past_now old) = ap past_now halts.is ∙ (ap (λ (fs : List FrameValue). past_behind [] fs) (map-append frame_value old (halts.frame ∷ [])) ∙ behind_push [] (map frame_value old) (frame_value halts.frame)) in
+    subst P (sym past_is) (same_stop stop P from id fragment given halts.frame (past_now old) plain it.fragment_is it.sent_is without with_it)
+behind_halt P old new from id fragment given (Down end) plain halts without with_it = absurd halts
+
+-- ---- what they tell
+
+pub spoken_of : (X Y : End) (talk : Talk) (cursor : End → ℕ) (past : List Sent) (x y : Side) → RepeatsHaveFaults past → cursor X ≤ length past → cursor Y ≤ length past → Talked X Y talk cursor past x y → Spoken X Y talk cursor past
+spoken_of X Y talk cursor past x y faults x_in y_in talked = record {
+  faults = faults;
+  x_speaks = speaks_properly X Y talk cursor past x x_in talked.talking.x_speech;
+  y_speaks = speaks_properly Y X talk cursor past y y_in talked.talking.y_speech;
+  x_in = x_in;
+  y_in = y_in;
+}
+
+pub spoken_now : (talk : Talk) (wire : Wire) (x y : Half) → Holds wire x y → Talks talk wire x y → Spoke talk wire x y
+spoken_now talk wire x y holds talks =
+    spoken_of x.end y.end talk (cursor_of x y) (past_now wire.frames.items) (side_of x) (side_of y) holds.line.traced.faults (omega (arith, cursor_own x.end x.taken y.taken, holds.line.core.there.cur_in))
+    (omega (arith, cursor_other x.end y.end x.taken y.taken holds.apart.there, holds.line.core.back.cur_in)) talks
+
+-- with the cursor of x behind the next frame, and a frame more
+spoken_next : (talk : Talk) (wire : Wire) (x y : Half) (sent : Sent) (sx sy : Side) → Holds wire x y → x.taken < length (past_now wire.frames.items) → RepeatsHaveFaults (sent ∷ past_now wire.frames.items) → Talked x.end y.end talk (cursor_of (moved x) y) (sent ∷ past_now wire.frames.items) sx sy
+    → Spoken x.end y.end talk (cursor_of (moved x) y) (sent ∷ past_now wire.frames.items)
+spoken_next talk wire x y sent sx sy holds inside faults talked =
+    spoken_of x.end y.end talk (cursor_of (moved x) y) (sent ∷ past_now wire.frames.items) sx sy faults (omega (arith, cursor_own x.end (x.taken + 1) y.taken, inside))
+    (omega (arith, cursor_other x.end y.end (x.taken + 1) y.taken holds.apart.there, holds.line.core.back.cur_in)) talked
+
+-- ---- the next piece was to be sent behind an acknowledgement
+
+ack_faults : (wire : Wire) (x y : Half) (key : Key) (given : FateValue) → Holds wire x y → AckNext x.end wire x.taken key → waiting_key y.sender ≡ Some key → y.sender.acknowledged + 1 < piece_count y.sender.length → RepeatsHaveFaults (next_frame y given ∷ past_now wire.frames.items)
+ack_faults wire x y key given holds it is more =
+    let at_head = head x.end wire x.taken holds.go it.next in
+    let w = waits_with y key holds.y_half is in
+    let below : y.sender.acknowledged + 1 < piece_count (length y.message.items) = subst (λ (n : ℕ). y.sender.acknowledged + 1 < piece_count n) holds.y_half.length_is more in
+    (running_next_piece x.end y.end (past_now wire.frames.items) x.taken y.taken wire.released (side_of x) (side_of y) x.receiver y.receiver holds.fx holds.fy x.sender.tries y.sender.tries (sent_of it.next.frame) (course_of given) holds.apart holds.line at_head.inside at_head.here at_head.late it.is w.waits
+    (w.key_is ∙ sym it.key_is) below).traced.faults
+
+pub halted_ack : (wire new : Wire) (x y : Half) (key : Key) (given : FateValue) (halt : Halt) → Holds wire x y → AckNext x.end wire x.taken key → waiting_key y.sender ≡ Some key → y.sender.acknowledged + 1 < piece_count y.sender.length
+    → Halts wire.frames.items y.end y.sender.id (part_now (side_of (advanced y))) given halt new.frames.items → Halted halt wire x y new (moved x) (advanced y)
+halted_ack wire new x y key given halt holds it is more halts =
+    let at_head = head x.end wire x.taken holds.go it.next in
+    let part = part_now (side_of (advanced y)) in
+    record {
+      by = halts_by wire.frames.items new.frames.items y.end y.sender.id part given halt (cursor_of (moved x) y) data_plain holds.go halts;
+      talks = λ talk talks. behind_halt (Spoken x.end y.end talk (cursor_of (moved x) y)) wire.frames.items new.frames.items y.end y.sender.id part given halt data_plain halts
+          (spoken_of x.end y.end talk (cursor_of (moved x) y) (past_now wire.frames.items) (side_of x) (side_of y) holds.line.traced.faults (omega (arith, cursor_own x.end (x.taken + 1) y.taken, at_head.inside))
+          (omega (arith, cursor_other x.end y.end (x.taken + 1) y.taken holds.apart.there, holds.line.core.back.cur_in)) (ack_other-talks talk wire x y key holds it talks))
+          (spoken_next talk wire x y (next_frame y given) _ _ holds at_head.inside (ack_faults wire x y key given holds it is more) (ack_more-told talk wire x y key given holds it is more talks));
+    }
+
+-- ---- data was to be acknowledged
+
+unacked : (talk : Talk) (wire : Wire) (x y : Half) (key : Key) (taken : Taken) → DataHeard wire x y key taken → Talks talk wire x y → Spoken x.end y.end talk (cursor_of (moved x) y) (past_now wire.frames.items)
+unacked talk wire x y key taken heard talks =
+    let holds = heard.holds in
+    let past = past_now wire.frames.items in
+    let sent = sent_of heard.next.frame in
+    let at_head = head x.end wire x.taken holds.go heard.next in
+    let cursor = cursor_of x y in
+    let later = cursor_of (moved x) y in
+    let more = moves-more x.end y.end cursor later holds.apart.there (cursor_moves x.end y.end x.taken y.taken holds.apart.there) in
+    let same = (cursor_moves x.end y.end x.taken y.taken holds.apart.there).kept in
+    let comes_here = and_from (is_data_of x.end sent) (comes sent.course) heard.is heard.next.comes_here in
+    record {
+      faults = holds.line.traced.faults;
+      x_speaks = speaks-unacked x.end y.end talk cursor later (came_by later past) past x.taken sent (side_of x) more (cursor_own x.end x.taken y.taken) (cursor_own x.end (x.taken + 1) y.taken) at_head.inside at_head.here comes_here
+          (λ n frame older inside here. ap (is_taken later n) here) talks.talking.x_speech;
+      y_speaks = speaks_properly y.end x.end talk later past (side_of y) (omega (arith, cursor_other x.end y.end (x.taken + 1) y.taken holds.apart.there, holds.line.core.back.cur_in))
+          (speech-moves y.end x.end talk cursor later past (side_of y) more (ap (λ (k : ℕ). data_taken y.end (at k past)) same) talks.talking.y_speech);
+      x_in = omega (arith, cursor_own x.end (x.taken + 1) y.taken, at_head.inside);
+      y_in = omega (arith, cursor_other x.end y.end (x.taken + 1) y.taken holds.apart.there, holds.line.core.back.cur_in);
+    }
+
+pub halted_data : (wire new : Wire) (x y : Half) (key : Key) (taken : Taken) (given : FateValue) (halt : Halt) (sender : _) → DataHeard wire x y key taken → NewSender taken y.sender sender → Halts wire.frames.items y.end key.id (ack_fragment key) given halt new.frames.items
+    → Halted halt wire x y new (moved x) (record y { sender = sender })
+halted_data wire new x y key taken given halt sender heard after halts =
+    let holds = heard.holds in
+    let past = past_now wire.frames.items in
+    let at_head = head x.end wire x.taken holds.go heard.next in
+    let ack = ack_frame y.end key (course_of given) in
+    record {
+      by = halts_by wire.frames.items new.frames.items y.end key.id (ack_fragment key) given halt (cursor_of (moved x) y) ack_plain holds.go halts;
+      talks = λ talk talks. behind_halt (Spoken x.end y.end talk (cursor_of (moved x) y)) wire.frames.items new.frames.items y.end key.id (ack_fragment key) given halt ack_plain halts (unacked talk wire x y key taken heard talks)
+          (spoken_next talk wire x (record y { receiver = heard.before }) ack _ _ holds at_head.inside (faults_push ack past holds.line.traced.faults (λ Z. other_no_repeat Z ack past (ack_is_no_data Z y.end key (course_of given))))
+          (took_data-told talk wire x y key taken given sender heard after talks));
+    }
+
+-- ---- a message was to begin
+
+more_spoken : (talk : Talk) (wire : Wire) (x y : Half) (message : List ℕ) → Turn wire x y → Talks talk wire x y → Spoken x.end y.end (say x.end message talk) (cursor_of x y) (past_now wire.frames.items)
+more_spoken talk wire x y message turn talks =
+    let past = past_now wire.frames.items in
+    let cursor = cursor_of x y in
+    let x_speech = talks.talking.x_speech in
+    let y_speech = talks.talking.y_speech in
+    let line = turn.settled.line in
+    record {
+      faults = line.traced.faults;
+      x_speaks = speaks-more x.end y.end talk (came_by cursor past) past message (omega (arith, x_speech.begun)) (speaks_properly x.end y.end talk cursor past (side_of x) (omega (arith, cursor_own x.end x.taken y.taken, line.core.there.cur_in)) x_speech);
+      y_speaks = speaks-beside y.end x.end talk (came_by cursor past) past message turn.settled.apart.back (omega (arith, y_speech.begun))
+          (speaks_properly y.end x.end talk cursor past (side_of y) (omega (arith, cursor_other x.end y.end x.taken y.taken turn.settled.apart.there, line.core.back.cur_in)) y_speech);
+      x_in = omega (arith, cursor_own x.end x.taken y.taken, line.core.there.cur_in);
+      y_in = omega (arith, cursor_other x.end y.end x.taken y.taken turn.settled.apart.there, line.core.back.cur_in);
+    }
+
+pub start_speaks : (talk : Talk) (wire new : Wire) (x y : Half) (id : ℕ) (message : Vec ℕ Global) (given : FateValue) (halt : Halt) → Turn wire x y → (id ≡ x.sender.id → ⊥) → y.receiver.awaited ≡ Some id → y.receiver.pieces ≡ []
+    → Halts wire.frames.items x.end id (part_now (beginning id message.items)) given halt new.frames.items → IsNextTo talk x y id → Talks talk wire x y → Spoke (say x.end message.items talk) new x y
+start_speaks talk wire new x y id message given halt turn different awaited none halts next talks =
+    let past = past_now wire.frames.items in
+    let line = turn.settled.line in
+    let after = running_starts x.end y.end past x.taken y.taken wire.released (side_of x) (side_of y) x.receiver y.receiver x.sender.tries y.sender.tries id message.items (course_of given) turn.settled.apart line turn.knows different awaited none (λ w. omega (arith, w, turn.last)) in
+    behind_halt (Spoken x.end y.end (say x.end message.items talk) (cursor_of x y)) wire.frames.items new.frames.items x.end id (part_now (beginning id message.items)) given halt data_plain halts (more_spoken talk wire x y message.items turn talks)
+    (spoken_of x.end y.end (say x.end message.items talk) (cursor_of x y) (first_frame x id message given ∷ past) _ _ after.traced.faults (omega (arith, cursor_own x.end x.taken y.taken, line.core.there.cur_in))
+    (omega (arith, cursor_other x.end y.end x.taken y.taken turn.settled.apart.there, line.core.back.cur_in)) (starts-told talk wire x y id message given turn different awaited none next talks))
+
+-- ---- a piece was to be sent again
+
+again_faults : (wire : Wire) (x y : Half) (given : FateValue) → Holds wire x y → Blocked x.end (past_now wire.frames.items) x.taken wire.released → Blocked y.end (past_now wire.frames.items) y.taken wire.released → Waits x.sender → RepeatsHaveFaults (again_frame x given ∷ past_now wire.frames.items)
+again_faults wire x y given holds x_blocked y_blocked waits =
+    let past = past_now wire.frames.items in
+    let now = waits_now x holds.x_half waits in
+    elim (cases_lt y.sender.acknowledged (piece_count (length y.message.items))) [
+      | inl too ↦ (running_tick_two x.end y.end past x.taken y.taken wire.released (side_of x) (side_of y) x.receiver y.receiver holds.fx holds.fy x.sender.tries y.sender.tries (course_of given) (course_of given) holds.apart holds.line x_blocked y_blocked now too).traced.faults.1
+      | inr idle ↦ (running_tick_one x.end y.end past x.taken y.taken wire.released (side_of x) (side_of y) x.receiver y.receiver holds.fx holds.fy x.sender.tries y.sender.tries (course_of given) holds.apart holds.line x_blocked y_blocked now (λ w. omega (arith, w, idle))).traced.faults
+    ]
+
+both_faults : (wire : Wire) (x y : Half) (given later : FateValue) → Holds wire x y → Blocked x.end (past_now wire.frames.items) x.taken wire.released → Blocked y.end (past_now wire.frames.items) y.taken wire.released → Waits x.sender → Waits y.sender
+    → RepeatsHaveFaults (again_frame y later ∷ again_frame x given ∷ past_now wire.frames.items)
+both_faults wire x y given later holds x_blocked y_blocked x_waits y_waits =
+    (running_tick_two x.end y.end (past_now wire.frames.items) x.taken y.taken wire.released (side_of x) (side_of y) x.receiver y.receiver holds.fx holds.fy x.sender.tries y.sender.tries (course_of given) (course_of later) holds.apart holds.line x_blocked y_blocked
+    (waits_now x holds.x_half x_waits) (waits_now y holds.y_half y_waits)).traced.faults
+
+again_spoken : (talk : Talk) (wire : Wire) (x y : Half) (given : FateValue) → Holds wire x y → Blocked x.end (past_now wire.frames.items) x.taken wire.released → Blocked y.end (past_now wire.frames.items) y.taken wire.released → Waits x.sender → x.sender.tries < 10 → Talks talk wire x y
+    → Spoken x.end y.end talk (cursor_of x y) (again_frame x given ∷ past_now wire.frames.items)
+again_spoken talk wire x y given holds x_blocked y_blocked waits few talks =
+    spoken_of x.end y.end talk (cursor_of x y) (again_frame x given ∷ past_now wire.frames.items) (side_of x) (side_of y) (again_faults wire x y given holds x_blocked y_blocked waits) (omega (arith, cursor_own x.end x.taken y.taken, holds.line.core.there.cur_in))
+    (omega (arith, cursor_other x.end y.end x.taken y.taken holds.apart.there, holds.line.core.back.cur_in)) (one_again-told talk wire x y given holds waits few talks)
+
+first_sends : (wire new : Wire) (x y : Half) (given : FateValue) (halt : Halt) → Holds wire x y → Blocked x.end (past_now wire.frames.items) x.taken wire.released → Blocked y.end (past_now wire.frames.items) y.taken wire.released → Waits x.sender → x.sender.tries < 10
+    → Halts wire.frames.items x.end x.sender.id (part_now (side_of x)) given halt new.frames.items → Halted halt wire x y new x y
+first_sends wire new x y given halt holds x_blocked y_blocked waits few halts = record {
+  by = halts_by wire.frames.items new.frames.items x.end x.sender.id (part_now (side_of x)) given halt (cursor_of x y) data_plain holds.go halts;
+  talks = λ talk talks. behind_halt (Spoken x.end y.end talk (cursor_of x y)) wire.frames.items new.frames.items x.end x.sender.id (part_now (side_of x)) given halt data_plain halts (spoken_now talk wire x y holds talks)
+      (again_spoken talk wire x y given holds x_blocked y_blocked waits few talks);
+}
+
+pub first_halts : (wire new : Wire) (r : ℕ) (x y : Half) (given : FateValue) (halt : Halt) → Holds wire x y → Blocked x.end (past_now wire.frames.items) x.taken wire.released → Blocked y.end (past_now wire.frames.items) y.taken wire.released → Waits x.sender
+    → NotAgain halt given x (record wire { released = r }) new → Halted halt wire x y new x y
+first_halts wire new r x y given NoMemory holds x_blocked y_blocked waits it = first_sends wire new x y given NoMemory holds x_blocked y_blocked waits it.0 it.1
+first_halts wire new r x y given (Stopped stop) holds x_blocked y_blocked waits it = first_sends wire new x y given (Stopped stop) holds x_blocked y_blocked waits it.0 it.1
+first_halts wire new r x y given (Down end) holds x_blocked y_blocked waits it =
+    subst (λ (w : Wire). Halted (Down end) wire x y w x y) (sym it.2) (subst (λ (X : End). Halted (Down X) wire x y (record wire { released = r }) x y) (sym it.0) (record {
+      by = (holds.go, first_spent wire x y holds x_blocked y_blocked waits it.1);
+      talks = λ talk talks. spoken_now talk wire x y holds talks;
+    }))
+
+second_sends : (wire mid new : Wire) (r : ℕ) (x y : Half) (given later : FateValue) (halt : Halt) → Holds wire x y → Blocked x.end (past_now wire.frames.items) x.taken wire.released → Blocked y.end (past_now wire.frames.items) y.taken wire.released → Waits x.sender → Waits y.sender
+    → SendsAgain (record wire { released = r }) x given mid (again x) → y.sender.tries < 10 → Halts mid.frames.items y.end y.sender.id (part_now (side_of y)) later halt new.frames.items → Halted halt wire x y new x y
+second_sends wire mid new r x y given later halt holds x_blocked y_blocked x_waits y_waits sent few halts =
+    let longer = extends (record wire { released = r }) mid x.end x.sender.id (part_now (side_of x)) given holds.go sent.sends tt sent.released in
+    record {
+      by = halts_by mid.frames.items new.frames.items y.end y.sender.id (part_now (side_of y)) later halt (cursor_of x y) data_plain longer.go halts;
+      talks = λ talk talks. behind_halt (Spoken x.end y.end talk (cursor_of x y)) mid.frames.items new.frames.items y.end y.sender.id (part_now (side_of y)) later halt data_plain halts
+          (subst (λ (p : List Sent). Spoken x.end y.end talk (cursor_of x y) p) (sym longer.past) (again_spoken talk wire x y given holds x_blocked y_blocked x_waits sent.few talks))
+          (subst (λ (p : List Sent). Spoken x.end y.end talk (cursor_of x y) (again_frame y later ∷ p)) (sym longer.past)
+          (spoken_of x.end y.end talk (cursor_of x y) (again_frame y later ∷ again_frame x given ∷ past_now wire.frames.items) (side_of x) (side_of y) (both_faults wire x y given later holds x_blocked y_blocked x_waits y_waits)
+          (omega (arith, cursor_own x.end x.taken y.taken, holds.line.core.there.cur_in)) (omega (arith, cursor_other x.end y.end x.taken y.taken holds.apart.there, holds.line.core.back.cur_in))
+          (two_again-told talk wire x y given later holds x_waits y_waits sent.few few talks)));
+    }
+
+second_now : (wire mid new : Wire) (r : ℕ) (x y : Half) (given later : FateValue) (halt : Halt) → Holds wire x y → Blocked x.end (past_now wire.frames.items) x.taken wire.released → Blocked y.end (past_now wire.frames.items) y.taken wire.released → Waits x.sender → Waits y.sender
+    → SendsAgain (record wire { released = r }) x given mid (again x) → NotAgain halt later y mid new → Halted halt wire x y new x y
+second_now wire mid new r x y given later NoMemory holds x_blocked y_blocked x_waits y_waits sent it = second_sends wire mid new r x y given later NoMemory holds x_blocked y_blocked x_waits y_waits sent it.0 it.1
+second_now wire mid new r x y given later (Stopped stop) holds x_blocked y_blocked x_waits y_waits sent it = second_sends wire mid new r x y given later (Stopped stop) holds x_blocked y_blocked x_waits y_waits sent it.0 it.1
+second_now wire mid new r x y given later (Down end) holds x_blocked y_blocked x_waits y_waits sent it =
+    let longer = extends (record wire { released = r }) mid x.end x.sender.id (part_now (side_of x)) given holds.go sent.sends tt sent.released in
+    subst (λ (w : Wire). Halted (Down end) wire x y w x y) (sym it.2) (subst (λ (X : End). Halted (Down X) wire x y mid x y) (sym it.0) (record {
+      by = (
+        longer.go,
+        subst (λ (p : List Sent). IsSpent y.end (cursor_of x y) p) (sym longer.past)
+            (subst (λ (c : End → ℕ). IsSpent y.end c (again_frame x given ∷ past_now wire.frames.items)) (cursor_turned y.end x.end y.taken x.taken holds.apart.back) (second_spent wire x y given holds x_blocked y_blocked y_waits it.1)),
+      );
+      talks = λ talk talks. subst (λ (p : List Sent). Spoken x.end y.end talk (cursor_of x y) p) (sym longer.past) (again_spoken talk wire x y given holds x_blocked y_blocked x_waits sent.few talks);
+    }))
+
+pub second_halts : (wire mid new : Wire) (r : ℕ) (x y x_later : Half) (given later : FateValue) (halt : Halt) → Holds wire x y → Blocked x.end (past_now wire.frames.items) x.taken wire.released → Blocked y.end (past_now wire.frames.items) y.taken wire.released → Waits x.sender → Waits y.sender
+    → SendsAgain (record wire { released = r }) x given mid x_later → NotAgain halt later y mid new → Halted halt wire x y new x y
+second_halts wire mid new r x y x_later given later halt holds x_blocked y_blocked x_waits y_waits sent it =
+    second_now wire mid new r x y given later halt holds x_blocked y_blocked x_waits y_waits (subst (λ (h : Half). SendsAgain (record wire { released = r }) x given mid h) sent.counted sent) it
+
+-- ---- the same from elsewhere
+
+spoken_turned : (X Y : End) (talk : Talk) (cursor : End → ℕ) (past : List Sent) → Spoken X Y talk cursor past → Spoken Y X talk cursor past
+spoken_turned X Y talk cursor past it = record { faults = it.faults; x_speaks = it.y_speaks; y_speaks = it.x_speaks; x_in = it.y_in; y_in = it.x_in }
+
+pub halted_turned : (halt : Halt) (wire : Wire) (x y : Half) (new : Wire) (later_x later_y : Half) → Apart x.end y.end → Apart later_x.end later_y.end → Halted halt wire x y new later_x later_y → Halted halt wire y x new later_y later_x
+halted_turned halt wire x y new later_x later_y apart later_apart it =
+    let cursor = cursor_turned later_x.end later_y.end later_x.taken later_y.taken later_apart.there in
+    record {
+      by = subst (λ (c : End → ℕ). HaltsBy halt c new.frames.items) cursor it.by;
+      talks = λ talk talks. subst (λ (c : End → ℕ). Spoken later_y.end later_x.end talk c (past_now new.frames.items)) cursor
+          (spoken_turned later_x.end later_y.end talk (cursor_of later_x later_y) (past_now new.frames.items) (it.talks talk (talks_turned talk wire y x (apart_turned x.end y.end apart) talks)));
+    }
+
+-- where both ends are where they were
+pub halted_there : (halt : Halt) (wire : Wire) (x y : Half) (new : Wire) (later_x later_y : Half) → Stays x later_x → Stays y later_y → Halted halt wire x y new x y → Halted halt wire x y new later_x later_y
+halted_there halt wire x y new later_x later_y x_same y_same it =
+    let cursor = same_cursors x y later_x later_y (x_same.end_is, x_same.taken_is) (y_same.end_is, y_same.taken_is) in
+    record {
+      by = subst (λ (c : End → ℕ). HaltsBy halt c new.frames.items) cursor it.by;
+      talks = λ talk talks. subst (λ (c : End → ℕ). Spoken later_x.end later_y.end talk c (past_now new.frames.items)) cursor (subst (λ (X : End). Spoken X later_y.end talk (cursor_of x y) (past_now new.frames.items)) (sym x_same.end_is)
+          (subst (λ (Y : End). Spoken x.end Y talk (cursor_of x y) (past_now new.frames.items)) (sym y_same.end_is) (it.talks talk talks)));
+    }
+
+pub halted_behind : (halt : Halt) (wire0 : Wire) (x0 y0 : Half) (wire : Wire) (x y : Half) (new : Wire) (later_x later_y : Half) → KeepsTalk wire0 x0 y0 wire x y → Halted halt wire x y new later_x later_y → Halted halt wire0 x0 y0 new later_x later_y
+halted_behind halt wire0 x0 y0 wire x y new later_x later_y keeps it = record { by = it.by; talks = λ talk talks. it.talks talk (keeps talk talks) }
+
+pub halted_heeded : (halt : Halt) (wire : Wire) (x y h : Half) (new : Wire) (later_x later_y : Half) → Heeded y h → Halted halt wire x h new later_x later_y → Halted halt wire x y new later_x later_y
+halted_heeded halt wire x y h new later_x later_y heeded it =
+    let now = subst (λ (k : Half). Halted halt wire x k new later_x later_y) heeded it in
+    record { by = now.by; talks = now.talks }
+
+-- memory ran out before anything was sent
+pub no_memory : (wire : Wire) (x y : Half) → Holds wire x y → Halted NoMemory wire x y wire x y
+no_memory wire x y holds = record { by = holds.go; talks = λ talk talks. spoken_now talk wire x y holds talks }
