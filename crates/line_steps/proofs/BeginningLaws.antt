@@ -1,5 +1,5 @@
 -- What the frames tell of the messages, where a message begins and where a piece goes again.
-use Rattle.std.proofs.Common.{◌≡◌, ℕ, zero, suc, ◌-◌, ◌<◌, ◌≤◌, true, false, Vec, List, [], ◌∷◌, length, Option, Some, None, refl, sym, ap, subst, ◌∙◌, arith, inl, inr}
+use Rattle.std.proofs.Common.{◌≡◌, ℕ, zero, suc, ◌-◌, ◌<◌, ◌≤◌, true, false, Vec, List, [], ◌∷◌, length, Option, Some, None, refl, sym, ap, subst, ◌∙◌, arith, inl, inr, Bool, ◌&&◌}
 use Rattle.std.specs.declared.alloc.Global.{Global}
 use Rattle.padp_link.specs.declared.piece.Key.{Key}
 use Rattle.padp_link.specs.Pieces.{piece_count}
@@ -30,7 +30,9 @@ use Rattle.line_steps.specs.Ticking.{SendsAgain}
 use Rattle.line_steps.specs.Turning.{Turn}
 use Rattle.line_steps.proofs.SendingLaws.{extends}
 use Rattle.line_steps.proofs.StartingLaws.{begun, again, waits_now}
-use Rattle.line_steps.proofs.TalkedLaws.{cursor_own, cursor_other, talking_as, talking_now}
+use Rattle.line_steps.proofs.StoryLaws.{heard_beside, heard_begins, heard_same}
+use Rattle.line_steps.specs.Stories.{HeardOf}
+use Rattle.line_steps.proofs.TalkedLaws.{x_heard_as, y_heard_as, x_heard_now, y_heard_now, at_own, at_other, cursor_own, cursor_other, talking_as, talking_now}
 use Rattle.line_steps.proofs.TurnLaws.{apart_turned}
 
 -- ---- which message comes next
@@ -103,6 +105,12 @@ starts-told talk wire x y id message given turn different awaited none next talk
   talking : Talking x.end y.end talk (cursor_of x y) (past_now wire.frames.items) (side_of x) (side_of y) false false
   talking = talking_as x.end y.end talk (cursor_of x y) past (side_of x) (side_of y) false false turn.settled.line.core.there.follows turn.settled.line.core.back.follows talks
 
+  x_before : HeardOf x.end (past_now wire.frames.items) x.taken false (side_of x)
+  x_before = x_heard_as talk wire x y false turn.settled.line.core.there.follows talks
+
+  y_before : HeardOf y.end (past_now wire.frames.items) y.taken false (side_of y)
+  y_before = y_heard_as talk wire x y false turn.settled.apart.there turn.settled.line.core.back.follows talks
+
   told : IfAnswers (answered_by x.end (count_messages x.end talk)) talk (came_by (cursor_of x y) (past_now wire.frames.items)) (past_now wire.frames.items)
       → (Waiting (side_of y) → (0 < count_messages y.end talk) × (answer_to y.end (count_messages y.end talk - 1) ≡ Some (count_messages x.end talk)))
       → Talked x.end y.end (say x.end message.items talk) (cursor_of x y) (first_frame x id message given ∷ past_now wire.frames.items) (beginning id message.items) (side_of y)
@@ -115,6 +123,8 @@ starts-told talk wire x y id message given turn different awaited none next talk
         back = line.core.back.follows;
         talking = talking_starts x.end y.end talk (cursor_of x y) past x.taken y.taken wire.released (side_of x) (side_of y) x.receiver y.receiver x.sender.tries y.sender.tries id message.items (course_of given) turn.settled.apart turn.settled.line
             (λ w. omega (arith, w, turn.idle)) different next.id_is answers waits (cursor_own x.end x.taken y.taken) (cursor_other x.end y.end x.taken y.taken turn.settled.apart.there) talking;
+        x_heard = at_own x.end y.end x.taken y.taken (first_frame x id message given ∷ past) true side (heard_begins x.end past x.taken (side_of x) side (course_of given) turn.settled.line.core.there.cur_in (λ same. different (turn.settled.line.core.x_speaks.newest_id _ same)) x_before);
+        y_heard = at_other x.end y.end x.taken y.taken (first_frame x id message given ∷ past) false (side_of y) turn.settled.apart.there (heard_beside y.end (first_frame x id message given) past y.taken false (side_of y) turn.settled.line.core.back.cur_in (ap (λ (b : Bool). b && true) turn.settled.apart.back) y_before);
       }
 
   go : Answers x.end y.end talk y → Talked x.end y.end (say x.end message.items talk) (cursor_of x y) (first_frame x id message given ∷ past_now wire.frames.items) (beginning id message.items) (side_of y)
@@ -156,6 +166,8 @@ one_again-told talk wire x y given holds waits few talks =
       back = core.back.follows;
       talking = talking_tick_one x.end y.end talk (cursor_of x y) past x.taken y.taken wire.released (side_of x) (side_of y) x.receiver y.receiver holds.fx holds.fy x.sender.tries y.sender.tries (course_of given) holds.apart holds.line now few
           (cursor_own x.end x.taken y.taken) (cursor_other x.end y.end x.taken y.taken holds.apart.there) (talking_now talk wire x y holds talks);
+      x_heard = at_own x.end y.end x.taken y.taken (again_frame x given ∷ past) holds.fx (side_of x) (heard_same x.end past x.taken holds.fx (side_of x) (key_now (side_of x)) ((part_now (side_of x)).bytes) (course_of given) holds.line.core.there.cur_in (holds.line.core.x_speaks.newest now) (x_heard_now talk wire x y holds talks));
+      y_heard = at_other x.end y.end x.taken y.taken (again_frame x given ∷ past) holds.fy (side_of y) holds.apart.there (heard_beside y.end (again_frame x given) past y.taken holds.fy (side_of y) holds.line.core.back.cur_in (ap (λ (b : Bool). b && true) holds.apart.back) (y_heard_now talk wire x y holds talks));
     }
 
 pub one_again-talks : (talk : Talk) (wire new : Wire) (r : ℕ) (x y : Half) (given : FateValue) → Holds wire x y → Waits x.sender → SendsAgain (record wire { released = r }) x given new (again x) → Talks talk wire x y → Talks talk new x y
@@ -180,6 +192,8 @@ two_again-told talk wire x y given later holds x_waits y_waits x_few y_few talks
       back = back.there.follows;
       talking = talking_tick_two x.end y.end talk (cursor_of x y) past x.taken y.taken wire.released (side_of x) (side_of y) x.receiver y.receiver holds.fx holds.fy x.sender.tries y.sender.tries (course_of given) (course_of later) holds.apart holds.line x_now y_now x_few y_few
           (cursor_own x.end x.taken y.taken) (cursor_other x.end y.end x.taken y.taken holds.apart.there) (talking_now talk wire x y holds talks);
+      x_heard = at_own x.end y.end x.taken y.taken (again_frame y later ∷ again_frame x given ∷ past) holds.fx (side_of x) (heard_beside x.end (again_frame y later) (again_frame x given ∷ past) x.taken holds.fx (side_of x) (omega (arith, holds.line.core.there.cur_in)) (ap (λ (b : Bool). b && true) holds.apart.there) (heard_same x.end past x.taken holds.fx (side_of x) (key_now (side_of x)) ((part_now (side_of x)).bytes) (course_of given) holds.line.core.there.cur_in (holds.line.core.x_speaks.newest x_now) (x_heard_now talk wire x y holds talks)));
+      y_heard = at_other x.end y.end x.taken y.taken (again_frame y later ∷ again_frame x given ∷ past) holds.fy (side_of y) holds.apart.there (heard_same y.end (again_frame x given ∷ past) y.taken holds.fy (side_of y) (key_now (side_of y)) ((part_now (side_of y)).bytes) (course_of later) (omega (arith, holds.line.core.back.cur_in)) (core.y_speaks.newest y_now) (heard_beside y.end (again_frame x given) past y.taken holds.fy (side_of y) holds.line.core.back.cur_in (ap (λ (b : Bool). b && true) holds.apart.back) (y_heard_now talk wire x y holds talks)));
     }
 
 pub two_again-talks : (talk : Talk) (wire mid new : Wire) (r : ℕ) (x y : Half) (given later : FateValue) → Holds wire x y → Waits x.sender → Waits y.sender → SendsAgain (record wire { released = r }) x given mid (again x) → SendsAgain mid y later new (again y)
@@ -203,7 +217,15 @@ new-talks wire x y x_new y_new none = subst (λ (p : List Sent). Talked x.end y.
   sided : Talked x.end y.end no_talk (cursor_of x y) [] silent silent
   sided =
       let apart : is_end x.end y.end ≡ false = ap (λ (X : End). is_end X y.end) x_new.end_is ∙ ap (λ (Y : End). is_end Handheld Y) y_new.end_is in
-      record { fx = false; fy = false; there = refl; back = refl; talking = talking_at_first x.end y.end (cursor_of x y) (cursor_own x.end x.taken y.taken ∙ x_new.taken_is) (cursor_other x.end y.end x.taken y.taken apart ∙ y_new.taken_is) }
+      record {
+        fx = false;
+        fy = false;
+        there = refl;
+        back = refl;
+        talking = talking_at_first x.end y.end (cursor_of x y) (cursor_own x.end x.taken y.taken ∙ x_new.taken_is) (cursor_other x.end y.end x.taken y.taken apart ∙ y_new.taken_is);
+        x_heard = at_own x.end y.end x.taken y.taken [] false silent (subst (λ (n : ℕ). HeardOf x.end [] n false silent) (sym x_new.taken_is) refl);
+        y_heard = at_other x.end y.end x.taken y.taken [] false silent apart (subst (λ (n : ℕ). HeardOf y.end [] n false silent) (sym y_new.taken_is) refl);
+      }
 
   told : Talked x.end y.end no_talk (cursor_of x y) [] (side_of x) (side_of y)
   told = subst (λ (s : Side). Talked x.end y.end no_talk (cursor_of x y) [] s (side_of y)) x_side (subst (λ (s : Side). Talked x.end y.end no_talk (cursor_of x y) [] silent s) y_side sided)

@@ -161,6 +161,8 @@ halted_ack wire new x y key given halt holds it is more halts =
     let at_head = head x.end wire x.taken holds.go it.next in
     let part = part_now (side_of (advanced y)) in
     record {
+      x_end = refl;
+      y_end = refl;
       by = halts_by wire.frames.items new.frames.items y.end y.sender.id part given halt (cursor_of (moved x) y) data_plain holds.go halts;
       talks = λ talk talks. behind_halt (Spoken x.end y.end talk (cursor_of (moved x) y)) wire.frames.items new.frames.items y.end y.sender.id part given halt data_plain halts
           (spoken_of x.end y.end talk (cursor_of (moved x) y) (past_now wire.frames.items) (side_of x) (side_of y) holds.line.traced.faults (omega (arith, cursor_own x.end (x.taken + 1) y.taken, at_head.inside))
@@ -199,6 +201,8 @@ halted_data wire new x y key taken given halt sender heard after halts =
     let at_head = head x.end wire x.taken holds.go heard.next in
     let ack = ack_frame y.end key (course_of given) in
     record {
+      x_end = refl;
+      y_end = refl;
       by = halts_by wire.frames.items new.frames.items y.end key.id (ack_fragment key) given halt (cursor_of (moved x) y) ack_plain holds.go halts;
       talks = λ talk talks. behind_halt (Spoken x.end y.end talk (cursor_of (moved x) y)) wire.frames.items new.frames.items y.end key.id (ack_fragment key) given halt ack_plain halts (unacked talk wire x y key taken heard talks)
           (spoken_next talk wire x (record y { receiver = heard.before }) ack _ _ holds at_head.inside (faults_push ack past holds.line.traced.faults (λ Z. other_no_repeat Z ack past (ack_is_no_data Z y.end key (course_of given))))
@@ -259,6 +263,8 @@ again_spoken talk wire x y given holds x_blocked y_blocked waits few talks =
 first_sends : (wire new : Wire) (x y : Half) (given : FateValue) (halt : Halt) → Holds wire x y → Blocked x.end (past_now wire.frames.items) x.taken wire.released → Blocked y.end (past_now wire.frames.items) y.taken wire.released → Waits x.sender → x.sender.tries < 10
     → Halts wire.frames.items x.end x.sender.id (part_now (side_of x)) given halt new.frames.items → Halted halt wire x y new x y
 first_sends wire new x y given halt holds x_blocked y_blocked waits few halts = record {
+  x_end = refl;
+  y_end = refl;
   by = halts_by wire.frames.items new.frames.items x.end x.sender.id (part_now (side_of x)) given halt (cursor_of x y) data_plain holds.go halts;
   talks = λ talk talks. behind_halt (Spoken x.end y.end talk (cursor_of x y)) wire.frames.items new.frames.items x.end x.sender.id (part_now (side_of x)) given halt data_plain halts (spoken_now talk wire x y holds talks)
       (again_spoken talk wire x y given holds x_blocked y_blocked waits few talks);
@@ -270,6 +276,8 @@ first_halts wire new r x y given NoMemory holds x_blocked y_blocked waits it = f
 first_halts wire new r x y given (Stopped stop) holds x_blocked y_blocked waits it = first_sends wire new x y given (Stopped stop) holds x_blocked y_blocked waits it.0 it.1
 first_halts wire new r x y given (Down end) holds x_blocked y_blocked waits it =
     subst (λ (w : Wire). Halted (Down end) wire x y w x y) (sym it.2) (subst (λ (X : End). Halted (Down X) wire x y (record wire { released = r }) x y) (sym it.0) (record {
+      x_end = refl;
+      y_end = refl;
       by = (holds.go, first_spent wire x y holds x_blocked y_blocked waits it.1);
       talks = λ talk talks. spoken_now talk wire x y holds talks;
     }))
@@ -279,6 +287,8 @@ second_sends : (wire mid new : Wire) (r : ℕ) (x y : Half) (given later : FateV
 second_sends wire mid new r x y given later halt holds x_blocked y_blocked x_waits y_waits sent few halts =
     let longer = extends (record wire { released = r }) mid x.end x.sender.id (part_now (side_of x)) given holds.go sent.sends tt sent.released in
     record {
+      x_end = refl;
+      y_end = refl;
       by = halts_by mid.frames.items new.frames.items y.end y.sender.id (part_now (side_of y)) later halt (cursor_of x y) data_plain longer.go halts;
       talks = λ talk talks. behind_halt (Spoken x.end y.end talk (cursor_of x y)) mid.frames.items new.frames.items y.end y.sender.id (part_now (side_of y)) later halt data_plain halts
           (subst (λ (p : List Sent). Spoken x.end y.end talk (cursor_of x y) p) (sym longer.past) (again_spoken talk wire x y given holds x_blocked y_blocked x_waits sent.few talks))
@@ -295,6 +305,8 @@ second_now wire mid new r x y given later (Stopped stop) holds x_blocked y_block
 second_now wire mid new r x y given later (Down end) holds x_blocked y_blocked x_waits y_waits sent it =
     let longer = extends (record wire { released = r }) mid x.end x.sender.id (part_now (side_of x)) given holds.go sent.sends tt sent.released in
     subst (λ (w : Wire). Halted (Down end) wire x y w x y) (sym it.2) (subst (λ (X : End). Halted (Down X) wire x y mid x y) (sym it.0) (record {
+      x_end = refl;
+      y_end = refl;
       by = (
         longer.go,
         subst (λ (p : List Sent). IsSpent y.end (cursor_of x y) p) (sym longer.past)
@@ -317,6 +329,8 @@ pub halted_turned : (halt : Halt) (wire : Wire) (x y : Half) (new : Wire) (later
 halted_turned halt wire x y new later_x later_y apart later_apart it =
     let cursor = cursor_turned later_x.end later_y.end later_x.taken later_y.taken later_apart.there in
     record {
+      x_end = it.y_end;
+      y_end = it.x_end;
       by = subst (λ (c : End → ℕ). HaltsBy halt c new.frames.items) cursor it.by;
       talks = λ talk talks. subst (λ (c : End → ℕ). Spoken later_y.end later_x.end talk c (past_now new.frames.items)) cursor
           (spoken_turned later_x.end later_y.end talk (cursor_of later_x later_y) (past_now new.frames.items) (it.talks talk (talks_turned talk wire y x (apart_turned x.end y.end apart) talks)));
@@ -327,19 +341,21 @@ pub halted_there : (halt : Halt) (wire : Wire) (x y : Half) (new : Wire) (later_
 halted_there halt wire x y new later_x later_y x_same y_same it =
     let cursor = same_cursors x y later_x later_y (x_same.end_is, x_same.taken_is) (y_same.end_is, y_same.taken_is) in
     record {
+      x_end = x_same.end_is;
+      y_end = y_same.end_is;
       by = subst (λ (c : End → ℕ). HaltsBy halt c new.frames.items) cursor it.by;
       talks = λ talk talks. subst (λ (c : End → ℕ). Spoken later_x.end later_y.end talk c (past_now new.frames.items)) cursor (subst (λ (X : End). Spoken X later_y.end talk (cursor_of x y) (past_now new.frames.items)) (sym x_same.end_is)
           (subst (λ (Y : End). Spoken x.end Y talk (cursor_of x y) (past_now new.frames.items)) (sym y_same.end_is) (it.talks talk talks)));
     }
 
-pub halted_behind : (halt : Halt) (wire0 : Wire) (x0 y0 : Half) (wire : Wire) (x y : Half) (new : Wire) (later_x later_y : Half) → KeepsTalk wire0 x0 y0 wire x y → Halted halt wire x y new later_x later_y → Halted halt wire0 x0 y0 new later_x later_y
-halted_behind halt wire0 x0 y0 wire x y new later_x later_y keeps it = record { by = it.by; talks = λ talk talks. it.talks talk (keeps talk talks) }
+pub halted_behind : (halt : Halt) (wire0 : Wire) (x0 y0 : Half) (wire : Wire) (x y : Half) (new : Wire) (later_x later_y : Half) → x.end ≡ x0.end → y.end ≡ y0.end → KeepsTalk wire0 x0 y0 wire x y → Halted halt wire x y new later_x later_y → Halted halt wire0 x0 y0 new later_x later_y
+halted_behind halt wire0 x0 y0 wire x y new later_x later_y x_same y_same keeps it = record { x_end = it.x_end ∙ x_same; y_end = it.y_end ∙ y_same; by = it.by; talks = λ talk talks. it.talks talk (keeps talk talks) }
 
 pub halted_heeded : (halt : Halt) (wire : Wire) (x y h : Half) (new : Wire) (later_x later_y : Half) → Heeded y h → Halted halt wire x h new later_x later_y → Halted halt wire x y new later_x later_y
 halted_heeded halt wire x y h new later_x later_y heeded it =
     let now = subst (λ (k : Half). Halted halt wire x k new later_x later_y) heeded it in
-    record { by = now.by; talks = now.talks }
+    record { x_end = now.x_end; y_end = now.y_end; by = now.by; talks = now.talks }
 
 -- memory ran out before anything was sent
 pub no_memory : (wire : Wire) (x y : Half) → Holds wire x y → Halted NoMemory wire x y wire x y
-no_memory wire x y holds = record { by = holds.go; talks = λ talk talks. spoken_now talk wire x y holds talks }
+no_memory wire x y holds = record { x_end = refl; y_end = refl; by = holds.go; talks = λ talk talks. spoken_now talk wire x y holds talks }

@@ -18,6 +18,7 @@ pub mod RecordedLaws
 pub mod RestingLaws
 pub mod SendingLaws
 pub mod StartingLaws
+pub mod StoryLaws
 pub mod TakingLaws
 pub mod TalkedLaws
 pub mod TellingLaws

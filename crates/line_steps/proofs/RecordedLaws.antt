@@ -30,7 +30,8 @@ use Rattle.line_steps.proofs.AddingLaws.{by_one, by_two}
 use Rattle.line_steps.proofs.FrameLaws.{past_at, length-past}
 use Rattle.line_steps.proofs.HoldsLaws.{course_comes, moved}
 use Rattle.line_steps.proofs.MarkingLaws.{length-marked}
-use Rattle.line_steps.proofs.TalkedLaws.{cursor_own, cursor_moves, cursor_turned, talking_now}
+use Rattle.line_steps.proofs.StoryLaws.{heard_past}
+use Rattle.line_steps.proofs.TalkedLaws.{x_heard_now, y_heard_now, at_own, at_other, cursor_own, cursor_moves, cursor_turned, talking_now}
 
 -- ---- a frame is sent
 
@@ -182,6 +183,8 @@ talks_past talk wire x y frame holds here gone talks =
       back = holds.line.core.back.follows;
       talking = talking_passes x.end y.end talk (cursor_of x y) (cursor_of (moved x) y) (past_now wire.frames.items) x.taken (side_of x) (side_of y) holds.fx holds.fy sent holds.apart
           (cursor_own x.end x.taken y.taken) (cursor_moves x.end y.end x.taken y.taken holds.apart.there) (past_at wire.frames.items x.taken frame holds.go here) away (talking_now talk wire x y holds talks);
+      x_heard = at_own x.end y.end (x.taken + 1) y.taken (past_now wire.frames.items) holds.fx (side_of x) (heard_past x.end (past_now wire.frames.items) x.taken sent holds.fx (side_of x) (past_at wire.frames.items x.taken frame holds.go here) away (x_heard_now talk wire x y holds talks));
+      y_heard = at_other x.end y.end (x.taken + 1) y.taken (past_now wire.frames.items) holds.fy (side_of y) holds.apart.there (y_heard_now talk wire x y holds talks);
     }
 
 pub skip_keeps : (wire : Wire) (x0 y0 x y new : Half) (frame : Frame) → Holds wire x y → KeepsAll wire x0 y0 x y → slice_get wire.frames.items x.taken ≡ Some frame → (is_end x.end frame.from && arrives (fate_value frame.fate)) ≡ false → Read y new → KeepsAll wire x0 y0 (moved x) new

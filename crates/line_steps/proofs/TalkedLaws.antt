@@ -11,6 +11,7 @@ use Rattle.line_laws.proofs.TalkLaws.{talking_turned}
 use Rattle.line_steps.specs.declared.half.Half.{Half}
 use Rattle.line_steps.specs.declared.half.Wire.{Wire}
 use Rattle.line_steps.specs.Running.{past_now, side_of, Holds}
+use Rattle.line_steps.specs.Stories.{HeardOf}
 use Rattle.line_steps.specs.Telling.{cursors, cursor_of, Talked, Talks, KeepsTalk}
 
 -- ---- the cursors
@@ -60,6 +61,30 @@ pub talking_now : (talk : Talk) (wire : Wire) (x y : Half) → (holds : Holds wi
 talking_now talk wire x y holds talked =
     talking_as x.end y.end talk (cursor_of x y) (past_now wire.frames.items) (side_of x) (side_of y) holds.fx holds.fy holds.line.core.there.follows holds.line.core.back.follows talked
 
+-- what was taken of each end, by the cursors themselves
+pub x_heard_as : (talk : Talk) (wire : Wire) (x y : Half) (fx : Bool) → Follows (said x.end (past_now wire.frames.items)) (acked y.end (past_now wire.frames.items)) fx → Talks talk wire x y → HeardOf x.end (past_now wire.frames.items) x.taken fx (side_of x)
+x_heard_as talk wire x y fx there talked =
+    subst (λ (n : ℕ). HeardOf x.end (past_now wire.frames.items) n fx (side_of x)) (cursor_own x.end x.taken y.taken)
+    (subst (λ (f : Bool). HeardOf x.end (past_now wire.frames.items) (cursor_of x y x.end) f (side_of x)) (fresh_same (said x.end (past_now wire.frames.items)) (acked y.end (past_now wire.frames.items)) talked.fx fx talked.there there) talked.x_heard)
+
+pub y_heard_as : (talk : Talk) (wire : Wire) (x y : Half) (fy : Bool) → is_end x.end y.end ≡ false → Follows (said y.end (past_now wire.frames.items)) (acked x.end (past_now wire.frames.items)) fy → Talks talk wire x y → HeardOf y.end (past_now wire.frames.items) y.taken fy (side_of y)
+y_heard_as talk wire x y fy apart back talked =
+    subst (λ (n : ℕ). HeardOf y.end (past_now wire.frames.items) n fy (side_of y)) (cursor_other x.end y.end x.taken y.taken apart)
+    (subst (λ (f : Bool). HeardOf y.end (past_now wire.frames.items) (cursor_of x y y.end) f (side_of y)) (fresh_same (said y.end (past_now wire.frames.items)) (acked x.end (past_now wire.frames.items)) talked.fy fy talked.back back) talked.y_heard)
+
+pub x_heard_now : (talk : Talk) (wire : Wire) (x y : Half) → (holds : Holds wire x y) → Talks talk wire x y → HeardOf x.end (past_now wire.frames.items) x.taken holds.fx (side_of x)
+x_heard_now talk wire x y holds talked = x_heard_as talk wire x y holds.fx holds.line.core.there.follows talked
+
+pub y_heard_now : (talk : Talk) (wire : Wire) (x y : Half) → (holds : Holds wire x y) → Talks talk wire x y → HeardOf y.end (past_now wire.frames.items) y.taken holds.fy (side_of y)
+y_heard_now talk wire x y holds talked = y_heard_as talk wire x y holds.fy holds.apart.there holds.line.core.back.follows talked
+
+-- and the other way, for cursors that stand there
+pub at_own : (X Y : End) (own other : ℕ) (past : List Sent) (fx : Bool) (side : Side) → HeardOf X past own fx side → HeardOf X past (cursors X own other X) fx side
+at_own X Y own other past fx side heard = subst (λ (n : ℕ). HeardOf X past n fx side) (sym (cursor_own X own other)) heard
+
+pub at_other : (X Y : End) (own other : ℕ) (past : List Sent) (fy : Bool) (side : Side) → is_end X Y ≡ false → HeardOf Y past other fy side → HeardOf Y past (cursors X own other Y) fy side
+at_other X Y own other past fy side apart heard = subst (λ (n : ℕ). HeardOf Y past n fy side) (sym (cursor_other X Y own other apart)) heard
+
 talked_turned : (X Y : End) (talk : Talk) (cursor : End → ℕ) (past : List Sent) (x y : Side) → Talked X Y talk cursor past x y → Talked Y X talk cursor past y x
 talked_turned X Y talk cursor past x y talked = record {
   fx = talked.fy;
@@ -67,6 +92,8 @@ talked_turned X Y talk cursor past x y talked = record {
   there = talked.back;
   back = talked.there;
   talking = talking_turned X Y talk cursor past x y talked.fx talked.fy talked.talking;
+  x_heard = talked.y_heard;
+  y_heard = talked.x_heard;
 }
 
 pub talks_turned : (talk : Talk) (wire : Wire) (x y : Half) → Apart x.end y.end → Talks talk wire x y → Talks talk wire y x

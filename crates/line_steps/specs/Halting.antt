@@ -75,6 +75,8 @@ Spoke talk wire x y = Spoken x.end y.end talk (cursor_of x y) (past_now wire.fra
 
 -- a run halted on the way from one state to another
 pub record Halted (halt : Halt) (wire : Wire) (x y : Half) (new : Wire) (later_x later_y : Half) : Type 0 where
+  pub x_end : later_x.end ≡ x.end
+  pub y_end : later_y.end ≡ y.end
   pub by : HaltsBy halt (cursor_of later_x later_y) new.frames.items
   pub talks : (talk : Talk) → Talks talk wire x y → Spoke talk new later_x later_y
 

@@ -8,6 +8,7 @@ pub mod Sending
 pub mod Resting
 pub mod Running
 pub mod Settling
+pub mod Stories
 pub mod Taking
 pub mod Telling
 pub mod Ticking

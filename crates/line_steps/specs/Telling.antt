@@ -15,6 +15,7 @@ use Rattle.line_steps.specs.declared.half.Half.{Half}
 use Rattle.line_steps.specs.declared.half.Wire.{Wire}
 use Rattle.line_steps.specs.Adding.{AllBy}
 use Rattle.line_steps.specs.Running.{past_now, side_of}
+use Rattle.line_steps.specs.Stories.{HeardOf}
 
 -- the cursors of this end and of the other one, for each end
 abbrev pub cursors : End → ℕ → ℕ → End → ℕ
@@ -30,13 +31,15 @@ cursor_of x y = cursors x.end x.taken y.taken
 abbrev pub no_talk : Talk
 no_talk = record { handheld = []; desktop = [] }
 
--- what both ends said of the messages of the talk, and what each knows was taken
+-- what both ends said of the messages of the talk, what each knows was taken, and what was
 pub record Talked (X Y : End) (talk : Talk) (cursor : End → ℕ) (past : List Sent) (x y : Side) : Type 0 where
   pub fx : Bool
   pub fy : Bool
   pub there : Follows (said X past) (acked Y past) fx
   pub back : Follows (said Y past) (acked X past) fy
   pub talking : Talking X Y talk cursor past x y fx fy
+  pub x_heard : HeardOf X past (cursor X) fx x
+  pub y_heard : HeardOf Y past (cursor Y) fy y
 
 abbrev pub Talks : Talk → Wire → Half → Half → Type 0
 Talks talk wire x y = Talked x.end y.end talk (cursor_of x y) (past_now wire.frames.items) (side_of x) (side_of y)

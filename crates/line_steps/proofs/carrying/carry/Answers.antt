@@ -27,4 +27,4 @@ returns-then-branch-clause-talks c = λ talk talks. c.in_ok-step.ensures.step.ta
 pub returns-in_err-step-clause-halted : goal.returns-in_err-step-clause-halted
 returns-in_err-step-clause-halted c =
     let p = err_from_is_err_and c.from_residual.result c.from_residual.ensures.1 in
-    rw (p.1, p.2) (halted_behind c.in_err-step.field-0.0 c.args.wire.now c.args.x.now c.args.y.now c.loop.wire c.loop.x c.loop.y c.step.new.wire c.step.new.x c.step.new.y c.loop.invariant.5 c.in_err-step.ensures.halted)
+    rw (p.1, p.2) (halted_behind c.in_err-step.field-0.0 c.args.wire.now c.args.x.now c.args.y.now c.loop.wire c.loop.x c.loop.y c.step.new.wire c.step.new.x c.step.new.y c.loop.invariant.2.end_is c.loop.invariant.3.end_is c.loop.invariant.5 c.in_err-step.ensures.halted)

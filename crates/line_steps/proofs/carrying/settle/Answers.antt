@@ -36,4 +36,4 @@ returns-in_err-step-clause-recorded c = λ was. c.step.ensures.recorded (c.loop-
 pub returns-in_err-step-clause-halted : goal.returns-in_err-step-clause-halted
 returns-in_err-step-clause-halted c =
     let p = err_from_is_err_and c.from_residual.result c.from_residual.ensures.1 in
-    rw (p.1, p.2) (halted_behind c.in_err-step.field-0.0 c.args.wire.now c.args.x.now c.args.y.now c.loop-wire.wire c.loop-wire.x c.loop-wire.y c.step.new.wire c.step.new.x c.step.new.y c.loop-wire.invariant.5 c.in_err-step.ensures.halted)
+    rw (p.1, p.2) (halted_behind c.in_err-step.field-0.0 c.args.wire.now c.args.x.now c.args.y.now c.loop-wire.wire c.loop-wire.x c.loop-wire.y c.step.new.wire c.step.new.x c.step.new.y c.loop-wire.invariant.2.end_is c.loop-wire.invariant.3.end_is c.loop-wire.invariant.5 c.in_err-step.ensures.halted)

@@ -1,4 +1,6 @@
+use Rattle.std.proofs.Common.{ap, ◌∙◌}
 use Rattle.std.proofs.lemmas.Result.{IfOk-weaker}
+use Rattle.line_steps.specs.declared.half.Half.{Half}
 use Rattle.line_steps.specs.Carrying.{StepTo}
 use Rattle.line_steps.proofs.CarryingLaws.{Skipped, skipped-steps, skipped-waits, skipped-talks, skipped-recorded}
 use Rattle.line_steps.proofs.StartingLaws.{waits_now}
@@ -38,4 +40,4 @@ returns-clause-halted c =
     let new = c.deliver.new.wire in
     let keeps = skipped-talks wire x y c.skip_to_head.new.x c.skip_to_head.new.y x2 y2 c.requires.holds.apart c.skip_to_head.ensures.moved c.skip_to_head.ensures.read c.skip_to_head-2.ensures.moved c.skip_to_head-2.ensures.read c.skip_to_head.ensures.keeps.talks c.skip_to_head-2.ensures.keeps.talks in
     err_weaker c.deliver.result (λ halt. Halted halt wire x2 y2 new c.deliver.new.x c.deliver.new.y) (λ halt. Halted halt wire x y new c.deliver.new.x c.deliver.new.y)
-    (λ halt it. halted_behind halt wire x y wire x2 y2 new c.deliver.new.x c.deliver.new.y keeps it) c.deliver.ensures.halted
+    (λ halt it. halted_behind halt wire x y wire x2 y2 new c.deliver.new.x c.deliver.new.y (ap (λ (h : Half). h.end) c.skip_to_head-2.ensures.read ∙ ap (λ (h : Half). h.end) c.skip_to_head.ensures.moved) (ap (λ (h : Half). h.end) c.skip_to_head-2.ensures.moved ∙ ap (λ (h : Half). h.end) c.skip_to_head.ensures.read) keeps it) c.deliver.ensures.halted

@@ -1,4 +1,4 @@
-use Rattle.std.proofs.Common.{subst, List}
+use Rattle.std.proofs.Common.{refl, subst, List}
 use Rattle.std.proofs.lemmas.Option.{slice_get_within}
 use Rattle.std.proofs.lemmas.Result.{IfOk-weaker, on_ok_weaker}
 use Rattle.trace_text.specs.Fates.{fate_value}
@@ -40,4 +40,4 @@ returns-clause-halted c =
     let x = c.args.x.now in
     let y = c.args.y.now in
     err_weaker c.take_marked.result (λ halt. Halted halt mid x y c.take_marked.new.wire c.take_marked.new.x c.take_marked.new.y) (λ halt. Halted halt wire x y c.take_marked.new.wire c.take_marked.new.x c.take_marked.new.y)
-    (λ halt it. halted_behind halt wire x y mid x y c.take_marked.new.wire c.take_marked.new.x c.take_marked.new.y (λ talk talks. talks_marked talk x.taken wire mid x y c.mark.ensures talks) it) c.take_marked.ensures.halted
+    (λ halt it. halted_behind halt wire x y mid x y c.take_marked.new.wire c.take_marked.new.x c.take_marked.new.y refl refl (λ talk talks. talks_marked talk x.taken wire mid x y c.mark.ensures talks) it) c.take_marked.ensures.halted
