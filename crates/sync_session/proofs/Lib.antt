@@ -1,0 +1,4 @@
+pub mod ArchiveLaws
+pub mod IdsLaws
+pub mod MarkLaws
+pub mod QuietLaws

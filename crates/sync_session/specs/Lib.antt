@@ -1,0 +1,16 @@
+pub mod Archives
+pub mod Choosing
+pub mod Fronts
+pub mod Heads
+pub mod Jobs
+pub mod Limits
+pub mod Merges
+pub mod News
+pub mod Quiet
+pub mod Reads
+pub mod Reports
+pub mod Sessions
+pub mod Sizes
+pub mod Skips
+pub mod Tasks
+pub mod Users

@@ -1,0 +1,59 @@
+-- What a handheld gets, and what it loses then: under handle 1, since one database is open at a time.
+use Rattle.std.specs.Prelude.{ℕ, List, [], ◌∷◌, ◌++◌, length, map, take, drop, Option, Some, None}
+use Rattle.pdb_values.specs.Contents.{ContentValue}
+use Rattle.pdb_values.specs.Databases.{DatabaseValue}
+use Rattle.conduit_rules.specs.Plans.{replaced_rows, purged_ids}
+use Rattle.conduit_merge.specs.Writes.{numbered}
+use Rattle.desktop_session.specs.Acts.{Act}
+use Rattle.desktop_session.specs.Requests.{making, closing, putting, removing, cleaning, resetting}
+use Rattle.sync_session.specs.Tasks.{Meeting, Task}
+use Rattle.sync_session.specs.Choosing.{choice, seen_held}
+use Rattle.sync_session.specs.Heads.{made_head}
+use Rattle.sync_session.specs.Reads.{opened}
+
+-- ---- news: replacements in rising ids, then the adds under the ids that they got
+
+abbrev pub replacing : List (ℕ × ContentValue) → List Act
+replacing rows = map (λ (row : ℕ × ContentValue). putting 0 1 row.0 row.1) rows
+
+abbrev pub adding : List (ℕ × ContentValue) → List Act
+adding rows = map (λ (row : ℕ × ContentValue). putting row.0 1 0 row.1) rows
+
+abbrev pub writes : Meeting → Task → List ℕ → List Act
+writes meeting task given =
+    replacing (replaced_rows (choice meeting task).keep (seen_held meeting task)) ++ adding (numbered given (choice meeting task).adds)
+
+-- a database that the handheld lacks is made by the head of the desktop's rows, also where nothing is to be written
+abbrev pub made : Option DatabaseValue → List Act → List Act
+made None acts = []
+made (Some rows) acts = making (made_head rows.head) ∷ (acts ++ closing 1 ∷ [])
+
+-- one that it has is opened where something is to be written
+abbrev pub opened_for : List ℕ → List Act → List Act
+opened_for name [] = []
+opened_for name (act ∷ acts) = opened name (act ∷ acts)
+
+abbrev pub news_by : Option DatabaseValue → Task → List Act → List Act
+news_by None task acts = made task.rows acts
+news_by (Some handheld) task acts = opened_for task.name acts
+
+unfoldable pub news_acts : Meeting → Task → List ℕ → List Act
+news_acts meeting task given = news_by task.handheld task (writes meeting task given)
+
+-- how many ids a database gets
+abbrev pub add_count : Meeting → Task → ℕ
+add_count meeting task = length (choice meeting task).adds
+
+-- the ids are dealt out to the databases in order
+unfoldable pub all_news : Meeting → List Task → List ℕ → List Act
+all_news meeting [] given = []
+all_news meeting (task ∷ later) given =
+    news_acts meeting task (take (add_count meeting task) given) ++ all_news meeting later (drop (add_count meeting task) given)
+
+-- ---- purges: what isn't kept goes one by one, then what has the delete bit, and all counts as unchanged
+
+abbrev pub purges : List ℕ → List Act
+purges ids = map (λ id. removing 1 id) ids ++ (cleaning 1 ∷ resetting 1 ∷ [])
+
+unfoldable pub purge_acts : Meeting → Task → List Act
+purge_acts meeting task = opened task.name (purges (purged_ids (choice meeting task).keep (seen_held meeting task)))

@@ -1,0 +1,35 @@
+//! A session between a handheld and a desktop: what it says, in order, and what both sides hold afterwards, as lists and
+//! functions of what they held before.
+#![tactic(auto)]
+
+mod archive;
+mod building;
+mod counts;
+mod heads;
+mod job;
+mod judge;
+mod laws;
+mod limits;
+mod marking;
+mod names;
+mod report;
+mod sizes;
+mod skip;
+mod users;
+mod wishes;
+
+pub use archive::{merged_archive, settled};
+pub use building::beside;
+pub use counts::read_count;
+pub use heads::{made_head, rows_head};
+pub use job::Job;
+pub use judge::{action_of, skip_of};
+pub use laws::{nothing_is_written_before_the_mark, requests_bear_no_given_id};
+pub use limits::is_over;
+pub use marking::{begin, finish};
+pub use names::put_name;
+pub use report::{Counts, DbReport, Did};
+pub use sizes::Sizes;
+pub use skip::Skip;
+pub use users::{agreed_name, agreed_user, begun_user, done_marks, done_user, marks_agree};
+pub use wishes::Wishes;
