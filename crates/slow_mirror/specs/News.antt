@@ -1,10 +1,12 @@
 -- A plan, carried out on an open database: what both sides keep and the handheld lacks is put, and, once the desktop has committed,
 -- what goes is taken away.
-use Rattle.std.specs.Prelude.{◌≡◌, ◌<◌, ℕ, List, [], ◌∷◌, ◌++◌, map, Option, IfErr, IfOk, IfSome, OnOk, Result}
+use Rattle.std.specs.Prelude.{◌≡◌, ◌<◌, ◌≤◌, ℕ, List, [], ◌∷◌, ◌++◌, length, map, Option, Some, IfErr, IfOk, IfSome, OnOk, Result}
+use Rattle.std.specs.List.{AllByRecursion}
 use Rattle.pdb_values.specs.Contents.{ContentValue}
+use Rattle.pdb_values.specs.declared.record.Record.{Record}
 use Rattle.palm_device.specs.Devices.{Device}
-use Rattle.palm_device.specs.Handles.{base_at}
-use Rattle.palm_device.specs.Records.{IsFree}
+use Rattle.palm_device.specs.Handles.{Base, base_at}
+use Rattle.palm_device.specs.Records.{IsFree, cleaned_up, given_id, put_record, reset_flags, with_records, without_record}
 use Rattle.dlp_replies.specs.ReplyReading.{reply_at}
 use Rattle.dlp_commands.specs.declared.link.LinkFault.{LinkFault}
 use Rattle.dlp_commands.specs.Talks.{Talk}
@@ -29,6 +31,10 @@ as_new contents = map (λ content. (0, content)) contents
 -- the replacements, then the new records
 abbrev pub news_of : Plan → List (ℕ × ContentValue)
 news_of plan = plan.replace.items ++ as_new plan.adds.items
+
+-- ids and contents that records can have
+abbrev pub ArePuttable : List (ℕ × ContentValue) → Type 0
+ArePuttable entries = AllByRecursion (λ (entry : ℕ × ContentValue). (entry.0 ≤ 16777215) × (entry.1.category ≤ 15) × (length entry.1.bytes ≤ 65500)) entries
 
 -- an id for each of them, and 0 for one that has its id
 abbrev pub AreIdsOf : List (ℕ × ContentValue) → List ℕ → Type 0
@@ -62,3 +68,24 @@ pub record PutsAll {L A : Type 0} (talk : L → Option Talk) (since : L → L �
 -- the records that go one by one; then those with the delete bit; then all become clean
 abbrev pub purge_writes : ℕ → List ℕ → List Act
 purge_writes handle ids = map (removing handle) ids ++ cleaning handle ∷ resetting handle ∷ []
+
+-- ---- what becomes of the records
+
+-- the records, once these are put
+abbrev pub after_puts : List ℕ → List (ℕ × ContentValue) → List Record → List Record
+after_puts given [] records = records
+after_puts [] (entry ∷ entries) records = records
+after_puts (id ∷ given) (entry ∷ entries) records = after_puts given entries (put_record (given_id id entry.0) entry.1 records)
+
+-- the records without those of these ids
+abbrev pub removed : List ℕ → List Record → List Record
+removed [] records = records
+removed (id ∷ ids) records = removed ids (without_record id records)
+
+-- the records, once the purges are carried out
+abbrev pub after_purges : List ℕ → List Record → List Record
+after_purges ids records = reset_flags (cleaned_up (removed ids records))
+
+-- the handle leads to the database that it led to, with these records
+abbrev pub IsOpenWith : ℕ → Base → List Record → Device → Type 0
+IsOpenWith handle base records device = base_at device handle ≡ Some (record { opened = base.opened; database = with_records records base.database })

@@ -14,7 +14,9 @@ mod reading;
 mod writing;
 
 pub use entry::entry_of;
-pub use laws::whole_readings_show_the_records;
+pub use laws::{
+    what_is_asked_can_be_said, what_is_sent_is_carried_out, whole_readings_show_the_records,
+};
 pub use order::in_order;
 pub use reading::read_side;
 pub use writing::{purge_side, send_news};

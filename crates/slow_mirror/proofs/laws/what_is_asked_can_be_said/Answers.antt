@@ -1,0 +1,11 @@
+use Rattle.slow_mirror.proofs.SayLaws.{puts_sayable, purges_sayable, slow_sayable}
+use Rattle.slow_mirror.proofs.laws.what_is_asked_can_be_said.Goals as goal
+
+pub returns-clause-reads : goal.returns-clause-reads
+returns-clause-reads c = slow_sayable
+
+pub returns-clause-puts : goal.returns-clause-puts
+returns-clause-puts c = puts_sayable
+
+pub returns-clause-purges : goal.returns-clause-purges
+returns-clause-purges c = purges_sayable
