@@ -98,10 +98,10 @@ ids_next device handle k = ap (ids_listed device handle) (next k)
 -- ---- the last reply is the device's
 
 -- what was listed so far leaves the device as it was
-list_device : (count : ℕ) (talk : Talk) → (said (listings count) talk).device ≡ talk.device
+pub list_device : (count : ℕ) (talk : Talk) → (said (listings count) talk).device ≡ talk.device
 list_device count talk = said_device (listings count) talk ∙ listings_same count talk.device
 
-id_device : (handle parts : ℕ) (talk : Talk) → (said (id_listings handle parts) talk).device ≡ talk.device
+pub id_device : (handle parts : ℕ) (talk : Talk) → (said (id_listings handle parts) talk).device ≡ talk.device
 id_device handle parts talk = said_device (id_listings handle parts) talk ∙ id_listings_same handle parts talk.device
 
 reply_from : (first now : Option Talk) (count : ℕ) (reply : List ℕ) → now ≡ saying (listings count) first

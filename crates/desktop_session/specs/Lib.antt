@@ -6,6 +6,7 @@ pub mod Greetings
 pub mod Lent
 pub mod Lists
 pub mod Opens
+pub mod Orders
 pub mod Puts
 pub mod Replies
 pub mod Requests

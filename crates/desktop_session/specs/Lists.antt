@@ -1,5 +1,5 @@
 -- Lists that come in several replies: the databases of a handheld, and the ids of a database's records.
-use Rattle.std.specs.Prelude.{◌≡◌, ◌≤◌, ◌<◌, ℕ, zero, suc, ◌+◌, ◌-◌, ◌*◌, ◌/◌, ◌⊎◌, Bool, true, false, List, [], ◌∷◌, ◌++◌, map, Option, None, Some, IfOk, IfSome, OnOk, Result, Ok, Err}
+use Rattle.std.specs.Prelude.{◌≡◌, ◌≤◌, ◌<◌, ◌==◌, ℕ, zero, suc, ◌+◌, ◌-◌, ◌*◌, ◌/◌, ◌⊎◌, Bool, true, false, List, [], ◌∷◌, ◌++◌, map, Option, None, Some, IfOk, IfSome, OnOk, Result, Ok, Err}
 use Rattle.pdb_values.specs.Heads.{has_bit}
 use Rattle.pdb_values.specs.declared.head.DbHead.{DbHead}
 use Rattle.palm_device.specs.Devices.{Device}
@@ -15,6 +15,7 @@ use Rattle.desktop_session.specs.declared.fault.SessionFault.TheVariants as sess
 use Rattle.desktop_session.specs.Acts.{Act, acted, text}
 use Rattle.desktop_session.specs.Answers.{ids_of}
 use Rattle.desktop_session.specs.Requests.{listing, listing_ids}
+use Rattle.desktop_session.specs.Sessions.{SessionValue}
 use Rattle.desktop_session.specs.Stops.{Does, Stops}
 
 -- ---- databases, one request for each start from 0 on
@@ -82,6 +83,21 @@ HasCause fault read (session.BadReply broken) = (fault ≡ None) × (read ≡ Er
 HasCause fault read session.NoMemory = Unit {0}
 HasCause fault read (session.OtherUser handheld desktop) = ⊥
 HasCause fault read session.TooManyUsers = ⊥
+
+-- the device's reply to one of so many requests
+pub record HasReplied (most : ℕ) (asks : ℕ → Act) (device : Device) (bytes : List ℕ) : Type 0 where
+  pub place : ℕ
+  pub below : place < most
+  pub is : bytes ≡ (acted (asks place) device).0
+
+-- a refusal is by the device's reply to one of so many requests, where the link tells its device and has no fault
+abbrev pub IsByReplyTo : {L : Type 0} → (L → Option Talk) → (L → Option LinkFault) → ℕ → (ℕ → Act) → SessionValue L → SessionValue L → Type 0
+IsByReplyTo talk fault most asks old new = fault new.link ≡ None → IfSome (talk old.link) (λ talk. HasReplied most asks talk.device new.reply)
+
+-- the refusal of a list of the databases is not by error 5, which says that none is left
+abbrev pub IsNotMissing : SessionFault → Type 0
+IsNotMissing (session.Refused code) = (code.0 == 5) ≡ false
+IsNotMissing other = Unit {0}
 
 -- ---- what a list of the databases did
 

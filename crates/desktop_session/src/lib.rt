@@ -18,6 +18,7 @@ mod lent;
 mod linked;
 mod lists;
 mod open_db;
+mod order;
 mod reading;
 mod replies;
 mod writing;
@@ -32,3 +33,7 @@ pub use laws::{
 pub use lent::{RecordLent, ResourceLent};
 pub use linked::Linked;
 pub use open_db::OpenDb;
+pub use order::{
+    databases_are_made, kept_lists_are_never_refused, kept_order_is_never_refused,
+    possible_requests_are_answered, users_are_marked,
+};

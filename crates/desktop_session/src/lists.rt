@@ -1,9 +1,10 @@
 // Lists that come in several replies.
-ghost use Rattle.std.specs.Prelude.{◌≡◌, ◌++◌, IfErr, IfOk, IfSome, None, OnOk, false, map};
+ghost use Rattle.std.specs.Prelude.{◌≡◌, ◌++◌, ◌*◌, IfErr, IfOk, IfSome, None, OnErr, OnOk, false, map};
 ghost use Rattle.dlp_replies.specs.ReplyReading.{reply_at};
 ghost use Rattle.desktop_session.specs.Acts.{text};
 ghost use Rattle.desktop_session.specs.Answers.{mapped};
-ghost use Rattle.desktop_session.specs.Lists.{HasCause, Lists, has_more, heads_in, id_listings, id_parts, ids_in, ids_listed};
+ghost use Rattle.desktop_session.specs.Lists.{HasCause, IsByReplyTo, IsNotMissing, Lists, has_more, heads_in};
+ghost use Rattle.desktop_session.specs.Lists.{id_listings, id_parts, ids_in, ids_listed};
 ghost use Rattle.desktop_session.specs.Requests.{listing, listing_ids};
 ghost use Rattle.desktop_session.specs.Stops.{Asked, Does, Stops};
 
@@ -26,6 +27,7 @@ impl<L: Link> Linked<L> {
         ensures more { IfOk result (λ more. more ≡ has_more (reply_at 0x16 self.new.reply)) }
         ensures cause { IfErr result (HasCause (L.fault self.new.link) (reply_at 0x16
             self.new.reply)) }
+        ensures others { IfErr result IsNotMissing }
     {
         self.ask(&Request::ReadDbList {
             flags: 0x80,
@@ -71,6 +73,9 @@ impl<L: Link> Linked<L> {
             (mapped (λ heads. heads.items) result) }
         ensures cause { IfErr result (HasCause (L.fault self.new.link) (reply_at 0x16
             self.new.reply)) }
+        ensures others { IfErr result IsNotMissing }
+        ensures replied { OnErr result
+            (IsByReplyTo L.talk L.fault 65536 listing self.old self.new) }
         ensures rest { (self.new.user ≡ self.old.user) × (self.new.abandoned ≡ self.old.abandoned) }
     {
         let mut heads = Vec::new(alloc);
@@ -103,6 +108,8 @@ impl<L: Link> Linked<L> {
             (λ talk. ids.items ≡ ids_listed talk.device handle (id_parts count))) }
         ensures cause { IfErr result (HasCause (L.fault self.new.link) (reply_at 0x31
             self.new.reply)) }
+        ensures replied { OnErr result (IsByReplyTo L.talk L.fault (id_parts count)
+            (λ part. listing_ids handle (8000 * part)) self.old self.new) }
         ensures rest { (self.new.user ≡ self.old.user) × (self.new.abandoned ≡ self.old.abandoned) }
     {
         let mut ids = Vec::new(alloc);
@@ -128,6 +135,9 @@ impl<'s, L: Link> OpenDb<'s, L> {
             (λ talk. ids.items ≡ ids_listed talk.device self.old.handle (id_parts count))) }
         ensures cause { IfErr result (HasCause (L.fault self.new.linked.now.link)
             (reply_at 0x31 self.new.linked.now.reply)) }
+        ensures replied { OnErr result (IsByReplyTo L.talk L.fault (id_parts count)
+            (λ part. listing_ids self.old.handle (8000 * part))
+            self.old.linked.now self.new.linked.now) }
         ensures rest { (self.new.linked.now.user ≡ self.old.linked.now.user)
             × (self.new.linked.now.abandoned ≡ self.old.linked.now.abandoned) }
     {

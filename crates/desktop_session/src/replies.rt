@@ -251,6 +251,7 @@ pub(crate) fn add_heads(bytes: &[u8], heads: &mut Vec<DbHead>) -> Result<bool, S
         (reply_at 0x16 bytes.now)) }
     ensures more { IfOk result (λ more. more ≡ lists.has_more (reply_at 0x16 bytes.now)) }
     ensures cause { IfErr result (lists.HasCause None (reply_at 0x16 bytes.now)) }
+    ensures others { IfErr result lists.IsNotMissing }
 {
     let Some((flags, entries)) = or_none(entries_in(bytes))? else {
         return Ok(false);

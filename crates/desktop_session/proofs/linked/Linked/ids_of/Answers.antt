@@ -1,7 +1,9 @@
 -- A list of ids grows by 8,000.
-use Rattle.std.proofs.Common.{◌≤◌, ◌+◌, ◌*◌, refl, arith}
+use Rattle.std.proofs.Common.{◌≤◌, ◌<◌, ◌+◌, ◌*◌, refl, arith}
+use Rattle.std.proofs.lemmas.Result.{err_from_is_err_and}
 use Rattle.desktop_session.specs.Lists.{id_parts}
 use Rattle.desktop_session.proofs.IdListLaws.{ids_begin, ids_none, ids_on, ids_stop}
+use Rattle.desktop_session.proofs.RepliedLaws.{ids_replied}
 use Rattle.desktop_session.proofs.linked.Linked.ids_of.Goals as goal
 
 pub loop-part-init : goal.loop-part-init
@@ -23,3 +25,11 @@ returns-in_err-ids_from-clause-stops g c =
     (ids_stop g.L.Link.talk g.L.Link.since g.L.Link.fault g.L.Link.downs g.met.L.Link.since_more c.args.handle c.loop-part.part
     (8000 * c.loop-part.part) c.loop-part.ids.items c.args.self.now c.loop-part.self c.ids_from.new.self refl c.loop-part.invariant
     c.in_err-ids_from.ensures.asked)
+
+pub returns-in_err-ids_from-clause-replied : goal.returns-in_err-ids_from-clause-replied
+returns-in_err-ids_from-clause-replied g c =
+    let p = err_from_is_err_and c.from_residual.result c.from_residual.ensures.1 in
+    let within : c.loop-part.part < id_parts c.args.count = omega (arith, c.div_ceil-part-end.ensures, c.loop-part-test.true) in
+    rw p.1
+    (ids_replied g.L.Link.talk g.L.Link.since g.L.Link.fault g.L.Link.downs c.args.handle c.loop-part.part (id_parts c.args.count)
+    c.loop-part.ids.items c.args.self.now c.loop-part.self c.ids_from.new.self c.loop-part.invariant c.in_err-ids_from.ensures.asked within)

@@ -2,6 +2,7 @@
 use Rattle.std.proofs.Common.{rules, ◌≡◌, ◌∙◌, ◌<◌, sym, inl, inr, true, false, arith}
 use Rattle.std.proofs.lemmas.Result.{err_from_is_err_and}
 use Rattle.desktop_session.proofs.ListLaws.{lists_done, lists_failed, lists_none, lists_on}
+use Rattle.desktop_session.proofs.RepliedLaws.{list_replied}
 use Rattle.desktop_session.proofs.linked.Linked.list.Goals as goal
 
 pub start-init : goal.start-init
@@ -39,3 +40,11 @@ returns-then-start-clause-lists g c =
     lists_done g.L.Link.talk g.L.Link.since g.L.Link.fault g.L.Link.downs g.met.L.Link.since_more c.start.start c.start.heads.items
     c.list_from.new.heads.items c.args.self.now c.start.self c.list_from.new.self c.start.invariant c.in_ok-more.ensures.asked
     c.in_ok-more.ensures.none few (inl full) c.in_ok-more.ensures.heads
+
+pub returns-in_err-more-clause-replied : goal.returns-in_err-more-clause-replied
+returns-in_err-more-clause-replied g c =
+    let p = err_from_is_err_and c.from_residual.result c.from_residual.ensures.1 in
+    let few : c.start.start < 65536 = omega arith in
+    rw p.1
+    (list_replied g.L.Link.talk g.L.Link.since g.L.Link.fault g.L.Link.downs c.start.start c.start.heads.items c.args.self.now c.start.self
+    c.list_from.new.self c.start.invariant c.in_err-more.ensures.asked few)
