@@ -1,4 +1,5 @@
 pub mod HandleLaws
 pub mod KeepLaws
+pub mod ReadLaws
 pub mod ServeLaws
 pub mod WriteLaws

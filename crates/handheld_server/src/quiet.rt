@@ -7,7 +7,7 @@ ghost use Rattle.dlp_commands.specs.Commands.{quiet_number, quiet_tried};
 ghost use Rattle.dlp_commands.specs.DatabaseFunctions as databases;
 ghost use Rattle.dlp_commands.specs.DeviceSteps.{outcome};
 ghost use Rattle.dlp_commands.specs.Reached.{read_next_modified_rec, reads, reset_record_index, with_index};
-ghost use Rattle.dlp_commands.specs.Readings.{next_in, read_number};
+ghost use Rattle.dlp_commands.specs.Readings.{next_in, read_in, read_number};
 ghost use Rattle.handheld_server.specs.Next.{next_text, place_in};
 ghost use Rattle.handheld_server.specs.Servers.{store_of};
 
@@ -20,6 +20,9 @@ use hs_folders::Folder;
 use palm_device::{Opened, has_bit};
 use pdb_values::Database;
 use std::alloc::AllocError;
+
+// An index at which no record can stand.
+const NOWHERE: u16 = 65_535;
 
 impl<F: Folder> Server<F> {
     // What such a command does. Want of memory changes nothing.
@@ -41,7 +44,7 @@ impl<F: Folder> Server<F> {
                 let answer = self.close(handle);
                 put_done(out, 0x19, Reply::CloseDb, answer);
             }
-            Quiet::Read { handle, reading } => return self.read(handle, &reading, out),
+            Quiet::Read { handle, reading } => return self.read_placed(handle, &reading, out),
             Quiet::Next { handle } => self.next(handle, out),
             Quiet::ResetIndex { handle } => {
                 let answer = self.reset_index(handle);
@@ -150,6 +153,52 @@ impl<F: Folder> Server<F> {
                 put_refusal(out, reading.number(), Refusal::NoneOpen);
                 Ok(())
             }
+        }
+    }
+
+    // The same, without a walk to a record that is read by its id.
+    #[tactic(auto, using(crate::proofs::ReadLaws::reads_same))]
+    fn read_placed(
+        &mut self,
+        handle: u8,
+        reading: &Reading,
+        out: &mut Message,
+    ) -> Result<(), AllocError>
+        requires { self.old.sound ≡ true }
+        ensures done { OnOk result (outcome self.old.device (read_number reading.now)
+            (reads self.old.device handle reading.now) ≡ (out.new, self.old.device)) }
+        ensures stays { self.new ≡ self.old }
+    {
+        let placed = self.placed(handle, reading);
+        self.read(handle, &placed, out)
+    }
+
+    // The same reading, of a record at its place where it is one by its id.
+    #[tactic(auto, using(crate::proofs::ReadLaws::placed_some, crate::proofs::ReadLaws::placed_none))]
+    fn placed(&mut self, handle: u8, reading: &Reading) -> Reading
+        requires { self.old.sound ≡ true }
+        ensures number { read_number result ≡ read_number reading.now }
+        ensures same { IfSome (base_at self.old.device handle)
+            (λ base. read_in result base.database ≡ read_in reading.now base.database) }
+        ensures stays { self.new ≡ self.old }
+    {
+        let Reading::RecordOfId { id, offset, count } = *reading else {
+            return *reading;
+        };
+        let Some(opened) = self.handles.opened_at(handle) else {
+            return *reading;
+        };
+        match self.store.place_of(&opened.name, id) {
+            Some(place) => Reading::RecordAt {
+                index: place as u16,
+                offset,
+                count,
+            },
+            None => Reading::RecordAt {
+                index: NOWHERE,
+                offset,
+                count,
+            },
         }
     }
 

@@ -1,4 +1,5 @@
 pub mod IdLaws
+pub mod IndexLaws
 pub mod KeptLaws
 pub mod ListLaws
 pub mod SettledLaws

@@ -1,5 +1,6 @@
 pub mod Files
 pub mod Ids
+pub mod Indexes
 pub mod Lents
 pub mod Loans
 pub mod Refusals

@@ -14,6 +14,7 @@
 mod copies;
 mod fault;
 mod files;
+mod index;
 mod lent;
 mod loan;
 mod named;

@@ -1,5 +1,5 @@
 // The store over a handheld's folder.
-ghost use Rattle.std.specs.Prelude.{◌≡◌, ◌<◌, ◌≤◌, IfErr, IfOk, IfSome, IsErrOf, None, Ok, OnErr, OnOk, OnSome, Some, is_err, is_ok, length, not, slice_get, true, false};
+ghost use Rattle.std.specs.Prelude.{◌≡◌, ◌<◌, ◌≤◌, IfErr, IfOk, IfSome, IsErrOf, None, Ok, OnErr, OnOk, OnSome, Some, is_err, is_ok, length, not, option_and_then, slice_get, true, false};
 ghost use Rattle.std.specs.FinMap as finmap;
 ghost use Rattle.std.specs.Option.{option_copied, option_map};
 ghost use Rattle.hs_folders.specs.Causes.{HasCause};
@@ -7,6 +7,7 @@ ghost use Rattle.hs_folders.specs.Moments.{OneChange};
 ghost use Rattle.pdb_values.specs.NamedDatabases as named;
 ghost use Rattle.pdb_values.specs.NamedDatabases.{replaced, with_new, without_named};
 ghost use Rattle.palm_device.specs.Blocks.{empty_database};
+ghost use Rattle.palm_device.specs.Records.{place_of_id};
 ghost use Rattle.folder_files.specs.FileNames as file_names;
 ghost use Rattle.folder_files.specs.InfoFiles.{device_text};
 ghost use Rattle.handheld_files.specs.Openings.{AreKept, HoldsAll, Shows, Stands};
@@ -16,6 +17,7 @@ ghost use Rattle.handheld_store.specs.Refusals.{create_fault, delete_fault, refu
 
 use crate::fault::StoreFault;
 use crate::files::write_user;
+use crate::index::{Index, forget, has_ids_of, place_in};
 use crate::named::{add_database, may_create, put_database, take_database};
 use handheld_files::{Handheld, OpenFault, read_folder};
 use hs_folders::Folder;
@@ -32,12 +34,14 @@ pub struct Store<F: Folder> {
     pub(crate) alloc: Global,
     folder: F,
     pub(crate) databases: Vec<Database>,
+    indexes: Vec<Index>,
     user: UserInfo,
     sound: bool,
 }
 
 impl<F: Folder> Model for Store<F> {
     ghost use Rattle.handheld_files.specs.Openings.{AreKept};
+    ghost use Rattle.handheld_store.specs.Indexes.{AreIndexes};
     ghost use Rattle.handheld_store.specs.Stores.{StoreValue};
 
     ghost Value = { StoreValue F };
@@ -49,7 +53,8 @@ impl<F: Folder> Model for Store<F> {
       sound = store.sound;
     } };
 
-    ghost invariant = { λ store. AreKept store.databases.items };
+    ghost invariant = { λ store. AreKept store.databases.items
+        × AreIndexes store.databases.items store.indexes.items };
 }
 
 impl<F: Folder> Store<F> {
@@ -83,6 +88,7 @@ impl<F: Folder> Store<F> {
                 alloc,
                 folder,
                 databases,
+                indexes: Vec::new(alloc),
                 user,
                 sound: true,
             }),
@@ -120,6 +126,21 @@ impl<F: Folder> Store<F> {
         database_of(&self.databases, name.as_bytes())
     }
 
+    /// Where the record of an id stands in the database of a name. It is found without a walk where
+    /// memory serves for an index.
+    pub fn place_of(&mut self, name: &DbName, id: u32) -> Option<usize>
+        requires { self.old.sound ≡ true }
+        ensures place { result ≡ option_and_then
+            (λ database. place_of_id id database.records)
+            (named.database_of name.now self.old.databases) }
+        ensures within { IfSome result (λ place. place < 65535) }
+        ensures few { IfSome (named.database_of name.now self.old.databases)
+            (λ database. length database.records ≤ 65535) }
+        ensures stays { self.new ≡ self.old }
+    {
+        place_in(self.alloc, &mut self.indexes, &self.databases, name, id)
+    }
+
     /// What the handheld knows of its user.
     pub fn user(&self) -> &UserInfo
         requires { self.now.sound ≡ true }
@@ -149,6 +170,7 @@ impl<F: Folder> Store<F> {
             alloc: _,
             folder,
             databases: _,
+            indexes: _,
             user: _,
             sound: _,
         } = self;
@@ -204,6 +226,7 @@ impl<F: Folder> Store<F> {
             Ok(()) => {}
             Err(fault) => return Err(fault),
         }
+        forget(&mut self.indexes, head.name.as_bytes());
         match add_database(self.alloc, &mut self.folder, &mut self.databases, head) {
             Ok(()) => Ok(()),
             Err(fault) => Err(self.fails(fault)),
@@ -231,6 +254,7 @@ impl<F: Folder> Store<F> {
         if database_of(&self.databases, name.as_bytes()).is_none() {
             return Err(StoreFault::NotFound);
         }
+        forget(&mut self.indexes, name.as_bytes());
         match take_database(self.alloc, &mut self.folder, &mut self.databases, name) {
             Ok(()) => Ok(()),
             Err(fault) => Err(self.fails(fault)),
@@ -268,6 +292,9 @@ impl<F: Folder> Store<F> {
         ensures stops { stops result ≡ is_err result }
         ensures sound { self.new.sound ≡ is_ok result }
     {
+        if !has_ids_of(&self.databases, &database) {
+            forget(&mut self.indexes, database.head().name.as_bytes());
+        }
         match put_database(self.alloc, &mut self.folder, &mut self.databases, database) {
             Ok(()) => Ok(()),
             Err(fault) => Err(self.fails(fault)),
