@@ -114,7 +114,7 @@ match-taken X Y cursor later ack past cx frame more is_cx is_later inside here c
 
 -- ---- the data that came by the cursors
 
-leaves : (X : End) (cursor : End → ℕ) (frame : Sent) (n : ℕ) → frame.from ≡ X → cursor X < n → (comes frame.course && leb n (cursor frame.from)) ≡ false
+pub leaves : (X : End) (cursor : End → ℕ) (frame : Sent) (n : ℕ) → frame.from ≡ X → cursor X < n → (comes frame.course && leb n (cursor frame.from)) ≡ false
 leaves X cursor frame n mine above = go (comes frame.course) (leb n (cursor frame.from)) (λ is. omega (arith, leb-true n (cursor frame.from) is, ap cursor mine, above))
   where
     go : (a b : Bool) → (b ≡ true → ⊥) → (a && b) ≡ false
@@ -122,7 +122,7 @@ leaves X cursor frame n mine above = go (comes frame.course) (leb n (cursor fram
     go true false none = refl
     go true true none = absurd (none refl)
 
-stays_in : (X : End) (cursor : End → ℕ) (frame : Sent) (n : ℕ) → frame.from ≡ X → n ≤ cursor X
+pub stays_in : (X : End) (cursor : End → ℕ) (frame : Sent) (n : ℕ) → frame.from ≡ X → n ≤ cursor X
     → (comes frame.course && leb n (cursor frame.from)) ≡ comes frame.course
 stays_in X cursor frame n mine within = rw (le-leb n (cursor frame.from) (omega (arith, ap cursor mine, within))) (and_true (comes frame.course))
   where

@@ -24,7 +24,7 @@ drop-range f g start (suc count) (suc k) less =
     let same : start + 1 + k ≡ start + suc k = omega arith in
     rw next (drop-range f g (start + 1) count k (omega arith) ∙ ap (λ (n : ℕ). f (g n) ∷ drop (k + 1) (map f (map g (range_with_len (start + 1) count)))) same)
 
-parts-from : (id : ℕ) (message : List ℕ) (k : ℕ) → k < piece_count (length message)
+pub parts-from : (id : ℕ) (message : List ℕ) (k : ℕ) → k < piece_count (length message)
     → drop k (message_parts id message) ≡ part_at id message k ∷ drop (k + 1) (message_parts id message)
 parts-from id message k less =
     let same : 0 + k ≡ k = omega arith in

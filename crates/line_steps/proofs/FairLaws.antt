@@ -1,21 +1,19 @@
 -- Over a fair script no line goes down.
-use Rattle.std.proofs.Common.{◌≡◌, ℕ, zero, suc, ◌+◌, ◌-◌, ◌<◌, ◌≤◌, Bool, true, false, ◌||◌, List, [], ◌∷◌, ◌++◌, length, map, take, drop, refl, sym, ap, subst, ◌∙◌, arith, inl, inr}
+use Rattle.std.proofs.Common.{◌≡◌, ℕ, suc, ◌+◌, ◌-◌, ◌≤◌, Bool, true, false, List, [], ◌∷◌, ◌++◌, length, map, take, drop, refl, sym, ap, subst, ◌∙◌, arith, inl, inr}
 use Rattle.std.specs.Prelude.{if◌then◌else◌}
-use Rattle.std.proofs.lemmas.Bool.{cases_lt, cond-false}
+use Rattle.std.proofs.lemmas.Bool.{cases_lt}
 use Rattle.std.proofs.lemmas.List.{take-append-drop, length-take, length-drop}
 use Rattle.line_script.specs.Rules.{RuleValue}
 use Rattle.line_script.specs.Scripts.{fate_by}
-use Rattle.trace_text.specs.declared.frame.End.{End}
 use Rattle.trace_text.specs.declared.frame.Frame.{Frame}
-use Rattle.trace_text.specs.Fates.{FateValue, Untouched, Lost, Late, Cut, Hit, Noise, Unplug, Abort, fate_value, is_fault, is_stop, holds_packet, strange_bytes, ends_run}
+use Rattle.trace_text.specs.Fates.{FateValue, Untouched, Lost, Late, Cut, Hit, Noise, Unplug, Abort, fate_value, is_fault, ends_run}
 use Rattle.trace_text.specs.Faults.{faulted, is_faulty, count}
 use Rattle.trace_text.specs.Frames.{course_of, past_behind, add_frame}
 use Rattle.trace_text.specs.Past.{Sent, at}
-use Rattle.trace_text.specs.Tallies.{faults_from, IsFairUpTo}
+use Rattle.trace_text.specs.Tallies.{faults_from}
 use Rattle.trace_text.specs.TraceLines.{frame_value}
 use Rattle.line_laws.proofs.PastLaws.{at_all, at_push}
 use Rattle.line_steps.specs.Adding.{AllBy}
-use Rattle.line_steps.specs.Halting.{TenFaults, IsSpent}
 use Rattle.line_steps.specs.Promising.{FairIsNeverDown}
 use Rattle.line_steps.specs.Running.{sent_of, past_now, AllGo}
 use Rattle.line_steps.proofs.FrameLaws.{added, length-past}

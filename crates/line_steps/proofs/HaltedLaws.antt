@@ -1,5 +1,8 @@
 -- A run halts where a frame was to be sent: what its frames are then, and what they tell.
-use Rattle.std.proofs.Common.{◌≡◌, ℕ, ◌+◌, ◌<◌, ◌≤◌, false, Vec, List, ◌∷◌, [], length, map, Some, refl, sym, ap, subst, ◌∙◌, arith, inl, inr}
+use Rattle.padp_link.specs.declared.receiver.Taken.TheVariants.{Accepted, Whole, Repeated, Dropped}
+use Rattle.line_steps.specs.Stories.{HeardOf, TookMessages}
+use Rattle.line_steps.proofs.StoryLaws.{heard_again, heard_new, took_of, took_more, took_beside}
+use Rattle.std.proofs.Common.{◌≡◌, ℕ, ◌+◌, ◌<◌, ◌≤◌, false, Vec, List, ◌∷◌, [], length, map, Some, refl, sym, ap, subst, ◌∙◌, arith, inl, inr, Bool, true}
 use Rattle.std.specs.declared.alloc.Global.{Global}
 use Rattle.std.proofs.lemmas.Bool.{cases_lt, cond-true, cond-false, and_from}
 use Rattle.std.proofs.lemmas.List.{map-append}
@@ -24,7 +27,7 @@ use Rattle.line_laws.specs.Talking.{say}
 use Rattle.line_laws.proofs.RunningLaws.{running_next_piece, running_starts, running_tick_one, running_tick_two}
 use Rattle.line_laws.proofs.SpeechLaws.{speech-moves}
 use Rattle.line_laws.proofs.StoppedLaws.{speaks-more, speaks-beside, speaks-unacked}
-use Rattle.line_laws.proofs.TakeLaws.{beginning}
+use Rattle.line_laws.proofs.TakeLaws.{beginning, Accepting}
 use Rattle.line_laws.proofs.TalkLaws.{moves-more, speaks_properly}
 use Rattle.line_laws.proofs.TimeLaws.{ack_is_no_data}
 use Rattle.line_laws.proofs.TraceLaws.{other_no_repeat, faults_push}
@@ -43,14 +46,14 @@ use Rattle.line_steps.specs.Telling.{cursor_of, Talked, Talks, KeepsTalk, IsNext
 use Rattle.line_steps.specs.Ticking.{SendsAgain}
 use Rattle.line_steps.specs.Turning.{Turn}
 use Rattle.line_steps.proofs.BeginningLaws.{first_frame, again_frame, starts-told, one_again-told, two_again-told}
-use Rattle.line_steps.proofs.DataLaws.{NewSender}
+use Rattle.line_steps.proofs.DataLaws.{NewSender, after_heard, copy_is, never_dropped}
 use Rattle.line_steps.proofs.FrameLaws.{behind_push}
 use Rattle.line_steps.proofs.HaltingLaws.{first_spent, second_spent}
 use Rattle.line_steps.proofs.HoldsLaws.{moved}
 use Rattle.line_steps.proofs.SendingLaws.{sends_in, placed, extends}
 use Rattle.line_steps.proofs.StartingLaws.{again, waits_now}
 use Rattle.line_steps.proofs.TakingLaws.{head, waits_with, advanced}
-use Rattle.line_steps.proofs.TalkedLaws.{cursor_own, cursor_other, cursor_moves, cursor_turned, talks_turned}
+use Rattle.line_steps.proofs.TalkedLaws.{cursor_own, cursor_other, cursor_moves, cursor_turned, talks_turned, x_heard_as, y_heard_as, x_heard_now, y_heard_now}
 use Rattle.line_steps.proofs.RecordedLaws.{same_cursors}
 use Rattle.line_steps.proofs.TellingLaws.{next_frame, ack_other-talks, ack_more-told, took_data-told}
 use Rattle.line_steps.proofs.TurnLaws.{apart_turned}
@@ -131,6 +134,8 @@ spoken_of X Y talk cursor past x y faults x_in y_in talked = record {
   y_speaks = speaks_properly Y X talk cursor past y y_in talked.talking.y_speech;
   x_in = x_in;
   y_in = y_in;
+  x_took = took_of X Y talk cursor past (cursor X) talked.fx x talked.talking.x_speech talked.x_heard;
+  y_took = took_of Y X talk cursor past (cursor Y) talked.fy y talked.talking.y_speech talked.y_heard;
 }
 
 pub spoken_now : (talk : Talk) (wire : Wire) (x y : Half) → Holds wire x y → Talks talk wire x y → Spoke talk wire x y
@@ -172,6 +177,33 @@ halted_ack wire new x y key given halt holds it is more halts =
 
 -- ---- data was to be acknowledged
 
+-- what was taken of x then
+unacked_heard : (talk : Talk) (wire : Wire) (x y : Half) (key : Key) (taken : Taken) → DataHeard wire x y key taken → Talks talk wire x y → (fx : Bool) × HeardOf x.end (past_now wire.frames.items) (x.taken + 1) fx (side_of x)
+unacked_heard talk wire x y key taken heard talks = go taken heard where
+  new : (answer : Taken) (whole : Bool) → (it : DataHeard wire x y key answer) → it.holds.fx ≡ true
+      → Accepting x.end y.end (past_now wire.frames.items) y.taken (x.taken + 1) (side_of x) (side_of y) x.receiver it.before (sent_of it.next.frame).key (sent_of it.next.frame).bytes answer whole
+      → (fx : Bool) × HeardOf x.end (past_now wire.frames.items) (x.taken + 1) fx (side_of x)
+  new answer whole it fresh accepting =
+      let at_head = head x.end wire x.taken it.holds.go it.next in (
+        false,
+        heard_new x.end y.end (past_now wire.frames.items) x.taken y.taken (side_of x) (side_of y) x.receiver it.before it.holds.fx it.holds.fy (sent_of it.next.frame) it.holds.line.core it.holds.line.traced.x_acks at_head.inside at_head.here it.is it.next.comes_here fresh accepting.key_is accepting.waits
+            (x_heard_now talk wire x (record y { receiver = it.before }) it.holds talks),
+      )
+
+  go : (answer : Taken) → DataHeard wire x y key answer → (fx : Bool) × HeardOf x.end (past_now wire.frames.items) (x.taken + 1) fx (side_of x)
+  go Repeated it =
+      let at_head = head x.end wire x.taken it.holds.go it.next in
+      let sent = sent_of it.next.frame in
+      let last : it.before.last ≡ Some (sent_of it.next.frame).key = it.answers ∙ ap (λ (k : Key). Some k) (sym it.key_is) in
+      let copy = copy_is x.end y.end (past_now wire.frames.items) x.taken y.taken (side_of x) (side_of y) x.receiver it.before it.holds.fx it.holds.fy (x.taken + 1) sent (at x.taken (past_now wire.frames.items)) it.holds.line.core (omega arith) (omega (arith, at_head.inside)) at_head.here it.is last in (
+        it.holds.fx,
+        heard_again x.end y.end (past_now wire.frames.items) x.taken sent it.holds.fx (side_of x) it.holds.line.traced.x_acks at_head.here (and_from (is_data_of x.end sent) (comes sent.course) it.is it.next.comes_here) copy.key
+            (x_heard_now talk wire x (record y { receiver = it.before }) it.holds talks),
+      )
+  go Accepted it = new Accepted false it ((after_heard wire x y key Accepted it).0) ((after_heard wire x y key Accepted it).1)
+  go Whole it = new Whole true it ((after_heard wire x y key Whole it).0) ((after_heard wire x y key Whole it).1)
+  go Dropped it = absurd (never_dropped wire x y key Dropped it refl)
+
 unacked : (talk : Talk) (wire : Wire) (x y : Half) (key : Key) (taken : Taken) → DataHeard wire x y key taken → Talks talk wire x y → Spoken x.end y.end talk (cursor_of (moved x) y) (past_now wire.frames.items)
 unacked talk wire x y key taken heard talks =
     let holds = heard.holds in
@@ -191,6 +223,10 @@ unacked talk wire x y key taken heard talks =
           (speech-moves y.end x.end talk cursor later past (side_of y) more (ap (λ (k : ℕ). data_taken y.end (at k past)) same) talks.talking.y_speech);
       x_in = omega (arith, cursor_own x.end (x.taken + 1) y.taken, at_head.inside);
       y_in = omega (arith, cursor_other x.end y.end (x.taken + 1) y.taken holds.apart.there, holds.line.core.back.cur_in);
+      x_took = subst (λ (n : ℕ). TookMessages x.end talk past n) (sym (cursor_own x.end (x.taken + 1) y.taken))
+          (let took = unacked_heard talk wire x y key taken heard talks in took_of x.end y.end talk cursor past (x.taken + 1) took.0 (side_of x) talks.talking.x_speech took.1);
+      y_took = subst (λ (n : ℕ). TookMessages y.end talk past n) (sym (cursor_other x.end y.end (x.taken + 1) y.taken holds.apart.there))
+          (took_of y.end x.end talk cursor past y.taken holds.fy (side_of y) talks.talking.y_speech (y_heard_now talk wire x (record y { receiver = heard.before }) holds talks));
     }
 
 pub halted_data : (wire new : Wire) (x y : Half) (key : Key) (taken : Taken) (given : FateValue) (halt : Halt) (sender : _) → DataHeard wire x y key taken → NewSender taken y.sender sender → Halts wire.frames.items y.end key.id (ack_fragment key) given halt new.frames.items
@@ -225,6 +261,10 @@ more_spoken talk wire x y message turn talks =
           (speaks_properly y.end x.end talk cursor past (side_of y) (omega (arith, cursor_other x.end y.end x.taken y.taken turn.settled.apart.there, line.core.back.cur_in)) y_speech);
       x_in = omega (arith, cursor_own x.end x.taken y.taken, line.core.there.cur_in);
       y_in = omega (arith, cursor_other x.end y.end x.taken y.taken turn.settled.apart.there, line.core.back.cur_in);
+      x_took = subst (λ (n : ℕ). TookMessages x.end (say x.end message talk) past n) (sym (cursor_own x.end x.taken y.taken))
+          (took_more x.end y.end talk cursor past x.taken (side_of x) message x_speech (omega (arith, turn.idle)) (x_heard_as talk wire x y false line.core.there.follows talks));
+      y_took = subst (λ (n : ℕ). TookMessages y.end (say x.end message talk) past n) (sym (cursor_other x.end y.end x.taken y.taken turn.settled.apart.there))
+          (took_beside y.end x.end talk past y.taken message turn.settled.apart.back (took_of y.end x.end talk cursor past y.taken false (side_of y) y_speech (y_heard_as talk wire x y false turn.settled.apart.there line.core.back.follows talks)));
     }
 
 pub start_speaks : (talk : Talk) (wire new : Wire) (x y : Half) (id : ℕ) (message : Vec ℕ Global) (given : FateValue) (halt : Halt) → Turn wire x y → (id ≡ x.sender.id → ⊥) → y.receiver.awaited ≡ Some id → y.receiver.pieces ≡ []
@@ -323,7 +363,7 @@ second_halts wire mid new r x y x_later given later halt holds x_blocked y_block
 -- ---- the same from elsewhere
 
 spoken_turned : (X Y : End) (talk : Talk) (cursor : End → ℕ) (past : List Sent) → Spoken X Y talk cursor past → Spoken Y X talk cursor past
-spoken_turned X Y talk cursor past it = record { faults = it.faults; x_speaks = it.y_speaks; y_speaks = it.x_speaks; x_in = it.y_in; y_in = it.x_in }
+spoken_turned X Y talk cursor past it = record { faults = it.faults; x_speaks = it.y_speaks; y_speaks = it.x_speaks; x_in = it.y_in; y_in = it.x_in; x_took = it.y_took; y_took = it.x_took }
 
 pub halted_turned : (halt : Halt) (wire : Wire) (x y : Half) (new : Wire) (later_x later_y : Half) → Apart x.end y.end → Apart later_x.end later_y.end → Halted halt wire x y new later_x later_y → Halted halt wire y x new later_y later_x
 halted_turned halt wire x y new later_x later_y apart later_apart it =

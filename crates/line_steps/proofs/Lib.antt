@@ -22,6 +22,8 @@ pub mod StoryLaws
 pub mod TakingLaws
 pub mod TalkedLaws
 pub mod TellingLaws
+pub mod TellsLaws
+pub mod TookLaws
 pub mod TurnLaws
 pub mod UnderwayLaws
 pub mod WorkLaws

@@ -72,7 +72,7 @@ bear_go : (number : ℕ) (frames : List Frame) → AllGo number frames → AllBy
 bear_go number [] go = tt
 bear_go number (frame ∷ later) go = (go.0.bears, bear_go (number + 1) later go.1)
 
-whole_go : (number : ℕ) (frames : List Frame) → AllGo number frames → AllByRecursion IsNoAbort (map frame_value frames)
+pub whole_go : (number : ℕ) (frames : List Frame) → AllGo number frames → AllByRecursion IsNoAbort (map frame_value frames)
 whole_go number [] go = tt
 whole_go number (frame ∷ later) go = (not_abort number (frame_value frame) go.0, whole_go (number + 1) later go.1)
 
@@ -91,7 +91,7 @@ came_before : (number : ℕ) (cursor : End → ℕ) (before : List FrameValue) (
 came_before number cursor [] last came = tt
 came_before number cursor (frame ∷ later) last came = (came.0, came_before (number + 1) cursor later last came.1)
 
-last_by : (cursor : End → ℕ) (before : List FrameValue) (last : FrameValue) (aborts : Bool) → is_abort (fragment_in last).kind ≡ aborts → AllByRecursion IsNoAbort before → CameByCursor 1 cursor (before ++ last ∷ []) → length (past_of before) ≡ length before
+pub last_by : (cursor : End → ℕ) (before : List FrameValue) (last : FrameValue) (aborts : Bool) → is_abort (fragment_in last).kind ≡ aborts → AllByRecursion IsNoAbort before → CameByCursor 1 cursor (before ++ last ∷ []) → length (past_of before) ≡ length before
     → IsByCursor cursor (came_in (before ++ last ∷ [])) (past_of (before ++ last ∷ []))
 last_by cursor before last false is whole came same = came_in-is cursor (before ++ last ∷ []) (all-push IsNoAbort before last whole is) came
 last_by cursor before last true is whole came same =

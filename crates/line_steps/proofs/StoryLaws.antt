@@ -1,7 +1,7 @@
 -- What an end took of the other one's messages, over each kind of step.
-use Rattle.std.proofs.Common.{◌≡◌, ◌⊎◌, ℕ, ◌+◌, ◌-◌, ◌<◌, ◌≤◌, Bool, true, false, ◌&&◌, List, [], ◌∷◌, ◌++◌, length, map, reverse, Some, refl, sym, ap, subst, ◌∙◌, arith, inl, inr}
+use Rattle.std.proofs.Common.{◌≡◌, ℕ, ◌+◌, ◌-◌, ◌<◌, ◌≤◌, Bool, true, false, List, [], ◌∷◌, ◌++◌, length, reverse, Some, refl, sym, ap, subst, ◌∙◌, arith, inl, inr}
 use Rattle.std.proofs.lemmas.Bool.{cases_lt, cond-false, and_from}
-use Rattle.std.proofs.lemmas.List.{append_assoc, reverse-append, length-map, append-nil}
+use Rattle.std.proofs.lemmas.List.{append_assoc, reverse-append, length-map}
 use Rattle.padp_link.specs.declared.piece.Key.{Key}
 use Rattle.padp_link.specs.Neighbours.{session_id}
 use Rattle.padp_link.specs.Receivers.{ReceiverValue}

@@ -22,6 +22,7 @@ use Rattle.line_steps.specs.declared.sending.Halt.{Halt}
 use Rattle.line_steps.specs.declared.sending.Halt.TheVariants.{NoMemory, Stopped, Down}
 use Rattle.line_steps.specs.Running.{AllGo, past_now, side_of}
 use Rattle.line_steps.specs.Sending.{StopsBy, Halts}
+use Rattle.line_steps.specs.Stories.{TookMessages}
 use Rattle.line_steps.specs.Telling.{cursor_of, Talks}
 
 -- ten faults stand among the last 54 frames
@@ -62,13 +63,15 @@ HaltsBy NoMemory cursor frames = AllGo 1 frames
 HaltsBy (Stopped stop) cursor frames = EndsWith stop frames
 HaltsBy (Down end) cursor frames = AllGo 1 frames × IsSpent end cursor (past_now frames)
 
--- both ends said their messages by the rules of a proper trace, and the cursors stand within it
+-- both ends said and took their messages by the rules of a proper trace, and the cursors stand within it
 pub record Spoken (X Y : End) (talk : Talk) (cursor : End → ℕ) (past : List Sent) : Type 0 where
   pub faults : RepeatsHaveFaults past
   pub x_speaks : SpeaksProperly X Y talk (came_by cursor past) past
   pub y_speaks : SpeaksProperly Y X talk (came_by cursor past) past
   pub x_in : cursor X ≤ length past
   pub y_in : cursor Y ≤ length past
+  pub x_took : TookMessages X talk past (cursor X)
+  pub y_took : TookMessages Y talk past (cursor Y)
 
 abbrev pub Spoke : Talk → Wire → Half → Half → Type 0
 Spoke talk wire x y = Spoken x.end y.end talk (cursor_of x y) (past_now wire.frames.items)

@@ -21,7 +21,10 @@ pub use carrying::{carry, fate_of, settle};
 pub use half::{Half, Wire};
 pub use harm::Stop;
 pub use hearing::{Heard, hear};
-pub use laws::{a_fair_line_is_never_down, a_halted_trace_is_proper, a_running_trace_is_proper};
+pub use laws::{
+    a_fair_line_is_never_down, a_halted_trace_is_proper, a_halted_trace_tells_its_messages,
+    a_running_trace_is_proper, a_turn_tells_all_messages,
+};
 pub use line::Line;
 pub use sending::Halt;
 pub use skipping::skip_to_head;
