@@ -59,11 +59,11 @@ answers_desktop talk y h d h_is d_is (inr (inl second)) =
     let count : count_messages Desktop talk ≡ 1 = d_is ∙ second.1 in
     let last : 0 ≡ count_messages Desktop talk - 1 = omega (arith, count) in
     answers_own (omega (arith, count)) (ap (answered_by Desktop) count ∙ ap (λ (k : ℕ). Some (record { end = Desktop; number = k })) last) second.2
-answers_desktop talk y h zero h_is d_is (inr (inr later)) = absurd (omega (arith, later.0))
-answers_desktop talk y h (suc zero) h_is d_is (inr (inr later)) = absurd (omega (arith, later.0))
-answers_desktop talk y h (suc (suc n)) h_is d_is (inr (inr later)) =
-    let last : suc n ≡ count_messages Handheld talk - 1 = omega (arith, h_is, later.1) in
-    answers_other (omega (arith, h_is, later.1)) (ap (answered_by Desktop) d_is ∙ ap (λ (k : ℕ). Some (record { end = Handheld; number = k })) last) (ap (answer_to Handheld) (sym last) ∙ ap (λ (k : ℕ). Some k) (sym d_is))
+answers_desktop talk y h zero h_is d_is (inr (inr next)) = absurd (omega (arith, next.0))
+answers_desktop talk y h (suc zero) h_is d_is (inr (inr next)) = absurd (omega (arith, next.0))
+answers_desktop talk y h (suc (suc n)) h_is d_is (inr (inr next)) =
+    let last : suc n ≡ count_messages Handheld talk - 1 = omega (arith, h_is, next.1) in
+    answers_other (omega (arith, h_is, next.1)) (ap (answered_by Desktop) d_is ∙ ap (λ (k : ℕ). Some (record { end = Handheld; number = k })) last) (ap (answer_to Handheld) (sym last) ∙ ap (λ (k : ℕ). Some k) (sym d_is))
 
 answers_of : (X Y : End) (talk : Talk) (y : Half) → Apart X Y → IsInTurn X (count_messages Handheld talk) (count_messages Desktop talk) y → Answers X Y talk y
 answers_of Handheld Handheld talk y apart turn = absurd (let e = apart.there in cc)
@@ -176,33 +176,33 @@ one_again-talks talk wire new r x y given holds waits sent talks =
     subst (λ (p : List Sent). Talked x.end y.end talk (cursor_of x y) p (side_of x) (side_of y)) (sym longer.past) (one_again-told talk wire x y given holds waits sent.few talks)
 
 -- x does, and then y
-pub two_again-told : (talk : Talk) (wire : Wire) (x y : Half) (given later : FateValue) → Holds wire x y → Waits x.sender → Waits y.sender → x.sender.tries < 10 → y.sender.tries < 10 → Talks talk wire x y
-    → Talked x.end y.end talk (cursor_of x y) (again_frame y later ∷ again_frame x given ∷ past_now wire.frames.items) (side_of x) (side_of y)
-two_again-told talk wire x y given later holds x_waits y_waits x_few y_few talks =
+pub two_again-told : (talk : Talk) (wire : Wire) (x y : Half) (given next : FateValue) → Holds wire x y → Waits x.sender → Waits y.sender → x.sender.tries < 10 → y.sender.tries < 10 → Talks talk wire x y
+    → Talked x.end y.end talk (cursor_of x y) (again_frame y next ∷ again_frame x given ∷ past_now wire.frames.items) (side_of x) (side_of y)
+two_again-told talk wire x y given next holds x_waits y_waits x_few y_few talks =
     let past = past_now wire.frames.items in
     let x_now = waits_now x holds.x_half x_waits in
     let y_now = waits_now y holds.y_half y_waits in
     let core = once_more x.end y.end past x.taken y.taken (side_of x) (side_of y) x.receiver y.receiver holds.fx holds.fy (course_of given) holds.apart holds.line.core x_now in
-    let back = once_more y.end x.end (again_frame x given ∷ past) y.taken x.taken (side_of y) (side_of x) y.receiver x.receiver holds.fy holds.fx (course_of later) (apart_turned x.end y.end holds.apart)
+    let back = once_more y.end x.end (again_frame x given ∷ past) y.taken x.taken (side_of y) (side_of x) y.receiver x.receiver holds.fy holds.fx (course_of next) (apart_turned x.end y.end holds.apart)
     (turned x.end y.end (again_frame x given ∷ past) x.taken y.taken (side_of x) (side_of y) x.receiver y.receiver holds.fx holds.fy core) y_now in
     record {
       fx = holds.fx;
       fy = holds.fy;
       there = back.back.follows;
       back = back.there.follows;
-      talking = talking_tick_two x.end y.end talk (cursor_of x y) past x.taken y.taken wire.released (side_of x) (side_of y) x.receiver y.receiver holds.fx holds.fy x.sender.tries y.sender.tries (course_of given) (course_of later) holds.apart holds.line x_now y_now x_few y_few
+      talking = talking_tick_two x.end y.end talk (cursor_of x y) past x.taken y.taken wire.released (side_of x) (side_of y) x.receiver y.receiver holds.fx holds.fy x.sender.tries y.sender.tries (course_of given) (course_of next) holds.apart holds.line x_now y_now x_few y_few
           (cursor_own x.end x.taken y.taken) (cursor_other x.end y.end x.taken y.taken holds.apart.there) (talking_now talk wire x y holds talks);
-      x_heard = at_own x.end y.end x.taken y.taken (again_frame y later ∷ again_frame x given ∷ past) holds.fx (side_of x) (heard_beside x.end (again_frame y later) (again_frame x given ∷ past) x.taken holds.fx (side_of x) (omega (arith, holds.line.core.there.cur_in)) (ap (λ (b : Bool). b && true) holds.apart.there) (heard_same x.end past x.taken holds.fx (side_of x) (key_now (side_of x)) ((part_now (side_of x)).bytes) (course_of given) holds.line.core.there.cur_in (holds.line.core.x_speaks.newest x_now) (x_heard_now talk wire x y holds talks)));
-      y_heard = at_other x.end y.end x.taken y.taken (again_frame y later ∷ again_frame x given ∷ past) holds.fy (side_of y) holds.apart.there (heard_same y.end (again_frame x given ∷ past) y.taken holds.fy (side_of y) (key_now (side_of y)) ((part_now (side_of y)).bytes) (course_of later) (omega (arith, holds.line.core.back.cur_in)) (core.y_speaks.newest y_now) (heard_beside y.end (again_frame x given) past y.taken holds.fy (side_of y) holds.line.core.back.cur_in (ap (λ (b : Bool). b && true) holds.apart.back) (y_heard_now talk wire x y holds talks)));
+      x_heard = at_own x.end y.end x.taken y.taken (again_frame y next ∷ again_frame x given ∷ past) holds.fx (side_of x) (heard_beside x.end (again_frame y next) (again_frame x given ∷ past) x.taken holds.fx (side_of x) (omega (arith, holds.line.core.there.cur_in)) (ap (λ (b : Bool). b && true) holds.apart.there) (heard_same x.end past x.taken holds.fx (side_of x) (key_now (side_of x)) ((part_now (side_of x)).bytes) (course_of given) holds.line.core.there.cur_in (holds.line.core.x_speaks.newest x_now) (x_heard_now talk wire x y holds talks)));
+      y_heard = at_other x.end y.end x.taken y.taken (again_frame y next ∷ again_frame x given ∷ past) holds.fy (side_of y) holds.apart.there (heard_same y.end (again_frame x given ∷ past) y.taken holds.fy (side_of y) (key_now (side_of y)) ((part_now (side_of y)).bytes) (course_of next) (omega (arith, holds.line.core.back.cur_in)) (core.y_speaks.newest y_now) (heard_beside y.end (again_frame x given) past y.taken holds.fy (side_of y) holds.line.core.back.cur_in (ap (λ (b : Bool). b && true) holds.apart.back) (y_heard_now talk wire x y holds talks)));
     }
 
-pub two_again-talks : (talk : Talk) (wire mid new : Wire) (r : ℕ) (x y : Half) (given later : FateValue) → Holds wire x y → Waits x.sender → Waits y.sender → SendsAgain (record wire { released = r }) x given mid (again x) → SendsAgain mid y later new (again y)
+pub two_again-talks : (talk : Talk) (wire mid new : Wire) (r : ℕ) (x y : Half) (given next : FateValue) → Holds wire x y → Waits x.sender → Waits y.sender → SendsAgain (record wire { released = r }) x given mid (again x) → SendsAgain mid y next new (again y)
     → Talks talk wire x y → Talks talk new x y
-two_again-talks talk wire mid new r x y given later holds x_waits y_waits x_sent y_sent talks =
+two_again-talks talk wire mid new r x y given next holds x_waits y_waits x_sent y_sent talks =
     let one = extends (record wire { released = r }) mid x.end x.sender.id (part_now (side_of x)) given holds.go x_sent.sends tt x_sent.released in
-    let two = extends mid new y.end y.sender.id (part_now (side_of y)) later one.go y_sent.sends tt y_sent.released in
-    subst (λ (p : List Sent). Talked x.end y.end talk (cursor_of x y) p (side_of x) (side_of y)) (sym two.past) (subst (λ (p : List Sent). Talked x.end y.end talk (cursor_of x y) (again_frame y later ∷ p) (side_of x) (side_of y)) (sym one.past)
-    (two_again-told talk wire x y given later holds x_waits y_waits x_sent.few y_sent.few talks))
+    let two = extends mid new y.end y.sender.id (part_now (side_of y)) next one.go y_sent.sends tt y_sent.released in
+    subst (λ (p : List Sent). Talked x.end y.end talk (cursor_of x y) p (side_of x) (side_of y)) (sym two.past) (subst (λ (p : List Sent). Talked x.end y.end talk (cursor_of x y) (again_frame y next ∷ p) (side_of x) (side_of y)) (sym one.past)
+    (two_again-told talk wire x y given next holds x_waits y_waits x_sent.few y_sent.few talks))
 
 -- ---- the first state
 

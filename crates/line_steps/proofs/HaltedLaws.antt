@@ -211,16 +211,16 @@ unacked talk wire x y key taken heard talks =
     let sent = sent_of heard.next.frame in
     let at_head = head x.end wire x.taken holds.go heard.next in
     let cursor = cursor_of x y in
-    let later = cursor_of (moved x) y in
-    let more = moves-more x.end y.end cursor later holds.apart.there (cursor_moves x.end y.end x.taken y.taken holds.apart.there) in
+    let next = cursor_of (moved x) y in
+    let more = moves-more x.end y.end cursor next holds.apart.there (cursor_moves x.end y.end x.taken y.taken holds.apart.there) in
     let same = (cursor_moves x.end y.end x.taken y.taken holds.apart.there).kept in
     let comes_here = and_from (is_data_of x.end sent) (comes sent.course) heard.is heard.next.comes_here in
     record {
       faults = holds.line.traced.faults;
-      x_speaks = speaks-unacked x.end y.end talk cursor later (came_by later past) past x.taken sent (side_of x) more (cursor_own x.end x.taken y.taken) (cursor_own x.end (x.taken + 1) y.taken) at_head.inside at_head.here comes_here
-          (λ n frame older inside here. ap (is_taken later n) here) talks.talking.x_speech;
-      y_speaks = speaks_properly y.end x.end talk later past (side_of y) (omega (arith, cursor_other x.end y.end (x.taken + 1) y.taken holds.apart.there, holds.line.core.back.cur_in))
-          (speech-moves y.end x.end talk cursor later past (side_of y) more (ap (λ (k : ℕ). data_taken y.end (at k past)) same) talks.talking.y_speech);
+      x_speaks = speaks-unacked x.end y.end talk cursor next (came_by next past) past x.taken sent (side_of x) more (cursor_own x.end x.taken y.taken) (cursor_own x.end (x.taken + 1) y.taken) at_head.inside at_head.here comes_here
+          (λ n frame older inside here. ap (is_taken next n) here) talks.talking.x_speech;
+      y_speaks = speaks_properly y.end x.end talk next past (side_of y) (omega (arith, cursor_other x.end y.end (x.taken + 1) y.taken holds.apart.there, holds.line.core.back.cur_in))
+          (speech-moves y.end x.end talk cursor next past (side_of y) more (ap (λ (k : ℕ). data_taken y.end (at k past)) same) talks.talking.y_speech);
       x_in = omega (arith, cursor_own x.end (x.taken + 1) y.taken, at_head.inside);
       y_in = omega (arith, cursor_other x.end y.end (x.taken + 1) y.taken holds.apart.there, holds.line.core.back.cur_in);
       x_took = subst (λ (n : ℕ). TookMessages x.end talk past n) (sym (cursor_own x.end (x.taken + 1) y.taken))
@@ -288,10 +288,10 @@ again_faults wire x y given holds x_blocked y_blocked waits =
       | inr idle ↦ (running_tick_one x.end y.end past x.taken y.taken wire.released (side_of x) (side_of y) x.receiver y.receiver holds.fx holds.fy x.sender.tries y.sender.tries (course_of given) holds.apart holds.line x_blocked y_blocked now (λ w. omega (arith, w, idle))).traced.faults
     ]
 
-both_faults : (wire : Wire) (x y : Half) (given later : FateValue) → Holds wire x y → Blocked x.end (past_now wire.frames.items) x.taken wire.released → Blocked y.end (past_now wire.frames.items) y.taken wire.released → Waits x.sender → Waits y.sender
-    → RepeatsHaveFaults (again_frame y later ∷ again_frame x given ∷ past_now wire.frames.items)
-both_faults wire x y given later holds x_blocked y_blocked x_waits y_waits =
-    (running_tick_two x.end y.end (past_now wire.frames.items) x.taken y.taken wire.released (side_of x) (side_of y) x.receiver y.receiver holds.fx holds.fy x.sender.tries y.sender.tries (course_of given) (course_of later) holds.apart holds.line x_blocked y_blocked
+both_faults : (wire : Wire) (x y : Half) (given next : FateValue) → Holds wire x y → Blocked x.end (past_now wire.frames.items) x.taken wire.released → Blocked y.end (past_now wire.frames.items) y.taken wire.released → Waits x.sender → Waits y.sender
+    → RepeatsHaveFaults (again_frame y next ∷ again_frame x given ∷ past_now wire.frames.items)
+both_faults wire x y given next holds x_blocked y_blocked x_waits y_waits =
+    (running_tick_two x.end y.end (past_now wire.frames.items) x.taken y.taken wire.released (side_of x) (side_of y) x.receiver y.receiver holds.fx holds.fy x.sender.tries y.sender.tries (course_of given) (course_of next) holds.apart holds.line x_blocked y_blocked
     (waits_now x holds.x_half x_waits) (waits_now y holds.y_half y_waits)).traced.faults
 
 again_spoken : (talk : Talk) (wire : Wire) (x y : Half) (given : FateValue) → Holds wire x y → Blocked x.end (past_now wire.frames.items) x.taken wire.released → Blocked y.end (past_now wire.frames.items) y.taken wire.released → Waits x.sender → x.sender.tries < 10 → Talks talk wire x y
@@ -322,27 +322,27 @@ first_halts wire new r x y given (Down end) holds x_blocked y_blocked waits it =
       talks = λ talk talks. spoken_now talk wire x y holds talks;
     }))
 
-second_sends : (wire mid new : Wire) (r : ℕ) (x y : Half) (given later : FateValue) (halt : Halt) → Holds wire x y → Blocked x.end (past_now wire.frames.items) x.taken wire.released → Blocked y.end (past_now wire.frames.items) y.taken wire.released → Waits x.sender → Waits y.sender
-    → SendsAgain (record wire { released = r }) x given mid (again x) → y.sender.tries < 10 → Halts mid.frames.items y.end y.sender.id (part_now (side_of y)) later halt new.frames.items → Halted halt wire x y new x y
-second_sends wire mid new r x y given later halt holds x_blocked y_blocked x_waits y_waits sent few halts =
+second_sends : (wire mid new : Wire) (r : ℕ) (x y : Half) (given next : FateValue) (halt : Halt) → Holds wire x y → Blocked x.end (past_now wire.frames.items) x.taken wire.released → Blocked y.end (past_now wire.frames.items) y.taken wire.released → Waits x.sender → Waits y.sender
+    → SendsAgain (record wire { released = r }) x given mid (again x) → y.sender.tries < 10 → Halts mid.frames.items y.end y.sender.id (part_now (side_of y)) next halt new.frames.items → Halted halt wire x y new x y
+second_sends wire mid new r x y given next halt holds x_blocked y_blocked x_waits y_waits sent few halts =
     let longer = extends (record wire { released = r }) mid x.end x.sender.id (part_now (side_of x)) given holds.go sent.sends tt sent.released in
     record {
       x_end = refl;
       y_end = refl;
-      by = halts_by mid.frames.items new.frames.items y.end y.sender.id (part_now (side_of y)) later halt (cursor_of x y) data_plain longer.go halts;
-      talks = λ talk talks. behind_halt (Spoken x.end y.end talk (cursor_of x y)) mid.frames.items new.frames.items y.end y.sender.id (part_now (side_of y)) later halt data_plain halts
+      by = halts_by mid.frames.items new.frames.items y.end y.sender.id (part_now (side_of y)) next halt (cursor_of x y) data_plain longer.go halts;
+      talks = λ talk talks. behind_halt (Spoken x.end y.end talk (cursor_of x y)) mid.frames.items new.frames.items y.end y.sender.id (part_now (side_of y)) next halt data_plain halts
           (subst (λ (p : List Sent). Spoken x.end y.end talk (cursor_of x y) p) (sym longer.past) (again_spoken talk wire x y given holds x_blocked y_blocked x_waits sent.few talks))
-          (subst (λ (p : List Sent). Spoken x.end y.end talk (cursor_of x y) (again_frame y later ∷ p)) (sym longer.past)
-          (spoken_of x.end y.end talk (cursor_of x y) (again_frame y later ∷ again_frame x given ∷ past_now wire.frames.items) (side_of x) (side_of y) (both_faults wire x y given later holds x_blocked y_blocked x_waits y_waits)
+          (subst (λ (p : List Sent). Spoken x.end y.end talk (cursor_of x y) (again_frame y next ∷ p)) (sym longer.past)
+          (spoken_of x.end y.end talk (cursor_of x y) (again_frame y next ∷ again_frame x given ∷ past_now wire.frames.items) (side_of x) (side_of y) (both_faults wire x y given next holds x_blocked y_blocked x_waits y_waits)
           (omega (arith, cursor_own x.end x.taken y.taken, holds.line.core.there.cur_in)) (omega (arith, cursor_other x.end y.end x.taken y.taken holds.apart.there, holds.line.core.back.cur_in))
-          (two_again-told talk wire x y given later holds x_waits y_waits sent.few few talks)));
+          (two_again-told talk wire x y given next holds x_waits y_waits sent.few few talks)));
     }
 
-second_now : (wire mid new : Wire) (r : ℕ) (x y : Half) (given later : FateValue) (halt : Halt) → Holds wire x y → Blocked x.end (past_now wire.frames.items) x.taken wire.released → Blocked y.end (past_now wire.frames.items) y.taken wire.released → Waits x.sender → Waits y.sender
-    → SendsAgain (record wire { released = r }) x given mid (again x) → NotAgain halt later y mid new → Halted halt wire x y new x y
-second_now wire mid new r x y given later NoMemory holds x_blocked y_blocked x_waits y_waits sent it = second_sends wire mid new r x y given later NoMemory holds x_blocked y_blocked x_waits y_waits sent it.0 it.1
-second_now wire mid new r x y given later (Stopped stop) holds x_blocked y_blocked x_waits y_waits sent it = second_sends wire mid new r x y given later (Stopped stop) holds x_blocked y_blocked x_waits y_waits sent it.0 it.1
-second_now wire mid new r x y given later (Down end) holds x_blocked y_blocked x_waits y_waits sent it =
+second_now : (wire mid new : Wire) (r : ℕ) (x y : Half) (given next : FateValue) (halt : Halt) → Holds wire x y → Blocked x.end (past_now wire.frames.items) x.taken wire.released → Blocked y.end (past_now wire.frames.items) y.taken wire.released → Waits x.sender → Waits y.sender
+    → SendsAgain (record wire { released = r }) x given mid (again x) → NotAgain halt next y mid new → Halted halt wire x y new x y
+second_now wire mid new r x y given next NoMemory holds x_blocked y_blocked x_waits y_waits sent it = second_sends wire mid new r x y given next NoMemory holds x_blocked y_blocked x_waits y_waits sent it.0 it.1
+second_now wire mid new r x y given next (Stopped stop) holds x_blocked y_blocked x_waits y_waits sent it = second_sends wire mid new r x y given next (Stopped stop) holds x_blocked y_blocked x_waits y_waits sent it.0 it.1
+second_now wire mid new r x y given next (Down end) holds x_blocked y_blocked x_waits y_waits sent it =
     let longer = extends (record wire { released = r }) mid x.end x.sender.id (part_now (side_of x)) given holds.go sent.sends tt sent.released in
     subst (λ (w : Wire). Halted (Down end) wire x y w x y) (sym it.2) (subst (λ (X : End). Halted (Down X) wire x y mid x y) (sym it.0) (record {
       x_end = refl;
@@ -355,10 +355,10 @@ second_now wire mid new r x y given later (Down end) holds x_blocked y_blocked x
       talks = λ talk talks. subst (λ (p : List Sent). Spoken x.end y.end talk (cursor_of x y) p) (sym longer.past) (again_spoken talk wire x y given holds x_blocked y_blocked x_waits sent.few talks);
     }))
 
-pub second_halts : (wire mid new : Wire) (r : ℕ) (x y x_later : Half) (given later : FateValue) (halt : Halt) → Holds wire x y → Blocked x.end (past_now wire.frames.items) x.taken wire.released → Blocked y.end (past_now wire.frames.items) y.taken wire.released → Waits x.sender → Waits y.sender
-    → SendsAgain (record wire { released = r }) x given mid x_later → NotAgain halt later y mid new → Halted halt wire x y new x y
-second_halts wire mid new r x y x_later given later halt holds x_blocked y_blocked x_waits y_waits sent it =
-    second_now wire mid new r x y given later halt holds x_blocked y_blocked x_waits y_waits (subst (λ (h : Half). SendsAgain (record wire { released = r }) x given mid h) sent.counted sent) it
+pub second_halts : (wire mid new : Wire) (r : ℕ) (x y x_later : Half) (given next : FateValue) (halt : Halt) → Holds wire x y → Blocked x.end (past_now wire.frames.items) x.taken wire.released → Blocked y.end (past_now wire.frames.items) y.taken wire.released → Waits x.sender → Waits y.sender
+    → SendsAgain (record wire { released = r }) x given mid x_later → NotAgain halt next y mid new → Halted halt wire x y new x y
+second_halts wire mid new r x y x_later given next halt holds x_blocked y_blocked x_waits y_waits sent it =
+    second_now wire mid new r x y given next halt holds x_blocked y_blocked x_waits y_waits (subst (λ (h : Half). SendsAgain (record wire { released = r }) x given mid h) sent.counted sent) it
 
 -- ---- the same from elsewhere
 
