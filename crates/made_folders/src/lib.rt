@@ -1,0 +1,14 @@
+//! Folders of a handheld and a desktop, made in memory of a seed and a count.
+//!
+//! For each number from 1 up to the count the generator PCG32 (XSH RR 64/32) draws a word. It says what was changed
+//! since the last synchronization: nothing, the handheld's record, the desktop's row, or which side made or lost it.
+#![tactic(auto)]
+
+mod folders;
+mod item;
+mod record;
+mod side;
+
+pub use folders::{MadeFolders, make_folders};
+pub use item::{Item, make_items};
+pub use side::{MadeSide, make_database};
