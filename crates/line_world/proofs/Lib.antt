@@ -1,0 +1,4 @@
+pub mod LogLaws
+pub mod TalkLaws
+pub mod WentLaws
+pub mod WorldLaws

@@ -1,0 +1,68 @@
+use Rattle.std.specs.Prelude.{IfSome}
+use Rattle.std.proofs.Common.{◌≡◌, ℕ, ◌+◌, ◌≤◌, List, [], ◌∷◌, ◌++◌, length, Option, sym, ap, subst, ◌∙◌, arith}
+use Rattle.std.proofs.lemmas.List.{length-map}
+use Rattle.std.proofs.lemmas.Result.{err_from_is_err_and}
+use Rattle.dlp_args.specs.Messages.{MessageTextValue}
+use Rattle.line_talk.specs.Rests.{MayAsk}
+use Rattle.line_talk.specs.Telling.{HasSaid, LineTells}
+use Rattle.line_world.specs.Conversing.{Sent, Served}
+use Rattle.line_world.specs.Logs.{LogValue, log_value, said_in, with_issued, with_performed}
+use Rattle.line_world.specs.Serving.{Performs}
+use Rattle.line_world.proofs.LogLaws.{length-more}
+use Rattle.line_world.proofs.conversing.converse.Goals as goal
+
+pub returns-in_err-ask-clause-by : goal.returns-in_err-ask-clause-by
+returns-in_err-ask-clause-by g c recorded = c.ask.ensures.by recorded
+
+pub returns-in_err-perform-clause-by : goal.returns-in_err-perform-clause-by
+returns-in_err-perform-clause-by g c recorded = c.ask.ensures.by recorded
+
+pub returns-in_err-answer-clause-by : goal.returns-in_err-answer-clause-by
+returns-in_err-answer-clause-by g c recorded = c.answer.ensures.by (c.in_ok-ask.ensures.recorded recorded)
+
+pub returns-clause-by : goal.returns-clause-by
+returns-clause-by g c recorded = c.answer.ensures.by (c.in_ok-ask.ensures.recorded recorded)
+
+pub returns-clause-recorded : goal.returns-clause-recorded
+returns-clause-recorded g c recorded = c.in_ok-answer.ensures.recorded (c.in_ok-ask.ensures.recorded recorded)
+
+pub returns-in_err-perform-clause-breaks : goal.returns-in_err-perform-clause-breaks
+returns-in_err-perform-clause-breaks g c =
+    let p = err_from_is_err_and c.from_residual-in_err-perform.result c.from_residual-in_err-perform.ensures.1 in
+    let refuses = c.in_err-perform.ensures.refuses in
+    rw (p.1, p.2) (record { went = Sent; is = (refuses.since, refuses.log_is ∙ c.in_ok-issue.ensures.kept); keeper = refuses.keeper })
+
+pub returns-in_err-answer-clause-breaks : goal.returns-in_err-answer-clause-breaks
+returns-in_err-answer-clause-breaks g c =
+    let p = err_from_is_err_and c.from_residual-in_err-answer.result c.from_residual-in_err-answer.ensures.1 in
+    let performs = c.in_ok-perform.ensures.performs in
+    rw (p.1, p.2) (record {
+      went = Served c.perform.new.reply;
+      is = (performs.since, performs.log_is ∙ ap (λ (l : LogValue). with_performed l c.args.request.now c.perform.new.reply) c.in_ok-issue.ensures.kept);
+      keeper = λ is. absurd cc;
+    })
+
+pub returns-clause-answers : goal.returns-clause-answers
+returns-clause-answers g c =
+    let answered = c.in_ok-answer.ensures in
+    let requests : c.len-requests.result ≡ length (log_value c.args.log.now).issued = omega (arith, c.len-requests.ensures, length-map c.args.log.now.issued.items (λ (t : MessageTextValue). t.bytes)) in
+    let message : c.take_whole.new.message ≡ c.perform.new.reply = subst (λ (o : Option (List ℕ)). IfSome o (λ whole. length whole ≤ 65535 → c.take_whole.new.message ≡ whole)) answered.whole c.take_whole.ensures c.bytes-2.ensures.bound ∙ c.bytes-2.ensures.bytes in
+    record {
+      asks = subst (λ (n : ℕ). MayAsk c.answer.new.line (n + 1)) requests answered.asks;
+      performs = subst (λ (m : List ℕ). Performs g.F.Folder.contents g.F.Folder.moments g.F.Folder.paths g.F.Folder.faults c.args.server.now c.perform.new.server (with_issued (log_value c.args.log.now) c.args.request.now) (log_value c.perform.new.log) c.args.request.now m) (sym message)
+          (subst (λ (l : LogValue). Performs g.F.Folder.contents g.F.Folder.moments g.F.Folder.paths g.F.Folder.faults c.args.server.now c.perform.new.server l (log_value c.perform.new.log) c.args.request.now c.perform.new.reply) c.in_ok-issue.ensures.kept c.in_ok-perform.ensures.performs);
+    }
+
+pub returns-clause-tells : goal.returns-clause-tells
+returns-clause-tells g c before =
+    let log = log_value c.args.log.now in
+    let request = c.args.request.now in
+    let reply = c.perform.new.reply in
+    let requests : c.len-requests.result ≡ length log.issued = omega (arith, c.len-requests.ensures, length-map c.args.log.now.issued.items (λ (t : MessageTextValue). t.bytes)) in
+    let said : HasSaid (said_in log) c.len-requests.result c.len-requests.result = record { handheld_said = omega (arith, requests, c.requires.answered); desktop_said = omega (arith, requests) } in
+    let asked : LineTells (said_in (with_issued log request)) c.ask.new.line = subst (λ (m : List ℕ). LineTells (said_in (with_issued log m)) c.ask.new.line) c.bytes.ensures.bytes (c.in_ok-ask.ensures.tells (said_in log) said before) in
+    let more : length (log.issued ++ request ∷ []) ≡ length log.issued + 1 = length-more log.issued request in
+    let then : HasSaid (said_in (with_issued log request)) c.len-requests.result (c.len-requests.result + 1) = record { handheld_said = omega (arith, requests, c.requires.answered); desktop_said = omega (arith, more, requests) } in
+    let told = subst (λ (m : List ℕ). LineTells (said_in (with_performed (with_issued log request) request m)) c.answer.new.line) c.bytes-2.ensures.bytes (c.in_ok-answer.ensures.tells (said_in (with_issued log request)) then asked) in
+    let log_is = c.in_ok-perform.ensures.performs.log_is ∙ ap (λ (l : LogValue). with_performed l request reply) c.in_ok-issue.ensures.kept in
+    subst (λ (l : LogValue). LineTells (said_in l) c.answer.new.line) (sym log_is) told

@@ -1,0 +1,43 @@
+use Rattle.std.specs.Prelude.{IsErrOf}
+use Rattle.std.proofs.Common.{◌≡◌, ℕ, map, true, Some, Ok, refl, subst, sym, ap, ◌∙◌, arith, inl, inr}
+use Rattle.dlp_commands.specs.declared.link.LinkFault.TheVariants.{Down}
+use Rattle.dlp_commands.specs.Links.{WentDown}
+use Rattle.handheld_server.specs.SaidThings.{downs_of}
+use Rattle.trace_text.specs.TraceLines.{frame_value}
+use Rattle.line_world.specs.Logs.{log_value}
+use Rattle.line_world.specs.SinceLaws.{since_itself}
+use Rattle.line_world.specs.Worlds.{WorldSince, WorldValue}
+use Rattle.line_world.proofs.WentLaws.{since-quiet}
+use Rattle.line_world.proofs.WorldLaws.{greets-of, world-greeted}
+use Rattle.line_world.proofs.link.WorldLink.hello.Goals as goal
+
+pub returns-in-Some-clause-since : goal.returns-in-Some-clause-since
+returns-in-Some-clause-since g c = since_itself g.F.Folder.contents g.F.Folder.moments g.F.Folder.paths g.F.Folder.faults c.args.self.now
+
+pub invariant_of-self : goal.invariant_of-self
+invariant_of-self g c =
+    let w = c.self.inside in
+    let first = ap (λ (v : WorldValue g.row.F.Denot). v.begun) c.self.view_is ∙ c.requires in
+    let running = c.self.invariant.running c.in_default.is in
+    let greets = greets-of w.begun w.line (log_value w.log) w.answered first running.at_rest in
+    world-greeted w.line c.greet.new.line w.script (log_value w.log) w.server.sound w.answered w.begun w.fault w.cause c.self.invariant c.in_default.is first (c.in-Ok.ensures.recorded running.recorded) c.in-Ok.ensures.asks (c.in-Ok.ensures.tells greets.tells)
+
+pub returns-in-Ok-clause-cause : goal.returns-in-Ok-clause-cause
+returns-in-Ok-clause-cause g c =
+    subst (λ (v : WorldValue g.row.F.Denot). WentDown v.fault (downs_of v.fault) (downs_of c.self.inside.fault) (IsErrOf {T = ℕ} (Ok c.in-Ok.rate) Down)) c.self.view_is (record { later = omega arith; rose = λ is. absurd cc })
+
+pub returns-in-Ok-clause-since : goal.returns-in-Ok-clause-since
+returns-in-Ok-clause-since g c =
+    let w = c.self.inside in
+    let old : WorldValue g.row.F.Denot = record { server = w.server; script = w.script; log = log_value w.log; answered = w.answered; frames = map frame_value w.line.wire.frames.items; begun = w.begun; fault = w.fault; cause = w.cause } in
+    let new : WorldValue g.row.F.Denot = record { server = w.server; script = w.script; log = log_value w.log; answered = w.answered; frames = map frame_value c.greet.new.line.wire.frames.items; begun = true; fault = w.fault; cause = w.cause } in
+    subst (λ (v : WorldValue g.row.F.Denot). WorldSince g.F.Folder.contents g.F.Folder.moments g.F.Folder.paths g.F.Folder.faults v new) c.self.view_is
+    (since-quiet g.F.Folder.contents g.F.Folder.moments g.F.Folder.paths g.F.Folder.faults old new refl refl refl (λ is. inl is))
+
+pub returns-in-Err-clause-since : goal.returns-in-Err-clause-since
+returns-in-Err-clause-since g c =
+    let w = c.self.inside in
+    let old : WorldValue g.row.F.Denot = record { server = w.server; script = w.script; log = log_value w.log; answered = w.answered; frames = map frame_value w.line.wire.frames.items; begun = w.begun; fault = w.fault; cause = w.cause } in
+    let new : WorldValue g.row.F.Denot = record { server = w.server; script = w.script; log = log_value w.log; answered = w.answered; frames = map frame_value c.greet.new.line.wire.frames.items; begun = w.begun; fault = Some c.fault_of-fault.result; cause = c.cause_of-cause.result } in
+    subst (λ (v : WorldValue g.row.F.Denot). WorldSince g.F.Folder.contents g.F.Folder.moments g.F.Folder.paths g.F.Folder.faults v new) c.self.view_is
+    (since-quiet g.F.Folder.contents g.F.Folder.moments g.F.Folder.paths g.F.Folder.faults old new refl refl refl (λ is. absurd (let e = c.cause_of-cause.ensures is in cc)))

@@ -1,0 +1,81 @@
+-- What contracts see of a world, and what holds of it since an earlier time.
+use Rattle.std.specs.Prelude.{◌≡◌, ◌⊎◌, ℕ, ◌+◌, ◌≤◌, Bool, true, false, List, [], ◌++◌, length, map, take, slice_get, Option, Some, None}
+use Rattle.std.specs.List.{flat_map}
+use Rattle.hs_folders.specs.Causes.{Rose}
+use Rattle.hs_folders.specs.FileMaps.{FileMap}
+use Rattle.hs_folders.specs.Moments.{Moments}
+use Rattle.dlp_commands.specs.declared.link.LinkFault.{LinkFault}
+use Rattle.dlp_commands.specs.Changes.{given_in}
+use Rattle.dlp_commands.specs.DeviceRuns.{Exchange, exchanged}
+use Rattle.dlp_commands.specs.Talks.{Talk}
+use Rattle.handheld_server.specs.Servers.{ServerValue}
+use Rattle.line_script.specs.Rules.{RuleValue}
+use Rattle.trace_text.specs.TraceLines.{FrameValue}
+use Rattle.line_steps.specs.Adding.{AllBy}
+use Rattle.line_steps.specs.declared.line.Line.{Line}
+use Rattle.line_steps.specs.Telling.{no_talk}
+use Rattle.line_world.specs.declared.down.Down.{Down}
+use Rattle.line_world.specs.declared.down.Down.TheVariants.{Keeper}
+use Rattle.line_world.specs.Causes.{IsCause}
+use Rattle.line_world.specs.Folders.{ServedSince}
+use Rattle.line_talk.specs.Rests.{MayGreet, MayAsk}
+use Rattle.line_talk.specs.Telling.{LineRecords, LineTells}
+use Rattle.line_world.specs.Logs.{LogValue, said_in}
+
+-- a world is the handheld's server, the script, what was said, how much of it was answered, the frames, whether it has begun, and why it is down
+pub record WorldValue (F : Type 0) : Type 0 where
+  pub server : ServerValue F
+  pub script : List RuleValue
+  pub log : LogValue
+  pub answered : ℕ
+  pub frames : List FrameValue
+  pub begun : Bool
+  pub fault : Option LinkFault
+  pub cause : Option Down
+
+-- the exchanges that were answered, and the request that wasn't, if there is one
+abbrev pub world_talk : {F : Type 0} → WorldValue F → Talk
+world_talk world = record {
+  device = world.server.device;
+  exchanges = exchanged (take world.answered world.log.issued) (take world.answered world.log.replies);
+  left = slice_get world.log.issued world.answered;
+}
+
+-- Since the first of the two more was sent, performed and replied: each request that was performed was one step of the device, in order. The script is the same.
+-- A folder that failed meanwhile had its count rise.
+pub record WorldSince {F : Type 0} (contents : F → Option FileMap) (moments : F → Moments) (paths : F → Option (List (List ℕ))) (faults : F → ℕ) (old new : WorldValue F) : Type 0 where
+  pub same_script : new.script ≡ old.script
+  pub requests : List (List ℕ)
+  pub issued_is : new.log.issued ≡ old.log.issued ++ requests
+  pub exchanges : List Exchange
+  pub performed_is : new.log.performed ≡ old.log.performed ++ map (λ (exchange : Exchange). exchange.request) exchanges
+  pub replies_are : new.log.replies ≡ old.log.replies ++ map (λ (exchange : Exchange). exchange.reply) exchanges
+  pub given_is : new.log.given ≡ old.log.given ++ flat_map (λ (exchange : Exchange). given_in exchange.request exchange.reply) exchanges
+  pub served : ServedSince contents moments paths faults old.server new.server exchanges
+  pub keeper : new.cause ≡ Some Keeper → (old.cause ≡ Some Keeper) ⊎ Rose (faults old.server.folder) (faults new.server.folder)
+
+-- what was said, in numbers: each performed request is a request that was sent, in order, and all but the last at most are answered
+pub record IsLog (log : LogValue) (answered : ℕ) : Type 0 where
+  pub performed_is : log.performed ≡ take (length log.replies) log.issued
+  pub replied : answered ≤ length log.replies
+  pub performed_few : length log.replies ≤ length log.issued
+  pub few : length log.issued ≤ answered + 1
+
+-- a line at rest, once it has begun and before; its frames tell what was said
+abbrev pub IsAtRest : Bool → Line → LogValue → ℕ → Type 0
+IsAtRest false line log answered = MayGreet line × (answered ≡ 0) × LineTells no_talk line
+IsAtRest true line log answered = MayAsk line answered × LineTells (said_in log) line
+
+-- what holds while the link answers: the handheld is sound, all was answered, and the line is at rest
+pub record IsRunning (line : Line) (script : List RuleValue) (log : LogValue) (sound : Bool) (answered : ℕ) (begun : Bool) : Type 0 where
+  pub is_sound : sound ≡ true
+  pub all : length log.issued ≡ answered
+  pub recorded : LineRecords script line
+  pub at_rest : IsAtRest begun line log answered
+
+-- what holds of each world
+pub record IsWorld (line : Line) (script : List RuleValue) (log : LogValue) (sound : Bool) (answered : ℕ) (begun : Bool) (fault : Option LinkFault) (cause : Option Down) : Type 0 where
+  pub by_script : AllBy script 1 line.wire.frames.items
+  pub is_log : IsLog log answered
+  pub running : fault ≡ None → IsRunning line script log sound answered begun
+  pub caused : IsCause fault cause

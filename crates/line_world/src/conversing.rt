@@ -1,0 +1,66 @@
+//! A request and its reply.
+ghost use Rattle.std.specs.Prelude.{◌≡◌, ◌≤◌, true, IfSome, OnOk, IfErr, length};
+ghost use Rattle.padp_link.specs.Receivers.{whole_of};
+ghost use Rattle.line_steps.specs.Adding.{AllBy};
+ghost use Rattle.line_talk.specs.Rests.{MayAsk};
+ghost use Rattle.line_talk.specs.Telling.{LineRecords, LineTells};
+ghost use Rattle.line_world.specs.Conversing.{Answers, Breaks};
+ghost use Rattle.line_world.specs.Logs.{log_value, said_in};
+
+use crate::log::Log;
+use crate::serving::perform;
+use crate::stop::Break;
+use dlp_commands::Message;
+use handheld_server::Server;
+use hs_folders::Folder;
+use line_script::Script;
+use line_steps::Line;
+use line_talk::{answer, ask};
+use padp_link::Receiver;
+use std::alloc::Global;
+
+/// A request goes over to the handheld, is performed there, and its reply goes back.
+pub(crate) fn converse<F: Folder>(
+    alloc: Global,
+    line: &mut Line,
+    script: &Script,
+    server: &mut Server<F>,
+    log: &mut Log,
+    request: &Message,
+    reply: &mut Message,
+) -> Result<(), Break>
+    requires asks { MayAsk line.old (length (log_value log.old).issued) }
+    requires answered { length (log_value log.old).replies ≡ length (log_value log.old).issued }
+    requires sound { server.old.sound ≡ true }
+    ensures answers { OnOk result (Answers F.contents F.moments F.paths F.faults
+        server.old server.new (log_value log.old) (log_value log.new) line.new request.now
+        reply.new) }
+    ensures breaks { IfErr result (λ ended. Breaks F.contents F.moments F.paths F.faults
+        server.old server.new (log_value log.old) (log_value log.new) request.now ended) }
+
+    ensures recorded { OnOk result (
+        LineRecords script.now line.old → LineRecords script.now line.new) }
+    ensures by { LineRecords script.now line.old →
+        AllBy script.now 1 line.new.wire.frames.items }
+    ensures tells { OnOk result (LineTells (said_in (log_value log.old)) line.old →
+        LineTells (said_in (log_value log.new)) line.new) }
+{
+    let requests = log.issued.len();
+    log.issue(alloc, request)?;
+    ask(alloc, line, script, requests, request.bytes())?;
+    perform(alloc, server, &line.handheld.receiver, log, request, reply)?;
+    answer(alloc, line, script, requests, reply.bytes())?;
+    take_whole(&line.desktop.receiver, reply);
+    Ok(())
+}
+
+/// Replaces a message by the one that a receiver took whole.
+fn take_whole(receiver: &Receiver, message: &mut Message)
+    ensures { IfSome (whole_of receiver.now.pieces)
+        (λ whole. length whole ≤ 65535 → message.new ≡ whole) }
+{
+    message.clear();
+    if let Some(bytes) = receiver.whole() {
+        let _fits = message.push(bytes);
+    }
+}

@@ -1,0 +1,74 @@
+//! The world as a link.
+use crate::conversing::converse;
+use crate::stop::{Break, cause_of, fault_of};
+use crate::world::World;
+use dlp_commands::{Link, LinkFault, Message};
+use hs_folders::Folder;
+use line_talk::greet;
+
+impl<F: Folder> Link for World<F> {
+    ghost use Rattle.std.specs.Prelude.{Some};
+    ghost use Rattle.handheld_server.specs.SaidThings.{downs_of};
+    ghost use Rattle.line_world.specs.Worlds.{world_talk, WorldSince};
+    ghost use Rattle.line_world.specs.SinceLaws.{since_itself, since_more};
+
+    ghost downs = { λ world. downs_of world.fault };
+
+    ghost begun = { λ world. world.begun };
+
+    ghost fault = { λ world. world.fault };
+
+    ghost talk = { λ world. Some (world_talk world) };
+
+    ghost since = { λ first last. WorldSince F.contents F.moments F.paths F.faults first last };
+
+    fn hello(&mut self) -> Result<u32, LinkFault> {
+        if let Some(fault) = self.fault {
+            return Err(fault);
+        }
+        match greet(self.alloc, &mut self.line, &self.script) {
+            Ok(rate) => {
+                self.begun = true;
+                Ok(rate)
+            }
+            Err(halt) => {
+                let cause = cause_of(Break::Line(halt), &self.line.wire.frames);
+                let fault = fault_of(&cause);
+                self.cause = cause;
+                self.fault = Some(fault);
+                Err(fault)
+            }
+        }
+    }
+
+    fn exchange(&mut self, request: &Message, reply: &mut Message) -> Result<(), LinkFault> {
+        if let Some(fault) = self.fault {
+            return Err(fault);
+        }
+        match converse(
+            self.alloc,
+            &mut self.line,
+            &self.script,
+            &mut self.server,
+            &mut self.log,
+            request,
+            reply,
+        ) {
+            Ok(()) => {
+                self.answered = self.log.replies.len();
+                Ok(())
+            }
+            Err(ended) => {
+                let cause = cause_of(ended, &self.line.wire.frames);
+                let fault = fault_of(&cause);
+                self.cause = cause;
+                self.fault = Some(fault);
+                Err(fault)
+            }
+        }
+    }
+
+    ghost since_itself = { since_itself F.contents F.moments F.paths F.faults };
+
+    ghost since_more = { since_more F.contents F.moments F.paths F.faults };
+}

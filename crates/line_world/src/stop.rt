@@ -1,0 +1,107 @@
+//! Why a run ends.
+ghost use Rattle.std.specs.Prelude.{◌≡◌};
+ghost use Rattle.handheld_server.specs.declared.fault.ServeFault.{ServeFault as ServeFaultValue};
+ghost use Rattle.line_world.specs.Causes.{KeeperOnly, link_fault};
+
+use crate::down::Down;
+use dlp_commands::LinkFault;
+use handheld_server::ServeFault;
+use line_steps::{Halt, Stop};
+use std::alloc::AllocError;
+use trace_text::{Fate, Frame};
+
+/// Why a request gets no reply.
+#[derive(Clone, Copy)]
+pub(crate) enum Break {
+    /// Memory ran out.
+    NoMemory,
+    /// The line halted.
+    Line(Halt),
+    /// The folder of the handheld failed.
+    Keeper,
+}
+
+impl From<Halt> for Break {
+    ghost use Rattle.line_world.specs.declared.stop.Break.TheVariants.{Line};
+
+    ghost from_gives = { λ halt ended. ended ≡ Line halt };
+
+    fn from(halt: Halt) -> Break {
+        Break::Line(halt)
+    }
+}
+
+impl From<AllocError> for Break {
+    ghost use Rattle.line_world.specs.declared.stop.Break.TheVariants.{NoMemory};
+
+    ghost from_gives = { λ _ ended. ended ≡ NoMemory };
+
+    fn from(_: AllocError) -> Break {
+        Break::NoMemory
+    }
+}
+
+impl From<ServeFault> for Break {
+    ghost use Rattle.line_world.specs.Serving.{break_of};
+
+    ghost from_gives = { λ fault ended. ended ≡ break_of fault };
+
+    fn from(fault: ServeFault) -> Break {
+        match fault {
+            ServeFault::Keeper => Break::Keeper,
+            ServeFault::NoMemory => Break::NoMemory,
+        }
+    }
+}
+
+/// Why the line is down, unless memory ran out.
+pub(crate) fn cause_of(ended: Break, frames: &[Frame]) -> Option<Down>
+    ensures { KeeperOnly ended result }
+{
+    let last = frames.len() as u64;
+    match ended {
+        Break::NoMemory | Break::Line(Halt::NoMemory) => None,
+        Break::Line(Halt::Stopped(Stop::Unplugged)) => Some(Down::Unplugged(last)),
+        Break::Line(Halt::Stopped(Stop::Aborted)) => Some(Down::Aborted(last)),
+        Break::Line(Halt::Stopped(Stop::Undetected)) => Some(Down::Undetected(last)),
+        Break::Line(Halt::Down(end)) => Some(Down::LineDown {
+            end,
+            frames: last_faults(frames),
+        }),
+        Break::Keeper => Some(Down::Keeper),
+    }
+}
+
+/// What the link answers.
+pub(crate) fn fault_of(cause: &Option<Down>) -> LinkFault
+    ensures { result ≡ link_fault cause.now }
+{
+    match cause {
+        Some(_) => LinkFault::Down,
+        None => LinkFault::NoMemory,
+    }
+}
+
+/// The numbers of the last ten frames that the line did harm, in order.
+fn last_faults(frames: &[Frame]) -> [u64; 10] {
+    let mut numbers = [0; 10];
+    let mut place = 10;
+    for frame in frames.iter().rev() {
+        if place == 0 {
+            return numbers;
+        }
+        if is_fault(&frame.fate) {
+            place -= 1;
+            numbers[place] = frame.number;
+        }
+    }
+    numbers
+}
+
+/// Whether the line does harm to a frame of this fate.
+fn is_fault(fate: &Fate) -> bool {
+    match fate {
+        Fate::Lost | Fate::Late | Fate::Cut(_) | Fate::Hit(_, _) => true,
+        Fate::Ok | Fate::Noise(_) | Fate::Unplug | Fate::Abort => false,
+    }
+}

@@ -1,0 +1,145 @@
+//! The world of a line.
+ghost use Rattle.std.specs.Prelude.{◌≡◌, None, IfErr, IfOk, false, true, map, []};
+ghost use Rattle.trace_text.specs.TraceLines.{frame_value};
+ghost use Rattle.line_world.specs.Logs.{no_log, texts};
+ghost use Rattle.std.specs.Option.{option_copied};
+
+use crate::down::Down;
+use crate::log::{LineLog, Log};
+use dlp_commands::LinkFault;
+use handheld_server::Server;
+use hs_folders::Folder;
+use line_script::Script;
+use line_steps::{Line, Wire};
+use std::alloc::{AllocError, Global};
+use std::marker::Model;
+use trace_text::Frame;
+
+/// A handheld's server and a desktop's link, with a line between them that a script disturbs.
+#[derive(Drop)]
+pub struct World<F: Folder> {
+    pub(crate) alloc: Global,
+    pub(crate) line: Line,
+    pub(crate) script: Script,
+    pub(crate) server: Server<F>,
+    pub(crate) log: Log,
+    // How many requests were answered.
+    pub(crate) answered: usize,
+    pub(crate) begun: bool,
+    pub(crate) fault: Option<LinkFault>,
+    pub(crate) cause: Option<Down>,
+}
+
+impl<F: Folder> Model for World<F> {
+    ghost use Rattle.std.specs.Prelude.{map};
+    ghost use Rattle.trace_text.specs.TraceLines.{frame_value};
+    ghost use Rattle.line_world.specs.Logs.{log_value};
+    ghost use Rattle.line_world.specs.Worlds.{IsWorld, WorldValue};
+
+    ghost Value = { WorldValue F };
+
+    ghost view = { λ world. record {
+      server = world.server;
+      script = world.script;
+      log = log_value world.log;
+      answered = world.answered;
+      frames = map frame_value world.line.wire.frames.items;
+      begun = world.begun;
+      fault = world.fault;
+      cause = world.cause;
+    } };
+
+    ghost invariant = { λ world. IsWorld world.line world.script (log_value world.log) world.server.sound
+        world.answered world.begun world.fault world.cause };
+}
+
+impl<F: Folder> World<F> {
+    /// A line over which nothing was sent, to this server. The memory of both ends is taken here; a refusal hands the server
+    /// back.
+    pub fn new(
+        alloc: Global,
+        server: Server<F>,
+        script: Script,
+    ) -> Result<World<F>, (AllocError, Server<F>)>
+        requires { server.sound ≡ true }
+        ensures world { IfOk result (λ world. world ≡ record {
+          server = server;
+          script = script;
+          log = no_log;
+          answered = 0;
+          frames = [];
+          begun = false;
+          fault = None;
+          cause = None;
+        }) }
+        ensures back { IfErr result (λ refused. refused.1 ≡ server) }
+    {
+        match Line::new(alloc) {
+            Ok(line) => Ok(World {
+                alloc,
+                line,
+                script,
+                server,
+                log: Log::new(alloc),
+                answered: 0,
+                begun: false,
+                fault: None,
+                cause: None,
+            }),
+            Err(refused) => Err((refused, server)),
+        }
+    }
+
+    /// Why the line is down, if it is.
+    pub fn cause(&self) -> Option<&Down>
+        ensures { option_copied result ≡ self.now.cause }
+    {
+        self.cause.as_ref()
+    }
+
+    /// The frames so far.
+    pub fn frames(&self) -> &[Frame]
+        ensures { map frame_value result.now ≡ self.now.frames }
+    {
+        &self.line.wire.frames
+    }
+
+    /// Hands out all that was said, and the handheld's folder.
+    pub fn into_log(self) -> (LineLog, F)
+        ensures issued { texts result.0.issued.items ≡ self.log.issued }
+        ensures performed { texts result.0.performed.items ≡ self.log.performed }
+        ensures replies { texts result.0.replies.items ≡ self.log.replies }
+        ensures given { result.0.given.items ≡ self.log.given }
+        ensures frames { map frame_value result.0.frames.items ≡ self.frames }
+        ensures folder { result.1 ≡ self.server.folder }
+    {
+        let World {
+            line,
+            server,
+            log,
+            ..
+        } = self;
+        let Line {
+            wire,
+            handheld,
+            desktop,
+        } = line;
+        let Wire { frames, .. } = wire;
+        let Log {
+            issued,
+            performed,
+            replies,
+            given,
+        } = log;
+        let said = LineLog {
+            issued,
+            performed,
+            replies,
+            given,
+            frames,
+            to_handheld: handheld.reader.tally(),
+            to_desktop: desktop.reader.tally(),
+        };
+        (said, server.into_folder())
+    }
+}
