@@ -1,5 +1,5 @@
 -- What was said over a line, in numbers.
-use Rattle.std.proofs.Common.{◌≡◌, ℕ, ◌+◌, ◌≤◌, List, [], ◌∷◌, ◌++◌, length, take, refl, sym, ap, subst, ◌∙◌, arith}
+use Rattle.std.proofs.Common.{◌≡◌, ℕ, ◌+◌, List, [], ◌∷◌, ◌++◌, length, take, sym, ap, ◌∙◌, arith}
 use Rattle.std.proofs.lemmas.List.{length-append, map-append, take_all, take-append-le}
 use Rattle.dlp_args.specs.Messages.{MessageTextValue}
 use Rattle.line_world.specs.Logs.{LogValue, texts, with_issued, with_performed}

@@ -1,5 +1,5 @@
 -- What a world tells of its talk behind a request.
-use Rattle.std.proofs.Common.{◌≡◌, ◌⊎◌, ℕ, ◌+◌, ◌≤◌, List, [], ◌∷◌, ◌++◌, length, take, Option, Some, None, refl, sym, ap, subst, ◌∙◌, arith, inl, inr}
+use Rattle.std.proofs.Common.{◌≡◌, ℕ, ◌+◌, List, [], ◌∷◌, ◌++◌, length, take, Option, Some, None, refl, sym, ap, subst, ◌∙◌, arith, inl, inr}
 use Rattle.std.specs.Prelude.{slice_get}
 use Rattle.std.proofs.lemmas.List.{append-nil, take_all}
 use Rattle.std.proofs.lemmas.Option.{slice_get_past}
@@ -7,12 +7,11 @@ use Rattle.std.proofs.Math.Seq.{take-append_seam}
 use Rattle.hs_folders.specs.FileMaps.{FileMap}
 use Rattle.hs_folders.specs.Moments.{Moments}
 use Rattle.palm_device.specs.Devices.{Device}
-use Rattle.handheld_server.specs.Servers.{ServerValue}
 use Rattle.dlp_commands.specs.DeviceRuns.{Exchange, Ran, exchanged}
 use Rattle.dlp_commands.specs.DeviceSteps.{DeviceStep}
-use Rattle.dlp_commands.specs.Talks.{Talk, WasAnswered, WasLeft, Answered, Unanswered}
+use Rattle.dlp_commands.specs.Talks.{Talk, Answered, Unanswered}
 use Rattle.line_world.specs.Conversing.{Went, Unsent, Sent, Served, WentTo}
-use Rattle.line_world.specs.Logs.{LogValue, with_issued, with_performed}
+use Rattle.line_world.specs.Logs.{LogValue, with_issued}
 use Rattle.line_world.specs.Serving.{Performs}
 use Rattle.line_world.specs.Worlds.{IsLog, WorldValue, world_talk}
 use Rattle.line_world.proofs.LogLaws.{length-later, replies-all}

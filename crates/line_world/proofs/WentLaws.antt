@@ -1,16 +1,15 @@
 -- What holds of a world since before a request.
-use Rattle.std.proofs.Common.{◌≡◌, ◌⊎◌, ℕ, ◌+◌, ◌≤◌, List, [], ◌∷◌, ◌++◌, length, map, Option, Some, refl, sym, ap, subst, ◌∙◌, arith, inl, inr}
+use Rattle.std.proofs.Common.{◌≡◌, ◌⊎◌, ℕ, ◌+◌, List, [], ◌∷◌, ◌++◌, length, Option, Some, sym, ap, subst, ◌∙◌}
 use Rattle.std.proofs.lemmas.List.{append-nil}
 use Rattle.hs_folders.specs.Causes.{Rose}
 use Rattle.hs_folders.specs.FileMaps.{FileMap}
 use Rattle.hs_folders.specs.Moments.{Moments}
 use Rattle.handheld_server.specs.Servers.{ServerValue}
 use Rattle.dlp_commands.specs.Changes.{given_in}
-use Rattle.dlp_commands.specs.DeviceRuns.{Exchange}
 use Rattle.line_world.specs.declared.down.Down.TheVariants.{Keeper}
 use Rattle.line_world.specs.Conversing.{Went, Unsent, Sent, Served, WentTo}
 use Rattle.line_world.specs.Folders.{ServedSince}
-use Rattle.line_world.specs.Logs.{LogValue, with_issued, with_performed}
+use Rattle.line_world.specs.Logs.{LogValue}
 use Rattle.line_world.specs.Worlds.{IsLog, WorldValue, WorldSince}
 use Rattle.line_world.specs.SinceLaws.{served-itself}
 use Rattle.line_world.proofs.LogLaws.{log-issued, log-performed}

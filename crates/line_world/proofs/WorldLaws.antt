@@ -1,6 +1,6 @@
 -- What holds of each world, behind a greeting and behind a request.
-use Rattle.std.specs.Prelude.{IsErrOf, IsSome}
-use Rattle.std.proofs.Common.{◌≡◌, ◌⊎◌, ℕ, ◌+◌, ◌≤◌, ◌<◌, Bool, true, false, List, [], ◌∷◌, ◌++◌, length, Option, Some, None, Result, Ok, Err, refl, sym, ap, subst, ◌∙◌, arith, inl, inr}
+use Rattle.std.specs.Prelude.{IsErrOf, map, if◌then◌else◌}
+use Rattle.std.proofs.Common.{◌≡◌, ℕ, ◌+◌, Bool, true, false, List, [], ◌∷◌, length, Option, Some, None, Err, refl, sym, ap, subst, arith, inl, inr}
 use Rattle.hs_folders.specs.FileMaps.{FileMap}
 use Rattle.hs_folders.specs.Moments.{Moments}
 use Rattle.dlp_commands.specs.declared.link.LinkFault.{LinkFault}
@@ -9,6 +9,11 @@ use Rattle.dlp_commands.specs.Links.{MayExchange, WentDown}
 use Rattle.handheld_server.specs.SaidThings.{downs_of}
 use Rattle.handheld_server.specs.Servers.{ServerValue}
 use Rattle.line_script.specs.Rules.{RuleValue}
+use Rattle.line_script.specs.Scripts.{fate_by}
+use Rattle.trace_text.specs.Proper.{IsProper}
+use Rattle.trace_text.specs.TraceLines.{frame_value}
+use Rattle.line_steps.proofs.ProperLaws.{running_is_proper}
+use Rattle.line_steps.proofs.TurnLaws.{settled_holds, settled_turned}
 use Rattle.line_steps.specs.Adding.{AllBy}
 use Rattle.line_steps.specs.Telling.{no_talk}
 use Rattle.line_steps.specs.declared.line.Line.{Line}
@@ -19,9 +24,9 @@ use Rattle.line_world.specs.declared.down.Down.{Down}
 use Rattle.line_world.specs.declared.stop.Break.{Break}
 use Rattle.line_world.specs.Causes.{IsCause, link_fault}
 use Rattle.line_world.specs.Conversing.{Answers, Breaks}
-use Rattle.line_world.specs.Logs.{LogValue, said_in, with_issued, with_performed}
-use Rattle.line_world.specs.Worlds.{IsLog, IsAtRest, IsRunning, IsWorld}
-use Rattle.line_world.proofs.LogLaws.{length-more, length-later, replies-all, log-answered}
+use Rattle.line_world.specs.Logs.{LogValue, said_in}
+use Rattle.line_world.specs.Worlds.{IsLog, IsAtRest, IsWorld}
+use Rattle.line_world.proofs.LogLaws.{length-later, replies-all, log-answered}
 use Rattle.line_world.proofs.WentLaws.{log-went}
 
 -- ---- whose turn it is
@@ -118,3 +123,17 @@ world-halted line new script log sound answered begun fault cause now world by =
 pub went-down : {T : Type 0} (fault : LinkFault) → WentDown None (downs_of None) (downs_of (Some fault)) (IsErrOf {T = T} (Err fault) link.Down)
 went-down link.Down = record { later = omega arith; rose = λ is. inr (omega arith) }
 went-down link.NoMemory = record { later = omega arith; rose = λ is. absurd cc }
+
+-- ---- the trace
+
+-- while the link answers
+pub world-proper : (line : Line) (script : List RuleValue) (log : LogValue) (sound : Bool) (answered : ℕ) (begun : Bool) (fault : Option LinkFault) (cause : Option Down) → IsWorld line script log sound answered begun fault cause → fault ≡ None
+    → IsProper (fate_by script) (if begun then said_in log else no_talk) (map frame_value line.wire.frames.items)
+world-proper line script log sound answered true fault cause world none =
+    let running = world.running none in
+    let rest = running.at_rest in
+    running_is_proper script (said_in log) line.wire line.handheld line.desktop rest.0.ends.handheld_is (settled_holds line.wire line.handheld line.desktop (settled_turned line.wire line.desktop line.handheld rest.0.turn.settled)) rest.1 running.recorded
+world-proper line script log sound answered false fault cause world none =
+    let running = world.running none in
+    let rest = running.at_rest in
+    running_is_proper script no_talk line.wire line.handheld line.desktop rest.0.ends.handheld_is (settled_holds line.wire line.handheld line.desktop rest.0.turn.settled) rest.2 running.recorded

@@ -1,8 +1,7 @@
 -- What holds of a server and of a world since an earlier time goes on.
-use Rattle.std.proofs.Common.{◌≡◌, ◌⊎◌, ℕ, ◌+◌, ◌-◌, ◌^◌, ◌≤◌, List, [], ◌∷◌, ◌++◌, map, min, Option, Some, refl, sym, ap, subst, ◌∙◌, append_assoc, arith, inl, inr}
+use Rattle.std.proofs.Common.{◌≡◌, ℕ, ◌+◌, ◌-◌, ◌^◌, ◌≤◌, List, [], ◌∷◌, ◌++◌, map, min, Option, refl, sym, ap, subst, ◌∙◌, append_assoc, arith, inl, inr}
 use Rattle.std.proofs.lemmas.List.{append-nil, map-append}
 use Rattle.std.specs.List.{flat_map}
-use Rattle.hs_folders.specs.Causes.{Rose}
 use Rattle.hs_folders.specs.FileMaps.{FileMap}
 use Rattle.hs_folders.specs.Moments.{Moments, EachMomentSince, IsBeforeOrAfter}
 use Rattle.hs_folders.proofs.MomentLaws.{moments_go_on, moments_weaken, no_moment}
@@ -13,7 +12,6 @@ use Rattle.dlp_commands.specs.DeviceRuns.{Exchange, Ran}
 use Rattle.dlp_commands.specs.DeviceSteps.{DeviceStep}
 use Rattle.dlp_commands.specs.Changes.{given_in}
 use Rattle.dlp_commands.proofs.StepLaws.{given-append, ran_joined}
-use Rattle.line_world.specs.declared.down.Down.TheVariants.{Keeper}
 use Rattle.line_world.specs.Folders.{StoodAfterSome, ServedSince}
 use Rattle.line_world.specs.Worlds.{WorldValue, WorldSince}
 

@@ -1,5 +1,5 @@
 -- What contracts see of a world, and what holds of it since an earlier time.
-use Rattle.std.specs.Prelude.{◌≡◌, ◌⊎◌, ℕ, ◌+◌, ◌≤◌, Bool, true, false, List, [], ◌++◌, length, map, take, slice_get, Option, Some, None}
+use Rattle.std.specs.Prelude.{◌≡◌, ◌⊎◌, ℕ, ◌+◌, ◌≤◌, Bool, true, false, List, ◌++◌, length, map, take, slice_get, if◌then◌else◌, Option, Some, None}
 use Rattle.std.specs.List.{flat_map}
 use Rattle.hs_folders.specs.Causes.{Rose}
 use Rattle.hs_folders.specs.FileMaps.{FileMap}
@@ -10,6 +10,7 @@ use Rattle.dlp_commands.specs.DeviceRuns.{Exchange, exchanged}
 use Rattle.dlp_commands.specs.Talks.{Talk}
 use Rattle.handheld_server.specs.Servers.{ServerValue}
 use Rattle.line_script.specs.Rules.{RuleValue}
+use Rattle.trace_text.specs.Talks as talks
 use Rattle.trace_text.specs.TraceLines.{FrameValue}
 use Rattle.line_steps.specs.Adding.{AllBy}
 use Rattle.line_steps.specs.declared.line.Line.{Line}
@@ -40,6 +41,10 @@ world_talk world = record {
   exchanges = exchanged (take world.answered world.log.issued) (take world.answered world.log.replies);
   left = slice_get world.log.issued world.answered;
 }
+
+-- the messages of both ends so far: the greetings, and then the replies and the requests
+abbrev pub world_says : {F : Type 0} → WorldValue F → talks.Talk
+world_says world = if world.begun then said_in world.log else no_talk
 
 -- Since the first of the two more was sent, performed and replied: each request that was performed was one step of the device, in order. The script is the same.
 -- A folder that failed meanwhile had its count rise.

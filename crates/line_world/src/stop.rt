@@ -1,7 +1,6 @@
 //! Why a run ends.
-ghost use Rattle.std.specs.Prelude.{◌≡◌};
-ghost use Rattle.handheld_server.specs.declared.fault.ServeFault.{ServeFault as ServeFaultValue};
-ghost use Rattle.line_world.specs.Causes.{KeeperOnly, link_fault};
+ghost use Rattle.std.specs.Prelude.{◌≡◌, length};
+ghost use Rattle.line_world.specs.Causes.{IsCauseOf, KeeperOnly, link_fault};
 
 use crate::down::Down;
 use dlp_commands::LinkFault;
@@ -56,7 +55,8 @@ impl From<ServeFault> for Break {
 
 /// Why the line is down, unless memory ran out.
 pub(crate) fn cause_of(ended: Break, frames: &[Frame]) -> Option<Down>
-    ensures { KeeperOnly ended result }
+    ensures is { IsCauseOf ended (length frames.now) result }
+    ensures keeper { KeeperOnly ended result }
 {
     let last = frames.len() as u64;
     match ended {

@@ -1,8 +1,13 @@
 //! The world of a line.
 ghost use Rattle.std.specs.Prelude.{◌≡◌, None, IfErr, IfOk, false, true, map, []};
 ghost use Rattle.trace_text.specs.TraceLines.{frame_value};
-ghost use Rattle.line_world.specs.Logs.{no_log, texts};
 ghost use Rattle.std.specs.Option.{option_copied};
+ghost use Rattle.line_script.specs.Scripts.{fate_by};
+ghost use Rattle.trace_text.specs.Proper.{IsProper};
+ghost use Rattle.line_steps.specs.Adding.{AllBy};
+ghost use Rattle.line_world.specs.Causes.{IsCause};
+ghost use Rattle.line_world.specs.Logs.{no_log, texts};
+ghost use Rattle.line_world.specs.Worlds.{IsLog, world_says};
 
 use crate::down::Down;
 use crate::log::{LineLog, Log};
@@ -92,14 +97,19 @@ impl<F: Folder> World<F> {
 
     /// Why the line is down, if it is.
     pub fn cause(&self) -> Option<&Down>
-        ensures { option_copied result ≡ self.now.cause }
+        ensures cause { option_copied result ≡ self.now.cause }
+        // It is there exactly where the link answers that it is down.
+        ensures caused { IsCause self.now.fault self.now.cause }
     {
         self.cause.as_ref()
     }
 
     /// The frames so far.
     pub fn frames(&self) -> &[Frame]
-        ensures { map frame_value result.now ≡ self.now.frames }
+        ensures frames { map frame_value result.now ≡ self.now.frames }
+        // While the link answers they are a proper trace.
+        ensures proper { self.now.fault ≡ None →
+            IsProper (fate_by self.now.script) (world_says self.now) self.now.frames }
     {
         &self.line.wire.frames
     }
@@ -112,6 +122,14 @@ impl<F: Folder> World<F> {
         ensures given { result.0.given.items ≡ self.log.given }
         ensures frames { map frame_value result.0.frames.items ≡ self.frames }
         ensures folder { result.1 ≡ self.server.folder }
+
+        // What was performed is what was sent, in order and each once, or all but the last of it; all replies but the last at
+        // most were taken.
+        ensures log { IsLog self.log self.answered }
+        // Each frame has its number and the fate that the script gives it. While the link answers they are a proper trace.
+        ensures by { AllBy self.script 1 result.0.frames.items }
+        ensures proper { self.fault ≡ None →
+            IsProper (fate_by self.script) (world_says self) (map frame_value result.0.frames.items) }
     {
         let World {
             line,

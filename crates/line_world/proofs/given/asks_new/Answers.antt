@@ -1,4 +1,4 @@
-use Rattle.std.proofs.Common.{◌≡◌, Ok, sym, ap, ◌∙◌}
+use Rattle.std.proofs.Common.{Ok, sym, ap, ◌∙◌}
 use Rattle.dlp_requests.specs.declared.request.Request.{Request}
 use Rattle.dlp_requests.specs.Views.{request_value}
 use Rattle.dlp_commands.specs.Changes.{asks_id}

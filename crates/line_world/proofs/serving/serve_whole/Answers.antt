@@ -1,5 +1,5 @@
 use Rattle.std.specs.Prelude.{OnOk, unwrap_or}
-use Rattle.std.proofs.Common.{◌≡◌, ℕ, List, [], Option, subst}
+use Rattle.std.proofs.Common.{ℕ, List, [], Option, subst}
 use Rattle.dlp_commands.specs.DeviceSteps.{DeviceStep}
 use Rattle.line_world.proofs.serving.serve_whole.Goals as goal
 

@@ -1,4 +1,4 @@
-use Rattle.std.proofs.Common.{◌≡◌, ℕ, length, map, Option, Some, refl, subst, sym, ap, ◌∙◌, arith, inl, inr}
+use Rattle.std.proofs.Common.{◌≡◌, length, map, Some, refl, subst, sym, arith, inl, inr}
 use Rattle.std.proofs.lemmas.List.{length-map}
 use Rattle.dlp_args.specs.Messages.{MessageTextValue}
 use Rattle.dlp_commands.specs.declared.link.LinkFault.{LinkFault}
@@ -75,4 +75,4 @@ returns-in-Err-clause-since g c =
     let old : WorldValue g.row.F.Denot = record { server = w.server; script = w.script; log = log_value w.log; answered = w.answered; frames = map frame_value w.line.wire.frames.items; begun = w.begun; fault = w.fault; cause = w.cause } in
     let new : WorldValue g.row.F.Denot = record { server = c.converse.new.server; script = w.script; log = log_value later; answered = w.answered; frames = map frame_value c.converse.new.line.wire.frames.items; begun = w.begun; fault = Some c.fault_of-fault.result; cause = c.cause_of-cause.result } in
     subst (λ (v : WorldValue g.row.F.Denot). WorldSince g.F.Folder.contents g.F.Folder.moments g.F.Folder.paths g.F.Folder.faults v new) c.self.view_is
-    (since-went g.F.Folder.contents g.F.Folder.moments g.F.Folder.paths g.F.Folder.faults breaks.went old new c.args.request.now refl (λ is. inr (breaks.keeper (c.cause_of-cause.ensures is))) breaks.is)
+    (since-went g.F.Folder.contents g.F.Folder.moments g.F.Folder.paths g.F.Folder.faults breaks.went old new c.args.request.now refl (λ is. inr (breaks.keeper (c.cause_of-cause.ensures.keeper is))) breaks.is)

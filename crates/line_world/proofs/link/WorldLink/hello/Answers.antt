@@ -1,5 +1,5 @@
 use Rattle.std.specs.Prelude.{IsErrOf}
-use Rattle.std.proofs.Common.{◌≡◌, ℕ, map, true, Some, Ok, refl, subst, sym, ap, ◌∙◌, arith, inl, inr}
+use Rattle.std.proofs.Common.{ℕ, map, true, Some, Ok, refl, subst, ap, ◌∙◌, arith, inl}
 use Rattle.dlp_commands.specs.declared.link.LinkFault.TheVariants.{Down}
 use Rattle.dlp_commands.specs.Links.{WentDown}
 use Rattle.handheld_server.specs.SaidThings.{downs_of}
@@ -40,4 +40,4 @@ returns-in-Err-clause-since g c =
     let old : WorldValue g.row.F.Denot = record { server = w.server; script = w.script; log = log_value w.log; answered = w.answered; frames = map frame_value w.line.wire.frames.items; begun = w.begun; fault = w.fault; cause = w.cause } in
     let new : WorldValue g.row.F.Denot = record { server = w.server; script = w.script; log = log_value w.log; answered = w.answered; frames = map frame_value c.greet.new.line.wire.frames.items; begun = w.begun; fault = Some c.fault_of-fault.result; cause = c.cause_of-cause.result } in
     subst (λ (v : WorldValue g.row.F.Denot). WorldSince g.F.Folder.contents g.F.Folder.moments g.F.Folder.paths g.F.Folder.faults v new) c.self.view_is
-    (since-quiet g.F.Folder.contents g.F.Folder.moments g.F.Folder.paths g.F.Folder.faults old new refl refl refl (λ is. absurd (let e = c.cause_of-cause.ensures is in cc)))
+    (since-quiet g.F.Folder.contents g.F.Folder.moments g.F.Folder.paths g.F.Folder.faults old new refl refl refl (λ is. absurd (let e = c.cause_of-cause.ensures.keeper is in cc)))

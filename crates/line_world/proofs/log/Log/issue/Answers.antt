@@ -1,4 +1,4 @@
-use Rattle.std.proofs.Common.{◌≡◌, ℕ, List, [], ◌∷◌, ◌++◌, refl, ap, ◌∙◌}
+use Rattle.std.proofs.Common.{[], ◌∷◌, ◌++◌, refl, ap, ◌∙◌}
 use Rattle.dlp_args.specs.Messages.{MessageTextValue}
 use Rattle.line_world.specs.Logs.{log_value, texts, with_issued}
 use Rattle.line_world.proofs.LogLaws.{same_log, texts-more}
