@@ -1,3 +1,4 @@
+pub mod CallLaws
 pub mod ExactLaws
 pub mod IdLaws
 pub mod LookLaws
@@ -6,4 +7,3 @@ pub mod PrintedLaws
 pub mod ReadyLaws
 pub mod RefusalLaws
 pub mod RowLaws
-pub mod WordLaws

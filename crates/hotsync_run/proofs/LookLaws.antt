@@ -1,5 +1,5 @@
 -- Where the source does not fail, the status of a look is the one that the source's bytes give cause for.
-use Rattle.std.proofs.Common.{◌≡◌, ◌⊎◌, ◌<◌, inl, inr, refl, sym, subst, ap, ◌∙◌, arith, List, ℕ, length}
+use Rattle.std.proofs.Common.{◌≡◌, ◌⊎◌, ◌<◌, inl, inr, refl, sym, subst, ap, arith, List, ℕ, length}
 use Rattle.std.specs.Prelude.{Option, None, Some, IfSome}
 use Rattle.hs_folders.specs.Causes.{Rose}
 use Rattle.pdb_files.specs.declared.bad_kind.BadKind.{BadKind}
@@ -9,7 +9,7 @@ use Rattle.hotsync_run.specs.Looks.{IsBroken, IsLook, IsLookRefusal, IsReadable,
 use Rattle.hotsync_run.specs.Opening.{Opens, OpensAtMost}
 use Rattle.hotsync_run.specs.Printed.{IsPrinted}
 use Rattle.hotsync_run.specs.Told.{SinkTold, SourceTold}
-use Rattle.hotsync_run.specs.declared.words.Look.{Look}
+use Rattle.run_words.specs.declared.command.Look.{Look}
 use Rattle.hotsync_run.specs.declared.status.FileSide.TheVariants.{Source}
 use Rattle.hotsync_run.specs.declared.status.Status.{Status}
 use Rattle.hotsync_run.specs.declared.status.Status.TheVariants.{Done, Usage, BadFile, HandheldFolder, DesktopFolder, SourceRead, TooLong, OutWrite, NoMemory, NotYet}
@@ -115,7 +115,7 @@ refused_is : (P : Status → Type 0) (refusal status : Status) → P refusal →
 refused_is P refusal status one other (inl same) = subst P (sym same) one
 refused_is P refusal status one other (inr memory) = subst P (sym memory) other
 
-memory_shows : (file : List ℕ) (left : Option (List ℕ)) → IfSome left (SourceShows file NoMemory)
+pub memory_shows : (file : List ℕ) (left : Option (List ℕ)) → IfSome left (SourceShows file NoMemory)
 memory_shows file None = tt
 memory_shows file (Some bytes) = tt
 

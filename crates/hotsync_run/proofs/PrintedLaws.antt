@@ -1,10 +1,10 @@
 -- What standard output took.
-use Rattle.std.proofs.Common.{◌≡◌, ◌⊎◌, inl, inr, refl, ℕ, List}
+use Rattle.std.proofs.Common.{◌≡◌, inl, inr, refl, ℕ, List}
 use Rattle.std.specs.Prelude.{Option}
 use Rattle.hs_folders.specs.Appends.{AppendsPrefix}
 use Rattle.hs_folders.proofs.Prefixes.{none_taken}
 use Rattle.hotsync_run.specs.Lines.{no_memory_line, refusal_line}
-use Rattle.hotsync_run.specs.Printed.{IsPrinted, IsSomeLines, TookBeforeNoMemory, TookPart, TookSomeLines, TookText}
+use Rattle.hotsync_run.specs.Printed.{IsPrinted, IsSomeLines, TookSomeLines}
 use Rattle.hotsync_run.specs.Told.{SinkTold}
 use Rattle.hotsync_run.specs.declared.status.Status.{Status}
 use Rattle.hotsync_run.specs.declared.status.Status.TheVariants.{Usage, NoMemory}

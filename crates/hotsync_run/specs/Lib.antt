@@ -15,5 +15,3 @@ pub mod Rows
 pub mod Runs
 pub mod Scans
 pub mod Told
-pub mod WordViews
-pub mod Words

@@ -20,7 +20,7 @@ line_feed = 10 ∷ []
 
 -- how the program is called
 abbrev pub usage_line : List ℕ
-usage_line = codes "usage: hotsync run HANDHELD DESKTOP --date=D [--script=F] [--trace=F] [--slow]" ++ line_feed
+usage_line = codes "usage: hotsync run HANDHELD DESKTOP --date=D [--script=F] [--trace=F] [--slow] [--actions=L] [--add-user]" ++ line_feed
 
 abbrev pub no_memory_line : List ℕ
 no_memory_line = codes "no memory" ++ line_feed

@@ -14,8 +14,8 @@ use Rattle.hotsync_run.specs.Told.{SinkTold, SourceTold}
 use Rattle.hotsync_run.specs.declared.status.FileSide.TheVariants.{Source}
 use Rattle.hotsync_run.specs.declared.status.Status.{Status}
 use Rattle.hotsync_run.specs.declared.status.Status.TheVariants.{Done, Usage, BadFile, HandheldFolder, DesktopFolder, SourceRead, TooLong, OutWrite, NoMemory, NotYet}
-use Rattle.hotsync_run.specs.declared.words.Look.{Look}
-use Rattle.hotsync_run.specs.declared.words.Look.TheVariants.{Check, Show}
+use Rattle.run_words.specs.declared.command.Look.{Look}
+use Rattle.run_words.specs.declared.command.Look.TheVariants.{Check, Show}
 
 -- the most bytes that a source may have
 abbrev pub source_limit : ℕ

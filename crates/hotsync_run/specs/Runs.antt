@@ -14,11 +14,11 @@ use Rattle.hotsync_run.specs.Opening.{Opens, OpensAtMost}
 use Rattle.hotsync_run.specs.Printed.{IsPrinted, IsRefusal}
 use Rattle.hotsync_run.specs.Refusals.{IsMore, RunShows}
 use Rattle.hotsync_run.specs.Told.{FolderTold, SinkTold}
-use Rattle.hotsync_run.specs.Words.{Run}
+use Rattle.run_words.specs.Runs.{Run}
 use Rattle.hotsync_run.specs.declared.report.DbReport.{DbReport}
 use Rattle.hotsync_run.specs.declared.status.FileSide.TheVariants.{Handheld}
 use Rattle.hotsync_run.specs.declared.status.Status.{Status}
-use Rattle.hotsync_run.specs.declared.status.Status.TheVariants.{Done, Usage, BadFile, HandheldFolder, DesktopFolder, OutWrite, NoMemory, NotYet}
+use Rattle.hotsync_run.specs.declared.status.Status.TheVariants.{Done, HandheldFolder, DesktopFolder, OutWrite, NoMemory, NotYet}
 
 -- what the folders show of the cause of each status
 abbrev pub Shows : Option FileMap → Option FileMap → Status → Type 0

@@ -3,17 +3,17 @@ ghost use Rattle.std.specs.Prelude.{◌≡◌, map, string_bytes};
 ghost use Rattle.hotsync_run.specs.Calls.{IsCall, IsLookAt, IsSync};
 ghost use Rattle.hotsync_run.specs.Refusals.{BlamesHandheld};
 ghost use Rattle.hotsync_run.specs.Told.{folder_told, sink_told, source_told};
-ghost use Rattle.hotsync_run.specs.Words.{task_of};
+ghost use Rattle.run_words.specs.Commands.{task_of};
 
 use crate::answer::Answer;
 use crate::look::look_at;
 use crate::packets::print_packets;
 use crate::printing::print_refusal;
 use crate::report::SessionEnd;
-use crate::run::run_folders;
+use crate::run::run_asked;
 use crate::status::Status;
-use crate::words::{Command, read_command};
 use hs_folders::{Folder, Sink, Source};
+use run_clap::{Command, WordsFault, read_command};
 use std::alloc::Global;
 
 /// Does what the words ask for, and prints the lines of its status on `out`.
@@ -55,18 +55,26 @@ pub fn hotsync<H: Folder, D: Folder, S: Source, T: Sink, O: Sink>(
     ensures source { ¬ IsLookAt (task_of (map string_bytes words.now)) → source.new ≡ source.old }
     ensures trace { trace.new ≡ trace.old }
 {
-    match read_command(words) {
-        Some(Command::Run(run)) => run_folders(alloc, &run, device, desk, out),
-        Some(Command::Look(look, file)) => {
-            let status = look_at(alloc, look, file, source, out);
+    match read_command(alloc, words) {
+        Ok(Command::Run(run)) => run_asked(alloc, &run, device, desk, out),
+        Ok(Command::Look(look)) => {
+            let status = look_at(alloc, look, source, out);
             Answer::new(status, Vec::new(alloc), device, desk)
         }
-        Some(Command::Packet(hex)) => {
-            let status = print_packets(alloc, hex, out);
+        Ok(Command::Packet(packet)) => {
+            let status = print_packets(alloc, packet.hex, out);
             Answer::new(status, Vec::new(alloc), device, desk)
         }
-        None => {
+        Ok(Command::Make(_)) => {
+            let status = print_refusal(alloc, Status::NotYet, out);
+            Answer::new(status, Vec::new(alloc), device, desk)
+        }
+        Err(WordsFault::Usage) => {
             let status = print_refusal(alloc, Status::Usage, out);
+            Answer::new(status, Vec::new(alloc), device, desk)
+        }
+        Err(WordsFault::NoMemory) => {
+            let status = print_refusal(alloc, Status::NoMemory, out);
             Answer::new(status, Vec::new(alloc), device, desk)
         }
     }

@@ -20,7 +20,6 @@ mod rows;
 mod run;
 mod source;
 mod status;
-mod words;
 
 pub use answer::Answer;
 pub use command::hotsync;

@@ -8,29 +8,28 @@ use crate::bad_file::fault_status;
 use crate::printing::{print_refusal, print_text};
 use crate::source::read_source;
 use crate::status::{FileSide, Status};
-use crate::words::Look;
 use file_text::{check_text, show_text};
 use hs_folders::{Sink, Source};
 use pdb_files::read_database;
 use pdb_values::Database;
+use run_clap::{Look, LookWords};
 use std::alloc::{AllocError, Global};
 
 /// Reads the database of a file, and prints what the look wants of it.
 pub fn look_at<S: Source, O: Sink>(
     alloc: Global,
-    look: Look,
-    file: &str,
+    words: LookWords<'_>,
     source: &mut S,
     out: &mut O,
 ) -> Status
-    ensures { IsLook look file.now
+    ensures { IsLook words.entry.look words.entry.file.now
         (record { left = S.left source.old; paths = S.paths source.old; faults = S.faults source.old })
         (record { left = S.left source.new; paths = S.paths source.new; faults = S.faults source.new })
         (record { taken = O.taken out.old; paths = O.paths out.old; faults = O.faults out.old })
         (record { taken = O.taken out.new; paths = O.paths out.new; faults = O.faults out.new })
         result }
 {
-    match look_into(alloc, look, file, source) {
+    match look_into(alloc, words.look, words.file, source) {
         Ok(text) => print_text(text.as_str(), out),
         Err(refusal) => print_refusal(alloc, refusal, out),
     }

@@ -1,6 +1,6 @@
 // The packets in captured bytes.
 ghost use Rattle.hotsync_run.specs.Scans.{IsScanned};
-ghost use Rattle.hotsync_run.specs.Words.{bytes_of};
+ghost use Rattle.run_words.specs.Words.{bytes_of};
 ghost use Rattle.std.specs.Prelude.{◌≡◌, ◌≤◌, IfOk, string_bytes};
 ghost use Rattle.slp_frames.specs.PacketScan.{scan};
 ghost use Rattle.trace_text.specs.PacketLists.{ShowsPackets};

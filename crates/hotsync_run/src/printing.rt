@@ -13,7 +13,7 @@ use std::fmt::Write;
 
 /// How the program is called.
 const USAGE: &str =
-    "usage: hotsync run HANDHELD DESKTOP --date=D [--script=F] [--trace=F] [--slow]\n";
+    "usage: hotsync run HANDHELD DESKTOP --date=D [--script=F] [--trace=F] [--slow] [--actions=L] [--add-user]\n";
 
 const NO_MEMORY: &[u8] = b"no memory\n";
 

@@ -3,7 +3,7 @@ ghost use Rattle.std.specs.Prelude.{◌≡◌, drop, map, string_bytes};
 ghost use Rattle.hotsync_run.specs.Calls.{IsCall};
 ghost use Rattle.hotsync_run.specs.Codes.{code_of};
 ghost use Rattle.hotsync_run.specs.Told.{folder_told, sink_told, source_told};
-ghost use Rattle.hotsync_run.specs.Words.{task_of};
+ghost use Rattle.run_words.specs.Commands.{task_of};
 
 use crate::answer::Answer;
 use crate::command::hotsync;

@@ -1,14 +1,15 @@
 // The first path: the handheld's one database comes to an empty desktop.
-ghost use Rattle.std.specs.Prelude.{◌≡◌, ◌≤◌, ◌∷◌, [], IfErr, IfOk, IfSome, IsErrOf, OnErr, OnOk, false};
+ghost use Rattle.std.specs.Prelude.{◌≡◌, ◌≤◌, ◌∷◌, [], IfErr, IfOk, IfSome, IsErrOf, OnErr, OnOk, false, true};
 ghost use Rattle.hs_folders.specs.Causes.{Rose};
 ghost use Rattle.hs_folders.specs.Moments.{EachMomentSince, IsBeforeOrAfter};
 ghost use Rattle.pdb_values.specs.Heads.{holds_resources};
+ghost use Rattle.hotsync_run.specs.Calls.{IsAsked, asks_more};
 ghost use Rattle.hotsync_run.specs.Copies.{IsCopied, IsCopyOf, report_of};
 ghost use Rattle.hotsync_run.specs.Opening.{Opens, OpensAtMost};
 ghost use Rattle.hotsync_run.specs.Refusals.{BlamesHandheld, IsDesktopRefusal, IsRunRefusal, RunShows};
 ghost use Rattle.hotsync_run.specs.Runs.{IsRun};
 ghost use Rattle.hotsync_run.specs.Told.{folder_told, sink_told};
-ghost use Rattle.hotsync_run.specs.WordViews.{run_view};
+ghost use Rattle.run_words.specs.Views.{run_view};
 
 use crate::answer::Answer;
 use crate::desktop::{open_desktop, write_desktop};
@@ -17,14 +18,49 @@ use crate::printing::{print_done, print_refusal};
 use crate::report::{DbReport, Did, SessionEnd};
 use crate::rows::{desktop_rows, file_name};
 use crate::status::Status;
-use crate::words::RunWords;
 use hs_folders::{Folder, Sink};
 use pdb_files::write_database;
 use pdb_values::{Database, PalmDate};
+use run_clap::RunWords;
 use std::alloc::{AllocError, Global};
 
-/// Runs: copies the handheld's database to the desktop, and prints what was done.
-pub fn run_folders<H: Folder, D: Folder, O: Sink>(
+/// Runs where the words ask for no more than the first path does.
+pub fn run_asked<H: Folder, D: Folder, O: Sink>(
+    alloc: Global,
+    words: &RunWords<'_>,
+    device: H,
+    desk: D,
+    out: &mut O,
+) -> Answer<H, D>
+    ensures run { IsAsked (run_view words.now)
+        (folder_told H.contents H.moments H.paths H.faults device)
+        (folder_told H.contents H.moments H.paths H.faults result.device)
+        (folder_told D.contents D.moments D.paths D.faults desk)
+        (folder_told D.contents D.moments D.paths D.faults result.desk)
+        (sink_told O.taken O.paths O.faults out.old)
+        (sink_told O.taken O.paths O.faults out.new)
+        result.status result.report.databases.items }
+    ensures untouched { asks_more (run_view words.now) ≡ true → (result.device ≡ device)
+        × (result.desk ≡ desk) }
+    ensures handheld_first { BlamesHandheld result.status → result.desk ≡ desk }
+    ensures end { result.report.end ≡ SessionEnd.NotStarted }
+{
+    if asks_for_more(words) {
+        let status = print_refusal(alloc, Status::NotYet, out);
+        return Answer::new(status, Vec::new(alloc), device, desk);
+    }
+    run_folders(alloc, words, device, desk, out)
+}
+
+// Whether the words ask for a script, a trace or actions.
+fn asks_for_more(words: &RunWords<'_>) -> bool
+    ensures { result ≡ asks_more (run_view words.now) }
+{
+    words.script.is_some() || words.trace.is_some() || words.actions.is_some()
+}
+
+// Runs: copies the handheld's database to the desktop, and prints what was done.
+fn run_folders<H: Folder, D: Folder, O: Sink>(
     alloc: Global,
     words: &RunWords<'_>,
     device: H,

@@ -1,5 +1,0 @@
-use Rattle.hotsync_run.proofs.WordLaws.{value_after-is}
-use Rattle.hotsync_run.proofs.words.value_after.Goals as goal
-
-pub returns : goal.returns
-returns c = value_after-is c.args.name.now c.args.word.now c.strip_prefix.result c.strip_prefix.ensures.cases
