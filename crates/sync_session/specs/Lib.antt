@@ -1,6 +1,7 @@
 pub mod Archives
 pub mod Choosing
 pub mod Fronts
+pub mod Gains
 pub mod Heads
 pub mod Jobs
 pub mod Limits
@@ -12,5 +13,6 @@ pub mod Reports
 pub mod Sessions
 pub mod Sizes
 pub mod Skips
+pub mod Spans
 pub mod Tasks
 pub mod Users

@@ -1,0 +1,35 @@
+// What a handheld loses once the desktop has committed.
+ghost use Rattle.std.specs.Prelude.{◌≡◌, false};
+ghost use Rattle.desktop_session.specs.Requests.{opening};
+ghost use Rattle.slow_mirror.specs.News.{purge_writes};
+ghost use Rattle.sync_session.specs.Spans.{Spans, within};
+
+use conduit_rules::Plan;
+use desktop_session::{Linked, SessionFault};
+use dlp_commands::Link;
+use pdb_values::DbName;
+use slow_mirror::purge_side;
+
+/// Takes away from the handheld's database of a name what its plan does not keep, one by one, then all records with the delete bit,
+/// and makes all records clean. The database is opened for it and closed. After a refusal it may be left open, and only `halt` may
+/// follow.
+pub fn purge_one<L: Link>(
+    linked: &mut Linked<L>,
+    name: &DbName,
+    plan: &Plan,
+) -> Result<(), SessionFault>
+    requires { linked.old.abandoned ≡ false }
+    ensures spans { Spans L.talk L.since L.fault L.downs
+        (within (opening name.now) (λ handle given. purge_writes handle plan.now.purge.items))
+        (λ handle given done. Unit {0}) linked.old linked.new result }
+{
+    let mut opened = linked.open(name)?;
+    match purge_side(&mut opened, plan) {
+        Ok(()) => {}
+        Err(fault) => {
+            opened.abandon();
+            return Err(fault);
+        }
+    }
+    opened.close()
+}
