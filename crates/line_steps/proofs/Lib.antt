@@ -2,6 +2,7 @@ pub mod AddingLaws
 pub mod BeginningLaws
 pub mod BytesLaws
 pub mod CarryingLaws
+pub mod CountingLaws
 pub mod DataLaws
 pub mod DeliveredLaws
 pub mod FairLaws

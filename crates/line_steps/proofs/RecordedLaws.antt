@@ -1,6 +1,6 @@
 -- Which frames came, by the cursors, over each step.
 use Rattle.std.proofs.Common.{◌≡◌, ℕ, zero, suc, ◌+◌, ◌≤◌, Bool, true, false, ◌&&◌, leb, List, [], ◌∷◌, ◌++◌, length, map, Some, refl, sym, ap, subst, ◌∙◌, arith, inl, inr}
-use Rattle.std.specs.Prelude.{slice_get}
+use Rattle.std.specs.Prelude.{slice_get, if◌then◌else◌}
 use Rattle.std.proofs.lemmas.Bool.{cases_Bool, both_ways}
 use Rattle.std.proofs.lemmas.Option.{slice_get_within}
 use Rattle.std.proofs.lemmas.List.{map-append, length-map, length-append}
@@ -22,6 +22,8 @@ use Rattle.line_laws.proofs.FramedLaws.{came-push-one, OthersStay, came-same, sa
 use Rattle.line_steps.specs.declared.half.Half.{Half}
 use Rattle.line_steps.specs.declared.half.Wire.{Wire}
 use Rattle.line_steps.specs.Adding.{Added, AddsOne, AddsTwo, AllBy}
+use Rattle.line_steps.specs.Counting.{landed}
+use Rattle.line_steps.proofs.CountingLaws.{counted_moves}
 use Rattle.line_steps.specs.Marking.{marked}
 use Rattle.line_steps.specs.Running.{sent_of, past_now, side_of, Holds, Read, SamePlace, Stays}
 use Rattle.line_steps.specs.Taking.{Delivers}
@@ -187,11 +189,12 @@ talks_past talk wire x y frame holds here gone talks =
       y_heard = at_other x.end y.end (x.taken + 1) y.taken (past_now wire.frames.items) holds.fy (side_of y) holds.apart.there (y_heard_now talk wire x y holds talks);
     }
 
-pub skip_keeps : (wire : Wire) (x0 y0 x y new : Half) (frame : Frame) → Holds wire x y → KeepsAll wire x0 y0 x y → slice_get wire.frames.items x.taken ≡ Some frame → (is_end x.end frame.from && arrives (fate_value frame.fate)) ≡ false → Read y new → KeepsAll wire x0 y0 (moved x) new
-skip_keeps wire x0 y0 x y new frame holds keeps here gone read = record {
+pub skip_keeps : (wire : Wire) (x0 y0 x y new : Half) (frame : Frame) → Holds wire x y → KeepsAll wire x0 y0 x y → slice_get wire.frames.items x.taken ≡ Some frame → (is_end x.end frame.from && arrives (fate_value frame.fate)) ≡ false → Read y new → new.reader.tally ≡ (if is_end x.end frame.from then landed (frame_value frame) y.reader.tally else y.reader.tally) → KeepsAll wire x0 y0 (moved x) new
+skip_keeps wire x0 y0 x y new frame holds keeps here gone read tally = record {
   talks = λ talk talks. subst (λ (h : Half). Talks talk wire (moved x) h) (sym read) (talks_past talk wire x y frame holds here gone (keeps.talks talk talks));
   recorded = λ script was. recorded_past script wire x y new frame here gone (ap (λ (h : Half). h.end) read, ap (λ (h : Half). h.taken) read) (keeps.recorded script was);
+  counted = λ was. counted_moves wire x y new frame here tally (ap (λ (h : Half). h.end) read, ap (λ (h : Half). h.taken) read) (keeps.counted was);
 }
 
 pub keeps_all : (wire : Wire) (x y : Half) → KeepsAll wire x y x y
-keeps_all wire x y = record { talks = λ talk talks. talks; recorded = λ script was. was }
+keeps_all wire x y = record { talks = λ talk talks. talks; recorded = λ script was. was; counted = λ was. was }

@@ -1,5 +1,6 @@
 pub mod Adding
 pub mod Carrying
+pub mod Counting
 pub mod Halting
 pub mod Hearing
 pub mod Marking

@@ -14,6 +14,7 @@ use Rattle.line_laws.specs.Talking.{Talking, count_messages}
 use Rattle.line_steps.specs.declared.half.Half.{Half}
 use Rattle.line_steps.specs.declared.half.Wire.{Wire}
 use Rattle.line_steps.specs.Adding.{AllBy}
+use Rattle.line_steps.specs.Counting.{Counted}
 use Rattle.line_steps.specs.Running.{past_now, side_of}
 use Rattle.line_steps.specs.Stories.{HeardOf}
 
@@ -57,6 +58,7 @@ pub record Recorded (script : List RuleValue) (wire : Wire) (x y : Half) : Type 
 pub record KeepsAll (wire : Wire) (x y later_x later_y : Half) : Type 0 where
   pub talks : KeepsTalk wire x y wire later_x later_y
   pub recorded : (script : List RuleValue) → Recorded script wire x y → Recorded script wire later_x later_y
+  pub counted : Counted wire x y → Counted wire later_x later_y
 
 -- What the next message of x answers: the other end's last one, or nothing, or for the first request the desktop's own greeting, where the other end waits for
 -- nothing.

@@ -7,6 +7,7 @@ ghost use Rattle.line_script.specs.Scripts.{fate_by};
 ghost use Rattle.trace_text.specs.Fates.{fate_value};
 ghost use Rattle.line_steps.specs.Adding.{AddsTwo};
 ghost use Rattle.line_steps.specs.Carrying.{Carried, SameMessage, StepTo, IsNext, makes_whole};
+ghost use Rattle.line_steps.specs.Counting.{Counted};
 ghost use Rattle.line_steps.specs.Halting.{Halted};
 ghost use Rattle.line_steps.specs.Running.{Holds, AtHead, AllGo, SamePlace, past_now};
 ghost use Rattle.line_steps.specs.Telling.{KeepsTalk, Recorded};
@@ -31,6 +32,7 @@ pub fn carry(wire: &mut Wire, x: &mut Half, y: &mut Half, script: &Script) -> Re
     requires underway { Underway wire.old x.old y.old }
     ensures recorded { Recorded script.now wire.old x.old y.old →
         Recorded script.now wire.new x.new y.new }
+    ensures counted { Counted wire.old x.old y.old → Counted wire.new x.new y.new }
     ensures carried { OnOk result (Carried wire.new x.new y.new) }
     ensures x_same { OnOk result (SameMessage x.old x.new) }
     ensures y_same { OnOk result (SameMessage y.old y.new) }
@@ -51,6 +53,7 @@ pub fn settle(wire: &mut Wire, x: &mut Half, y: &mut Half, script: &Script) -> R
     requires waits { Waits x.old.sender }
     ensures recorded { Recorded script.now wire.old x.old y.old →
         Recorded script.now wire.new x.new y.new }
+    ensures counted { Counted wire.old x.old y.old → Counted wire.new x.new y.new }
     ensures turn { OnOk result (Turn wire.new x.new y.new) }
     ensures idle { OnOk result (piece_count (length y.new.message.items) ≤ y.new.sender.acknowledged) }
     ensures x_same { OnOk result (SameMessage x.old x.new) }
@@ -73,6 +76,7 @@ fn step(wire: &mut Wire, x: &mut Half, y: &mut Half, script: &Script) -> Result<
     requires waits { Waits x.old.sender }
     ensures recorded { Recorded script.now wire.old x.old y.old →
         Recorded script.now wire.new x.new y.new }
+    ensures counted { Counted wire.old x.old y.old → Counted wire.new x.new y.new }
     ensures halted { IfErr result
         (λ halt. Halted halt wire.old x.old y.old wire.new x.new y.new) }
     ensures step { IfOk result (λ whole. StepTo whole wire.old x.old y.old wire.new x.new y.new) }
@@ -90,6 +94,7 @@ fn deliver(wire: &mut Wire, x: &mut Half, y: &mut Half, script: &Script) -> Resu
     requires y_head { AtHead y.old.end wire.old.frames.items y.old.taken }
     ensures recorded { Recorded script.now wire.old x.old y.old →
         Recorded script.now wire.new x.new y.new }
+    ensures counted { Counted wire.old x.old y.old → Counted wire.new x.new y.new }
     ensures halted { IfErr result
         (λ halt. Halted halt wire.old x.old y.old wire.new x.new y.new) }
     ensures step { IfOk result (λ whole. StepTo whole wire.old x.old y.old wire.new x.new y.new) }
@@ -160,6 +165,8 @@ fn wait(wire: &mut Wire, x: &mut Half, y: &mut Half, fate: Fate, other: Fate) ->
         wire.old.frames.items wire.new.frames.items }
     ensures x_place { SamePlace x.old x.new }
     ensures y_place { SamePlace y.old y.new }
+    ensures x_reader { x.new.reader ≡ x.old.reader }
+    ensures y_reader { y.new.reader ≡ y.old.reader }
     ensures halted { IfErr result
         (λ halt. Halted halt wire.old x.old y.old wire.new x.new y.new) }
     ensures step { OnOk result (StepTo false wire.old x.old y.old wire.new x.new y.new) }

@@ -1,12 +1,13 @@
 //! An end takes the next frame of the other one.
-ghost use Rattle.std.specs.Prelude.{◌≡◌, ◌+◌, ◌≤◌, ◌<◌, [], OnOk, IfOk, IfErr, false, length};
+ghost use Rattle.std.specs.Prelude.{◌≡◌, ◌+◌, ◌≤◌, ◌<◌, [], OnOk, IfOk, IfErr, false, true, length};
 ghost use Rattle.padp_link.specs.Pieces.{piece_count};
 ghost use Rattle.padp_link.specs.Senders.{Waits, WaitsOnLast};
 ghost use Rattle.slp_frames.specs.PacketScan.{packet_at};
-ghost use Rattle.trace_text.specs.Fates.{fate_value, ends_run};
+ghost use Rattle.trace_text.specs.Fates.{fate_value, arrives, ends_run};
 ghost use Rattle.trace_text.specs.Frames.{BearsFragment, fragment_in};
 ghost use Rattle.trace_text.specs.TraceLines.{frame_value};
 ghost use Rattle.line_steps.specs.Adding.{AddsOne};
+ghost use Rattle.line_steps.specs.Counting.{Lands, landed};
 ghost use Rattle.line_steps.specs.Halting.{Halted};
 ghost use Rattle.line_steps.specs.Hearing.{Hears};
 ghost use Rattle.line_steps.specs.Marking.{marked, Marks};
@@ -32,6 +33,7 @@ pub fn take_next(wire: &mut Wire, x: &mut Half, y: &mut Half, fate: Fate) -> Res
     ensures turn { IfOk result (λ heard. TurnBehind heard wire.new y.new x.new) }
     ensures moved { x.new ≡ record x.old { taken = x.old.taken + 1 } }
     ensures stays { Stays y.old y.new }
+    ensures lands { Lands x.old.taken wire.old y.old y.new }
     ensures underway { IfOk result
         (λ heard. StillUnderway heard wire.old x.old y.old wire.new x.new y.new) }
     ensures adds { AddsOne (fate_value fate)
@@ -52,6 +54,7 @@ fn take_marked(wire: &mut Wire, x: &mut Half, y: &mut Half, fate: Fate) -> Resul
     ensures turn { IfOk result (λ heard. TurnBehind heard wire.new y.new x.new) }
     ensures moved { x.new ≡ record x.old { taken = x.old.taken + 1 } }
     ensures stays { Stays y.old y.new }
+    ensures lands { Lands x.old.taken wire.old y.old y.new }
     ensures underway { IfOk result
         (λ heard. StillUnderway heard wire.old x.old y.old wire.new x.new y.new) }
     ensures adds { AddsOne (fate_value fate) wire.old.frames.items wire.new.frames.items }
@@ -86,6 +89,8 @@ fn hear_frame(frame: &Frame, half: &mut Half) -> Heard
         (frame_value frame.now)) result half.new.receiver }
     ensures heeded { Heeded half.old half.new }
     ensures gap { half.new.reader.held ≡ [] }
+    ensures tally { arrives (fate_value frame.now.fate) ≡ true →
+        half.new.reader.tally ≡ landed (frame_value frame.now) half.old.reader.tally }
 {
     hear_harm(frame, half);
     hear(&mut half.reader, &mut half.receiver, frame.bytes.as_slice())
@@ -104,6 +109,7 @@ fn take_ack(wire: &mut Wire, x: &mut Half, y: &mut Half, key: Key, fate: Fate) -
     ensures less { OnOk result (work_left wire.new x.new y.new < work_left wire.old x.old y.old) }
     ensures moved { x.new ≡ record x.old { taken = x.old.taken + 1 } }
     ensures stays { Stays y.old y.new }
+    ensures reader { y.new.reader ≡ y.old.reader }
 {
     x.taken += 1;
     if !y.sender.on_ack(key) {
@@ -135,6 +141,7 @@ fn take_data(
     ensures less { OnOk result (work_left wire.new x.new y.new < work_left wire.old x.old y.old) }
     ensures moved { x.new ≡ record x.old { taken = x.old.taken + 1 } }
     ensures stays { Stays y.old y.new }
+    ensures reader { y.new.reader ≡ y.old.reader }
 {
     x.taken += 1;
     match taken {

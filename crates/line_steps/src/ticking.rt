@@ -55,6 +55,8 @@ pub fn tick(
         (λ halt. Halted halt wire.old x.old y.old wire.new x.new y.new) }
     ensures x_stays { Stays x.old x.new }
     ensures y_stays { Stays y.old y.new }
+    ensures x_reader { x.new.reader ≡ x.old.reader }
+    ensures y_reader { y.new.reader ≡ y.old.reader }
     ensures underway { OnOk result
         (StillUnderway Nothing wire.old x.old y.old wire.new x.new y.new) }
 {
@@ -77,6 +79,7 @@ fn send_again(wire: &mut Wire, half: &mut Half, fate: Fate) -> Result<(), Halt>
     ensures halts { IfErr result
         (λ halt. NotAgain halt (fate_value fate) half.old wire.old wire.new) }
     ensures stays { Stays half.old half.new }
+    ensures reader { half.new.reader ≡ half.old.reader }
     ensures again { OnOk result (SendsAgain wire.old half.old (fate_value fate) wire.new half.new) }
 {
     if half.sender.on_timer().is_err() {

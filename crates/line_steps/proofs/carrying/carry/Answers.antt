@@ -13,7 +13,7 @@ pub loop-preserved : goal.loop-preserved
 loop-preserved c =
     let step = c.in_ok-step.ensures.step in
     let on = not_over c.in_ok-step.field-0 c.step.new.wire c.step.new.x c.step.new.y c.if-branch.false (step.underway c.loop.invariant.1) in
-    (step.holds, on, same_trans c.args.x.now c.loop.x c.step.new.x c.loop.invariant.2 step.x_same, same_trans c.args.y.now c.loop.y c.step.new.y c.loop.invariant.3 step.y_same, λ was. c.step.ensures.recorded (c.loop.invariant.4 was), λ talk talks. step.talks talk (c.loop.invariant.5 talk talks))
+    (step.holds, on, same_trans c.args.x.now c.loop.x c.step.new.x c.loop.invariant.2 step.x_same, same_trans c.args.y.now c.loop.y c.step.new.y c.loop.invariant.3 step.y_same, λ was. c.step.ensures.recorded (c.loop.invariant.4 was), λ talk talks. step.talks talk (c.loop.invariant.5 talk talks), λ was. c.step.ensures.counted (c.loop.invariant.6 was))
 
 pub returns-in_err-step-clause-recorded : goal.returns-in_err-step-clause-recorded
 returns-in_err-step-clause-recorded c = λ was. c.step.ensures.recorded (c.loop.invariant.4 was)
@@ -28,3 +28,9 @@ pub returns-in_err-step-clause-halted : goal.returns-in_err-step-clause-halted
 returns-in_err-step-clause-halted c =
     let p = err_from_is_err_and c.from_residual.result c.from_residual.ensures.1 in
     rw (p.1, p.2) (halted_behind c.in_err-step.field-0.0 c.args.wire.now c.args.x.now c.args.y.now c.loop.wire c.loop.x c.loop.y c.step.new.wire c.step.new.x c.step.new.y c.loop.invariant.2.end_is c.loop.invariant.3.end_is c.loop.invariant.5 c.in_err-step.ensures.halted)
+
+pub returns-in_err-step-clause-counted : goal.returns-in_err-step-clause-counted
+returns-in_err-step-clause-counted c = λ was. c.step.ensures.counted (c.loop.invariant.6 was)
+
+pub returns-then-branch-clause-counted : goal.returns-then-branch-clause-counted
+returns-then-branch-clause-counted c = λ was. c.step.ensures.counted (c.loop.invariant.6 was)

@@ -1,3 +1,4 @@
+use Rattle.line_steps.proofs.CountingLaws.{counted_own, counted_other, counted_two}
 use Rattle.std.proofs.Common.{◌≡◌, ℕ, ◌+◌, length, ap, ◌∙◌, arith}
 use Rattle.trace_text.specs.Fates.{fate_value}
 use Rattle.line_script.specs.Scripts.{fate_by}
@@ -95,3 +96,35 @@ pub returns-in_err-wait-in-Nothing-clause-halted : goal.returns-in_err-wait-in-N
 returns-in_err-wait-in-Nothing-clause-halted c =
     let p = err_from_is_err_and c.from_residual-in_err-wait-in-Nothing.result c.from_residual-in_err-wait-in-Nothing.ensures.1 in
     rw (p.1, p.2) c.in_err-wait-in-Nothing.ensures.halted
+
+pub returns-in_err-heard-in-Own-clause-counted : goal.returns-in_err-heard-in-Own-clause-counted
+returns-in_err-heard-in-Own-clause-counted c =
+    let took = c.take_next.ensures in
+    counted_own (fate_value c.in_ok-fate.fate) c.args.wire.now c.take_next.new.wire c.args.x.now c.args.y.now c.take_next.new.x c.take_next.new.y c.requires.holds c.in-Own.ensures.0 took.adds took.moved took.stays took.lands
+
+pub returns-in_ok-heard-in-Own-clause-counted : goal.returns-in_ok-heard-in-Own-clause-counted
+returns-in_ok-heard-in-Own-clause-counted c =
+    let took = c.take_next.ensures in
+    counted_own (fate_value c.in_ok-fate.fate) c.args.wire.now c.take_next.new.wire c.args.x.now c.args.y.now c.take_next.new.x c.take_next.new.y c.requires.holds c.in-Own.ensures.0 took.adds took.moved took.stays took.lands
+
+pub returns-in_err-take_next-in-Other-clause-counted : goal.returns-in_err-take_next-in-Other-clause-counted
+returns-in_err-take_next-in-Other-clause-counted c =
+    let took = c.take_next-in-Other.ensures in
+    counted_other (fate_value c.in_ok-fate.fate) c.args.wire.now c.take_next-in-Other.new.wire c.args.x.now c.args.y.now c.take_next-in-Other.new.y c.take_next-in-Other.new.x (holds_turned c.args.wire.now c.args.x.now c.args.y.now c.requires.holds) c.in-Other.ensures
+    took.adds took.moved took.stays took.lands
+
+pub returns-in_ok-take_next-in-Other-clause-counted : goal.returns-in_ok-take_next-in-Other-clause-counted
+returns-in_ok-take_next-in-Other-clause-counted c =
+    let took = c.take_next-in-Other.ensures in
+    counted_other (fate_value c.in_ok-fate.fate) c.args.wire.now c.take_next-in-Other.new.wire c.args.x.now c.args.y.now c.take_next-in-Other.new.y c.take_next-in-Other.new.x (holds_turned c.args.wire.now c.args.x.now c.args.y.now c.requires.holds) c.in-Other.ensures
+    took.adds took.moved took.stays took.lands
+
+pub returns-in_err-wait-in-Nothing-clause-counted : goal.returns-in_err-wait-in-Nothing-clause-counted
+returns-in_err-wait-in-Nothing-clause-counted c =
+    counted_two (fate_value c.in_ok-fate.fate) (fate_value c.in_ok-other-in-Nothing.other) c.args.wire.now c.wait.new.wire c.args.x.now c.args.y.now c.wait.new.x c.wait.new.y c.requires.holds
+    c.wait.ensures.adds c.wait.ensures.x_place c.wait.ensures.y_place c.wait.ensures.x_reader c.wait.ensures.y_reader
+
+pub returns-in_ok-wait-in-Nothing-clause-counted : goal.returns-in_ok-wait-in-Nothing-clause-counted
+returns-in_ok-wait-in-Nothing-clause-counted c =
+    counted_two (fate_value c.in_ok-fate.fate) (fate_value c.in_ok-other-in-Nothing.other) c.args.wire.now c.wait.new.wire c.args.x.now c.args.y.now c.wait.new.x c.wait.new.y c.requires.holds
+    c.wait.ensures.adds c.wait.ensures.x_place c.wait.ensures.y_place c.wait.ensures.x_reader c.wait.ensures.y_reader

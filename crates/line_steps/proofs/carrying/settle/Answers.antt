@@ -15,6 +15,7 @@ loop-wire-init c = (
   same_refl c.args.y.now,
   λ was. was,
   λ talk talks. talks,
+  λ was. was,
 )
 
 pub returns-then-is_none-clause-turn : goal.returns-then-is_none-clause-turn
@@ -28,7 +29,7 @@ step-requires-clause-waits c = some_waits c.loop-wire.x.sender (ap is_some (sym 
 pub loop-wire-preserved : goal.loop-wire-preserved
 loop-wire-preserved c =
     let step = c.in_ok-step.ensures.step in
-    (step.holds, step.taken c.loop-wire.invariant.1, same_trans c.args.x.now c.loop-wire.x c.step.new.x c.loop-wire.invariant.2 step.x_same, same_trans c.args.y.now c.loop-wire.y c.step.new.y c.loop-wire.invariant.3 step.y_same, λ was. c.step.ensures.recorded (c.loop-wire.invariant.4 was), λ talk talks. step.talks talk (c.loop-wire.invariant.5 talk talks))
+    (step.holds, step.taken c.loop-wire.invariant.1, same_trans c.args.x.now c.loop-wire.x c.step.new.x c.loop-wire.invariant.2 step.x_same, same_trans c.args.y.now c.loop-wire.y c.step.new.y c.loop-wire.invariant.3 step.y_same, λ was. c.step.ensures.recorded (c.loop-wire.invariant.4 was), λ talk talks. step.talks talk (c.loop-wire.invariant.5 talk talks), λ was. c.step.ensures.counted (c.loop-wire.invariant.6 was))
 
 pub returns-in_err-step-clause-recorded : goal.returns-in_err-step-clause-recorded
 returns-in_err-step-clause-recorded c = λ was. c.step.ensures.recorded (c.loop-wire.invariant.4 was)
@@ -37,3 +38,6 @@ pub returns-in_err-step-clause-halted : goal.returns-in_err-step-clause-halted
 returns-in_err-step-clause-halted c =
     let p = err_from_is_err_and c.from_residual.result c.from_residual.ensures.1 in
     rw (p.1, p.2) (halted_behind c.in_err-step.field-0.0 c.args.wire.now c.args.x.now c.args.y.now c.loop-wire.wire c.loop-wire.x c.loop-wire.y c.step.new.wire c.step.new.x c.step.new.y c.loop-wire.invariant.2.end_is c.loop-wire.invariant.3.end_is c.loop-wire.invariant.5 c.in_err-step.ensures.halted)
+
+pub returns-in_err-step-clause-counted : goal.returns-in_err-step-clause-counted
+returns-in_err-step-clause-counted c = λ was. c.step.ensures.counted (c.loop-wire.invariant.6 was)

@@ -1,3 +1,4 @@
+use Rattle.line_steps.proofs.CountingLaws.{counted_turned}
 use Rattle.std.proofs.Common.{ap, ◌∙◌}
 use Rattle.std.proofs.lemmas.Result.{IfOk-weaker}
 use Rattle.line_steps.specs.declared.half.Half.{Half}
@@ -41,3 +42,6 @@ returns-clause-halted c =
     let keeps = skipped-talks wire x y c.skip_to_head.new.x c.skip_to_head.new.y x2 y2 c.requires.holds.apart c.skip_to_head.ensures.moved c.skip_to_head.ensures.read c.skip_to_head-2.ensures.moved c.skip_to_head-2.ensures.read c.skip_to_head.ensures.keeps.talks c.skip_to_head-2.ensures.keeps.talks in
     err_weaker c.deliver.result (λ halt. Halted halt wire x2 y2 new c.deliver.new.x c.deliver.new.y) (λ halt. Halted halt wire x y new c.deliver.new.x c.deliver.new.y)
     (λ halt it. halted_behind halt wire x y wire x2 y2 new c.deliver.new.x c.deliver.new.y (ap (λ (h : Half). h.end) c.skip_to_head-2.ensures.read ∙ ap (λ (h : Half). h.end) c.skip_to_head.ensures.moved) (ap (λ (h : Half). h.end) c.skip_to_head-2.ensures.moved ∙ ap (λ (h : Half). h.end) c.skip_to_head.ensures.read) keeps it) c.deliver.ensures.halted
+
+pub returns-clause-counted : goal.returns-clause-counted
+returns-clause-counted c = λ was. c.deliver.ensures.counted (counted_turned c.args.wire.now c.skip_to_head-2.new.x c.skip_to_head-2.new.y (c.skip_to_head-2.ensures.keeps.counted (counted_turned c.args.wire.now c.skip_to_head.new.x c.skip_to_head.new.y (c.skip_to_head.ensures.keeps.counted was))))

@@ -1,5 +1,5 @@
 use Rattle.std.proofs.Common.{◌≡◌, ◌<◌, length, ◌&&◌, Bool, refl, sym, ap, ◌∙◌, arith, inr}
-use Rattle.std.proofs.lemmas.Bool.{and_from}
+use Rattle.std.proofs.lemmas.Bool.{and_from, cond-true, cond-false}
 use Rattle.std.proofs.lemmas.Option.{slice_get_read}
 use Rattle.trace_text.specs.declared.frame.End.{End}
 use Rattle.trace_text.specs.declared.frame.Frame.{Frame}
@@ -8,6 +8,8 @@ use Rattle.trace_text.specs.Fates.{fate_value, arrives}
 use Rattle.trace_text.specs.Past.{is_end}
 use Rattle.line_steps.proofs.FrameLaws.{length-past}
 use Rattle.line_steps.proofs.HoldsLaws.{skip_step, going, has_bytes, and_none}
+use Rattle.trace_text.specs.TraceLines.{frame_value}
+use Rattle.line_steps.proofs.CountingLaws.{landed_away}
 use Rattle.line_steps.proofs.RecordedLaws.{skip_keeps, keeps_all}
 use Rattle.line_steps.proofs.WorkLaws.{skips_less}
 use Rattle.line_steps.specs.Running.{Read}
@@ -45,6 +47,7 @@ loop-x-preserved c =
     let inside : c.loop-x.x.taken < length c.args.wire.now.frames.items = omega (arith, c.loop-x-test.true, c.len.ensures) in
     let here = slice_get_read c.args.wire.now.frames.items _ c.loop-x.x.taken c.index-frame.result.now refl inside c.index-frame.ensures in
     let frame = c.index-frame.result.now in
+    let goes = going c.args.wire.now c.loop-x.x c.loop-x.y c.loop-x.x.taken c.index-frame.result.now c.loop-x.invariant.0.0 here in
     let left = λ (new : Half) (read : Read c.loop-x.y new). skips_less c.args.wire.now c.args.x.now c.args.y.now c.loop-x.x c.loop-x.y new c.loop-x.invariant.0.0 c.loop-x.invariant.1 inside read in
     elim c.if-is_from.branch [
       | then-is_from+else-arrives w ↦ rw w.y-is (
@@ -52,13 +55,14 @@ loop-x-preserved c =
             (and_none _ _ (sym w.arrives.ensures ∙ w.if-arrives.false)) w.hear_harm.ensures.read w.hear_harm.ensures.gap,
         left w.hear_harm.new.half w.hear_harm.ensures.read,
         skip_keeps c.args.wire.now c.args.x.now c.args.y.now c.loop-x.x c.loop-x.y w.hear_harm.new.half frame c.loop-x.invariant.0.0 c.loop-x.invariant.2 here
-            (and_none _ _ (sym w.arrives.ensures ∙ w.if-arrives.false)) w.hear_harm.ensures.read,
+            (and_none _ _ (sym w.arrives.ensures ∙ w.if-arrives.false)) w.hear_harm.ensures.read
+            (w.hear_harm.ensures.tally ∙ (landed_away (frame_value frame) c.loop-x.y.reader.tally (sym w.arrives.ensures ∙ w.if-arrives.false) (has_bytes _ frame goes) goes.goes_on ∙ sym (cond-true _ _ _ (sym c.is_from.ensures ∙ w.if-is_from.true)))),
       )
       | else-is_from w ↦ rw w.y-is (
         skip_step c.args.wire.now c.args.x.now c.args.y.now c.loop-x.x c.loop-x.y c.loop-x.y frame c.loop-x.invariant.0 inside here
             (ap (λ (b : Bool). b && arrives (fate_value frame.fate)) (sym c.is_from.ensures ∙ w.if-is_from.false)) refl c.loop-x.invariant.0.0.y_half.gap,
         left c.loop-x.y refl,
         skip_keeps c.args.wire.now c.args.x.now c.args.y.now c.loop-x.x c.loop-x.y c.loop-x.y frame c.loop-x.invariant.0.0 c.loop-x.invariant.2 here
-            (ap (λ (b : Bool). b && arrives (fate_value frame.fate)) (sym c.is_from.ensures ∙ w.if-is_from.false)) refl,
+            (ap (λ (b : Bool). b && arrives (fate_value frame.fate)) (sym c.is_from.ensures ∙ w.if-is_from.false)) refl (sym (cond-false _ _ _ (sym c.is_from.ensures ∙ w.if-is_from.false))),
       )
     ]

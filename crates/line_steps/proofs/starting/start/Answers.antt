@@ -1,4 +1,5 @@
-use Rattle.std.proofs.Common.{◌≡◌, None, length, arith, refl, sym, subst}
+use Rattle.line_steps.proofs.CountingLaws.{counted_two}
+use Rattle.std.proofs.Common.{◌≡◌, None, length, arith, refl, sym, subst, inl}
 use Rattle.std.proofs.lemmas.Result.{on_ok_weaker}
 use Rattle.padp_link.specs.Senders.{SenderValue}
 use Rattle.trace_text.specs.Fates.{fate_value}
@@ -76,3 +77,9 @@ returns-clause-spoke c =
     (λ _. (talk : Talk) → IsNextTo talk x y c.args.id → Talks talk wire x y → Spoke (say x.end message.items talk) new half y)
     (λ halt it talk next talks. start_speaks talk wire new x y c.args.id message (fate_value c.args.fate) halt c.requires.turn c.requires.other c.requires.awaited c.requires.none
     (subst (λ (s : SenderValue). Halts wire.frames.items x.end s.id (part_now (side_of (record x { sender = s; message = message }))) (fate_value c.args.fate) halt new.frames.items) c.start.ensures it) next talks) c.send_piece.ensures.halt
+
+pub returns-clause-counted : goal.returns-clause-counted
+returns-clause-counted c =
+    let half = record c.args.x.now { sender = c.start.new.self; message = c.args.message } in
+    counted_two (fate_value c.args.fate) (fate_value c.args.fate) c.args.wire.now c.send_piece.new.wire c.args.x.now c.args.y.now half c.args.y.now (settled_holds c.args.wire.now c.args.x.now c.args.y.now c.requires.turn.settled)
+    (inl (adds_of c.send_piece.result c.args.wire.now.frames.items c.send_piece.new.wire.frames.items c.args.x.now.end c.start.new.self.id (part_now (side_of half)) (fate_value c.args.fate) c.send_piece.ensures.ok c.send_piece.ensures.halt)) (refl, refl) (refl, refl) refl refl

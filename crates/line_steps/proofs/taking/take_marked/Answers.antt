@@ -1,3 +1,4 @@
+use Rattle.line_steps.proofs.CountingLaws.{heard_lands, lands_same}
 use Rattle.std.proofs.Common.{refl}
 use Rattle.std.proofs.lemmas.Result.{err_from_is_err_and}
 use Rattle.std.proofs.lemmas.Option.{slice_get_read, slice_get_within}
@@ -91,3 +92,48 @@ pub returns-in_err-take_data-in-Data-clause-halted : goal.returns-in_err-take_da
 returns-in_err-take_data-in-Data-clause-halted c =
     let p = err_from_is_err_and c.from_residual-in_err-take_data-in-Data.result c.from_residual-in_err-take_data-in-Data.ensures.1 in
     rw (p.1, p.2) (halted_heeded c.in_err-take_data-in-Data.field-0.0 c.args.wire.now c.args.x.now c.args.y.now c.hear_frame-heard.new.half c.take_data.new.wire c.take_data.new.x c.take_data.new.y c.in-Data.ensures.heeded c.in_err-take_data-in-Data.ensures.halted)
+
+pub returns-in_err-take_ack-in-Ack-clause-lands : goal.returns-in_err-take_ack-in-Ack-clause-lands
+returns-in_err-take_ack-in-Ack-clause-lands c =
+    let frames = c.args.wire.now.frames.items in
+    let n = c.args.x.now.taken in
+    let here = slice_get_read frames _ n c.index.result.now refl (slice_get_within frames n c.requires.next.frame c.requires.next.here) c.index.ensures in
+    let half = c.hear_frame-heard.new.half in
+    let lands = heard_lands c.args.x.now.end c.args.wire.now n c.index.result.now c.args.y.now half c.requires.next here c.hear_frame-heard.ensures.tally in
+    lands_same n c.args.wire.now c.args.y.now half c.take_ack.new.y c.take_ack.ensures.reader lands
+
+pub returns-in_err-take_data-in-Data-clause-lands : goal.returns-in_err-take_data-in-Data-clause-lands
+returns-in_err-take_data-in-Data-clause-lands c =
+    let frames = c.args.wire.now.frames.items in
+    let n = c.args.x.now.taken in
+    let here = slice_get_read frames _ n c.index.result.now refl (slice_get_within frames n c.requires.next.frame c.requires.next.here) c.index.ensures in
+    let half = c.hear_frame-heard.new.half in
+    let lands = heard_lands c.args.x.now.end c.args.wire.now n c.index.result.now c.args.y.now half c.requires.next here c.hear_frame-heard.ensures.tally in
+    lands_same n c.args.wire.now c.args.y.now half c.take_data.new.y c.take_data.ensures.reader lands
+
+pub returns-in_ok-take_ack-in-Ack-clause-lands : goal.returns-in_ok-take_ack-in-Ack-clause-lands
+returns-in_ok-take_ack-in-Ack-clause-lands c =
+    let frames = c.args.wire.now.frames.items in
+    let n = c.args.x.now.taken in
+    let here = slice_get_read frames _ n c.index.result.now refl (slice_get_within frames n c.requires.next.frame c.requires.next.here) c.index.ensures in
+    let half = c.hear_frame-heard.new.half in
+    let lands = heard_lands c.args.x.now.end c.args.wire.now n c.index.result.now c.args.y.now half c.requires.next here c.hear_frame-heard.ensures.tally in
+    lands_same n c.args.wire.now c.args.y.now half c.take_ack.new.y c.take_ack.ensures.reader lands
+
+pub returns-in_ok-take_data-in-Data-clause-lands : goal.returns-in_ok-take_data-in-Data-clause-lands
+returns-in_ok-take_data-in-Data-clause-lands c =
+    let frames = c.args.wire.now.frames.items in
+    let n = c.args.x.now.taken in
+    let here = slice_get_read frames _ n c.index.result.now refl (slice_get_within frames n c.requires.next.frame c.requires.next.here) c.index.ensures in
+    let half = c.hear_frame-heard.new.half in
+    let lands = heard_lands c.args.x.now.end c.args.wire.now n c.index.result.now c.args.y.now half c.requires.next here c.hear_frame-heard.ensures.tally in
+    lands_same n c.args.wire.now c.args.y.now half c.take_data.new.y c.take_data.ensures.reader lands
+
+pub returns-in-Nothing-clause-lands : goal.returns-in-Nothing-clause-lands
+returns-in-Nothing-clause-lands c =
+    let frames = c.args.wire.now.frames.items in
+    let n = c.args.x.now.taken in
+    let here = slice_get_read frames _ n c.index.result.now refl (slice_get_within frames n c.requires.next.frame c.requires.next.here) c.index.ensures in
+    let half = c.hear_frame-heard.new.half in
+    let lands = heard_lands c.args.x.now.end c.args.wire.now n c.index.result.now c.args.y.now half c.requires.next here c.hear_frame-heard.ensures.tally in
+    lands

@@ -1,3 +1,4 @@
+use Rattle.line_steps.proofs.CountingLaws.{lands_marked}
 use Rattle.std.proofs.Common.{refl, subst, List}
 use Rattle.std.proofs.lemmas.Option.{slice_get_within}
 use Rattle.std.proofs.lemmas.Result.{IfOk-weaker, on_ok_weaker}
@@ -41,3 +42,6 @@ returns-clause-halted c =
     let y = c.args.y.now in
     err_weaker c.take_marked.result (λ halt. Halted halt mid x y c.take_marked.new.wire c.take_marked.new.x c.take_marked.new.y) (λ halt. Halted halt wire x y c.take_marked.new.wire c.take_marked.new.x c.take_marked.new.y)
     (λ halt it. halted_behind halt wire x y mid x y c.take_marked.new.wire c.take_marked.new.x c.take_marked.new.y refl refl (λ talk talks. talks_marked talk x.taken wire mid x y c.mark.ensures talks) it) c.take_marked.ensures.halted
+
+pub returns-clause-lands : goal.returns-clause-lands
+returns-clause-lands c = lands_marked c.args.wire.now c.mark.new.wire c.args.x.now.taken c.args.y.now c.take_marked.new.y c.mark.ensures c.take_marked.ensures.lands
