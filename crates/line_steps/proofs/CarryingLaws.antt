@@ -11,7 +11,6 @@ use Rattle.trace_text.specs.declared.frame.End.{End}
 use Rattle.trace_text.specs.Fates.{FateValue}
 use Rattle.line_laws.specs.Core.{Apart, Side, Waiting}
 use Rattle.line_laws.specs.Line.{Line}
-use Rattle.line_laws.proofs.MeasureLaws.{measure_turned}
 use Rattle.line_steps.specs.declared.half.Half.{Half}
 use Rattle.line_steps.specs.declared.half.Wire.{Wire}
 use Rattle.line_steps.specs.declared.hearing.Heard.{Heard}
@@ -28,6 +27,7 @@ use Rattle.line_steps.proofs.StartingLaws.{waits_now, waits_then}
 use Rattle.line_steps.specs.Telling.{KeepsTalk, KeepsAll, Recorded}
 use Rattle.line_steps.proofs.RecordedLaws.{recorded_turned}
 use Rattle.line_steps.proofs.TalkedLaws.{talk_turned, talks_turned}
+use Rattle.line_steps.proofs.WorkLaws.{work_turned}
 use Rattle.line_steps.proofs.TurnLaws.{apart_turned, holds_turned}
 
 pub again-stays : (wire new : Wire) (half later : Half) (given : FateValue) → SendsAgain wire half given new later → Stays half later
@@ -47,9 +47,6 @@ stays_same a b stays = record { end_is = stays.end_is; message_is = stays.messag
 
 pub moved_same : (a b : Half) → b ≡ moved a → SameMessage a b
 moved_same a b is = subst (λ (h : Half). SameMessage a h) (sym is) (record { end_is = refl; message_is = refl; id_is = refl })
-
-pub work_turned : (wire : Wire) (x y : Half) → work_left wire x y ≡ work_left wire y x
-work_turned wire x y = measure_turned x.end y.end (past_now wire.frames.items) x.taken y.taken (side_of x) (side_of y) x.sender.tries y.sender.tries
 
 -- ---- both ends at their heads
 

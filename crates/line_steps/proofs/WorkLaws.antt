@@ -114,7 +114,7 @@ tick_one-less wire new r x y later given holds waits sent =
     subst (λ (h : Half). work_left new h y < work_left wire x y) (sym sent.counted)
     (again_less (record wire { released = r }) new x y given holds.go holds.apart.back holds.x_half holds.line.core.there.cur_in holds.line.core.back.cur_in waits now)
 
-work_turned : (wire : Wire) (x y : Half) → work_left wire x y ≡ work_left wire y x
+pub work_turned : (wire : Wire) (x y : Half) → work_left wire x y ≡ work_left wire y x
 work_turned wire x y = measure_turned x.end y.end (past_now wire.frames.items) x.taken y.taken (side_of x) (side_of y) x.sender.tries y.sender.tries
 
 pub tick_other-less : (wire new : Wire) (r : ℕ) (x y later : Half) (given : FateValue) → Holds wire x y → Waits y.sender → SendsAgain (record wire { released = r }) y given new later → work_left new x later < work_left wire x y
