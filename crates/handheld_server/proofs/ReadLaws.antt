@@ -1,5 +1,5 @@
 -- A record that is read by its id is read at its place.
-use Rattle.std.proofs.Common.{◌≡◌, ◌<◌, ◌≤◌, ℕ, zero, suc, List, [], ◌∷◌, length, Option, Some, None, Result, Ok, Err, refl, ap, sym, subst, ◌∙◌, slice_get, arith}
+use Rattle.std.proofs.Common.{◌≡◌, ◌≤◌, ℕ, zero, suc, List, [], ◌∷◌, length, Option, Some, None, Result, Ok, Err, refl, ap, sym, subst, ◌∙◌, slice_get, arith}
 use Rattle.std.specs.Prelude.{IfSome, option_and_then}
 use Rattle.pdb_values.specs.Databases.{DatabaseValue}
 use Rattle.pdb_values.specs.NamedDatabases.{database_of}
@@ -10,7 +10,7 @@ use Rattle.palm_device.specs.declared.opened.Opened.{Opened}
 use Rattle.dlp_replies.specs.ReplyValues.{ReplyValue}
 use Rattle.dlp_commands.specs.Errors.{none_open, not_found, not_supported, ◌>>=◌, check, need}
 use Rattle.dlp_commands.specs.Holding.{fits}
-use Rattle.dlp_commands.specs.Readings.{read_in, read_on, record_part}
+use Rattle.dlp_commands.specs.Readings.{read_in, record_part}
 use Rattle.dlp_commands.specs.declared.holds.Holds.TheVariants as holds
 use Rattle.dlp_commands.specs.Reached.{Tried, reads}
 use Rattle.dlp_commands.specs.declared.reading.Reading.{Reading}

@@ -46,8 +46,42 @@ pub fn write_named<F: Folder>(
 
 // Does an edit of the database of a name, and keeps its file. Gives the id of the record that was
 // written, or 0.
-#[tactic(auto, using(crate::proofs::KeepLaws::keeps_same))]
 fn edit_named<F: Folder>(
+    store: &mut Store<F>,
+    name: &DbName,
+    edit: &Edit<'_>,
+) -> Result<RecordId, ServeFault>
+    requires sound { store.old.sound ≡ true }
+    requires possible { IfSome (database_of name.now store.old.databases)
+        (λ database. IsFor database edit.now) }
+    ensures edited { IfOk result (λ given. IfSome (database_of name.now store.old.databases)
+        (λ database. store.new.databases
+        ≡ replaced (edited given edit.now database) store.old.databases)) }
+    ensures given { IfOk result (λ given. edit_given given edit.now ≡ given) }
+    ensures free { IfOk result (λ given. gives_free edit.now ≡ true
+        → IfSome (database_of name.now store.old.databases)
+        (λ database. IsFree given database.records)) }
+    ensures user { OnOk result (store.new.user ≡ store.old.user) }
+    ensures keeps { Keeps F.contents F.moments F.paths F.faults store.old store.new result }
+    ensures files { OnOk result (TouchesOne F.contents store.old store.new) }
+{
+    match *edit {
+        Edit::Record {
+            id,
+            category,
+            secret,
+            bytes,
+        } => match store.write_record(name, id, category, secret, bytes) {
+            Ok(given) => Ok(given),
+            Err(refused) => Err(ServeFault::from(refused)),
+        },
+        _ => edit_copied(store, name, edit),
+    }
+}
+
+// The same, on a copy of the database that takes its place.
+#[tactic(auto, using(crate::proofs::KeepLaws::keeps_same))]
+fn edit_copied<F: Folder>(
     store: &mut Store<F>,
     name: &DbName,
     edit: &Edit<'_>,

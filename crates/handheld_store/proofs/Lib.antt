@@ -2,4 +2,6 @@ pub mod IdLaws
 pub mod IndexLaws
 pub mod KeptLaws
 pub mod ListLaws
+pub mod PlacedLaws
 pub mod SettledLaws
+pub mod WritingLaws

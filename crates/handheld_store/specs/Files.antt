@@ -5,7 +5,7 @@ use Rattle.std.specs.Option.{option_map}
 use Rattle.hs_folders.specs.FileMaps.{FileMap}
 use Rattle.pdb_values.specs.Databases.{DatabaseValue}
 use Rattle.pdb_values.specs.NamedDatabases.{database_of}
-use Rattle.pdb_files.specs.Files.{canonical}
+use Rattle.pdb_files.specs.Files.{IsFileText, canonical}
 use Rattle.folder_files.specs.FileNames.{database_file}
 use Rattle.handheld_store.specs.Stores.{StoreValue}
 
@@ -23,3 +23,7 @@ Follows old new before after = ((new ≡ old) × (after ≡ before)) ⊎ ((new �
 -- the files of a store go with the database of this name
 abbrev pub FollowsName : {F : Type 0} → (F → Option FileMap) → List ℕ → StoreValue F → StoreValue F → Type 0
 FollowsName contents name old new = Follows (database_of name old.databases) (database_of name new.databases) (contents old.folder) (contents new.folder)
+
+-- where a database became another one, its canonical bytes are a text of its file
+abbrev pub HasText : DatabaseValue → DatabaseValue → Type 0
+HasText old new = (new ≡ old → ⊥) → IsFileText new (canonical new)

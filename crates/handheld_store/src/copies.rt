@@ -76,8 +76,8 @@ fn same_records(one: &[Record], other: &[Record]) -> bool
     true
 }
 
-// Whether two records are the same.
-fn same_record(one: &Record, other: &Record) -> bool
+/// Whether two records are the same.
+pub fn same_record(one: &Record, other: &Record) -> bool
     ensures { IsTrue result ↔ (one.now ≡ other.now) }
 {
     one.id == other.id

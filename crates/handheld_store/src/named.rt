@@ -1,5 +1,5 @@
 // The databases of a store by their names, and their files.
-ghost use Rattle.std.specs.Prelude.{◌≡◌, ◌≤◌, IfOk, IfSome, IsErrOf, None, OnErr, OnOk, Ok, Some, false, is_err, length, true};
+ghost use Rattle.std.specs.Prelude.{◌≡◌, ◌≤◌, IfOk, IfSome, IsErrOf, IsSomeAnd, None, OnErr, OnOk, Ok, Some, false, is_err, length, option_and_then, true};
 ghost use Rattle.std.specs.Option.{option_copied};
 ghost use Rattle.hs_folders.specs.Moments.{OneChange};
 ghost use Rattle.pdb_values.specs.Databases.{DatabaseValue};
@@ -7,18 +7,22 @@ ghost use Rattle.pdb_values.specs.NamedDatabases as named;
 ghost use Rattle.pdb_values.specs.NamedDatabases.{replaced, with_new, without_named};
 ghost use Rattle.pdb_values.specs.declared.user.UserInfo.{UserInfo as UserValue};
 ghost use Rattle.palm_device.specs.Blocks.{empty_database};
+ghost use Rattle.palm_device.specs.Records.{place_of_id};
 ghost use Rattle.handheld_files.specs.Openings.{AreKept, Stands};
 ghost use Rattle.handheld_files.specs.Settled.{are_settled};
 ghost use Rattle.handheld_store.specs.Files.{Follows};
+ghost use Rattle.handheld_store.specs.Placed.{Takes, with_record};
 ghost use Rattle.handheld_store.specs.Refusals.{create_fault, delete_fault, open_fault, refusal_of, stops};
 
 use crate::copies::{are_same, copy_of};
 use crate::fault::StoreFault;
 use crate::files::{file_of, remove_database_file, write_file};
+use crate::placed::write_record;
 use hs_folders::Folder;
 use palm_device::has_bit;
 use pdb_values::{
-    Database, DbHead, DbName, database_of, insert_database, place_of, remove_database,
+    Content, Database, DbHead, DbName, RecordId, database_of, insert_database, place_of,
+    remove_database,
 };
 use std::alloc::Global;
 
@@ -173,4 +177,42 @@ pub fn put_database<F: Folder>(
     write_file(folder, file.name.as_str(), &file.bytes)?;
     databases[place] = database;
     Ok(())
+}
+
+/// Writes a record of the database of a name, in its place or behind the others, and the database's
+/// file. Nothing is written where that makes no other database.
+pub fn put_record<F: Folder>(
+    alloc: Global,
+    folder: &mut F,
+    databases: &mut Vec<Database>,
+    name: &DbName,
+    place: Option<usize>,
+    id: RecordId,
+    content: Content,
+) -> Result<(), StoreFault>
+    requires kept { AreKept databases.old.items }
+    requires takes { IsSomeAnd (named.database_of name.now databases.old.items) (Takes id) }
+    requires place { place ≡ option_and_then (λ database. place_of_id id database.records)
+        (named.database_of name.now databases.old.items) }
+    ensures put { OnOk result (IfSome (named.database_of name.now databases.old.items)
+        (λ was. databases.new.items ≡ replaced (with_record id content was) databases.old.items)) }
+    ensures stays { OnErr result (databases.new.items ≡ databases.old.items) }
+    ensures kept { AreKept databases.new.items }
+    ensures follows { OnOk result (Follows
+        (named.database_of name.now databases.old.items)
+        (named.database_of name.now databases.new.items)
+        (F.contents folder.old) (F.contents folder.new)) }
+    ensures stands { (user : UserValue) → Stands (F.contents folder.old) databases.old.items user
+        → OnOk result (Stands (F.contents folder.new) databases.new.items user) }
+    ensures change { OneChange F.contents F.moments F.paths F.faults folder.old folder.new
+        result (IsErrOf result StoreFault.KeeperFault) }
+    ensures stops { stops result ≡ is_err result }
+{
+    let Some(at) = place_of(databases, name.as_bytes()) else {
+        return Ok(());
+    };
+    match write_record(alloc, folder, &mut databases[at], place, id, content) {
+        Ok(()) => Ok(()),
+        Err(fault) => Err(fault),
+    }
 }

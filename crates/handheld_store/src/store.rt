@@ -32,9 +32,9 @@ use std::marker::Model;
 #[derive(Drop)]
 pub struct Store<F: Folder> {
     pub(crate) alloc: Global,
-    folder: F,
+    pub(crate) folder: F,
     pub(crate) databases: Vec<Database>,
-    indexes: Vec<Index>,
+    pub(crate) indexes: Vec<Index>,
     user: UserInfo,
     sound: bool,
 }
@@ -262,7 +262,7 @@ impl<F: Folder> Store<F> {
     }
 
     // Notes that the folder may not stand for what is held any more.
-    fn fails(&mut self, fault: StoreFault) -> StoreFault
+    pub(crate) fn fails(&mut self, fault: StoreFault) -> StoreFault
         ensures fault { result ≡ fault }
         ensures unsound { self.new ≡ record self.old { sound = false } }
     {
