@@ -1,5 +1,5 @@
 // A handheld's folder, and the sessions over it.
-use crate::fake::FakeLink;
+use crate::fake::{FakeLink, Then};
 use crate::session::{Greeting, session};
 use crate::{bytes_in, number_in, word};
 use handheld_server::{Server, ServerLink};
@@ -75,15 +75,26 @@ fn over_fake(alloc: Global, words: &[&str]) -> Result<String, AllocError> {
     let texts = word(words, 1);
     let mut replies = Vec::new(alloc);
     for text in texts.split(',') {
-        if text != "-" {
+        if text != "-" && text != "!" {
             replies.push(bytes_in(alloc, text))?;
         }
     }
     let greeting = greeting_in(alloc, word(words, 2), word(words, 3))?;
     let calls = words.get(4..).unwrap_or(&[]);
-    let link = FakeLink::new(replies, !texts.ends_with("-"));
+    let link = FakeLink::new(replies, then_in(texts));
     let (link, said) = session(alloc, link, &greeting, calls)?;
     format!(in alloc; "{said}; answered {}", link.answered)
+}
+
+// What comes behind the replies.
+fn then_in(texts: &str) -> Then {
+    if texts.ends_with("-") {
+        Then::Down
+    } else if texts.ends_with("!") {
+        Then::NoMemory
+    } else {
+        Then::Again
+    }
 }
 
 // The desktop's users, and whether one more may come.

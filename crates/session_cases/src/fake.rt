@@ -4,12 +4,32 @@ ghost use Rattle.handheld_server.specs.SaidThings.{downs_of};
 
 use dlp_commands::{Link, LinkFault, Message};
 
-/// A link that answers these replies in order, and tells no device. Then it goes down, or the last
-/// one comes again and again.
+/// What comes behind the replies of a link.
+#[derive(Clone, Copy)]
+pub enum Then {
+    /// The last one again and again.
+    Again,
+    /// The link goes down.
+    Down,
+    /// The link has no room for a reply.
+    NoMemory,
+}
+
+impl Then {
+    // The fault of the link where no reply is left.
+    fn fault(self) -> LinkFault {
+        match self {
+            Then::NoMemory => LinkFault::NoMemory,
+            Then::Again | Then::Down => LinkFault::Down,
+        }
+    }
+}
+
+/// A link that answers these replies in order, and tells no device.
 #[derive(Drop)]
 pub struct FakeLink {
     replies: Vec<Vec<u8>>,
-    again: bool,
+    then: Then,
     place: usize,
     begun: bool,
     fault: Option<LinkFault>,
@@ -19,12 +39,12 @@ pub struct FakeLink {
 
 impl FakeLink {
     /// A link over which nothing was said.
-    pub fn new(replies: Vec<Vec<u8>>, again: bool) -> FakeLink
+    pub fn new(replies: Vec<Vec<u8>>, then: Then) -> FakeLink
         ensures begun { ⟦<FakeLink as Link>⟧.begun result ≡ false }
     {
         FakeLink {
             replies,
-            again,
+            then,
             place: 0,
             begun: false,
             fault: None,
@@ -60,12 +80,14 @@ impl Link for FakeLink {
             return Err(fault);
         }
         let Some(bytes) = self.replies.get(self.place) else {
-            self.fault = Some(LinkFault::Down);
-            return Err(LinkFault::Down);
+            let fault = self.then.fault();
+            self.fault = Some(fault);
+            return Err(fault);
         };
         reply.clear();
         let _whole = reply.push(bytes);
-        if !self.again || self.place < self.replies.len().saturating_sub(1) {
+        let again = matches!(&self.then, Then::Again);
+        if !again || self.place < self.replies.len().saturating_sub(1) {
             self.place = self.place.saturating_add(1);
         }
         self.answered = self.answered.saturating_add(1);

@@ -7,7 +7,7 @@
 //!   `files` lists its files with their lengths.
 //! - A session: `session USERS ADD CALL..` says it to a server over the folder, `fake REPLIES USERS
 //!   ADD CALL..` over a link that answers these replies, the last one again and again, or goes
-//!   down where REPLIES ends with `-`. USERS are the desktop's users, ADD is `add` or `known`.
+//!   down where REPLIES ends with `-`, or has no memory where it ends with `!`. USERS are the desktop's users, ADD is `add` or `known`.
 //! - The first call: `finish`, `list`, `mark:BITS:USER:NAME`, `delete:H`, or a database that is
 //!   opened by `open:H`, `read:H` or `create:H:ATTRIBUTES`.
 //! - What is asked of the database then: `count`, `ids:N`, `at:N`, `id:N`, `next`, `code:N`, `app`,
