@@ -1,6 +1,6 @@
 // A link that answers what it is told to.
 ghost use Rattle.std.specs.Prelude.{◌≡◌, None, false};
-ghost use Rattle.mirror_cases.specs.Downs.{downs_of};
+ghost use Rattle.handheld_server.specs.SaidThings.{downs_of};
 
 use dlp_commands::{Link, LinkFault, Message};
 use std::alloc::Global;
@@ -36,7 +36,7 @@ impl FakeLink {
 
 impl Link for FakeLink {
     ghost use Rattle.std.specs.Prelude.{None};
-    ghost use Rattle.mirror_cases.specs.Downs.{downs_of};
+    ghost use Rattle.handheld_server.specs.SaidThings.{downs_of};
 
     ghost downs = { λ link. downs_of link.fault };
 

@@ -1,11 +1,13 @@
 //! What mirrors read and send, as the lines of standard input ask for it.
 //!
 //! Bytes are hexadecimal. A line that says something prints one line. `case TEXT` is printed as it
-//! is.
+//! is, and begins with an empty folder.
 //!
-//! - A session: `fake REPLIES NAME CALL..` opens a database, in hexadecimal, over a link that answers
-//!   these replies, the last one again and again, or goes down where REPLIES ends with `-`, and
-//!   prints the functions that were asked for.
+//! - The handheld's folder: `file NAME H` puts a file into it, `records NAME` prints the records of
+//!   one.
+//! - A session: `session NAME CALL..` opens a database of a server over the folder, in hexadecimal,
+//!   `fake REPLIES NAME CALL..` one over a link that answers these replies, the last one again and
+//!   again, or goes down where REPLIES ends with `-`, and prints the functions that were asked for.
 //! - A call: `slow` reads the whole database, `news:PLAN` sends a plan's replacements and adds,
 //!   `purge:PLAN` purges. PLAN is REPLACE:ADDS:PURGE, lists with a comma between entries. An entry of
 //!   REPLACE is ID.CATEGORY.H, of ADDS CATEGORY.H, of PURGE an id; a category above 15 is a secret
@@ -19,15 +21,17 @@ mod plans;
 mod said;
 mod session;
 
+use cases::Cases;
 use std::alloc::Global;
 use std::io;
 
 fn main(rt: HostRuntime) -> io::Result<()> {
     let alloc = rt.alloc();
+    let mut cases = Cases::new(alloc);
     for line in rt.lines(alloc) {
         let line = line?;
         let words: Vec<&str> = line.split(' ').collect(alloc)?;
-        let said = cases::said(alloc, line.as_str(), &words)?;
+        let said = cases.obey(line.as_str(), &words)?;
         if !said.is_empty() {
             println!(rt; "{said}")?;
         }

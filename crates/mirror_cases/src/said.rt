@@ -2,7 +2,7 @@
 use conduit_rules::{Seen, SeenState, View};
 use desktop_session::SessionFault;
 use dlp_commands::ErrorCode;
-use pdb_values::{Content, RecordId};
+use pdb_values::{Content, Database, Record, RecordId};
 use std::alloc::{AllocError, Global};
 
 /// Why a call was not done.
@@ -51,6 +51,26 @@ pub fn ids_text(alloc: Global, ids: &[RecordId]) -> Result<String, AllocError> {
     let mut said = format!(in alloc; "{} ids", ids.len())?;
     for id in ids {
         let text = format!(in alloc; " {}", id.number())?;
+        said.push_str(text.as_str())?;
+    }
+    Ok(said)
+}
+
+// A record of a file.
+fn record_text(alloc: Global, record: &Record) -> Result<String, AllocError> {
+    let deleted = if record.deleted { " deleted" } else { "" };
+    let dirty = if record.dirty { " dirty" } else { "" };
+    let content = content_text(alloc, &record.content)?;
+    format!(in alloc; "{}{deleted}{dirty} {content}", record.id.number())
+}
+
+/// The records of a file.
+pub fn database_text(alloc: Global, database: &Database) -> Result<String, AllocError> {
+    let records = database.records();
+    let mut said = format!(in alloc; "{} records", records.len())?;
+    for record in records {
+        let text = record_text(alloc, record)?;
+        said.push_str(" | ")?;
         said.push_str(text.as_str())?;
     }
     Ok(said)
