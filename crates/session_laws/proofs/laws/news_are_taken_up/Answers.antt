@@ -1,0 +1,5 @@
+use Rattle.session_laws.proofs.NewsLaws.{news}
+use Rattle.session_laws.proofs.laws.news_are_taken_up.Goals as goal
+
+pub returns : goal.returns
+returns c = news

@@ -1,0 +1,48 @@
+//! What holds of a database between sessions that stopped and the next one. Each function here does
+//! nothing: its contract is the law.
+ghost use Rattle.std.specs.Prelude.{◌≡◌, ◌++◌, ℕ, List, Bool};
+ghost use Rattle.conduit_rules.specs.declared.action.Action.{Action};
+ghost use Rattle.conduit_rules.specs.declared.action.Action.TheVariants.{Sync, Desktop};
+ghost use Rattle.conduit_rules.specs.declared.view.Seen.{Seen};
+ghost use Rattle.session_laws.specs.Repeats.{Found, IsRead, EndAlike, GotIds, ended, Place};
+ghost use Rattle.session_laws.specs.Repeats.{StopsAmongNews, left_among_news, left_behind_commit};
+ghost use Rattle.session_laws.specs.Repeats.{left_at_end, AreStops, left_by, all_given};
+
+/// A session of both sides that stops among its replacements and adds is taken up by the next one: that
+/// ends at the merge of what the first one found, under the ids that were given in both.
+pub fn news_are_taken_up()
+    ensures { (x : Found) (given later : List ℕ) (n : ℕ)
+        → StopsAmongNews Sync x given n
+        → let y = left_among_news Sync x given n in
+        IsRead y → GotIds Sync y later
+        → ended Sync y later ≡ ended Sync x (given ++ later) }
+{}
+
+/// A session that stops behind the desktop's commit, anywhere among its purges, its clean up and its reset,
+/// is ended by the next one as it would have ended.
+pub fn purges_are_taken_up()
+    ensures both { (x : Found) (given later : List ℕ) (n : ℕ) → IsRead x → GotIds Sync x given
+        → let y = left_behind_commit Sync x given n in
+        IsRead y → EndAlike (ended Sync y later) (ended Sync x given) }
+    ensures desktop { (x : Found) (given later : List ℕ) (n : ℕ) → IsRead x → GotIds Desktop x given
+        → let y = left_behind_commit Desktop x given n in
+        IsRead y → EndAlike (ended Desktop y later) (ended Desktop x given) }
+{}
+
+/// What is merged on both sides stays as it is, whichever sides the sessions go by, and whichever way the
+/// next one reads.
+pub fn an_ended_session_is_not_undone()
+    ensures { (a : Action) (x : Found) (given later : List ℕ) (view : List Seen) (gone_counts : Bool)
+        → IsRead x → GotIds a x given
+        → let y = left_at_end a x given view gone_counts in
+        IsRead y → EndAlike (ended a y later) (ended a x given) }
+{}
+
+/// After any number of sessions of both sides that stopped, wherever each did, the one that ends is as if
+/// the first had ended, under the ids that were given in all of them.
+pub fn stopped_sessions_end_as_one()
+    ensures { (x : Found) (places : List Place) (later : List ℕ) → AreStops Sync x places
+        → let y = left_by Sync x places in
+        GotIds Sync y later
+        → EndAlike (ended Sync y later) (ended Sync x (all_given places ++ later)) }
+{}
