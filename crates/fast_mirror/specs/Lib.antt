@@ -1,1 +1,4 @@
 pub mod Agreements
+pub mod FastReads
+pub mod Places
+pub mod Shells

@@ -1,11 +1,19 @@
-//! A fast reading of a handheld's database: when one may be made, and what is planned by it.
+//! A fast reading of a handheld's database: of what both sides have had since their last
+//! synchronisation, only what changed is read.
 //!
-//! Where both sides agree on their last synchronisation, a record that the handheld counts as
-//! unchanged is as the base has it, and only the others are read.
+//! The handheld lists the ids of its records and lends the changed ones. Of the others those that
+//! the base has no row of are read by their ids; any other one is unread, as the base has it. The
+//! public source of the requests is pilot-link's `pi-dlp.h` and `dlp.c`.
 #![tactic(auto)]
 
 mod agreement;
+mod changed;
 mod laws;
+mod list;
+mod others;
+mod reading;
+mod rows;
 
 pub use agreement::agree;
 pub use laws::fast_readings_are_planned_as_slow_ones;
+pub use reading::read_side;

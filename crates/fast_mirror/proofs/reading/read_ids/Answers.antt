@@ -1,0 +1,34 @@
+-- The number of entries, and then the ids.
+use Rattle.std.proofs.Common.{◌∷◌, [], map}
+use Rattle.desktop_session.specs.Acts.{text}
+use Rattle.desktop_session.specs.Lists.{id_listings, id_parts}
+use Rattle.desktop_session.specs.Requests.{counting}
+use Rattle.desktop_session.proofs.StopLaws.{stops_more}
+use Rattle.slow_mirror.specs.Reads.{entries_of}
+use Rattle.fast_mirror.proofs.ListingLaws.{listing_done, listing_ids, listing_stops}
+use Rattle.fast_mirror.proofs.reading.read_ids.Goals as goal
+
+pub returns-in_err-count-clause-stops : goal.returns-in_err-count-clause-stops
+returns-in_err-count-clause-stops g c =
+    let handle = c.args.db.now.handle in
+    stops_more g.L.Link.talk g.L.Link.since g.L.Link.fault g.L.Link.downs (map text (counting handle ∷ []))
+    (map text (id_listings handle (id_parts (entries_of (g.L.Link.talk c.args.db.now.linked.now.link) handle)))) c.args.db.now.linked.now.link
+    c.count.new.self.linked.now.link c.in_err-count.ensures.asked.stops
+
+pub returns-clause-stops : goal.returns-clause-stops
+returns-clause-stops g c =
+    listing_stops g.L.Link.talk g.L.Link.since g.L.Link.fault g.L.Link.downs g.met.L.Link.since_more c.args.db.now.handle c.count.new.self.handle
+    c.in_ok-count.count c.args.db.now.linked.now c.count.new.self.linked.now c.ids.new.self.linked.now.link c.in_ok-count.ensures.same_handle
+    c.in_ok-count.ensures.answer c.in_ok-count.ensures.asked c.ids.ensures.stops
+
+pub returns-clause-does : goal.returns-clause-does
+returns-clause-does g c =
+    listing_done g.L.Link.talk g.L.Link.since g.L.Link.fault g.L.Link.downs c.args.db.now.handle c.count.new.self.handle
+    c.in_ok-count.count c.args.db.now.linked.now c.count.new.self.linked.now c.ids.new.self.linked.now.link c.ids.result
+    c.in_ok-count.ensures.same_handle c.in_ok-count.ensures.answer c.in_ok-count.ensures.asked c.ids.ensures.does
+
+pub returns-clause-ids : goal.returns-clause-ids
+returns-clause-ids g c =
+    listing_ids g.L.Link.talk g.L.Link.since g.L.Link.fault g.L.Link.downs c.args.db.now.handle c.count.new.self.handle
+    c.in_ok-count.count c.args.db.now.linked.now c.count.new.self.linked.now (λ ids. ids.items) c.ids.result
+    c.in_ok-count.ensures.same_handle c.in_ok-count.ensures.answer c.in_ok-count.ensures.asked c.ids.ensures.ids
