@@ -142,7 +142,7 @@ desktop-behind ch h given view g b =
 
 -- ---- how it ends
 
-no_contents : (given : List ℕ) → numbered given [] ≡ []
+pub no_contents : (given : List ℕ) → numbered given [] ≡ []
 no_contents [] = refl
 no_contents (g ∷ gs) = refl
 
@@ -157,12 +157,12 @@ within_bound : (b : Bool) (o : Option ContentValue) → b ≡ true → (if b the
 within_bound true o is = refl
 within_bound false o is = absurd (cc)
 
-rows-again : (ch : Choice) (given later : List ℕ) → merged_rows (kept_alone (row_under ch given)) later ≡ merged_rows ch given
+pub rows-again : (ch : Choice) (given later : List ℕ) → merged_rows (kept_alone (row_under ch given)) later ≡ merged_rows ch given
 rows-again ch given later =
     ap (map settled_record) (each_below-same (λ i. with_id i (row_at (kept_alone (row_under ch given)) later i)) (λ i. with_id i (row_at ch given i)) id_bound
     (λ i l. ap (with_id i) (row_alone (row_under ch given) later i ∙ within_bound (nat_lt i id_bound) (row_at ch given i) (grind (arith, nat_tests, l)))))
 
-copies-again : (earlier es : List (ℕ × ContentValue)) → one_copy_behind earlier (one_copy_behind earlier es) ≡ one_copy_behind earlier es
+pub copies-again : (earlier es : List (ℕ × ContentValue)) → one_copy_behind earlier (one_copy_behind earlier es) ≡ one_copy_behind earlier es
 copies-again earlier [] = refl
 copies-again earlier (e ∷ es) = by (is_archived e earlier) refl (copies-again earlier es) (copies-again (e ∷ earlier) es)
   where
@@ -187,7 +187,7 @@ under_again : (b : Bool) (o k : Option ContentValue) → k ≡ (if b then o else
 under_again true o k is = is
 under_again false o k is = refl
 
-base-again : (ch : Choice) (h h1 : ℕ → Held) (given later : List ℕ) (i : ℕ) → base_at (merged_base (kept_alone (row_under ch given)) h1 later) false i ≡ base_at (merged_base ch h given) false i
+pub base-again : (ch : Choice) (h h1 : ℕ → Held) (given later : List ℕ) (i : ℕ) → base_at (merged_base (kept_alone (row_under ch given)) h1 later) false i ≡ base_at (merged_base ch h given) false i
 base-again ch h h1 given later i =
     based-merged (kept_alone (row_under ch given)) h1 later false i
     ∙ based_again (i == 0) (row_under ch given i) (at i (gone_rows (row_under ch given) h1)) (at i (gone_rows ch.keep h)) (row_under (kept_alone (row_under ch given)) later i)
@@ -208,7 +208,7 @@ giving-none keep h now later fits =
     (λ k. (each_below-none (λ i. with_id i (replacement (keep i) (now i))) id_bound (λ i. ap (with_id i) (kept_replacement (keep i) (h i) (now i) (fits i))) k, no_contents later k))
 
 -- the rest of the purges leaves what all of them would have left
-records-again : (ch : Choice) (h : ℕ → Held) (given : List ℕ) (records : List Record) (ws : List Write) (now : ℕ → Held) (later : List ℕ)
+pub records-again : (ch : Choice) (h : ℕ → Held) (given : List ℕ) (records : List Record) (ws : List Write) (now : ℕ → Held) (later : List ℕ)
     → RowsDiffer records → AreBounded records → ((i : ℕ) → h i ≡ held records i) → GotFreeIds ch h given records
     → AreClearing (row_under ch given) ws
     → RowsDiffer (after (giving ch h given ++ ws) records) → AreBounded (after (giving ch h given ++ ws) records) → ((i : ℕ) → now i ≡ held (after (giving ch h given ++ ws) records) i)
@@ -260,11 +260,11 @@ fit_given : (k : Option ContentValue) (h now : Held) → FitsGiven k h now → F
 fit_given None h now is = inr is
 fit_given (Some c) h now is = is
 
-over_bound : (x : Found) → IsRead x → (i : ℕ) → nat_lt i id_bound ≡ false → shown x i ≡ nothing
+pub over_bound : (x : Found) → IsRead x → (i : ℕ) → nat_lt i id_bound ≡ false → shown x i ≡ nothing
 over_bound x read i over = read.shows i ∙ ap held_where (bounded-none x.records i read.bounded over)
 
 -- what was done of the purges leaves each row live, and no other content than was there
-fits-behind : (a : Action) (x : Found) (given : List ℕ) (ws : List Write) → IsRead x → GotIds a x given → AreClearing (row_under (chosen a x) given) ws
+pub fits-behind : (a : Action) (x : Found) (given : List ℕ) (ws : List Write) → IsRead x → GotIds a x given → AreClearing (row_under (chosen a x) given) ws
     → AllFit (row_under (chosen a x) given) (shown x) (after (giving (chosen a x) (shown x) given ++ ws) x.records)
 fits-behind a x given ws read got are =
     let ch = chosen a x in
@@ -309,3 +309,10 @@ at-end a x given later view g read got then_read =
     (ap (merged_records (kept_alone (row_under ch given)) (view_held view) later) (sym all)
     ∙ records-again ch (shown x) given x.records (clearing ch (shown x)) (view_held view) later differ read.bounded read.shows got are
     (subst RowsDiffer (sym all) (differ-ids y.records then_read.ids)) (subst AreBounded (sym all) then_read.bounded) shows fits)
+
+-- what the handheld held doesn't matter to the base rows that aren't gone
+pub base-alike : (ch : Choice) (h h1 : ℕ → Held) (given : List ℕ) (i : ℕ) → base_at (merged_base ch h given) false i ≡ base_at (merged_base ch h1 given) false i
+base-alike ch h h1 given i =
+    based-merged ch h given false i
+    ∙ based_again (i == 0) (row_under ch given i) (at i (gone_rows ch.keep h)) (at i (gone_rows ch.keep h1)) (row_under ch given i) refl
+    ∙ sym (based-merged ch h1 given false i)

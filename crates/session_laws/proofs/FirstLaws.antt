@@ -18,7 +18,7 @@ put_beside f j n l = grind (arith, nat_tests, l)
 put_there : (f : ℕ → Option ContentValue) (n : ℕ) → put f n None n ≡ None
 put_there f n = grind (arith, nat_tests)
 
-with_ids-suc : (f : ℕ → Option ContentValue) (n : ℕ) → with_ids f (suc n) ≡ with_ids f n ++ with_id n (f n)
+pub with_ids-suc : (f : ℕ → Option ContentValue) (n : ℕ) → with_ids f (suc n) ≡ with_ids f n ++ with_id n (f n)
 with_ids-suc f n = each_below-suc (λ i. with_id i (f i)) n
 
 last-out : (f : ℕ → Option ContentValue) (n : ℕ) → with_ids f n ≡ [] → with_ids (put f n None) (suc n) ≡ []

@@ -24,7 +24,7 @@ use Rattle.session_laws.proofs.ClearLaws.{AreClearing}
 
 -- ---- ids stay those of records
 
-bounded-put : (i : ℕ) (c : ContentValue) (records : List Record) → nat_lt i id_bound ≡ true → AreBounded records → AreBounded (put_record i c records)
+pub bounded-put : (i : ℕ) (c : ContentValue) (records : List Record) → nat_lt i id_bound ≡ true → AreBounded records → AreBounded (put_record i c records)
 bounded-put i c [] l bounded = subst AreBounded (sym (put_record-nil i c)) (l, tt)
 bounded-put i c (r ∷ records) l bounded = subst AreBounded (sym (put_record-cons i c r records)) (by (r.id == i) (bounded-put i c records l bounded.1))
   where

@@ -1,7 +1,9 @@
 pub mod ClearLaws
 pub mod CommitLaws
+pub mod DesktopLaws
 pub mod FirstLaws
 pub mod GivenLaws
+pub mod HandheldLaws
 pub mod NewsLaws
 pub mod RepeatLaws
 pub mod ResumeLaws

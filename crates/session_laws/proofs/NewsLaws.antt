@@ -24,7 +24,7 @@ use Rattle.session_laws.proofs.ResumeLaws.{Resumed, resume}
 
 -- ---- gone rows that no record stands under
 
-counted : (zero : Bool) (o : Option Record) → (if zero then no_base else based_where false o) ≡ without_gone (if zero then no_base else based_where true o)
+pub counted : (zero : Bool) (o : Option Record) → (if zero then no_base else based_where false o) ≡ without_gone (if zero then no_base else based_where true o)
 counted true o = refl
 counted false None = refl
 counted false (Some r) = by r.deleted
@@ -89,7 +89,7 @@ ended_by ch h given records archive = record {
   archive = merged_archive ch archive;
 }
 
-rows-same : (ch ch1 : Choice) (given later : List ℕ) → ((i : ℕ) → row_at ch given i ≡ row_at ch1 later i) → merged_rows ch given ≡ merged_rows ch1 later
+pub rows-same : (ch ch1 : Choice) (given later : List ℕ) → ((i : ℕ) → row_at ch given i ≡ row_at ch1 later i) → merged_rows ch given ≡ merged_rows ch1 later
 rows-same ch ch1 given later same = ap (map settled_record) (each_below-same (λ i. with_id i (row_at ch given i)) (λ i. with_id i (row_at ch1 later i)) id_bound (λ i l. ap (with_id i) (same i)))
 
 -- the writes of both sessions are those of one

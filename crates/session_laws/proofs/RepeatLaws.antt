@@ -1,5 +1,5 @@
--- The session behind any number of stopped ones ends as the first would have, under the ids of all.
-use Rattle.std.proofs.Common.{◌≡◌, ℕ, List, [], ◌∷◌, ◌++◌, length, refl, ap, ◌∙◌, sym, subst, arith, append_assoc, map, flat_map}
+-- The session behind any number of stopped ones ends as the first would have, under the ids that stand.
+use Rattle.std.proofs.Common.{◌≡◌, ℕ, List, [], ◌∷◌, ◌++◌, length, refl, ap, ◌∙◌, sym, subst, arith, map, flat_map}
 use Rattle.std.specs.Option.{option_or}
 use Rattle.pdb_values.specs.Contents.{ContentValue}
 use Rattle.pdb_values.specs.declared.record.Record.{Record}
@@ -8,11 +8,15 @@ use Rattle.conduit_rules.specs.Choices.{Choice}
 use Rattle.conduit_rules.specs.Plans.{replaced_rows, gone_rows}
 use Rattle.conduit_rules.specs.States.{Held, first}
 use Rattle.conduit_rules.specs.declared.action.Action.{Action}
-use Rattle.conduit_rules.specs.declared.action.Action.TheVariants.{Sync}
+use Rattle.conduit_rules.specs.declared.action.Action.TheVariants.{Sync, Handheld, Desktop}
+use Rattle.conduit_rules.proofs.ActionLaws.{handheld-is}
 use Rattle.conduit_merge.specs.Merging.{settled_record, gone_record, kept_record, new_under, merged_archive}
 use Rattle.conduit_merge.specs.Writes.{after, numbered, replaces, AreFree}
-use Rattle.session_laws.specs.Repeats.{Found, IsRead, Ended, EndAlike, ended, chosen, shown, GotIds, GotAllIds, Place, before_mark, among_news, behind_commit, at_end, ids_given, left, MayStop, left_by, all_given, AreStops}
-use Rattle.session_laws.proofs.CommitLaws.{behind-commit, at-end}
+use Rattle.session_laws.specs.Repeats.{Found, IsRead, Ended, EndAlike, ended, sides, chosen, shown, GotIds, GotAllIds, Place, before_mark, among_news, behind_commit, at_end}
+use Rattle.session_laws.specs.Repeats.{left, MayStop, left_by, ids_with, all_ids, AreStops}
+use Rattle.session_laws.proofs.CommitLaws.{behind-commit, at-end, no_contents}
+use Rattle.session_laws.proofs.DesktopLaws.{desktop-news}
+use Rattle.session_laws.proofs.HandheldLaws.{handheld-news, handheld-behind}
 use Rattle.session_laws.proofs.NewsLaws.{news_and_ids}
 
 pub alike_same : (e f : Ended) → e ≡ f → EndAlike e f
@@ -45,42 +49,70 @@ ended-enough a x given later is = ap (ended_with (chosen a x) (shown x) x.record
 got-enough : (a : Action) (x : Found) (given later : List ℕ) → GotAllIds a x given → GotIds a x (given ++ later)
 got-enough a x given later all = subst (λ es. AreFree es (after (replaces (replaced_rows (chosen a x).keep (shown x))) x.records)) (sym (enough given later (chosen a x).adds all.each)) all.got
 
+-- ---- one that goes by the handheld adds nothing
+
+none_numbered : (x : Found) (given : List ℕ) → numbered given (chosen Handheld x).adds ≡ []
+none_numbered x given = ap (λ ch. numbered given (Choice.adds ch)) (handheld-is (sides x)) ∙ no_contents given
+
+ended-any : (x : Found) (given later : List ℕ) → ended Handheld x given ≡ ended Handheld x later
+ended-any x given later = ap (ended_with (chosen Handheld x) (shown x) x.records x.archive) (none_numbered x given ∙ sym (none_numbered x later))
+
+got-any : (x : Found) (given : List ℕ) → GotIds Handheld x given
+got-any x given = subst (λ es. AreFree es (after (replaces (replaced_rows (chosen Handheld x).keep (shown x))) x.records)) (sym (none_numbered x given)) tt
+
 -- ---- one stop
 
-one_stop : (x : Found) (place : Place) (later : List ℕ) → IsRead x → MayStop Sync x place → IsRead (left Sync x place) → GotIds Sync (left Sync x place) later
-    → GotIds Sync x (ids_given place ++ later) × EndAlike (ended Sync (left Sync x place) later) (ended Sync x (ids_given place ++ later))
-one_stop x before_mark later read may then_read got = (got, alike_same (ended Sync x later) (ended Sync x later) refl)
-one_stop x (among_news given n) later read may then_read got =
+-- ids that are free behind it are free before, and the next session ends as it would have ended under these
+abbrev TakenUp : Action → Found → Place → List ℕ → Type 0
+TakenUp a x place later = GotIds a x (ids_with a place later) × EndAlike (ended a (left a x place) later) (ended a x (ids_with a place later))
+
+by_ids : (a : Action) (x : Found) (given later : List ℕ) (y : Found) → GotAllIds a x given → EndAlike (ended a y later) (ended a x given)
+    → GotIds a x (given ++ later) × EndAlike (ended a y later) (ended a x (given ++ later))
+by_ids a x given later y all alike = (got-enough a x given later all, subst (EndAlike (ended a y later)) (ended-enough a x given later all.each) alike)
+
+sync_stop : (x : Found) (place : Place) (later : List ℕ) → IsRead x → MayStop Sync x place → IsRead (left Sync x place) → GotIds Sync (left Sync x place) later → TakenUp Sync x place later
+sync_stop x before_mark later read may then_read got = (got, alike_same (ended Sync x later) (ended Sync x later) refl)
+sync_stop x (among_news given n) later read may then_read got =
     let both = news_and_ids x given later n may then_read got in
     (both.0, alike_same (ended Sync (left Sync x (among_news given n)) later) (ended Sync x (given ++ later)) both.1)
-one_stop x (behind_commit given n) later read may then_read got = (
-  got-enough Sync x given later may,
-  subst (EndAlike (ended Sync (left Sync x (behind_commit given n)) later)) (ended-enough Sync x given later may.each) (behind-commit Sync x given later n tt read may.got then_read),
+sync_stop x (behind_commit given n) later read may then_read got = by_ids Sync x given later (left Sync x (behind_commit given n)) may (behind-commit Sync x given later n tt read may.got then_read)
+sync_stop x (at_end given view g) later read may then_read got = by_ids Sync x given later (left Sync x (at_end given view g)) may (at-end Sync x given later view g read may.got then_read)
+
+handheld_stop : (x : Found) (place : Place) (later : List ℕ) → IsRead x → MayStop Handheld x place → IsRead (left Handheld x place) → GotIds Handheld (left Handheld x place) later → TakenUp Handheld x place later
+handheld_stop x before_mark later read may then_read got = (got, alike_same (ended Handheld x later) (ended Handheld x later) refl)
+handheld_stop x (among_news given n) later read may then_read got = (
+  got-any x (given ++ later),
+  alike_same (ended Handheld (left Handheld x (among_news given n)) later) (ended Handheld x (given ++ later)) (handheld-news x given later n read then_read ∙ ended-any x later (given ++ later)),
 )
-one_stop x (at_end given view g) later read may then_read got = (
-  got-enough Sync x given later may,
-  subst (EndAlike (ended Sync (left Sync x (at_end given view g)) later)) (ended-enough Sync x given later may.each) (at-end Sync x given later view g read may.got then_read),
-)
+handheld_stop x (behind_commit given n) later read may then_read got = by_ids Handheld x given later (left Handheld x (behind_commit given n)) may (handheld-behind x given later n read may.got then_read)
+handheld_stop x (at_end given view g) later read may then_read got = by_ids Handheld x given later (left Handheld x (at_end given view g)) may (at-end Handheld x given later view g read may.got then_read)
+
+desktop_stop : (x : Found) (place : Place) (later : List ℕ) → IsRead x → MayStop Desktop x place → IsRead (left Desktop x place) → GotIds Desktop (left Desktop x place) later → TakenUp Desktop x place later
+desktop_stop x before_mark later read may then_read got = (got, alike_same (ended Desktop x later) (ended Desktop x later) refl)
+desktop_stop x (among_news given n) later read may then_read got = desktop-news x given later n read may then_read got
+desktop_stop x (behind_commit given n) later read may then_read got = by_ids Desktop x given later (left Desktop x (behind_commit given n)) may (behind-commit Desktop x given later n tt read may.got then_read)
+desktop_stop x (at_end given view g) later read may then_read got = by_ids Desktop x given later (left Desktop x (at_end given view g)) may (at-end Desktop x given later view g read may.got then_read)
+
+one_stop : (a : Action) (x : Found) (place : Place) (later : List ℕ) → IsRead x → MayStop a x place → IsRead (left a x place) → GotIds a (left a x place) later → TakenUp a x place later
+one_stop Sync x place later read may then_read got = sync_stop x place later read may then_read got
+one_stop Handheld x place later read may then_read got = handheld_stop x place later read may then_read got
+one_stop Desktop x place later read may then_read got = desktop_stop x place later read may then_read got
 
 -- ---- one after another
 
-is_read : (x : Found) (places : List Place) → AreStops Sync x places → IsRead x
-is_read x [] stops = stops.0
-is_read x (place ∷ places) stops = stops.0
+is_read : (a : Action) (x : Found) (places : List Place) → AreStops a x places → IsRead x
+is_read a x [] stops = stops.0
+is_read a x (place ∷ places) stops = stops.0
 
-both_repeat : (x : Found) (places : List Place) (later : List ℕ) → AreStops Sync x places → GotIds Sync (left_by Sync x places) later
-    → GotIds Sync x (all_given places ++ later) × EndAlike (ended Sync (left_by Sync x places) later) (ended Sync x (all_given places ++ later))
-both_repeat x [] later stops got = (got, alike_same (ended Sync x later) (ended Sync x later) refl)
-both_repeat x (place ∷ places) later stops got =
-    let y = left Sync x place in
-    let rest = both_repeat y places later stops.2 got in
-    let here = one_stop x place (all_given places ++ later) stops.0 stops.1 (is_read y places stops.2) rest.0 in
-    let ids : ids_given place ++ (all_given places ++ later) ≡ all_given (place ∷ places) ++ later = sym (append_assoc (ids_given place) (all_given places) later) in (
-      subst (GotIds Sync x) ids here.0,
-      subst (λ given. EndAlike (ended Sync (left_by Sync y places) later) (ended Sync x given)) ids
-          (alike_then (ended Sync (left_by Sync y places) later) (ended Sync y (all_given places ++ later)) (ended Sync x (ids_given place ++ (all_given places ++ later))) rest.1 here.1),
-    )
+both_repeat : (a : Action) (x : Found) (places : List Place) (later : List ℕ) → AreStops a x places → GotIds a (left_by a x places) later
+    → GotIds a x (all_ids a places later) × EndAlike (ended a (left_by a x places) later) (ended a x (all_ids a places later))
+both_repeat a x [] later stops got = (got, alike_same (ended a x later) (ended a x later) refl)
+both_repeat a x (place ∷ places) later stops got =
+    let y = left a x place in
+    let rest = both_repeat a y places later stops.2 got in
+    let here = one_stop a x place (all_ids a places later) stops.0 stops.1 (is_read a y places stops.2) rest.0 in
+    (here.0, alike_then (ended a (left_by a y places) later) (ended a y (all_ids a places later)) (ended a x (ids_with a place (all_ids a places later))) rest.1 here.1)
 
-pub repeat : (x : Found) (places : List Place) (later : List ℕ) → AreStops Sync x places → GotIds Sync (left_by Sync x places) later
-    → EndAlike (ended Sync (left_by Sync x places) later) (ended Sync x (all_given places ++ later))
-repeat x places later stops got = (both_repeat x places later stops got).1
+pub repeat : (a : Action) (x : Found) (places : List Place) (later : List ℕ) → AreStops a x places → GotIds a (left_by a x places) later
+    → EndAlike (ended a (left_by a x places) later) (ended a x (all_ids a places later))
+repeat a x places later stops got = (both_repeat a x places later stops got).1

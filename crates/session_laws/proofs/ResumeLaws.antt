@@ -44,13 +44,13 @@ put_lost keep h i c kept j = by (j == i) refl
     by true is = let same : j ≡ i = grind (arith, nat_tests, is) in let too : keep j ≡ Some c = ap keep same ∙ kept in grind (arith, is, too)
     by false is = grind (arith, is)
 
-replaced_put : (keep : ℕ → Option ContentValue) (h : ℕ → Held) (i : ℕ) (c : ContentValue) (rest : List (ℕ × ContentValue)) → keep i ≡ Some c → replaced_rows keep h ≡ (i, c) ∷ rest
+pub replaced_put : (keep : ℕ → Option ContentValue) (h : ℕ → Held) (i : ℕ) (c : ContentValue) (rest : List (ℕ × ContentValue)) → keep i ≡ Some c → replaced_rows keep h ≡ (i, c) ∷ rest
     → replaced_rows keep (put h i (live c)) ≡ rest
 replaced_put keep h i c rest kept is =
     each_below-same (λ j. with_id j (replacement (keep j) (put h i (live c) j))) (λ j. with_id j (put (λ m. replacement (keep m) (h m)) i None j)) id_bound (λ j l. ap (with_id j) (put_replacement keep h i c kept j))
     ∙ (first-out (λ m. replacement (keep m) (h m)) (i, c) rest id_bound is).1
 
-purges_put : (keep : ℕ → Option ContentValue) (h : ℕ → Held) (i : ℕ) (c : ContentValue) → keep i ≡ Some c → purged_ids keep h ≡ purged_ids keep (put h i (live c))
+pub purges_put : (keep : ℕ → Option ContentValue) (h : ℕ → Held) (i : ℕ) (c : ContentValue) → keep i ≡ Some c → purged_ids keep h ≡ purged_ids keep (put h i (live c))
 purges_put keep h i c kept = each_below-same (λ j. purged_at (keep j) (h j) j) (λ j. purged_at (keep j) (put h i (live c) j) j) id_bound (λ j l. put_purged keep h i c kept j)
 
 gone_put : (keep : ℕ → Option ContentValue) (h : ℕ → Held) (i : ℕ) (c : ContentValue) → keep i ≡ Some c → gone_rows keep h ≡ gone_rows keep (put h i (live c))
@@ -113,11 +113,11 @@ not_kept b h d none bare = ap {A = Based × Held} (λ p. Fate.keep (fate p.0 p.1
 
 -- ---- the first of the writes
 
-abbrev rows_behind : List (ℕ × ContentValue) → List (ℕ × ContentValue)
+abbrev pub rows_behind : List (ℕ × ContentValue) → List (ℕ × ContentValue)
 rows_behind [] = []
 rows_behind (e ∷ es) = es
 
-replace_head : (i : ℕ) (c : ContentValue) (es adds : List (ℕ × ContentValue)) (ws : List Write) → replaces es ++ adding adds ≡ replace i c ∷ ws
+pub replace_head : (i : ℕ) (c : ContentValue) (es adds : List (ℕ × ContentValue)) (ws : List Write) → replaces es ++ adding adds ≡ replace i c ∷ ws
     → (es ≡ (i, c) ∷ rows_behind es) × (replaces (rows_behind es) ++ adding adds ≡ ws)
 replace_head i c [] [] ws is = absurd (cc)
 replace_head i c [] (x ∷ xs) ws is = absurd (cc)
@@ -127,7 +127,7 @@ replace_head i c (e ∷ es) adds ws is =
     let rest : replaces es ++ adding adds ≡ ws = cc in
     (λ k. (id k, content k) ∷ es, rest)
 
-add_head : (g : ℕ) (a : ContentValue) (es adds : List (ℕ × ContentValue)) (ws : List Write) → replaces es ++ adding adds ≡ add g a ∷ ws → (es ≡ []) × (adding adds ≡ add g a ∷ ws)
+pub add_head : (g : ℕ) (a : ContentValue) (es adds : List (ℕ × ContentValue)) (ws : List Write) → replaces es ++ adding adds ≡ add g a ∷ ws → (es ≡ []) × (adding adds ≡ add g a ∷ ws)
 add_head g a [] adds ws is = (refl, is)
 add_head g a (e ∷ es) adds ws is = absurd (cc)
 

@@ -1,6 +1,5 @@
 -- One database as a session finds it, what both sides hold of it once the session ends, and what a session that stops leaves of it.
 use Rattle.std.specs.Prelude.{◌≡◌, ℕ, Bool, true, false, List, [], ◌∷◌, ◌++◌, length, take}
-use Rattle.std.specs.List.{flat_map}
 use Rattle.pdb_values.specs.Contents.{ContentValue}
 use Rattle.pdb_values.specs.declared.record.Record.{Record}
 use Rattle.palm_device.specs.Soundness.{ids_of, AreIds}
@@ -8,6 +7,7 @@ use Rattle.conduit_rules.specs.States.{Held, nothing, held, Based, no_base, row,
 use Rattle.conduit_rules.specs.Choices.{Choice, Sides, sides_of, choice_for}
 use Rattle.conduit_rules.specs.Views.{view_held, slow_view}
 use Rattle.conduit_rules.specs.declared.action.Action.{Action}
+use Rattle.conduit_rules.specs.declared.action.Action.TheVariants.{Sync, Handheld, Desktop}
 use Rattle.conduit_rules.specs.declared.view.Seen.{Seen}
 use Rattle.conduit_merge.specs.Merging.{merged_records, merged_rows, merged_base, merged_archive, AreBounded}
 use Rattle.conduit_merge.specs.Stops.{NoBase}
@@ -159,10 +159,16 @@ pub record GotAllIds (a : Action) (x : Found) (given : List ℕ) : Type 0 where
   pub got : GotIds a x given
   pub each : length given ≡ length (chosen a x).adds
 
+-- a session may stop among its news: one that goes by the handheld has none, and what one adds that goes by the desktop is purged by the next
+abbrev pub MayStopAmongNews : Action → Found → List ℕ → ℕ → Type 0
+MayStopAmongNews Sync x given n = StopsAmongNews Sync x given n
+MayStopAmongNews Handheld x given n = Unit {0}
+MayStopAmongNews Desktop x given n = GotIds Desktop x given
+
 -- a session may stop there
 abbrev pub MayStop : Action → Found → Place → Type 0
 MayStop a x before_mark = Unit {0}
-MayStop a x (among_news given n) = StopsAmongNews a x given n
+MayStop a x (among_news given n) = MayStopAmongNews a x given n
 MayStop a x (behind_commit given n) = GotAllIds a x given
 MayStop a x (at_end given view gone_counts) = GotAllIds a x given
 
@@ -171,11 +177,22 @@ abbrev pub left_by : Action → Found → List Place → Found
 left_by a x [] = x
 left_by a x (place ∷ places) = left_by a (left a x place) places
 
--- the ids that were given in all of them
-abbrev pub all_given : List Place → List ℕ
-all_given places = flat_map ids_given places
-
 -- each of these sessions reads what it finds, and stops at its place
 abbrev pub AreStops : Action → Found → List Place → Type 0
 AreStops a x [] = IsRead x × Unit {0}
 AreStops a x (place ∷ places) = IsRead x × MayStop a x place × AreStops a (left a x place) places
+
+-- the ids that stand in the end, where these stand that are given later: those that were given before them too. But what a session added
+-- that goes by the desktop and stopped before its commit doesn't stand
+abbrev pub ids_with : Action → Place → List ℕ → List ℕ
+ids_with Sync place later = ids_given place ++ later
+ids_with Handheld place later = ids_given place ++ later
+ids_with Desktop before_mark later = later
+ids_with Desktop (among_news given n) later = later
+ids_with Desktop (behind_commit given n) later = given ++ later
+ids_with Desktop (at_end given view gone_counts) later = given ++ later
+
+-- those of all these sessions, and of the one behind them
+abbrev pub all_ids : Action → List Place → List ℕ → List ℕ
+all_ids a [] later = later
+all_ids a (place ∷ places) later = ids_with a place (all_ids a places later)

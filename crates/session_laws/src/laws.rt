@@ -2,11 +2,11 @@
 //! nothing: its contract is the law.
 ghost use Rattle.std.specs.Prelude.{◌≡◌, ◌++◌, ℕ, List, Bool};
 ghost use Rattle.conduit_rules.specs.declared.action.Action.{Action};
-ghost use Rattle.conduit_rules.specs.declared.action.Action.TheVariants.{Sync, Desktop};
+ghost use Rattle.conduit_rules.specs.declared.action.Action.TheVariants.{Sync, Handheld, Desktop};
 ghost use Rattle.conduit_rules.specs.declared.view.Seen.{Seen};
 ghost use Rattle.session_laws.specs.Repeats.{Found, IsRead, EndAlike, GotIds, ended, Place};
 ghost use Rattle.session_laws.specs.Repeats.{StopsAmongNews, left_among_news, left_behind_commit};
-ghost use Rattle.session_laws.specs.Repeats.{left_at_end, AreStops, left_by, all_given};
+ghost use Rattle.session_laws.specs.Repeats.{left_at_end, AreStops, left_by, all_ids};
 
 /// A session of both sides that stops among its replacements and adds is taken up by the next one: that
 /// ends at the merge of what the first one found, under the ids that were given in both.
@@ -18,12 +18,32 @@ pub fn news_are_taken_up()
         → ended Sync y later ≡ ended Sync x (given ++ later) }
 {}
 
+/// A session that goes by the handheld and stops before the desktop's commit has given it nothing, and the
+/// next one ends as it would have ended.
+pub fn a_handheld_is_read_again()
+    ensures { (x : Found) (given later : List ℕ) (n : ℕ) → IsRead x
+        → let y = left_among_news Handheld x given n in
+        IsRead y → ended Handheld y later ≡ ended Handheld x later }
+{}
+
+/// A session that goes by the desktop and stops among its replacements and adds is begun anew by the next
+/// one, under the ids that are given then: what was added before is purged.
+pub fn a_desktop_is_sent_again()
+    ensures { (x : Found) (given later : List ℕ) (n : ℕ) → IsRead x → GotIds Desktop x given
+        → let y = left_among_news Desktop x given n in
+        IsRead y → GotIds Desktop y later
+        → EndAlike (ended Desktop y later) (ended Desktop x later) }
+{}
+
 /// A session that stops behind the desktop's commit, anywhere among its purges, its clean up and its reset,
 /// is ended by the next one as it would have ended.
 pub fn purges_are_taken_up()
     ensures both { (x : Found) (given later : List ℕ) (n : ℕ) → IsRead x → GotIds Sync x given
         → let y = left_behind_commit Sync x given n in
         IsRead y → EndAlike (ended Sync y later) (ended Sync x given) }
+    ensures handheld { (x : Found) (given later : List ℕ) (n : ℕ) → IsRead x → GotIds Handheld x given
+        → let y = left_behind_commit Handheld x given n in
+        IsRead y → EndAlike (ended Handheld y later) (ended Handheld x given) }
     ensures desktop { (x : Found) (given later : List ℕ) (n : ℕ) → IsRead x → GotIds Desktop x given
         → let y = left_behind_commit Desktop x given n in
         IsRead y → EndAlike (ended Desktop y later) (ended Desktop x given) }
@@ -38,11 +58,12 @@ pub fn an_ended_session_is_not_undone()
         IsRead y → EndAlike (ended a y later) (ended a x given) }
 {}
 
-/// After any number of sessions of both sides that stopped, wherever each did, the one that ends is as if
-/// the first had ended, under the ids that were given in all of them.
+/// After any number of sessions that stopped, wherever each did, the one that ends is as if the first had
+/// ended, under the ids that were given in all of them; where they go by the desktop, under those from the
+/// commit on.
 pub fn stopped_sessions_end_as_one()
-    ensures { (x : Found) (places : List Place) (later : List ℕ) → AreStops Sync x places
-        → let y = left_by Sync x places in
-        GotIds Sync y later
-        → EndAlike (ended Sync y later) (ended Sync x (all_given places ++ later)) }
+    ensures { (a : Action) (x : Found) (places : List Place) (later : List ℕ) → AreStops a x places
+        → let y = left_by a x places in
+        GotIds a y later
+        → EndAlike (ended a y later) (ended a x (all_ids a places later)) }
 {}
