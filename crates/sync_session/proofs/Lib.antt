@@ -1,6 +1,9 @@
 pub mod ArchiveLaws
+pub mod EachLaws
+pub mod GiveLaws
 pub mod IdsLaws
 pub mod MarkLaws
+pub mod MeetLaws
 pub mod NamesLaws
 pub mod QuietLaws
 pub mod SpanLaws

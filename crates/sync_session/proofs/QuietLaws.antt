@@ -3,7 +3,6 @@ use Rattle.std.proofs.Common.{◌≡◌, ◌∙◌, refl, ap, ℕ, zero, suc, �
 use Rattle.std.proofs.lemmas.List.{map-append}
 use Rattle.std.proofs.lemmas.List.Elements.{filter-append}
 use Rattle.std.specs.Prelude.{filter, flat_map, replicate, if◌then◌else◌, is_none, Option, Some, None, max}
-use Rattle.std.specs.List.{range_with_len}
 use Rattle.pdb_values.specs.declared.record.Record.{Record}
 use Rattle.palm_device.specs.Records.{is_changed}
 use Rattle.conduit_rules.specs.ById.{each_id, ids_below, id_bound}
@@ -14,11 +13,12 @@ use Rattle.dlp_commands.proofs.StepLaws.{changes-text}
 use Rattle.desktop_session.specs.Acts.{Act, text}
 use Rattle.desktop_session.specs.Lists.{id_listings, id_parts, listings}
 use Rattle.desktop_session.specs.Requests.{reading_user, beginning, listing, listing_ids, opening, closing, counting, reading_at, reading_of, reading_next}
+use Rattle.slow_mirror.specs.Reads as slow
 use Rattle.sync_session.specs.Tasks.{Meeting, Task, records_of}
 use Rattle.sync_session.specs.Skips.{active}
 use Rattle.sync_session.specs.Choosing.{base_rows, is_fast}
 use Rattle.sync_session.specs.Quiet.{AreQuiet}
-use Rattle.sync_session.specs.Reads.{fast_reads, opened, read_acts, read_by_id, reads, slow_reads}
+use Rattle.sync_session.specs.Reads.{fast_reads, opened, read_acts, read_by_id, reads}
 use Rattle.sync_session.specs.Sessions.{before_writes, greeting, listing_all}
 
 -- an act of a function that changes nothing
@@ -69,9 +69,14 @@ quiet-read_by_id base (Some r) = by (is_changed r) (has_row base r.id)
     by false true = refl
     by false false = quiet-cons (reading_of 1 r.id) [] refl refl
 
-quiet-slow_reads : (records : List Record) → AreQuiet (slow_reads records)
-quiet-slow_reads records = quiet-cons (counting 1) (map (λ index. reading_at 1 index) (range_with_len 0 (length records))) refl
-    (quiet-map (λ index. reading_at 1 index) (range_with_len 0 (length records)) (λ index. refl))
+quiet-slow_each : (handle n : ℕ) → AreQuiet (slow.reads handle n)
+unfolding slow.reads
+quiet-slow_each handle zero = refl
+quiet-slow_each handle (suc n) = quiet-append (slow.reads handle n) (reading_at handle n ∷ []) (quiet-slow_each handle n)
+    (quiet-cons (reading_at handle n) [] refl refl)
+
+quiet-slow_reads : (count : ℕ) → AreQuiet (slow.slow_reads 1 count)
+quiet-slow_reads count = quiet-cons (counting 1) (slow.reads 1 count) refl (quiet-slow_each 1 count)
 
 quiet-fast_reads : (base records : List Record) → AreQuiet (fast_reads base records)
 quiet-fast_reads base records =
@@ -90,9 +95,9 @@ quiet-opened name acts quiet = quiet-cons (opening name) (acts ++ closing 1 ∷ 
 quiet-reads : (meeting : Meeting) (task : Task) → AreQuiet (reads meeting task)
 quiet-reads meeting task = by (is_fast meeting task)
   where
-    by : (fast : Bool) → AreQuiet (if fast then fast_reads (base_rows task) (records_of task.handheld) else slow_reads (records_of task.handheld))
+    by : (fast : Bool) → AreQuiet (if fast then fast_reads (base_rows task) (records_of task.handheld) else slow.slow_reads 1 (length (records_of task.handheld)))
     by true = quiet-fast_reads (base_rows task) (records_of task.handheld)
-    by false = quiet-slow_reads (records_of task.handheld)
+    by false = quiet-slow_reads (length (records_of task.handheld))
 
 quiet-read_acts : (meeting : Meeting) (task : Task) → AreQuiet (read_acts meeting task)
 unfolding read_acts

@@ -1,23 +1,18 @@
 -- What a session sees of a database, and what it chooses.
-use Rattle.std.specs.Prelude.{ℕ, Bool, true, false, not, ◌&&◌, ◌==◌, List, [], if◌then◌else◌, is_some, Option, Some, None}
+use Rattle.std.specs.Prelude.{ℕ, Bool, true, false, not, ◌&&◌, List, [], if◌then◌else◌, is_some, Option, Some, None}
 use Rattle.pdb_values.specs.declared.record.Record.{Record}
-use Rattle.pdb_values.specs.declared.user.Marks.{Marks}
-use Rattle.pdb_values.specs.declared.user.UserInfo.{UserInfo}
 use Rattle.conduit_rules.specs.States.{Held}
 use Rattle.conduit_rules.specs.Views.{slow_view, fast_view}
 use Rattle.conduit_rules.specs.Choices.{Choice, Sides, sides_of, choice_for}
 use Rattle.conduit_rules.specs.declared.action.Action.{Action}
 use Rattle.conduit_rules.specs.declared.action.Action.TheVariants.{Sync, Handheld, Desktop}
 use Rattle.conduit_rules.specs.declared.view.Seen.{Seen}
+use Rattle.fast_mirror.specs.Agreements.{agreed}
 use Rattle.sync_session.specs.Tasks.{Meeting, Task, records_of, slot_of}
-
--- the handheld's last desktop is this one, and its last good date is the slot's last date
-abbrev pub marks_agree : UserInfo → Marks → Bool
-marks_agree handheld desktop = (handheld.pc == desktop.pc) && (handheld.good == desktop.last)
 
 -- both sides agree
 unfoldable pub agrees : Meeting → Bool
-agrees meeting = marks_agree meeting.device.user (slot_of meeting).marks
+agrees meeting = agreed meeting.device.user (slot_of meeting).marks
 
 -- the action of a database that is not skipped
 abbrev pub action_or_sync : Option Action → Action

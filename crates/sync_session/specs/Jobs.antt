@@ -21,6 +21,7 @@ abbrev pub job_by : List ℕ → Option DbHead → Option DbHead → Bool → Op
 job_by name handheld rows base action agree slow = record {
   name = name;
   handheld = handheld;
+  rows = rows;
   action = action;
   skip = reason_by action handheld rows base;
   fast = is_fast_by agree slow (action_or_sync action) (is_some handheld) (is_some rows) base;

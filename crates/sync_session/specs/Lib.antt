@@ -5,8 +5,10 @@ pub mod Gains
 pub mod Heads
 pub mod Jobs
 pub mod Limits
+pub mod Meets
 pub mod Merges
 pub mod News
+pub mod Phases
 pub mod Quiet
 pub mod Reads
 pub mod Reports
@@ -14,5 +16,6 @@ pub mod Sessions
 pub mod Sizes
 pub mod Skips
 pub mod Spans
+pub mod Stretches
 pub mod Tasks
 pub mod Users

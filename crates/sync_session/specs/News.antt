@@ -1,11 +1,11 @@
 -- What a handheld gets, and what it loses then: under handle 1, since one database is open at a time.
-use Rattle.std.specs.Prelude.{ℕ, List, [], ◌∷◌, ◌++◌, length, map, take, drop, Option, Some, None}
+use Rattle.std.specs.Prelude.{ℕ, List, [], ◌∷◌, ◌++◌, length, replicate, take, drop, Option, Some, None}
 use Rattle.pdb_values.specs.Contents.{ContentValue}
 use Rattle.pdb_values.specs.Databases.{DatabaseValue}
 use Rattle.conduit_rules.specs.Plans.{replaced_rows, purged_ids}
-use Rattle.conduit_merge.specs.Writes.{numbered}
 use Rattle.desktop_session.specs.Acts.{Act}
-use Rattle.desktop_session.specs.Requests.{making, closing, putting, removing, cleaning, resetting}
+use Rattle.desktop_session.specs.Requests.{making, closing}
+use Rattle.slow_mirror.specs.News.{as_new, purge_writes, puts}
 use Rattle.sync_session.specs.Tasks.{Meeting, Task}
 use Rattle.sync_session.specs.Choosing.{choice, seen_held}
 use Rattle.sync_session.specs.Heads.{made_head}
@@ -13,15 +13,12 @@ use Rattle.sync_session.specs.Reads.{opened}
 
 -- ---- news: replacements in rising ids, then the adds under the ids that they got
 
-abbrev pub replacing : List (ℕ × ContentValue) → List Act
-replacing rows = map (λ (row : ℕ × ContentValue). putting 0 1 row.0 row.1) rows
-
-abbrev pub adding : List (ℕ × ContentValue) → List Act
-adding rows = map (λ (row : ℕ × ContentValue). putting row.0 1 0 row.1) rows
+abbrev pub replaced : Meeting → Task → List (ℕ × ContentValue)
+replaced meeting task = replaced_rows (choice meeting task).keep (seen_held meeting task)
 
 abbrev pub writes : Meeting → Task → List ℕ → List Act
 writes meeting task given =
-    replacing (replaced_rows (choice meeting task).keep (seen_held meeting task)) ++ adding (numbered given (choice meeting task).adds)
+    puts 1 (replicate (length (replaced meeting task)) 0 ++ given) (replaced meeting task ++ as_new (choice meeting task).adds)
 
 -- a database that the handheld lacks is made by the head of the desktop's rows, also where nothing is to be written
 abbrev pub made : Option DatabaseValue → List Act → List Act
@@ -52,8 +49,5 @@ all_news meeting (task ∷ later) given =
 
 -- ---- purges: what isn't kept goes one by one, then what has the delete bit, and all counts as unchanged
 
-abbrev pub purges : List ℕ → List Act
-purges ids = map (λ id. removing 1 id) ids ++ (cleaning 1 ∷ resetting 1 ∷ [])
-
 unfoldable pub purge_acts : Meeting → Task → List Act
-purge_acts meeting task = opened task.name (purges (purged_ids (choice meeting task).keep (seen_held meeting task)))
+purge_acts meeting task = opened task.name (purge_writes 1 (purged_ids (choice meeting task).keep (seen_held meeting task)))

@@ -1,19 +1,15 @@
 -- How a database is read: under handle 1, since one is open at a time.
-use Rattle.std.specs.Prelude.{ℕ, ◌+◌, List, [], ◌∷◌, ◌++◌, filter, length, map, replicate, if◌then◌else◌, is_none, Option, Some, None}
-use Rattle.std.specs.List.{range_with_len}
+use Rattle.std.specs.Prelude.{ℕ, ◌+◌, List, [], ◌∷◌, ◌++◌, filter, length, replicate, if◌then◌else◌, is_none, Option, Some, None}
 use Rattle.pdb_values.specs.declared.record.Record.{Record}
 use Rattle.palm_device.specs.Records.{is_changed}
 use Rattle.conduit_rules.specs.ById.{each_id}
 use Rattle.conduit_rules.specs.States.{first, has_row}
 use Rattle.desktop_session.specs.Acts.{Act}
 use Rattle.desktop_session.specs.Lists.{id_listings, id_parts}
-use Rattle.desktop_session.specs.Requests.{opening, closing, counting, reading_at, reading_of, reading_next}
+use Rattle.desktop_session.specs.Requests.{opening, closing, counting, reading_of, reading_next}
+use Rattle.slow_mirror.specs.Reads.{slow_reads}
 use Rattle.sync_session.specs.Tasks.{Meeting, Task, records_of}
 use Rattle.sync_session.specs.Choosing.{base_rows, is_fast}
-
--- each record by its index
-abbrev pub slow_reads : List Record → List Act
-slow_reads records = counting 1 ∷ map (λ index. reading_at 1 index) (range_with_len 0 (length records))
 
 -- an unchanged record without a base row is read by its id
 abbrev pub read_by_id : List Record → Option Record → List Act
@@ -29,7 +25,7 @@ fast_reads base records =
 
 abbrev pub reads : Meeting → Task → List Act
 reads meeting task =
-    if is_fast meeting task then fast_reads (base_rows task) (records_of task.handheld) else slow_reads (records_of task.handheld)
+    if is_fast meeting task then fast_reads (base_rows task) (records_of task.handheld) else slow_reads 1 (length (records_of task.handheld))
 
 -- a database is opened, and closed at the end
 abbrev pub opened : List ℕ → List Act → List Act

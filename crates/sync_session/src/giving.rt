@@ -1,17 +1,23 @@
 // What a handheld gets before the desktop commits.
-ghost use Rattle.std.specs.Prelude.{◌≡◌, ◌∷◌, [], false};
+ghost use Rattle.std.specs.Prelude.{◌≡◌, ◌+◌, ◌↔◌, ◌∷◌, ◌++◌, [], IfErr, IsTrue, OnOk, false, length};
+ghost use Rattle.desktop_session.specs.declared.fault.SessionFault.TheVariants as session;
 ghost use Rattle.desktop_session.specs.Requests.{making, opening};
 ghost use Rattle.desktop_session.specs.Says.{saying};
 ghost use Rattle.slow_mirror.specs.News.{news_of, puts};
 ghost use Rattle.sync_session.specs.Gains.{AreGained};
+ghost use Rattle.sync_session.specs.Heads as heads;
+ghost use Rattle.sync_session.specs.Phases.{gained, news_under, opened_news};
 ghost use Rattle.sync_session.specs.Spans.{Spans, within};
+ghost use Rattle.sync_session.specs.Stretches.{SpansEach};
 
+use crate::heads::made_head;
+use crate::planned::Planned;
 use conduit_rules::Plan;
 use desktop_session::{Linked, SessionFault};
 use dlp_commands::Link;
-use pdb_values::{DbHead, DbName, RecordId};
+use pdb_values::{Content, DbHead, DbName, RecordId};
 use slow_mirror::send_news;
-use std::alloc::Global;
+use std::alloc::{AllocError, Global};
 
 /// Gives the handheld's database of a name what its plan says: the replacements, then the adds, whose ids are answered. The database
 /// is opened for it and closed. After a refusal it may be left open, and only `halt` may follow.
@@ -63,5 +69,81 @@ pub fn make_one<L: Link>(
         }
     };
     opened.close()?;
+    Ok(ids)
+}
+
+// Whether there is nothing to put.
+fn is_nothing(replace: &[(RecordId, Content)], adds: &[Content]) -> bool
+    ensures { IsTrue result ↔ (length replace.now + length adds.now ≡ 0) }
+{
+    replace.len() == 0 && adds.len() == 0
+}
+
+// Gives a database that the handheld has what its plan says, if that is anything.
+fn give_old<L: Link>(
+    alloc: Global,
+    linked: &mut Linked<L>,
+    name: &DbName,
+    plan: &Plan,
+) -> Result<Vec<RecordId>, SessionFault>
+    requires { linked.old.abandoned ≡ false }
+    ensures spans { let told = saying (opening name.now ∷ []) (L.talk linked.old.link) in
+        Spans L.talk L.since L.fault L.downs (opened_news name.now (news_of plan.now))
+        (λ handle given ids. AreGained told plan.now handle given ids.items)
+        linked.old linked.new result }
+{
+    if is_nothing(&plan.replace, &plan.adds) {
+        return Ok(Vec::new(alloc));
+    }
+    give_one(alloc, linked, name, plan)
+}
+
+// Gives a database what its plan says; one that the handheld lacks is made.
+fn give_planned<L: Link>(
+    alloc: Global,
+    linked: &mut Linked<L>,
+    one: &Planned,
+) -> Result<Vec<RecordId>, SessionFault>
+    requires { linked.old.abandoned ≡ false }
+    ensures spans { Spans L.talk L.since L.fault L.downs (news_under (L.talk linked.old.link) one.now)
+        (λ handle given ids. gained (L.talk linked.old.link) one.now handle given ids.items)
+        linked.old linked.new result }
+{
+    match &one.job.handheld {
+        Some(_) => give_old(alloc, linked, &one.job.name, &one.plan),
+        None => match &one.job.rows {
+            Some(rows) => make_one(alloc, linked, &made_head(rows), &one.plan),
+            None => Ok(Vec::new(alloc)),
+        },
+    }
+}
+
+// Puts the ids of one database behind those of others.
+fn push_ids(ids: &mut Vec<Vec<RecordId>>, more: Vec<RecordId>) -> Result<(), SessionFault>
+    ensures ids { OnOk result (ids.new.items ≡ ids.old.items ++ more ∷ []) }
+    ensures memory { IfErr result (λ fault. fault ≡ session.NoMemory) }
+{
+    ids.push(more).map_err(AllocError::from)?;
+    Ok(())
+}
+
+/// Gives each of these databases of the handheld what its plan says, one database after another, and answers the ids that the new
+/// records of each got. A database that the handheld lacks is made by the head of the desktop's rows, and one that gets nothing is
+/// not opened.
+pub fn give_all<L: Link>(
+    alloc: Global,
+    linked: &mut Linked<L>,
+    planned: &[Planned],
+) -> Result<Vec<Vec<RecordId>>, SessionFault>
+    requires { linked.old.abandoned ≡ false }
+    ensures gives { SpansEach L.talk L.since L.fault L.downs news_under
+        (λ told one handle given ids. gained told one handle given ids.items) planned.now
+        (λ made. made.items) linked.old linked.new result }
+{
+    let mut ids = Vec::new(alloc);
+    for one in planned {
+        let more = give_planned(alloc, linked, one)?;
+        push_ids(&mut ids, more)?;
+    }
     Ok(ids)
 }

@@ -10,6 +10,8 @@ pub struct Job {
     pub name: DbName,
     /// Its head on the handheld, where the handheld has it.
     pub handheld: Option<DbHead>,
+    /// Its head on the desktop, where the desktop has rows of it.
+    pub rows: Option<DbHead>,
     /// What is done with it; none where nothing is.
     pub action: Option<Action>,
     /// Why it is skipped, if it is.

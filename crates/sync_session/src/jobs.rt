@@ -109,6 +109,7 @@ fn job(
     Job {
         name: name.copy(),
         handheld: same_head(handheld),
+        rows: same_head(rows),
         action,
         skip: skip_of(action, handheld, rows, base),
         fast: is_fast(

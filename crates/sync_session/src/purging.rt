@@ -2,8 +2,11 @@
 ghost use Rattle.std.specs.Prelude.{◌≡◌, false};
 ghost use Rattle.desktop_session.specs.Requests.{opening};
 ghost use Rattle.slow_mirror.specs.News.{purge_writes};
+ghost use Rattle.sync_session.specs.Phases.{purges_under};
 ghost use Rattle.sync_session.specs.Spans.{Spans, within};
+ghost use Rattle.sync_session.specs.Stretches.{SpansEach, done_each, says_nothing};
 
+use crate::planned::Planned;
 use conduit_rules::Plan;
 use desktop_session::{Linked, SessionFault};
 use dlp_commands::Link;
@@ -32,4 +35,17 @@ pub fn purge_one<L: Link>(
         }
     }
     opened.close()
+}
+
+/// Takes away from each of these databases of the handheld what its plan does not keep, one database after another, as `purge_one`
+/// does.
+pub fn purge_all<L: Link>(linked: &mut Linked<L>, planned: &[Planned]) -> Result<(), SessionFault>
+    requires { linked.old.abandoned ≡ false }
+    ensures purges { SpansEach L.talk L.since L.fault L.downs purges_under says_nothing
+        planned.now (done_each planned.now) linked.old linked.new result }
+{
+    for one in planned {
+        purge_one(linked, &one.job.name, &one.plan)?;
+    }
+    Ok(())
 }

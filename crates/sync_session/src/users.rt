@@ -1,17 +1,8 @@
 // What both sides know of each other.
 ghost use Rattle.std.specs.Prelude.{◌≡◌};
 ghost use Rattle.sync_session.specs.Users as users;
-ghost use Rattle.sync_session.specs.Choosing as choosing;
 
 use pdb_values::{Marks, PalmDate, UserInfo, UserName};
-
-/// Whether both sides agree: the handheld's last desktop is this one, and its last good date is the
-/// slot's last date.
-pub fn marks_agree(handheld: &UserInfo, slot: &Marks) -> bool
-    ensures { result ≡ choosing.marks_agree handheld.now slot.now }
-{
-    handheld.pc == slot.pc && handheld.good == slot.last
-}
 
 // Whether the slot's user is agreed on.
 fn slots_user_stays(handheld: &UserInfo, slot: &Marks) -> bool

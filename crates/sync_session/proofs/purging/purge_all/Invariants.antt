@@ -1,0 +1,9 @@
+use Rattle.std.proofs.Common.{take}
+use Rattle.sync_session.specs.Phases.{purges_under}
+use Rattle.sync_session.specs.Stretches.{done_each, says_nothing}
+use Rattle.sync_session.proofs.EachLaws.{EachSoFar}
+use Rattle.sync_session.proofs.purging.purge_all.Given as goal
+
+abbrev pub invariant-loop-one : goal.invariant-loop-one
+invariant-loop-one g l = EachSoFar g.L.Link.talk g.L.Link.since g.L.Link.fault g.L.Link.downs purges_under says_nothing (take l.one-index l.planned)
+    (done_each (take l.one-index l.planned) tt) l.initial.linked l.linked

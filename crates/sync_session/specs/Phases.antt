@@ -1,0 +1,49 @@
+-- What a session says of each of its databases, in one phase after another.
+use Rattle.std.specs.Prelude.{◌≡◌, ℕ, List, [], ◌∷◌, Option, None, Some}
+use Rattle.pdb_values.specs.Contents.{ContentValue}
+use Rattle.pdb_values.specs.declared.head.DbHead.{DbHead}
+use Rattle.dlp_commands.specs.Talks.{Talk}
+use Rattle.desktop_session.specs.Acts.{Act}
+use Rattle.conduit_rules.specs.declared.planned.Plan.{Plan}
+use Rattle.desktop_session.specs.Requests.{making, opening}
+use Rattle.desktop_session.specs.Says.{saying}
+use Rattle.slow_mirror.specs.News.{news_of, purge_writes, puts}
+use Rattle.sync_session.specs.declared.planned.Planned.{Planned}
+use Rattle.sync_session.specs.Gains.{AreGained}
+use Rattle.sync_session.specs.Heads.{made_head}
+use Rattle.sync_session.specs.Spans.{within}
+
+-- no act
+abbrev pub nothing : ℕ → List ℕ → List Act
+nothing handle given = []
+
+-- what a database that the handheld has gets: it is opened where there is something
+abbrev pub opened_news : List ℕ → List (ℕ × ContentValue) → ℕ → List ℕ → List Act
+opened_news name [] = nothing
+opened_news name (entry ∷ entries) = within (opening name) (λ handle given. puts handle given (entry ∷ entries))
+
+-- one that it lacks is made, also where there is nothing
+abbrev pub made_news : Option DbHead → List (ℕ × ContentValue) → ℕ → List ℕ → List Act
+made_news None entries = nothing
+made_news (Some rows) entries = within (making (made_head rows)) (λ handle given. puts handle given entries)
+
+abbrev pub news_by : Option DbHead → Option DbHead → List ℕ → List (ℕ × ContentValue) → ℕ → List ℕ → List Act
+news_by None rows name entries = made_news rows entries
+news_by (Some handheld) rows name entries = opened_news name entries
+
+-- what a database gets before the desktop commits
+unfoldable pub news_under : Option Talk → Planned → ℕ → List ℕ → List Act
+news_under told one = news_by one.job.handheld one.job.rows one.job.name (news_of one.plan)
+
+-- what it loses then
+unfoldable pub purges_under : Option Talk → Planned → ℕ → List ℕ → List Act
+purges_under told one = within (opening one.job.name) (λ handle given. purge_writes handle one.plan.purge.items)
+
+-- the ids that its new records got, once it was opened or made; none where the handheld doesn't get it
+abbrev pub gained_by : Option DbHead → Option DbHead → List ℕ → Plan → Option Talk → ℕ → List ℕ → List ℕ → Type 0
+gained_by (Some handheld) rows name plan told handle given ids = AreGained (saying (opening name ∷ []) told) plan handle given ids
+gained_by None (Some rows) name plan told handle given ids = AreGained (saying (making (made_head rows) ∷ []) told) plan handle given ids
+gained_by None None name plan told handle given ids = ids ≡ []
+
+unfoldable pub gained : Option Talk → Planned → ℕ → List ℕ → List ℕ → Type 0
+gained told one handle given ids = gained_by one.job.handheld one.job.rows one.job.name one.plan told handle given ids
