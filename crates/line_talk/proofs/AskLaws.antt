@@ -14,7 +14,7 @@ use Rattle.line_steps.specs.declared.line.Line.{Line}
 use Rattle.line_steps.specs.Telling.{IsInTurn, IsNextTo, Talks, no_talk}
 use Rattle.line_steps.proofs.TalkedLaws.{talks_turned}
 use Rattle.line_talk.specs.Rests.{MayAnswer, MayAsk}
-use Rattle.line_talk.specs.Telling.{HasSaid, LineTells}
+use Rattle.line_talk.specs.Telling.{HasSaid, LineTells, bytes_of, greeted, init, wake}
 
 pub two_ok : {T E A B C : Type 0} (r : Result T E) → (A → B → C) → OnOk r A → OnOk r B → OnOk r C
 two_ok (Ok x) f a b = f a b
@@ -60,11 +60,22 @@ inits-next message handheld desktop id end is = record {
   id_is = is ∙ ap (λ (X : End). session_id (count_messages X (woken message))) (sym end);
 }
 
+-- behind the wake
+pub woke-tells : (line : Line) (wire : Wire) (h d : Half) (wake_bytes : List ℕ) → Apart h.end d.end → line.handheld.end ≡ Handheld
+    → ((talk : Talk) → IsNextTo talk line.handheld line.desktop 255 → Talks talk line.wire line.handheld line.desktop → Talks (say line.handheld.end wake_bytes talk) wire h d)
+    → LineTells no_talk line → Talks (woken wake_bytes) wire d h
+woke-tells line wire h d wake_bytes apart h_end first before =
+    talks_turned (woken wake_bytes) wire h d apart (subst (λ (X : End). Talks (say X wake_bytes no_talk) wire h d) h_end (first no_talk (wakes-next line 255 h_end refl) before))
+
 -- the talk of three steps: the wake, the init, and until the desktop knows that this one came
 pub greets-tells : (line : Line) (wire wire' : Wire) (h d h' d' : Half) (wake_bytes init_bytes : List ℕ) → Apart h.end d.end → line.handheld.end ≡ Handheld → d.end ≡ Desktop
     → ((talk : Talk) → IsNextTo talk line.handheld line.desktop 255 → Talks talk line.wire line.handheld line.desktop → Talks (say line.handheld.end wake_bytes talk) wire h d)
     → ((talk : Talk) → IsNextTo talk d h 255 → Talks talk wire d h → Talks (say d.end init_bytes talk) wire' d' h')
     → LineTells no_talk line → Talks (record { handheld = wake_bytes ∷ []; desktop = init_bytes ∷ [] }) wire' d' h'
 greets-tells line wire wire' h d h' d' wake_bytes init_bytes apart h_end d_end first second before =
-    let woke : Talks (woken wake_bytes) wire h d = subst (λ (X : End). Talks (say X wake_bytes no_talk) wire h d) h_end (first no_talk (wakes-next line 255 h_end refl) before) in
-    subst (λ (X : End). Talks (say X init_bytes (woken wake_bytes)) wire' d' h') d_end (second (woken wake_bytes) (inits-next wake_bytes h d 255 d_end refl) (talks_turned (woken wake_bytes) wire h d apart woke))
+    subst (λ (X : End). Talks (say X init_bytes (woken wake_bytes)) wire' d' h') d_end (second (woken wake_bytes) (inits-next wake_bytes h d 255 d_end refl) (woke-tells line wire h d wake_bytes apart h_end first before))
+
+-- in the bytes of the greetings
+pub greeted-tells : (wire : Wire) (d h : Half) (wake_bytes init_bytes : List ℕ) → wake_bytes ≡ bytes_of wake → init_bytes ≡ bytes_of init → Talks (record { handheld = wake_bytes ∷ []; desktop = init_bytes ∷ [] }) wire d h → Talks greeted wire d h
+greeted-tells wire d h wake_bytes init_bytes wake_is init_is tells =
+    subst (λ (b : List ℕ). Talks (record { handheld = b ∷ []; desktop = bytes_of init ∷ [] }) wire d h) wake_is (subst (λ (b : List ℕ). Talks (record { handheld = wake_bytes ∷ []; desktop = b ∷ [] }) wire d h) init_is tells)

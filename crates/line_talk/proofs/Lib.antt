@@ -1,2 +1,4 @@
 pub mod AskLaws
 pub mod OverLaws
+pub mod MoreLaws
+pub mod EndLaws

@@ -1,4 +1,5 @@
--- An end that waits for a message changes nothing of what the frames tell.
+-- A message goes over: an end waits for it, and it may not be sent at all.
+use Rattle.std.specs.Prelude.{Result, Ok, Err, OnOk, IfErr}
 use Rattle.std.proofs.Common.{◌≡◌, ℕ, List, [], Some, sym, subst}
 use Rattle.line_script.specs.Rules.{RuleValue}
 use Rattle.trace_text.specs.Talks.{Talk}
@@ -8,6 +9,10 @@ use Rattle.line_laws.specs.Talking.{count_messages}
 use Rattle.trace_text.specs.declared.frame.End.{End}
 use Rattle.trace_text.specs.declared.frame.End.TheVariants.{Handheld, Desktop}
 use Rattle.line_steps.specs.Telling.{IsInTurn, IsNextTo, Recorded, Talks}
+use Rattle.line_steps.specs.Turning.{Turn}
+use Rattle.line_steps.specs.declared.sending.Halt.TheVariants.{NoMemory}
+use Rattle.line_talk.specs.Halting.{HaltedOver}
+use Rattle.line_talk.proofs.MoreLaws.{turn-unsent}
 
 -- it waits for a message of this transaction
 abbrev pub expecting : Half → ℕ → Half
@@ -24,3 +29,12 @@ expects-next talk x y new id next is to = subst (λ (h : Half). IsNextTo talk x 
 
 pub expects-talks : (talk : Talk) (wire : Wire) (x y new : Half) (id : ℕ) → new ≡ expecting y id → Talks talk wire x y → Talks talk wire x new
 expects-talks talk wire x y new id is talks = subst (λ (h : Half). Talks talk wire x h) (sym is) talks
+
+-- memory ran out before it was sent
+pub over-unsent : (id : ℕ) (message : List ℕ) (wire : Wire) (x y : Half) → Turn wire x y → HaltedOver NoMemory id message wire x y wire x y
+over-unsent id message wire x y turn = record { by = turn.settled.go; talks = λ talk next talks. turn-unsent talk wire x y message turn talks }
+
+-- what holds behind a call either way
+pub either_way : {T E A C : Type 0} {P : E → Type 0} (r : Result T E) → (A → C) → ((e : E) → P e → C) → OnOk r A → IfErr r P → C
+either_way (Ok x) f g a b = f a
+either_way (Err e) f g a b = g e b

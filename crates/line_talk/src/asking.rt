@@ -1,11 +1,11 @@
 //! A request, and its reply.
-ghost use Rattle.std.specs.Prelude.{◌≡◌, ◌+◌, ◌<◌, OnOk, Some, length};
+ghost use Rattle.std.specs.Prelude.{◌≡◌, ◌+◌, ◌<◌, OnOk, IfErr, Some, length};
 ghost use Rattle.padp_link.specs.Neighbours.{session_id};
 ghost use Rattle.padp_link.specs.Receivers.{whole_of};
 ghost use Rattle.trace_text.specs.declared.frame.End.TheVariants.{Handheld, Desktop};
 ghost use Rattle.trace_text.specs.Talks.{Talk};
 ghost use Rattle.line_laws.specs.Talking.{say};
-ghost use Rattle.line_steps.specs.Adding.{AllBy};
+ghost use Rattle.line_talk.specs.Halting.{LineEnds};
 ghost use Rattle.line_talk.specs.Rests.{MayAnswer, MayAsk};
 ghost use Rattle.line_talk.specs.Telling.{HasSaid, LineRecords, LineTells};
 
@@ -27,12 +27,11 @@ pub fn ask(
     ensures answers { OnOk result (MayAnswer line.new requests) }
     ensures whole { OnOk result (whole_of line.new.handheld.receiver.pieces ≡ Some request.now) }
 
-    ensures recorded { OnOk result (
-        LineRecords script.now line.old → LineRecords script.now line.new) }
-    ensures by { LineRecords script.now line.old →
-        AllBy script.now 1 line.new.wire.frames.items }
+    ensures recorded { LineRecords script.now line.old → LineRecords script.now line.new }
     ensures tells { OnOk result ((talk : Talk) → HasSaid talk requests requests →
         LineTells talk line.old → LineTells (say Desktop request.now talk) line.new) }
+    ensures ends { IfErr result (λ halt. (talk : Talk) → HasSaid talk requests requests →
+        LineTells talk line.old → LineEnds halt (say Desktop request.now talk) line.new) }
 {
     send_over(
         alloc,
@@ -58,12 +57,11 @@ pub fn answer(
     ensures asks { OnOk result (MayAsk line.new (requests + 1)) }
     ensures whole { OnOk result (whole_of line.new.desktop.receiver.pieces ≡ Some reply.now) }
 
-    ensures recorded { OnOk result (
-        LineRecords script.now line.old → LineRecords script.now line.new) }
-    ensures by { LineRecords script.now line.old →
-        AllBy script.now 1 line.new.wire.frames.items }
+    ensures recorded { LineRecords script.now line.old → LineRecords script.now line.new }
     ensures tells { OnOk result ((talk : Talk) → HasSaid talk requests (requests + 1) →
         LineTells talk line.old → LineTells (say Handheld reply.now talk) line.new) }
+    ensures ends { IfErr result (λ halt. (talk : Talk) → HasSaid talk requests (requests + 1) →
+        LineTells talk line.old → LineEnds halt (say Handheld reply.now talk) line.new) }
 {
     send_over(
         alloc,

@@ -1,10 +1,10 @@
 //! The two ends greet each other.
-ghost use Rattle.std.specs.Prelude.{◌≡◌, ◌∷◌, [], ℕ, List, OnOk, Some};
+ghost use Rattle.std.specs.Prelude.{◌≡◌, ◌∷◌, [], ℕ, List, OnOk, IfErr, Some};
 ghost use Rattle.cmp_hello.specs.declared.hello.Hello.{Hello};
 ghost use Rattle.cmp_hello.specs.HelloText.{HelloText, hello_bytes};
 ghost use Rattle.padp_link.specs.Receivers.{whole_of};
-ghost use Rattle.line_steps.specs.Adding.{AllBy};
 ghost use Rattle.line_steps.specs.Telling.{no_talk};
+ghost use Rattle.line_talk.specs.Halting.{LineEnds};
 ghost use Rattle.line_talk.specs.Rests.{MayAsk, MayGreet};
 ghost use Rattle.line_talk.specs.Telling.{LineRecords, LineTells, greeted};
 
@@ -27,11 +27,10 @@ pub fn greet(alloc: Global, line: &mut Line, script: &Script) -> Result<u32, Hal
     requires { MayGreet line.old }
     ensures asks { OnOk result (MayAsk line.new 0) }
 
-    ensures recorded { OnOk result (
-        LineRecords script.now line.old → LineRecords script.now line.new) }
-    ensures by { LineRecords script.now line.old →
-        AllBy script.now 1 line.new.wire.frames.items }
+    ensures recorded { LineRecords script.now line.old → LineRecords script.now line.new }
     ensures tells { OnOk result (LineTells no_talk line.old → LineTells greeted line.new) }
+    ensures ends { IfErr result (λ halt.
+        LineTells no_talk line.old → LineEnds halt greeted line.new) }
 {
     let wake = greeting(HelloKind::Wake, RATE);
     send_over(

@@ -1,5 +1,5 @@
 //! A message of one end goes over to the other one.
-ghost use Rattle.std.specs.Prelude.{◌≡◌, ◌<◌, OnOk, Some, length};
+ghost use Rattle.std.specs.Prelude.{◌≡◌, ◌<◌, OnOk, IfErr, Some, length};
 ghost use Rattle.padp_link.specs.Receivers.{whole_of};
 ghost use Rattle.padp_link.specs.Senders.{Waits};
 ghost use Rattle.trace_text.specs.Talks.{Talk};
@@ -7,6 +7,7 @@ ghost use Rattle.line_laws.specs.Talking.{say};
 ghost use Rattle.line_steps.specs.Carrying.{SameMessage};
 ghost use Rattle.line_steps.specs.Telling.{IsNextTo, Recorded, Talks};
 ghost use Rattle.line_steps.specs.Turning.{Turn};
+ghost use Rattle.line_talk.specs.Halting.{HaltedOver};
 
 use line_script::Script;
 use line_steps::{Half, Halt, Wire, carry, expect, fate_of, start};
@@ -28,15 +29,18 @@ pub(crate) fn send_over(
     ensures turn { OnOk result (Turn wire.new y.new x.new) }
     ensures waits { OnOk result (Waits x.new.sender) }
     ensures whole { OnOk result (whole_of y.new.receiver.pieces ≡ Some message.now) }
-    ensures own_end { OnOk result (x.new.end ≡ x.old.end) }
     ensures own_id { OnOk result (x.new.sender.id ≡ id) }
     ensures other_same { OnOk result (SameMessage y.old y.new) }
+    ensures own_end { x.new.end ≡ x.old.end }
+    ensures other_end { y.new.end ≡ y.old.end }
 
     ensures recorded { Recorded script.now wire.old x.old y.old →
         Recorded script.now wire.new x.new y.new }
     ensures talks { OnOk result ((talk : Talk) → IsNextTo talk x.old y.old id →
         Talks talk wire.old x.old y.old →
         Talks (say x.old.end message.now talk) wire.new x.new y.new) }
+    ensures halted { IfErr result (λ halt. HaltedOver halt id message.now
+        wire.old x.old y.old wire.new x.new y.new) }
 {
     let text = Vec::from_slice(alloc, message)?;
     let fate = fate_of(script, wire.frames.len() as u64 + 1)?;

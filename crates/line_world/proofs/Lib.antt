@@ -2,3 +2,4 @@ pub mod LogLaws
 pub mod TalkLaws
 pub mod WentLaws
 pub mod WorldLaws
+pub mod OverLaws

@@ -1,5 +1,5 @@
 -- What holds of each world, behind a greeting and behind a request.
-use Rattle.std.specs.Prelude.{IsErrOf, map, if◌then◌else◌}
+use Rattle.std.specs.Prelude.{IsErrOf, map}
 use Rattle.std.proofs.Common.{◌≡◌, ℕ, ◌+◌, Bool, true, false, List, [], ◌∷◌, length, Option, Some, None, Err, refl, sym, ap, subst, arith, inl, inr}
 use Rattle.hs_folders.specs.FileMaps.{FileMap}
 use Rattle.hs_folders.specs.Moments.{Moments}
@@ -12,20 +12,37 @@ use Rattle.line_script.specs.Rules.{RuleValue}
 use Rattle.line_script.specs.Scripts.{fate_by}
 use Rattle.trace_text.specs.Proper.{IsProper}
 use Rattle.trace_text.specs.TraceLines.{frame_value}
-use Rattle.line_steps.proofs.ProperLaws.{running_is_proper}
-use Rattle.line_steps.proofs.TurnLaws.{settled_holds, settled_turned}
+use Rattle.trace_text.specs.declared.frame.End.{End}
+use Rattle.trace_text.specs.declared.frame.End.TheVariants.{Handheld, Desktop}
+use Rattle.trace_text.specs.Stories.{IsStory}
+use Rattle.line_steps.proofs.ProperLaws.{halted_is_proper}
+use Rattle.line_steps.proofs.RecordedLaws.{recorded_turned}
+use Rattle.line_steps.proofs.TalkedLaws.{talks_turned}
+use Rattle.line_steps.proofs.TellsLaws.{halted_tells, turn_tells_all}
+use Rattle.line_steps.proofs.TurnLaws.{apart_turned}
+use Rattle.line_steps.specs.declared.sending.Halt.{Halt}
+use Rattle.line_steps.specs.declared.sending.Halt.TheVariants.{NoMemory}
+use Rattle.line_steps.specs.Promising.{TellsOf}
+use Rattle.line_steps.specs.Stories.{told_from}
+use Rattle.line_laws.specs.Framing.{CameByCursor}
+use Rattle.trace_text.specs.declared.frame.Frame.{Frame}
 use Rattle.line_steps.specs.Adding.{AllBy}
-use Rattle.line_steps.specs.Telling.{no_talk}
+use Rattle.padp_link.specs.Senders.{SenderValue}
+use Rattle.line_steps.specs.Resting.{IsNew}
+use Rattle.line_steps.specs.Turning.{Turn}
+use Rattle.line_steps.specs.Telling.{cursor_of, no_talk}
 use Rattle.line_steps.specs.declared.line.Line.{Line}
-use Rattle.trace_text.specs.Talks.{Talk}
+use Rattle.trace_text.specs.Talks.{Talk, messages_of}
+use Rattle.line_talk.proofs.EndLaws.{asks-ends, greets-ends}
+use Rattle.line_talk.specs.Halting.{LineEnds}
 use Rattle.line_talk.specs.Rests.{MayGreet, MayAsk}
 use Rattle.line_talk.specs.Telling.{LineRecords, LineTells, bytes_of, greeted, init, wake}
 use Rattle.line_world.specs.declared.down.Down.{Down}
 use Rattle.line_world.specs.declared.stop.Break.{Break}
-use Rattle.line_world.specs.Causes.{IsCause, link_fault}
+use Rattle.line_world.specs.Causes.{IsCause, halt_of, link_fault}
 use Rattle.line_world.specs.Conversing.{Answers, Breaks}
-use Rattle.line_world.specs.Logs.{LogValue, said_in}
-use Rattle.line_world.specs.Worlds.{IsLog, IsAtRest, IsWorld}
+use Rattle.line_world.specs.Logs.{LogValue, no_log, said_in}
+use Rattle.line_world.specs.Worlds.{IsLog, IsAtRest, IsWorld, TellAll, TellBoth}
 use Rattle.line_world.proofs.LogLaws.{length-later, replies-all, log-answered}
 use Rattle.line_world.proofs.WentLaws.{log-went}
 
@@ -67,6 +84,21 @@ said-greeted log answered is all none =
 
 -- ---- the invariant
 
+pub world-new : (line : Line) (script : List RuleValue) (log : LogValue) (sound : Bool) → sound ≡ true → log ≡ no_log → Turn line.wire line.handheld line.desktop → IsNew line.handheld Handheld → IsNew line.desktop Desktop → LineTells no_talk line → line.wire.frames.items ≡ []
+    → IsWorld line script log sound 0 false None None
+world-new line script log sound is_sound quiet turn handheld desktop tells frames =
+    let greets : MayGreet line = record { ends = record { handheld_is = handheld.end_is; desktop_is = desktop.end_is }; turn = turn; handheld_id = ap (λ (s : SenderValue). s.id) handheld.sender_is; desktop_id = ap (λ (s : SenderValue). s.id) desktop.sender_is } in
+    record {
+      recorded = record {
+        by = subst (λ (fs : List Frame). AllBy script 1 fs) (sym frames) tt;
+        came = subst (λ (fs : List Frame). CameByCursor 1 (cursor_of line.handheld line.desktop) (map frame_value fs)) (sym frames) tt;
+      };
+      told = (NoMemory, subst (λ (l : LogValue). LineEnds NoMemory (said_in l) line) (sym quiet) (greets-ends line greets tells));
+      is_log = subst (λ (l : LogValue). IsLog l 0) (sym quiet) (record { performed_is = refl; replied = omega arith; performed_few = omega arith; few = omega arith });
+      running = λ none. record { is_sound = is_sound; all = ap (λ (l : LogValue). length l.issued) quiet; at_rest = (greets, refl, tells) };
+      caused = refl;
+    }
+
 pub caused-by : (cause : Option Down) → IsCause (Some (link_fault cause)) cause
 caused-by None = refl
 caused-by (Some cause) = search
@@ -76,10 +108,12 @@ pub world-greeted : (line new : Line) (script : List RuleValue) (log : LogValue)
 world-greeted line new script log sound answered begun fault cause world none first by asks tells =
     let running = world.running none in
     let greets = greets-of begun line log answered first running.at_rest in
+    let says = subst (λ (t : Talk). LineTells t new) (sym (said-greeted log answered world.is_log running.all greets.none)) tells in
     record {
-      by_script = by.by;
+      recorded = by;
+      told = (NoMemory, asks-ends (said_in log) new 0 asks says);
       is_log = world.is_log;
-      running = λ is. record { is_sound = running.is_sound; all = running.all; recorded = by; at_rest = (subst (λ (n : ℕ). MayAsk new n) (sym greets.none) asks, subst (λ (t : Talk). LineTells t new) (sym (said-greeted log answered world.is_log running.all greets.none)) tells) };
+      running = λ is. record { is_sound = running.is_sound; all = running.all; at_rest = (subst (λ (n : ℕ). MayAsk new n) (sym greets.none) asks, says) };
       caused = world.caused;
     }
 
@@ -93,30 +127,40 @@ world-answered contents moments paths faults old later_server line new script lo
     let more : n ≡ answered + 1 = omega (arith, count, length-later log.replies later.replies reply (ap (λ (l : LogValue). l.replies) performs.log_is), replied) in
     let asked : length later.issued ≡ length log.issued + 1 = length-later log.issued later.issued request (ap (λ (l : LogValue). l.issued) performs.log_is) in
     record {
-      by_script = by.by;
+      recorded = by;
+      told = (NoMemory, asks-ends (said_in later) new (length log.issued + 1) answers.asks tells);
       is_log = subst (λ (k : ℕ). IsLog later k) (sym more) (subst (λ (l : LogValue). IsLog l (answered + 1)) (sym performs.log_is) (log-answered log answered request reply world.is_log running.all));
       running = λ is. record {
         is_sound = performs.sound;
         all = omega (arith, asked, more, running.all);
-        recorded = by;
         at_rest = subst (λ (b : Bool). IsAtRest b new later n) (sym first) (let same : length log.issued + 1 ≡ n = omega (arith, more, running.all) in (subst (λ (k : ℕ). MayAsk new k) same answers.asks, tells));
       };
       caused = world.caused;
     }
 
 pub world-broke : {F : Type 0} (contents : F → Option FileMap) (moments : F → Moments) (paths : F → Option (List (List ℕ))) (faults : F → ℕ) (old later_server : ServerValue F) (line new : Line) (script : List RuleValue) (log later : LogValue) (answered : ℕ) (begun : Bool) (fault : Option LinkFault)
-    (cause now : Option Down) (request : List ℕ) (ended : Break) → IsWorld line script log old.sound answered begun fault cause → fault ≡ None → AllBy script 1 new.wire.frames.items → Breaks contents moments paths faults old later_server log later request ended
+    (cause now : Option Down) (request : List ℕ) (ended : Break) → IsWorld line script log old.sound answered begun fault cause → fault ≡ None → LineRecords script new → LineEnds (halt_of ended) (said_in later) new → Breaks contents moments paths faults old later_server log later request ended
     → IsWorld new script later later_server.sound answered begun (Some (link_fault now)) now
-world-broke contents moments paths faults old later_server line new script log later answered begun fault cause now request ended world none by breaks = record {
-  by_script = by;
+world-broke contents moments paths faults old later_server line new script log later answered begun fault cause now request ended world none by over breaks = record {
+  recorded = by;
+  told = (halt_of ended, over);
   is_log = log-went contents moments paths faults breaks.went old later_server log later answered request world.is_log (world.running none).all breaks.is;
   running = λ is. absurd cc;
   caused = caused-by now;
 }
 
-pub world-halted : (line new : Line) (script : List RuleValue) (log : LogValue) (sound : Bool) (answered : ℕ) (begun : Bool) (fault : Option LinkFault) (cause now : Option Down) → IsWorld line script log sound answered begun fault cause → AllBy script 1 new.wire.frames.items
-    → IsWorld new script log sound answered begun (Some (link_fault now)) now
-world-halted line new script log sound answered begun fault cause now world by = record { by_script = by; is_log = world.is_log; running = λ is. absurd cc; caused = caused-by now }
+pub world-halted : (line new : Line) (script : List RuleValue) (log : LogValue) (sound : Bool) (answered : ℕ) (begun : Bool) (fault : Option LinkFault) (cause now : Option Down) (halt : Halt) → IsWorld line script log sound answered begun fault cause → fault ≡ None → begun ≡ false
+    → LineRecords script new → LineEnds halt greeted new → IsWorld new script log sound answered begun (Some (link_fault now)) now
+world-halted line new script log sound answered begun fault cause now halt world none first by over =
+    let running = world.running none in
+    let greets = greets-of begun line log answered first running.at_rest in
+    record {
+      recorded = by;
+      told = (halt, subst (λ (t : Talk). LineEnds halt t new) (sym (said-greeted log answered world.is_log running.all greets.none)) over);
+      is_log = world.is_log;
+      running = λ is. absurd cc;
+      caused = caused-by now;
+    }
 
 -- ---- what the link answers
 
@@ -126,14 +170,29 @@ went-down link.NoMemory = record { later = omega arith; rose = λ is. absurd cc 
 
 -- ---- the trace
 
--- while the link answers
-pub world-proper : (line : Line) (script : List RuleValue) (log : LogValue) (sound : Bool) (answered : ℕ) (begun : Bool) (fault : Option LinkFault) (cause : Option Down) → IsWorld line script log sound answered begun fault cause → fault ≡ None
-    → IsProper (fate_by script) (if begun then said_in log else no_talk) (map frame_value line.wire.frames.items)
-world-proper line script log sound answered true fault cause world none =
-    let running = world.running none in
-    let rest = running.at_rest in
-    running_is_proper script (said_in log) line.wire line.handheld line.desktop rest.0.ends.handheld_is (settled_holds line.wire line.handheld line.desktop (settled_turned line.wire line.desktop line.handheld rest.0.turn.settled)) rest.1 running.recorded
-world-proper line script log sound answered false fault cause world none =
-    let running = world.running none in
-    let rest = running.at_rest in
-    running_is_proper script no_talk line.wire line.handheld line.desktop rest.0.ends.handheld_is (settled_holds line.wire line.handheld line.desktop rest.0.turn.settled) rest.2 running.recorded
+pub world-proper : (line : Line) (script : List RuleValue) (log : LogValue) → LineRecords script line → (halt : Halt) × LineEnds halt (said_in log) line → IsProper (fate_by script) (said_in log) (map frame_value line.wire.frames.items)
+world-proper line script log recorded told = halted_is_proper told.0 script (said_in log) line.wire line.handheld line.desktop told.1.ends.handheld_is told.1.ends.desktop_is told.1.by told.1.spoke recorded
+
+pub world-told : (line : Line) (script : List RuleValue) (log : LogValue) → LineRecords script line → (halt : Halt) × LineEnds halt (said_in log) line → TellBoth (said_in log) (map frame_value line.wire.frames.items)
+world-told line script log recorded told =
+    let frames = map frame_value line.wire.frames.items in
+    let both = halted_tells told.0 script (said_in log) line.wire line.handheld line.desktop told.1.by told.1.spoke recorded in
+    record {
+      handheld_said = subst (λ (E : End). TellsOf E (messages_of E (said_in log)) frames) told.1.ends.handheld_is both.0;
+      desktop_said = subst (λ (E : End). TellsOf E (messages_of E (said_in log)) frames) told.1.ends.desktop_is both.1;
+    }
+
+pub world-all_told : (line : Line) (script : List RuleValue) (log : LogValue) (sound : Bool) (answered : ℕ) (begun : Bool) (fault : Option LinkFault) (cause : Option Down) → IsWorld line script log sound answered begun fault cause → fault ≡ None → begun ≡ true
+    → TellAll (said_in log) (map frame_value line.wire.frames.items)
+world-all_told line script log sound answered begun fault cause world none first =
+    let rest = world.running none in
+    let asks = asks-of begun line log answered answered first refl rest.at_rest in
+    let tells = tells-of begun line log answered first rest.at_rest in
+    let ends = asks.ends in
+    let apart = apart_turned line.desktop.end line.handheld.end asks.turn.settled.apart in
+    let frames = map frame_value line.wire.frames.items in
+    let both = turn_tells_all script (said_in log) line.wire line.desktop line.handheld asks.turn (talks_turned (said_in log) line.wire line.handheld line.desktop apart tells) (recorded_turned script line.wire line.handheld line.desktop apart world.recorded) in
+    record {
+      handheld_said = subst (λ (E : End). IsStory E frames (told_from 0 (messages_of E (said_in log)))) ends.handheld_is both.1;
+      desktop_said = subst (λ (E : End). IsStory E frames (told_from 0 (messages_of E (said_in log)))) ends.desktop_is both.0;
+    }

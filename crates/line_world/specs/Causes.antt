@@ -3,12 +3,19 @@ use Rattle.std.specs.Prelude.{◌≡◌, ℕ, Option, Some, None, IsSome}
 use Rattle.dlp_commands.specs.declared.link.LinkFault.{LinkFault}
 use Rattle.dlp_commands.specs.declared.link.LinkFault.TheVariants as link
 use Rattle.line_steps.specs.declared.harm.Stop.TheVariants as stop
+use Rattle.line_steps.specs.declared.sending.Halt.{Halt}
 use Rattle.line_steps.specs.declared.sending.Halt.TheVariants as halt
 use Rattle.trace_text.specs.declared.frame.End.{End}
 use Rattle.line_world.specs.declared.down.Down.{Down}
 use Rattle.line_world.specs.declared.down.Down.TheVariants as down
 use Rattle.line_world.specs.declared.stop.Break.{Break}
 use Rattle.line_world.specs.declared.stop.Break.TheVariants.{NoMemory, Line, Keeper}
+
+-- why it is over with the line itself: where memory ran out elsewhere, or the folder failed, it is at rest
+abbrev pub halt_of : Break → Halt
+halt_of NoMemory = halt.NoMemory
+halt_of (Line halt) = halt
+halt_of Keeper = halt.NoMemory
 
 -- the end whose piece was sent ten times, where that is the cause
 abbrev pub down_end : Option Down → Option End

@@ -6,8 +6,10 @@ use Rattle.hs_folders.specs.Causes.{Rose}
 use Rattle.handheld_server.specs.declared.fault.ServeFault.{ServeFault}
 use Rattle.handheld_server.specs.declared.fault.ServeFault.TheVariants as serve
 use Rattle.handheld_server.specs.Servers.{ServerValue}
+use Rattle.line_steps.specs.declared.sending.Halt.TheVariants as halt
 use Rattle.line_world.specs.declared.stop.Break.{Break}
 use Rattle.line_world.specs.declared.stop.Break.TheVariants.{NoMemory, Keeper}
+use Rattle.line_world.specs.Causes.{halt_of}
 use Rattle.line_world.specs.Folders.{ServedSince}
 use Rattle.line_world.specs.Logs.{LogValue, with_performed}
 
@@ -22,8 +24,9 @@ pub record Performs {F : Type 0} (contents : F → Option FileMap) (moments : F 
   pub since : ServedSince contents moments paths faults old new (record { request = request; reply = reply } ∷ [])
   pub log_is : later ≡ with_performed log request reply
 
--- it wasn't; where the folder failed, its count rose
+-- it wasn't; where the folder failed, its count rose, and the line is at rest
 pub record Refuses {F : Type 0} (contents : F → Option FileMap) (moments : F → Moments) (paths : F → Option (List (List ℕ))) (faults : F → ℕ) (old new : ServerValue F) (log later : LogValue) (ended : Break) : Type 0 where
   pub since : ServedSince contents moments paths faults old new []
   pub keeper : ended ≡ Keeper → Rose (faults old.folder) (faults new.folder)
+  pub at_rest : halt_of ended ≡ halt.NoMemory
   pub log_is : later ≡ log

@@ -1,5 +1,5 @@
 -- What contracts see of a world, and what holds of it since an earlier time.
-use Rattle.std.specs.Prelude.{◌≡◌, ◌⊎◌, ℕ, ◌+◌, ◌≤◌, Bool, true, false, List, ◌++◌, length, map, take, slice_get, if◌then◌else◌, Option, Some, None}
+use Rattle.std.specs.Prelude.{◌≡◌, ◌⊎◌, ℕ, ◌+◌, ◌≤◌, Bool, true, false, List, ◌++◌, length, map, take, slice_get, Option, Some, None}
 use Rattle.std.specs.List.{flat_map}
 use Rattle.hs_folders.specs.Causes.{Rose}
 use Rattle.hs_folders.specs.FileMaps.{FileMap}
@@ -10,15 +10,20 @@ use Rattle.dlp_commands.specs.DeviceRuns.{Exchange, exchanged}
 use Rattle.dlp_commands.specs.Talks.{Talk}
 use Rattle.handheld_server.specs.Servers.{ServerValue}
 use Rattle.line_script.specs.Rules.{RuleValue}
+use Rattle.trace_text.specs.declared.frame.End.TheVariants as ends
+use Rattle.trace_text.specs.Stories.{IsStory}
 use Rattle.trace_text.specs.Talks as talks
 use Rattle.trace_text.specs.TraceLines.{FrameValue}
-use Rattle.line_steps.specs.Adding.{AllBy}
 use Rattle.line_steps.specs.declared.line.Line.{Line}
+use Rattle.line_steps.specs.declared.sending.Halt.{Halt}
+use Rattle.line_steps.specs.Promising.{TellsOf}
+use Rattle.line_steps.specs.Stories.{told_from}
 use Rattle.line_steps.specs.Telling.{no_talk}
 use Rattle.line_world.specs.declared.down.Down.{Down}
 use Rattle.line_world.specs.declared.down.Down.TheVariants.{Keeper}
 use Rattle.line_world.specs.Causes.{IsCause}
 use Rattle.line_world.specs.Folders.{ServedSince}
+use Rattle.line_talk.specs.Halting.{LineEnds}
 use Rattle.line_talk.specs.Rests.{MayGreet, MayAsk}
 use Rattle.line_talk.specs.Telling.{LineRecords, LineTells}
 use Rattle.line_world.specs.Logs.{LogValue, said_in}
@@ -42,9 +47,15 @@ world_talk world = record {
   left = slice_get world.log.issued world.answered;
 }
 
--- the messages of both ends so far: the greetings, and then the replies and the requests
-abbrev pub world_says : {F : Type 0} → WorldValue F → talks.Talk
-world_says world = if world.begun then said_in world.log else no_talk
+-- the frames tell each end the messages of the other one, under the ids of their numbers: all of them, or all but the last
+pub record TellBoth (talk : talks.Talk) (frames : List FrameValue) : Type 0 where
+  pub handheld_said : TellsOf ends.Handheld talk.handheld frames
+  pub desktop_said : TellsOf ends.Desktop talk.desktop frames
+
+-- they tell all of them
+pub record TellAll (talk : talks.Talk) (frames : List FrameValue) : Type 0 where
+  pub handheld_said : IsStory ends.Handheld frames (told_from 0 talk.handheld)
+  pub desktop_said : IsStory ends.Desktop frames (told_from 0 talk.desktop)
 
 -- Since the first of the two more was sent, performed and replied: each request that was performed was one step of the device, in order. The script is the same.
 -- A folder that failed meanwhile had its count rise.
@@ -72,15 +83,15 @@ IsAtRest false line log answered = MayGreet line × (answered ≡ 0) × LineTell
 IsAtRest true line log answered = MayAsk line answered × LineTells (said_in log) line
 
 -- what holds while the link answers: the handheld is sound, all was answered, and the line is at rest
-pub record IsRunning (line : Line) (script : List RuleValue) (log : LogValue) (sound : Bool) (answered : ℕ) (begun : Bool) : Type 0 where
+pub record IsRunning (line : Line) (log : LogValue) (sound : Bool) (answered : ℕ) (begun : Bool) : Type 0 where
   pub is_sound : sound ≡ true
   pub all : length log.issued ≡ answered
-  pub recorded : LineRecords script line
   pub at_rest : IsAtRest begun line log answered
 
 -- what holds of each world
 pub record IsWorld (line : Line) (script : List RuleValue) (log : LogValue) (sound : Bool) (answered : ℕ) (begun : Bool) (fault : Option LinkFault) (cause : Option Down) : Type 0 where
-  pub by_script : AllBy script 1 line.wire.frames.items
+  pub recorded : LineRecords script line
+  pub told : (halt : Halt) × LineEnds halt (said_in log) line
   pub is_log : IsLog log answered
-  pub running : fault ≡ None → IsRunning line script log sound answered begun
+  pub running : fault ≡ None → IsRunning line log sound answered begun
   pub caused : IsCause fault cause

@@ -1,9 +1,10 @@
 //! A request and its reply.
 ghost use Rattle.std.specs.Prelude.{◌≡◌, ◌≤◌, true, IfSome, OnOk, IfErr, length};
 ghost use Rattle.padp_link.specs.Receivers.{whole_of};
-ghost use Rattle.line_steps.specs.Adding.{AllBy};
+ghost use Rattle.line_talk.specs.Halting.{LineEnds};
 ghost use Rattle.line_talk.specs.Rests.{MayAsk};
 ghost use Rattle.line_talk.specs.Telling.{LineRecords, LineTells};
+ghost use Rattle.line_world.specs.Causes.{halt_of};
 ghost use Rattle.line_world.specs.Conversing.{Answers, Breaks};
 ghost use Rattle.line_world.specs.Logs.{log_value, said_in};
 
@@ -38,12 +39,11 @@ pub(crate) fn converse<F: Folder>(
     ensures breaks { IfErr result (λ ended. Breaks F.contents F.moments F.paths F.faults
         server.old server.new (log_value log.old) (log_value log.new) request.now ended) }
 
-    ensures recorded { OnOk result (
-        LineRecords script.now line.old → LineRecords script.now line.new) }
-    ensures by { LineRecords script.now line.old →
-        AllBy script.now 1 line.new.wire.frames.items }
+    ensures recorded { LineRecords script.now line.old → LineRecords script.now line.new }
     ensures tells { OnOk result (LineTells (said_in (log_value log.old)) line.old →
         LineTells (said_in (log_value log.new)) line.new) }
+    ensures ends { IfErr result (λ ended. LineTells (said_in (log_value log.old)) line.old →
+        LineEnds (halt_of ended) (said_in (log_value log.new)) line.new) }
 {
     let requests = log.issued.len();
     log.issue(alloc, request)?;

@@ -4,10 +4,9 @@ ghost use Rattle.trace_text.specs.TraceLines.{frame_value};
 ghost use Rattle.std.specs.Option.{option_copied};
 ghost use Rattle.line_script.specs.Scripts.{fate_by};
 ghost use Rattle.trace_text.specs.Proper.{IsProper};
-ghost use Rattle.line_steps.specs.Adding.{AllBy};
 ghost use Rattle.line_world.specs.Causes.{IsCause};
-ghost use Rattle.line_world.specs.Logs.{no_log, texts};
-ghost use Rattle.line_world.specs.Worlds.{IsLog, world_says};
+ghost use Rattle.line_world.specs.Logs.{no_log, said_in, texts};
+ghost use Rattle.line_world.specs.Worlds.{IsLog, TellAll, TellBoth};
 
 use crate::down::Down;
 use crate::log::{LineLog, Log};
@@ -107,9 +106,8 @@ impl<F: Folder> World<F> {
     /// The frames so far.
     pub fn frames(&self) -> &[Frame]
         ensures frames { map frame_value result.now ≡ self.now.frames }
-        // While the link answers they are a proper trace.
-        ensures proper { self.now.fault ≡ None →
-            IsProper (fate_by self.now.script) (world_says self.now) self.now.frames }
+        // They are a proper trace by the script of all that was said.
+        ensures proper { IsProper (fate_by self.now.script) (said_in self.now.log) self.now.frames }
     {
         &self.line.wire.frames
     }
@@ -126,10 +124,12 @@ impl<F: Folder> World<F> {
         // What was performed is what was sent, in order and each once, or all but the last of it; all replies but the last at
         // most were taken.
         ensures log { IsLog self.log self.answered }
-        // Each frame has its number and the fate that the script gives it. While the link answers they are a proper trace.
-        ensures by { AllBy self.script 1 result.0.frames.items }
-        ensures proper { self.fault ≡ None →
-            IsProper (fate_by self.script) (world_says self) (map frame_value result.0.frames.items) }
+        // The frames are a proper trace by the script of all that was said.
+        ensures proper { IsProper (fate_by self.script) (said_in self.log) (map frame_value result.0.frames.items) }
+        // They tell each end all messages of the other one, or all but the last; while the link answers, all.
+        ensures told { TellBoth (said_in self.log) (map frame_value result.0.frames.items) }
+        ensures all_told { self.fault ≡ None → self.begun ≡ true →
+            TellAll (said_in self.log) (map frame_value result.0.frames.items) }
     {
         let World {
             line,

@@ -1,7 +1,8 @@
-use Rattle.std.proofs.Common.{subst}
-use Rattle.std.proofs.lemmas.Result.{on_ok_weaker}
+use Rattle.std.proofs.Common.{subst, ◌∙◌}
+use Rattle.std.proofs.lemmas.Result.{IfErr-weaker, on_ok_weaker}
 use Rattle.trace_text.specs.declared.frame.End.{End}
 use Rattle.line_laws.specs.Talking.{say}
+use Rattle.line_steps.specs.Halting.{Spoke}
 use Rattle.line_steps.specs.Telling.{Talks}
 use Rattle.line_talk.proofs.AskLaws.{answers-next}
 use Rattle.line_talk.proofs.asking.answer.Goals as goal
@@ -11,3 +12,15 @@ returns-clause-tells c =
     let line = c.args.line.now in
     on_ok_weaker c.send_over.result (λ tells. λ talk said before. subst (λ (X : End). Talks (say X c.args.reply.now talk) c.send_over.new.wire c.send_over.new.x c.send_over.new.y) c.requires.answers.ends.handheld_is
     (tells talk (answers-next line c.args.requests c.transaction.result talk c.requires.answers c.transaction.ensures said) before)) c.send_over.ensures.talks
+
+pub returns-clause-ends : goal.returns-clause-ends
+returns-clause-ends c =
+    let line = c.args.line.now in
+    let done = c.send_over.ensures in
+    let ends = c.requires.answers.ends in
+    IfErr-weaker c.send_over.result _ _ (λ halt halted. λ talk said before. record {
+      ends = record { handheld_is = done.own_end ∙ ends.handheld_is; desktop_is = done.other_end ∙ ends.desktop_is };
+      by = halted.by;
+      spoke = subst (λ (X : End). Spoke (say X c.args.reply.now talk) c.send_over.new.wire c.send_over.new.x c.send_over.new.y) ends.handheld_is
+          (halted.talks talk (answers-next line c.args.requests c.transaction.result talk c.requires.answers c.transaction.ensures said) before);
+    }) done.halted

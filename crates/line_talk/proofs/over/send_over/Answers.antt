@@ -1,11 +1,12 @@
 use Rattle.std.specs.Prelude.{Result, Ok, Err, OnOk}
 use Rattle.std.proofs.Common.{◌≡◌, ℕ, ◌+◌, List, length, Some, ap, subst, ◌∙◌, arith}
-use Rattle.std.proofs.lemmas.Result.{on_ok_weaker}
+use Rattle.std.proofs.lemmas.Result.{IfErr-weaker, err_from_is_err_and, on_ok_weaker}
 use Rattle.line_laws.specs.Talking.{say}
 use Rattle.line_script.specs.Scripts.{fate_by}
 use Rattle.line_steps.specs.declared.half.Half.{Half}
+use Rattle.line_steps.specs.Halting.{Spoke}
 use Rattle.line_steps.specs.Telling.{Talks}
-use Rattle.line_talk.proofs.OverLaws.{expects-recorded, expects-next, expects-talks}
+use Rattle.line_talk.proofs.OverLaws.{either_way, expects-recorded, expects-next, expects-talks, over-unsent}
 use Rattle.line_talk.proofs.over.send_over.Goals as goal
 
 both_ok : {T E A B C : Type 0} (r : Result T E) → (A → B → C) → OnOk r A → OnOk r B → OnOk r C
@@ -43,8 +44,49 @@ returns-clause-whole c =
     both_ok c.carry.result (λ carried same. carried.message
     ∙ ap (λ (m : List ℕ). Some m) (ap (λ (m : _). m.items) same.message_is ∙ ap (λ (h : Half). h.message.items) c.start.ensures.says ∙ c.in_ok-text.ensures.items)) c.carry.ensures.carried c.carry.ensures.x_same
 
+pub returns-in_err-start-clause-own_end : goal.returns-in_err-start-clause-own_end
+returns-in_err-start-clause-own_end c = ap (λ (h : Half). h.end) c.start.ensures.says
+
 pub returns-clause-own_end : goal.returns-clause-own_end
-returns-clause-own_end c = on_ok_weaker c.carry.result (λ same. same.end_is ∙ ap (λ (h : Half). h.end) c.start.ensures.says) c.carry.ensures.x_same
+returns-clause-own_end c =
+    let from = ap (λ (h : Half). h.end) c.start.ensures.says in
+    either_way c.carry.result (λ same. same.end_is ∙ from) (λ halt halted. halted.x_end ∙ from) c.carry.ensures.x_same c.carry.ensures.halted
+
+pub returns-in_err-start-clause-other_end : goal.returns-in_err-start-clause-other_end
+returns-in_err-start-clause-other_end c = ap (λ (h : Half). h.end) c.expect.ensures.receiver
+
+pub returns-clause-other_end : goal.returns-clause-other_end
+returns-clause-other_end c =
+    let from = ap (λ (h : Half). h.end) c.expect.ensures.receiver in
+    either_way c.carry.result (λ same. same.end_is ∙ from) (λ halt halted. halted.y_end ∙ from) c.carry.ensures.y_same c.carry.ensures.halted
+
+pub returns-in_err-text-clause-halted : goal.returns-in_err-text-clause-halted
+returns-in_err-text-clause-halted c =
+    let p = err_from_is_err_and c.from_residual.result c.from_residual.ensures.1 in
+    rw (p.1, p.2) (over-unsent c.args.id c.args.message.now c.args.wire.now c.args.x.now c.args.y.now c.requires.turn)
+
+pub returns-in_err-fate-clause-halted : goal.returns-in_err-fate-clause-halted
+returns-in_err-fate-clause-halted c =
+    let p = err_from_is_err_and c.from_residual-in_err-fate.result c.from_residual-in_err-fate.ensures.1 in
+    rw (p.1, p.2) (over-unsent c.args.id c.args.message.now c.args.wire.now c.args.x.now c.args.y.now c.requires.turn)
+
+pub returns-in_err-start-clause-halted : goal.returns-in_err-start-clause-halted
+returns-in_err-start-clause-halted c =
+    let p = err_from_is_err_and c.from_residual-in_err-start.result c.from_residual-in_err-start.ensures.1 in
+    rw (p.1, p.2) (record {
+      by = c.in_err-start.ensures.halted;
+      talks = λ talk next talks. subst (λ (m : List ℕ). Spoke (say c.args.x.now.end m talk) c.start.new.wire c.start.new.x c.expect.new.half) c.in_ok-text.ensures.items
+          (c.in_err-start.ensures.spoke talk (expects-next talk c.args.x.now c.args.y.now c.expect.new.half c.args.id c.args.id c.expect.ensures.receiver next) (expects-talks talk c.args.wire.now c.args.x.now c.args.y.now c.expect.new.half c.args.id c.expect.ensures.receiver talks));
+    })
+
+pub returns-clause-halted : goal.returns-clause-halted
+returns-clause-halted c =
+    IfErr-weaker c.carry.result _ _ (λ halt halted. record {
+      by = halted.by;
+      talks = λ talk next talks. subst (λ (m : List ℕ). Spoke (say c.args.x.now.end m talk) c.carry.new.wire c.carry.new.x c.carry.new.y) c.in_ok-text.ensures.items
+          (halted.talks (say c.args.x.now.end c.in_ok-text.text.items talk)
+          (c.in_ok-start.ensures.talks talk (expects-next talk c.args.x.now c.args.y.now c.expect.new.half c.args.id c.args.id c.expect.ensures.receiver next) (expects-talks talk c.args.wire.now c.args.x.now c.args.y.now c.expect.new.half c.args.id c.expect.ensures.receiver talks)));
+    }) c.carry.ensures.halted
 
 pub returns-clause-own_id : goal.returns-clause-own_id
 returns-clause-own_id c = on_ok_weaker c.carry.result (λ same. same.id_is ∙ c.start.ensures.id) c.carry.ensures.x_same

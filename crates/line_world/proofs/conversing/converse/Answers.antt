@@ -3,28 +3,67 @@ use Rattle.std.proofs.Common.{◌≡◌, ℕ, ◌+◌, ◌≤◌, List, [], ◌�
 use Rattle.std.proofs.lemmas.List.{length-map}
 use Rattle.std.proofs.lemmas.Result.{err_from_is_err_and}
 use Rattle.dlp_args.specs.Messages.{MessageTextValue}
+use Rattle.line_steps.specs.declared.sending.Halt.{Halt}
+use Rattle.line_talk.specs.Halting.{LineEnds}
 use Rattle.line_talk.specs.Rests.{MayAsk}
 use Rattle.line_talk.specs.Telling.{HasSaid, LineTells}
 use Rattle.line_world.specs.Conversing.{Sent, Served}
 use Rattle.line_world.specs.Logs.{LogValue, log_value, said_in, with_issued, with_performed}
 use Rattle.line_world.specs.Serving.{Performs}
 use Rattle.line_world.proofs.LogLaws.{length-more}
+use Rattle.line_world.proofs.OverLaws.{answered-over, answers-over, asked-over, asks-over}
 use Rattle.line_world.proofs.conversing.converse.Goals as goal
 
-pub returns-in_err-ask-clause-by : goal.returns-in_err-ask-clause-by
-returns-in_err-ask-clause-by g c recorded = c.ask.ensures.by recorded
+pub returns-in_err-ask-clause-recorded : goal.returns-in_err-ask-clause-recorded
+returns-in_err-ask-clause-recorded g c recorded = c.ask.ensures.recorded recorded
 
-pub returns-in_err-perform-clause-by : goal.returns-in_err-perform-clause-by
-returns-in_err-perform-clause-by g c recorded = c.ask.ensures.by recorded
+pub returns-in_err-perform-clause-recorded : goal.returns-in_err-perform-clause-recorded
+returns-in_err-perform-clause-recorded g c recorded = c.ask.ensures.recorded recorded
 
-pub returns-in_err-answer-clause-by : goal.returns-in_err-answer-clause-by
-returns-in_err-answer-clause-by g c recorded = c.answer.ensures.by (c.in_ok-ask.ensures.recorded recorded)
-
-pub returns-clause-by : goal.returns-clause-by
-returns-clause-by g c recorded = c.answer.ensures.by (c.in_ok-ask.ensures.recorded recorded)
+pub returns-in_err-answer-clause-recorded : goal.returns-in_err-answer-clause-recorded
+returns-in_err-answer-clause-recorded g c recorded = c.answer.ensures.recorded (c.ask.ensures.recorded recorded)
 
 pub returns-clause-recorded : goal.returns-clause-recorded
-returns-clause-recorded g c recorded = c.in_ok-answer.ensures.recorded (c.in_ok-ask.ensures.recorded recorded)
+returns-clause-recorded g c recorded = c.answer.ensures.recorded (c.ask.ensures.recorded recorded)
+
+pub returns-in_err-issue-clause-ends : goal.returns-in_err-issue-clause-ends
+returns-in_err-issue-clause-ends g c =
+    let p = err_from_is_err_and c.from_residual.result c.from_residual.ensures.1 in
+    rw (p.1, p.2) (λ before. asks-over c.args.line.now (log_value c.args.log.now) (log_value c.issue.new.self) c.requires.asks c.in_err-issue.ensures.stays before)
+
+pub returns-in_err-ask-clause-ends : goal.returns-in_err-ask-clause-ends
+returns-in_err-ask-clause-ends g c =
+    let p = err_from_is_err_and c.from_residual-in_err-ask.result c.from_residual-in_err-ask.ensures.1 in
+    let log = log_value c.args.log.now in
+    let request = c.args.request.now in
+    let requests : c.len-requests.result ≡ length log.issued = omega (arith, c.len-requests.ensures, length-map c.args.log.now.issued.items (λ (t : MessageTextValue). t.bytes)) in
+    let said : HasSaid (said_in log) c.len-requests.result c.len-requests.result = record { handheld_said = omega (arith, requests, c.requires.answered); desktop_said = omega (arith, requests) } in
+    rw (p.1, p.2) (λ before. asked-over c.ask.new.line log (log_value c.issue.new.self) request c.bytes.result.now c.in_ok-issue.ensures.kept c.bytes.ensures.bytes (c.in_err-ask.ensures.ends (said_in log) said before))
+
+pub returns-in_err-perform-clause-ends : goal.returns-in_err-perform-clause-ends
+returns-in_err-perform-clause-ends g c =
+    let p = err_from_is_err_and c.from_residual-in_err-perform.result c.from_residual-in_err-perform.ensures.1 in
+    let log = log_value c.args.log.now in
+    let request = c.args.request.now in
+    let requests : c.len-requests.result ≡ length log.issued = omega (arith, c.len-requests.ensures, length-map c.args.log.now.issued.items (λ (t : MessageTextValue). t.bytes)) in
+    let said : HasSaid (said_in log) c.len-requests.result c.len-requests.result = record { handheld_said = omega (arith, requests, c.requires.answered); desktop_said = omega (arith, requests) } in
+    let refuses = c.in_err-perform.ensures.refuses in
+    rw (p.1, p.2) (λ before. subst (λ (h : Halt). LineEnds h (said_in (log_value c.perform.new.log)) c.ask.new.line) (sym refuses.at_rest)
+    (answers-over c.ask.new.line (with_issued log request) (log_value c.perform.new.log) c.len-requests.result c.in_ok-ask.ensures.answers (refuses.log_is ∙ c.in_ok-issue.ensures.kept) (subst (λ (m : List ℕ). LineTells (said_in (with_issued log m)) c.ask.new.line) c.bytes.ensures.bytes (c.in_ok-ask.ensures.tells (said_in log) said before))))
+
+pub returns-in_err-answer-clause-ends : goal.returns-in_err-answer-clause-ends
+returns-in_err-answer-clause-ends g c =
+    let p = err_from_is_err_and c.from_residual-in_err-answer.result c.from_residual-in_err-answer.ensures.1 in
+    let log = log_value c.args.log.now in
+    let request = c.args.request.now in
+    let requests : c.len-requests.result ≡ length log.issued = omega (arith, c.len-requests.ensures, length-map c.args.log.now.issued.items (λ (t : MessageTextValue). t.bytes)) in
+    let said : HasSaid (said_in log) c.len-requests.result c.len-requests.result = record { handheld_said = omega (arith, requests, c.requires.answered); desktop_said = omega (arith, requests) } in
+    let reply = c.perform.new.reply in
+    let more : length (log.issued ++ request ∷ []) ≡ length log.issued + 1 = length-more log.issued request in
+    let then : HasSaid (said_in (with_issued log request)) c.len-requests.result (c.len-requests.result + 1) = record { handheld_said = omega (arith, requests, c.requires.answered); desktop_said = omega (arith, more, requests) } in
+    let log_is = c.in_ok-perform.ensures.performs.log_is ∙ ap (λ (l : LogValue). with_performed l request reply) c.in_ok-issue.ensures.kept in
+    rw (p.1, p.2) (λ before. answered-over c.answer.new.line log (log_value c.perform.new.log) request reply c.bytes-2.result.now log_is c.bytes-2.ensures.bytes
+    (c.in_err-answer.ensures.ends (said_in (with_issued log request)) then (subst (λ (m : List ℕ). LineTells (said_in (with_issued log m)) c.ask.new.line) c.bytes.ensures.bytes (c.in_ok-ask.ensures.tells (said_in log) said before))))
 
 pub returns-in_err-perform-clause-breaks : goal.returns-in_err-perform-clause-breaks
 returns-in_err-perform-clause-breaks g c =
