@@ -186,3 +186,11 @@ stays (Some c) h lives is = refl
 pub finished-rows : (row : ℕ → Option ContentValue) (h : ℕ → Held) (records : List Record) → AreShown h records → finished (purged_ids row h) records ≡ with_rows row records
 finished-rows row h [] shown = refl
 finished-rows row h (r ∷ records) shown = grind (arith, common_steps, has-purged row h r.id shown.0, stays (row r.id) (h r.id) (is_live r) shown.1, finished-rows row h records shown.2)
+
+pub differ-after : (row : ℕ → Option ContentValue) (ws : List Write) (records : List Record) → AreClearing row ws → RowsDiffer records → RowsDiffer (after ws records)
+differ-after row [] records are differ = differ
+differ-after row (replace i c ∷ ws) records are differ = absurd are
+differ-after row (add g c ∷ ws) records are differ = absurd are
+differ-after row (purge i ∷ ws) records are differ = differ-after row ws (without_record i records) are.1 (differ-without i records differ)
+differ-after row (clean_up ∷ ws) records are differ = differ-after row ws (filter is_live records) are (differ-filter is_live records differ)
+differ-after row (reset ∷ ws) records are differ = differ-after row ws (map clean records) are (differ-clean records differ)

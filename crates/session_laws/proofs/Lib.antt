@@ -5,5 +5,6 @@ pub mod FirstLaws
 pub mod GivenLaws
 pub mod HandheldLaws
 pub mod NewsLaws
+pub mod RenamingLaws
 pub mod RepeatLaws
 pub mod ResumeLaws

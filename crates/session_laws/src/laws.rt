@@ -6,7 +6,8 @@ ghost use Rattle.conduit_rules.specs.declared.action.Action.TheVariants.{Sync, H
 ghost use Rattle.conduit_rules.specs.declared.view.Seen.{Seen};
 ghost use Rattle.session_laws.specs.Repeats.{Found, IsRead, EndAlike, GotIds, ended, Place};
 ghost use Rattle.session_laws.specs.Repeats.{StopsAmongNews, left_among_news, left_behind_commit};
-ghost use Rattle.session_laws.specs.Repeats.{left_at_end, AreStops, left_by, all_ids};
+ghost use Rattle.session_laws.specs.Renaming.{AreUnknown, SameEnds};
+ghost use Rattle.session_laws.specs.Repeats.{GotAllIds, left_at_end, AreStops, left_by, all_ids};
 
 /// A session of both sides that stops among its replacements and adds is taken up by the next one: that
 /// ends at the merge of what the first one found, under the ids that were given in both.
@@ -66,4 +67,11 @@ pub fn stopped_sessions_end_as_one()
         → let y = left_by a x places in
         GotIds a y later
         → EndAlike (ended a y later) (ended a x (all_ids a places later)) }
+{}
+
+/// Which ids the new records got doesn't matter, as long as nothing had them.
+pub fn new_ids_are_of_no_account()
+    ensures { (a : Action) (x : Found) (given other : List ℕ) → IsRead x
+        → GotAllIds a x given → GotAllIds a x other → AreUnknown x given → AreUnknown x other
+        → SameEnds x (ended a x given) (ended a x other) }
 {}
