@@ -238,7 +238,7 @@ records-again ch h given records ws now later differ bounded shows free are then
 -- ---- the two places
 
 -- the next session of both sides, or of one that goes by the desktop
-abbrev LooksAtRows : Action → Type 0
+abbrev pub LooksAtRows : Action → Type 0
 LooksAtRows Sync = Unit {0}
 LooksAtRows Handheld = ⊥
 LooksAtRows Desktop = Unit {0}
@@ -273,9 +273,9 @@ fits-behind a x given ws read got are =
     (fits-after (row_under ch given) (shown x) ws now are (differ-given ch (shown x) given x.records (differ-ids x.records read.ids))
     (λ i. fit_given (row_under ch given i) (shown x i) (held now i) (given-is ch (shown x) given x.records read.bounded read.shows got i).0))
 
-pub behind-commit : (a : Action) (x : Found) (given later : List ℕ) (n : ℕ) → LooksAtRows a → IsRead x → GotIds a x given → IsRead (left_behind_commit a x given n)
-    → EndAlike (ended a (left_behind_commit a x given n) later) (ended a x given)
-behind-commit a x given later n looks read got then_read =
+chosen-commit : (a : Action) (x : Found) (given : List ℕ) (n : ℕ) → LooksAtRows a → IsRead x → GotIds a x given → IsRead (left_behind_commit a x given n)
+    → (chosen a (left_behind_commit a x given n) ≡ kept_alone (row_under (chosen a x) given)) × ((i : ℕ) → Fits (row_under (chosen a x) given i) (shown x i) (shown (left_behind_commit a x given n) i))
+chosen-commit a x given n looks read got then_read =
     let ch = chosen a x in
     let y = left_behind_commit a x given n in
     let ws = clearing_done a x n in
@@ -288,10 +288,30 @@ behind-commit a x given later n looks read got then_read =
       fits = fits;
       done = λ i e. absurd (cc);
     } in
-    ends-alike ch (shown x) given x.records x.archive (chosen a y) (shown y) later y.records
-    (chosen-behind a ch (shown x) given y.view true looks b)
+    (chosen-behind a ch (shown x) given y.view true looks b, fits)
+
+pub behind-commit : (a : Action) (x : Found) (given later : List ℕ) (n : ℕ) → LooksAtRows a → IsRead x → GotIds a x given → IsRead (left_behind_commit a x given n)
+    → EndAlike (ended a (left_behind_commit a x given n) later) (ended a x given)
+behind-commit a x given later n looks read got then_read =
+    let ch = chosen a x in
+    let y = left_behind_commit a x given n in
+    let ws = clearing_done a x n in
+    let are : AreClearing (row_under ch given) ws = clearing-take (row_under ch given) n (clearing ch (shown x)) (clearing-given ch (shown x) given x.records read.bounded read.shows got) in
+    let next = chosen-commit a x given n looks read got then_read in
+    ends-alike ch (shown x) given x.records x.archive (chosen a y) (shown y) later y.records next.0
     (records-again ch (shown x) given x.records ws (shown y) later (differ-ids x.records read.ids) read.bounded read.shows got are
-    (differ-ids y.records then_read.ids) then_read.bounded then_read.shows fits)
+    (differ-ids y.records then_read.ids) then_read.bounded then_read.shows next.1)
+
+-- nothing is added then
+pub commit-adds : (a : Action) (x : Found) (given : List ℕ) (n : ℕ) → LooksAtRows a → IsRead x → GotIds a x given → IsRead (left_behind_commit a x given n) → (chosen a (left_behind_commit a x given n)).adds ≡ []
+commit-adds a x given n looks read got then_read = ap (λ c. Choice.adds c) (chosen-commit a x given n looks read got then_read).0
+
+pub end-adds : (a : Action) (x : Found) (given : List ℕ) (view : List Seen) (g : Bool) → IsRead x → GotIds a x given → IsRead (left_at_end a x given view g) → (chosen a (left_at_end a x given view g)).adds ≡ []
+end-adds a x given view g read got then_read =
+    let ch = chosen a x in
+    let differ = differ-ids x.records read.ids in
+    let all = whole-is ch (shown x) given x.records differ read.bounded read.shows got in
+    ap (λ c. Choice.adds c) (choice-merged_for a ch (shown x) given x.records view g differ read.bounded read.shows got (no_zero a x given read got) (λ i. then_read.shows i ∙ ap (λ rs. held rs i) (sym all)))
 
 -- what is merged on both sides, whichever way it is read then
 pub at-end : (a : Action) (x : Found) (given later : List ℕ) (view : List Seen) (g : Bool) → IsRead x → GotIds a x given → IsRead (left_at_end a x given view g)

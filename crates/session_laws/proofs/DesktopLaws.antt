@@ -227,7 +227,7 @@ row_counted false false (Some r) d = by r.deleted
     by true = refl
     by false = refl
 
-chosen-again : (x : Found) (given : List ℕ) (n : ℕ) → chosen Desktop (left_among_news Desktop x given n) ≡ chosen Desktop x
+pub chosen-again : (x : Found) (given : List ℕ) (n : ℕ) → chosen Desktop (left_among_news Desktop x given n) ≡ chosen Desktop x
 chosen-again x given n =
     let y = left_among_news Desktop x given n in
     let s = sides x in

@@ -1,5 +1,5 @@
 -- The session after one that stopped among its replacements and adds ends at the merge under the ids of both.
-use Rattle.std.proofs.Common.{◌≡◌, ℕ, ◌==◌, List, [], ◌∷◌, ◌++◌, refl, ap, ◌∙◌, sym, subst, arith, true, false, Bool, Option, Some, None, map, if◌then◌else◌, drop, take-append-drop}
+use Rattle.std.proofs.Common.{◌≡◌, ℕ, suc, ◌+◌, length, ◌==◌, List, [], ◌∷◌, ◌++◌, refl, ap, ◌∙◌, sym, subst, arith, true, false, Bool, Option, Some, None, map, if◌then◌else◌, drop, take-append-drop}
 use Rattle.std.proofs.lemmas.Bool.Decides.{nat_tests}
 use Rattle.pdb_values.specs.Contents.{ContentValue}
 use Rattle.pdb_values.specs.Records.{is_live}
@@ -8,14 +8,15 @@ use Rattle.conduit_rules.specs.ById.{id_bound, with_id}
 use Rattle.conduit_rules.specs.Choices.{Choice, Sides, choice, sides_of}
 use Rattle.conduit_rules.specs.States.{Held, nothing, held, held_where, record_held, first, Based, no_base, row, gone, based_where}
 use Rattle.conduit_rules.specs.Views.{view_held, slow_view}
+use Rattle.conduit_rules.specs.Writes.{given_to}
 use Rattle.conduit_rules.specs.declared.action.Action.TheVariants.{Sync}
 use Rattle.conduit_rules.specs.declared.view.Seen.{Seen}
 use Rattle.conduit_rules.proofs.AgreedLaws.{RowsDiffer}
 use Rattle.conduit_rules.proofs.ByIdLaws.{each_below-same}
 use Rattle.conduit_rules.proofs.SettledLaws.{choice-gone, without_gone, IfGone}
 use Rattle.conduit_merge.specs.Merging.{row_at, settled_record, gone_record, merged_rows, merged_base, merged_records, merged_archive, one_copy_behind, is_held_live, AreShown, AreBounded}
-use Rattle.conduit_merge.specs.Stops.{sides_after, rest_of, AreOf}
-use Rattle.conduit_merge.specs.Writes.{Write, clean_up, reset, after, giving, clearing, purges, whole, GotFreeIds}
+use Rattle.conduit_merge.specs.Stops.{sides_after, behind, with_add, rest_of, AreOf}
+use Rattle.conduit_merge.specs.Writes.{Write, replace, add, purge, clean_up, reset, after, giving, clearing, purges, whole, GotFreeIds}
 use Rattle.conduit_merge.proofs.AfterLaws.{after-all, after-append}
 use Rattle.conduit_merge.proofs.PutLaws.{differ-ids}
 use Rattle.conduit_merge.proofs.StopLaws.{sides-again, choice-after, of-take, writes-of, giving-of}
@@ -153,3 +154,36 @@ news_and_ids x given later n stops read later_got =
 pub news : (x : Found) (given later : List ℕ) (n : ℕ) → StopsAmongNews Sync x given n → IsRead (left_among_news Sync x given n) → GotIds Sync (left_among_news Sync x given n) later
     → ended Sync (left_among_news Sync x given n) later ≡ ended Sync x (given ++ later)
 news x given later n stops read later_got = (news_and_ids x given later n stops read later_got).1
+
+-- ---- how many adds are left
+
+rest-adds : (done : List Write) (ch : Choice) (s : Sides) → AreOf done ch s → length (given_by done) + length (rest_of done ch).adds ≡ length ch.adds
+rest-adds [] ch s of = none (length ch.adds)
+  where
+    none : (m : ℕ) → 0 + m ≡ m
+    none m = omega arith
+rest-adds (replace i c ∷ ws) ch s of = rest-adds ws ch (given_to s i c) of.1
+rest-adds (add g a ∷ ws) ch s of =
+    let rest = rest-adds ws (with_add ch g a) (given_to s g a) of.4 in
+    one (length (given_by ws)) (length (rest_of ws (with_add ch g a)).adds) (length (behind ch.adds)) rest ∙ sym (ap length of.0)
+  where
+    one : (m n k : ℕ) → m + n ≡ k → suc m + n ≡ suc k
+    one m n k is = omega (arith, is)
+rest-adds (purge i ∷ ws) ch s of = absurd of
+rest-adds (clean_up ∷ ws) ch s of = absurd of
+rest-adds (reset ∷ ws) ch s of = absurd of
+
+pub news-adds : (x : Found) (given : List ℕ) (n : ℕ) → StopsAmongNews Sync x given n → IsRead (left_among_news Sync x given n)
+    → length given + length (chosen Sync (left_among_news Sync x given n)).adds ≡ length (chosen Sync x).adds
+news-adds x given n stops read =
+    let s = sides_of x.view x.rows x.base true in
+    let ch = chosen Sync x in
+    let done = news_done Sync x given n in
+    let y = left_among_news Sync x given n in
+    let same : choice s ≡ ch = sym (choice-counted x.view x.rows x.base x.records x.gone_counts stops.read.shows stops.gone) in
+    let all_of : AreOf (giving ch s.handheld given) ch s = subst (λ c. AreOf (giving c s.handheld given) c s) same
+    (giving-of s given x.records stops.fresh stops.read.shows (subst (λ c. GotFreeIds c s.handheld given x.records) (sym same) stops.got)) in
+    let of : AreOf done ch s = of-take n (giving ch s.handheld given) ch s all_of in
+    let sides_are : sides y ≡ sides_after done s = sides-again x.view (slow_view (after done x.records)) done x.rows x.base x.records true (writes-of done ch s of) stops.read.shows read.shows in
+    let chosen_is : chosen Sync y ≡ rest_of done ch = ap choice sides_are ∙ choice-after done ch s same of in
+    ap {A = List ℕ × Choice} (λ p. length p.0 + length (Choice.adds p.1)) (λ k. (sym stops.all k, chosen_is k)) ∙ rest-adds done ch s of

@@ -1,5 +1,6 @@
 -- The session behind any number of stopped ones ends as the first would have, under the ids that stand.
-use Rattle.std.proofs.Common.{◌≡◌, ℕ, List, [], ◌∷◌, ◌++◌, length, refl, ap, ◌∙◌, sym, subst, arith, map, flat_map}
+use Rattle.std.proofs.Common.{◌≡◌, ℕ, List, [], ◌∷◌, ◌++◌, length, ◌+◌, refl, ap, ◌∙◌, sym, subst, arith, map, flat_map}
+use Rattle.std.proofs.lemmas.List.{length-append}
 use Rattle.std.specs.Option.{option_or}
 use Rattle.pdb_values.specs.Contents.{ContentValue}
 use Rattle.pdb_values.specs.declared.record.Record.{Record}
@@ -13,11 +14,13 @@ use Rattle.conduit_rules.proofs.ActionLaws.{handheld-is}
 use Rattle.conduit_merge.specs.Merging.{settled_record, gone_record, kept_record, new_under, merged_archive}
 use Rattle.conduit_merge.specs.Writes.{after, numbered, replaces, AreFree}
 use Rattle.session_laws.specs.Repeats.{Found, IsRead, Ended, EndAlike, ended, sides, chosen, shown, GotIds, GotAllIds, Place, before_mark, among_news, behind_commit, at_end}
-use Rattle.session_laws.specs.Repeats.{left, MayStop, left_by, ids_with, all_ids, AreStops}
-use Rattle.session_laws.proofs.CommitLaws.{behind-commit, at-end, no_contents}
-use Rattle.session_laws.proofs.DesktopLaws.{desktop-news}
+use Rattle.session_laws.specs.Repeats.{left, MayStop, left_by, left_among_news, left_behind_commit, left_at_end, ids_with, all_ids, AreStops}
+use Rattle.session_laws.specs.Renaming.{AreUnknown, SameLive, SameEnds}
+use Rattle.session_laws.proofs.CommitLaws.{behind-commit, commit-adds, at-end, end-adds, no_contents}
+use Rattle.session_laws.proofs.DesktopLaws.{desktop-news, chosen-again}
 use Rattle.session_laws.proofs.HandheldLaws.{handheld-news, handheld-behind}
-use Rattle.session_laws.proofs.NewsLaws.{news_and_ids}
+use Rattle.session_laws.proofs.NewsLaws.{news_and_ids, news-adds}
+use Rattle.session_laws.proofs.RenamingLaws.{renamed}
 
 pub alike_same : (e f : Ended) → e ≡ f → EndAlike e f
 alike_same e f is = subst (EndAlike e) is (record { records = refl; rows = refl; base = λ i. refl; archive = refl })
@@ -116,3 +119,66 @@ both_repeat a x (place ∷ places) later stops got =
 pub repeat : (a : Action) (x : Found) (places : List Place) (later : List ℕ) → AreStops a x places → GotIds a (left_by a x places) later
     → EndAlike (ended a (left_by a x places) later) (ended a x (all_ids a places later))
 repeat a x places later stops got = (both_repeat a x places later stops got).1
+
+-- ---- as many ids stand as there are adds
+
+none_added : (x : Found) → (chosen Handheld x).adds ≡ []
+none_added x = ap (λ c. Choice.adds c) (handheld-is (sides x))
+
+both_lengths : (given later : List ℕ) (adds then_adds : List ContentValue) → length given ≡ length adds → length later ≡ length then_adds → then_adds ≡ [] → length (given ++ later) ≡ length adds
+both_lengths given later adds then_adds is then_is none =
+    let no_more : length then_adds ≡ 0 = ap length none in
+    length-append given later ∙ omega (arith, is, then_is, no_more)
+
+-- those of a session, with those behind it
+abbrev AreEnough : Action → Found → Place → List ℕ → Type 0
+AreEnough a x place later = length later ≡ length (chosen a (left a x place)).adds → length (ids_with a place later) ≡ length (chosen a x).adds
+
+sync_enough : (x : Found) (place : Place) (later : List ℕ) → IsRead x → MayStop Sync x place → IsRead (left Sync x place) → AreEnough Sync x place later
+sync_enough x before_mark later read may then_read is = is
+sync_enough x (among_news given n) later read may then_read is = length-append given later ∙ ap (λ m. length given + m) is ∙ news-adds x given n may then_read
+sync_enough x (behind_commit given n) later read may then_read is =
+    both_lengths given later (chosen Sync x).adds (chosen Sync (left_behind_commit Sync x given n)).adds may.each is (commit-adds Sync x given n tt read may.got then_read)
+sync_enough x (at_end given view g) later read may then_read is =
+    both_lengths given later (chosen Sync x).adds (chosen Sync (left_at_end Sync x given view g)).adds may.each is (end-adds Sync x given view g read may.got then_read)
+
+handheld_enough : (x : Found) (place : Place) (later : List ℕ) → MayStop Handheld x place → AreEnough Handheld x place later
+handheld_enough x before_mark later may is = is
+handheld_enough x (among_news given n) later may is =
+    ap (λ ids. length (ids ++ later)) may ∙ is ∙ ap length (none_added (left_among_news Handheld x given n) ∙ sym (none_added x))
+handheld_enough x (behind_commit given n) later may is = both_lengths given later (chosen Handheld x).adds (chosen Handheld (left_behind_commit Handheld x given n)).adds may.each is (none_added (left_behind_commit Handheld x given n))
+handheld_enough x (at_end given view g) later may is = both_lengths given later (chosen Handheld x).adds (chosen Handheld (left_at_end Handheld x given view g)).adds may.each is (none_added (left_at_end Handheld x given view g))
+
+desktop_enough : (x : Found) (place : Place) (later : List ℕ) → IsRead x → MayStop Desktop x place → IsRead (left Desktop x place) → AreEnough Desktop x place later
+desktop_enough x before_mark later read may then_read is = is
+desktop_enough x (among_news given n) later read may then_read is = is ∙ ap (λ c. length (Choice.adds c)) (chosen-again x given n)
+desktop_enough x (behind_commit given n) later read may then_read is =
+    both_lengths given later (chosen Desktop x).adds (chosen Desktop (left_behind_commit Desktop x given n)).adds may.each is (commit-adds Desktop x given n tt read may.got then_read)
+desktop_enough x (at_end given view g) later read may then_read is =
+    both_lengths given later (chosen Desktop x).adds (chosen Desktop (left_at_end Desktop x given view g)).adds may.each is (end-adds Desktop x given view g read may.got then_read)
+
+one_enough : (a : Action) (x : Found) (place : Place) (later : List ℕ) → IsRead x → MayStop a x place → IsRead (left a x place) → AreEnough a x place later
+one_enough Sync x place later read may then_read is = sync_enough x place later read may then_read is
+one_enough Handheld x place later read may then_read is = handheld_enough x place later may is
+one_enough Desktop x place later read may then_read is = desktop_enough x place later read may then_read is
+
+all_enough : (a : Action) (x : Found) (places : List Place) (later : List ℕ) → AreStops a x places → length later ≡ length (chosen a (left_by a x places)).adds → length (all_ids a places later) ≡ length (chosen a x).adds
+all_enough a x [] later stops is = is
+all_enough a x (place ∷ places) later stops is =
+    one_enough a x place (all_ids a places later) stops.0 stops.1 (is_read a (left a x place) places stops.2) (all_enough a (left a x place) places later stops.2 is)
+
+-- ---- up to the ids of new records
+
+alike_ends : (x : Found) (e f g : Ended) → EndAlike e f → SameEnds x f g → SameEnds x e g
+alike_ends x e f g alike same = record {
+  records = subst (λ rs. SameLive x rs g.records) (sym alike.records) same.records;
+  rows = subst (λ rs. SameLive x rs g.rows) (sym alike.rows) same.rows;
+  archive = alike.archive ∙ same.archive;
+}
+
+pub repeat_anew : (a : Action) (x : Found) (places : List Place) (later new : List ℕ) → AreStops a x places → GotAllIds a (left_by a x places) later → AreUnknown x (all_ids a places later) → GotAllIds a x new → AreUnknown x new
+    → SameEnds x (ended a (left_by a x places) later) (ended a x new)
+repeat_anew a x places later new stops all un new_all new_un =
+    let both = both_repeat a x places later stops all.got in
+    alike_ends x (ended a (left_by a x places) later) (ended a x (all_ids a places later)) (ended a x new) both.1
+    (renamed a x (all_ids a places later) new (is_read a x places stops) (record { got = both.0; each = all_enough a x places later stops all.each }) new_all un new_un)

@@ -162,7 +162,7 @@ pub record GotAllIds (a : Action) (x : Found) (given : List ℕ) : Type 0 where
 -- a session may stop among its news: one that goes by the handheld has none, and what one adds that goes by the desktop is purged by the next
 abbrev pub MayStopAmongNews : Action → Found → List ℕ → ℕ → Type 0
 MayStopAmongNews Sync x given n = StopsAmongNews Sync x given n
-MayStopAmongNews Handheld x given n = Unit {0}
+MayStopAmongNews Handheld x given n = given ≡ []
 MayStopAmongNews Desktop x given n = GotIds Desktop x given
 
 -- a session may stop there

@@ -75,3 +75,13 @@ pub fn new_ids_are_of_no_account()
         → GotAllIds a x given → GotAllIds a x other → AreUnknown x given → AreUnknown x other
         → SameEnds x (ended a x given) (ended a x other) }
 {}
+
+/// After any number of sessions that stopped, the one that ends leaves what one whole session would have
+/// left, whichever ids that one would have given to its new records.
+pub fn nothing_is_doubled_or_lost()
+    ensures { (a : Action) (x : Found) (places : List Place) (later new : List ℕ) → AreStops a x places
+        → let y = left_by a x places in
+        GotAllIds a y later → AreUnknown x (all_ids a places later)
+        → GotAllIds a x new → AreUnknown x new
+        → SameEnds x (ended a y later) (ended a x new) }
+{}
