@@ -1,5 +1,5 @@
 // What is asked of an open database.
-use crate::plans::plan_in;
+use crate::plans::{plan_in, rows_in};
 use crate::said::{ids_text, refused, view_text};
 use desktop_session::OpenDb;
 use dlp_commands::Link;
@@ -17,6 +17,13 @@ pub fn answer<L: Link + Drop>(
             Ok(view) => view_text(alloc, &view),
             Err(fault) => refused(alloc, fault),
         },
+        "fast" => {
+            let rows = rows_in(alloc, rest)?;
+            match fast_mirror::read_side(alloc, db, &rows) {
+                Ok(view) => view_text(alloc, &view),
+                Err(fault) => refused(alloc, fault),
+            }
+        }
         "news" => {
             let plan = plan_in(alloc, rest)?;
             match slow_mirror::send_news(alloc, db, &plan) {

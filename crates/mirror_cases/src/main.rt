@@ -8,8 +8,9 @@
 //! - A session: `session NAME CALL..` opens a database of a server over the folder, in hexadecimal,
 //!   `fake REPLIES NAME CALL..` one over a link that answers these replies, the last one again and
 //!   again, or goes down where REPLIES ends with `-`, and prints the functions that were asked for.
-//! - A call: `slow` reads the whole database, `news:PLAN` sends a plan's replacements and adds,
-//!   `purge:PLAN` purges. PLAN is REPLACE:ADDS:PURGE, lists with a comma between entries. An entry of
+//! - A call: `slow` reads the whole database, `fast:BASE` reads what changed since these base rows,
+//!   entries ID.CATEGORY.H with a comma between them and `-` before a gone one, `news:PLAN` sends a
+//!   plan's replacements and adds, `purge:PLAN` purges. PLAN is REPLACE:ADDS:PURGE, lists with a comma between entries. An entry of
 //!   REPLACE is ID.CATEGORY.H, of ADDS CATEGORY.H, of PURGE an id; a category above 15 is a secret
 //!   record's, less 16.
 #![tactic(auto)]

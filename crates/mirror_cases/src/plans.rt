@@ -1,7 +1,7 @@
-// Plans, as lines write them.
+// Plans and base rows, as lines write them.
 use crate::{bytes_in, number_in};
 use conduit_rules::Plan;
-use pdb_values::{Category, Content, RecordId};
+use pdb_values::{Category, Content, Record, RecordId};
 use std::alloc::{AllocError, Global};
 
 /// The plan of a text: its replacements, adds and purges.
@@ -30,6 +30,33 @@ pub fn plan_in(alloc: Global, text: &str) -> Result<Plan, AllocError> {
         }
     }
     Ok(plan)
+}
+
+/// The base rows of a text.
+pub fn rows_in(alloc: Global, text: &str) -> Result<Vec<Record>, AllocError> {
+    let mut rows = Vec::new(alloc);
+    for entry in text.split(',') {
+        if let Some(row) = row_in(alloc, entry) {
+            rows.push(row)?;
+        }
+    }
+    Ok(rows)
+}
+
+// A base row, which is gone where a `-` stands before it.
+fn row_in(alloc: Global, entry: &str) -> Option<Record> {
+    let (entry, deleted) = match entry.strip_prefix("-") {
+        Some(rest) => (rest, true),
+        None => (entry, false),
+    };
+    let (id, content) = replacement(alloc, entry)?;
+    Some(Record {
+        id,
+        deleted,
+        dirty: false,
+        busy: false,
+        content,
+    })
 }
 
 // A list of the plan.
