@@ -6,4 +6,5 @@ pub mod MarkLaws
 pub mod MeetLaws
 pub mod NamesLaws
 pub mod QuietLaws
+pub mod ReadingLaws
 pub mod SpanLaws

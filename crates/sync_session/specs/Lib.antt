@@ -10,6 +10,7 @@ pub mod Merges
 pub mod News
 pub mod Phases
 pub mod Quiet
+pub mod Readings
 pub mod Reads
 pub mod Reports
 pub mod Sessions

@@ -39,7 +39,7 @@ pub use meeting::{Met, meet};
 pub use names::put_name;
 pub use planned::Planned;
 pub use purging::{purge_all, purge_one};
-pub use reading::read_one;
+pub use reading::{read_all, read_changed, read_one};
 pub use report::{Counts, DbReport, Did};
 pub use sizes::Sizes;
 pub use skip::Skip;

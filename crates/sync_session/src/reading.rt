@@ -1,16 +1,27 @@
 // What a session reads of one database.
-ghost use Rattle.std.specs.Prelude.{◌≡◌, ◌∷◌, [], IfSome, false};
+ghost use Rattle.std.specs.Prelude.{◌≡◌, ◌++◌, ◌∷◌, [], IfErr, IfSome, OnOk, false};
+ghost use Rattle.std.specs.Option.{option_copied};
+ghost use Rattle.pdb_values.specs.NamedDatabases.{database_of};
+ghost use Rattle.desk_store.specs.Views.{shelves_in};
+ghost use Rattle.desktop_session.specs.declared.fault.SessionFault.TheVariants as session;
 ghost use Rattle.desktop_session.specs.Requests.{opening};
 ghost use Rattle.desktop_session.specs.Says.{saying};
 ghost use Rattle.slow_mirror.specs.Reads.{entries_of, slow_reads, slow_shown};
+ghost use Rattle.fast_mirror.specs.FastReads.{fast_reads_of, fast_shown};
+ghost use Rattle.sync_session.specs.Readings.{reads_by, reads_under, shown_by, shown_under};
 ghost use Rattle.sync_session.specs.Spans.{Spans, within};
+ghost use Rattle.sync_session.specs.Stretches.{SpansEach};
+ghost use Rattle.sync_session.specs.Tasks.{records_of};
 
+use crate::job::Job;
 use conduit_rules::View;
+use desk_store::Desk;
 use desktop_session::{Linked, SessionFault};
 use dlp_commands::Link;
-use pdb_values::DbName;
+use hs_folders::Folder;
+use pdb_values::{DbName, Record};
 use slow_mirror::read_side;
-use std::alloc::Global;
+use std::alloc::{AllocError, Global};
 
 /// Reads every record of the handheld's database of a name. The database is opened for it and closed. After a refusal it may be left
 /// open, and only `halt` may follow.
@@ -36,4 +47,131 @@ pub fn read_one<L: Link>(
     };
     opened.close()?;
     Ok(view)
+}
+
+/// Reads what changed in the handheld's database of a name since the base, as a fast reading does. The database is opened for it and
+/// closed. After a refusal it may be left open, and only `halt` may follow.
+pub fn read_changed<L: Link>(
+    alloc: Global,
+    linked: &mut Linked<L>,
+    name: &DbName,
+    base: &[Record],
+) -> Result<View, SessionFault>
+    requires { linked.old.abandoned ≡ false }
+    ensures spans { let told = saying (opening name.now ∷ []) (L.talk linked.old.link) in
+        Spans L.talk L.since L.fault L.downs
+        (within (opening name.now) (λ handle given. fast_reads_of base.now handle told))
+        (λ handle given view. IfSome told
+        (λ talk. view.seen.items ≡ fast_shown base.now handle talk.device))
+        linked.old linked.new result }
+{
+    let mut opened = linked.open(name)?;
+    let view = match fast_mirror::read_side(alloc, &mut opened, base) {
+        Ok(view) => view,
+        Err(fault) => {
+            opened.abandon();
+            return Err(fault);
+        }
+    };
+    opened.close()?;
+    Ok(view)
+}
+
+// The base rows of a name; none where there are none.
+fn base_rows<'d, D: Folder>(desk: &'d Desk<D>, name: &DbName) -> &'d [Record]
+    ensures { result.now ≡ records_of (database_of name.now (shelves_in desk.now).bases) }
+{
+    match desk.base(name) {
+        Some(base) => base.records(),
+        None => &[],
+    }
+}
+
+// A view of no records.
+fn no_view(alloc: Global) -> View
+    ensures { result.seen.items ≡ [] }
+{
+    View {
+        seen: Vec::new(alloc),
+    }
+}
+
+// Reads a database that is opened: what changed since the base, or all.
+fn read_opened<L: Link>(
+    alloc: Global,
+    linked: &mut Linked<L>,
+    name: &DbName,
+    fast: bool,
+    base: &[Record],
+) -> Result<View, SessionFault>
+    requires { linked.old.abandoned ≡ false }
+    ensures spans { let told = saying (opening name.now ∷ []) (L.talk linked.old.link) in
+        Spans L.talk L.since L.fault L.downs
+        (within (opening name.now) (reads_by fast base.now told))
+        (λ handle given view. shown_by fast base.now told handle view.seen.items)
+        linked.old linked.new result }
+{
+    if fast {
+        read_changed(alloc, linked, name, base)
+    } else {
+        read_one(alloc, linked, name)
+    }
+}
+
+// Reads one database of a session; what is skipped or what the handheld lacks is not read.
+fn read_job<L: Link, D: Folder>(
+    alloc: Global,
+    linked: &mut Linked<L>,
+    desk: &Desk<D>,
+    job: &Job,
+) -> Result<View, SessionFault>
+    requires { linked.old.abandoned ≡ false }
+    ensures spans { Spans L.talk L.since L.fault L.downs
+        (reads_under (shelves_in desk.now) (L.talk linked.old.link) job.now)
+        (λ handle given view.
+        shown_under (shelves_in desk.now) (L.talk linked.old.link) job.now handle given view.seen.items)
+        linked.old linked.new result }
+{
+    match &job.skip {
+        Some(_) => Ok(no_view(alloc)),
+        None => match &job.handheld {
+            Some(_) => {
+                let base = base_rows(desk, &job.name);
+                read_opened(alloc, linked, &job.name, job.fast, base)
+            }
+            None => Ok(no_view(alloc)),
+        },
+    }
+}
+
+// Puts the view of one database behind those of others.
+fn push_view(views: &mut Vec<View>, view: View) -> Result<(), SessionFault>
+    ensures views { OnOk result (views.new.items ≡ views.old.items ++ view ∷ []) }
+    ensures memory { IfErr result (λ fault. fault ≡ session.NoMemory) }
+{
+    views.push(view).map_err(AllocError::from)?;
+    Ok(())
+}
+
+/// Reads each of these databases of the handheld, one after another: what changed since the base rows of the desktop's picked slot,
+/// where a job says so, and else every record. A database that is skipped, or that the handheld lacks, is not opened, and its view has
+/// no records.
+pub fn read_all<L: Link, D: Folder>(
+    alloc: Global,
+    linked: &mut Linked<L>,
+    desk: &Desk<D>,
+    jobs: &[Job],
+) -> Result<Vec<View>, SessionFault>
+    requires { linked.old.abandoned ≡ false }
+    ensures reads { SpansEach L.talk L.since L.fault L.downs (reads_under (shelves_in desk.now))
+        (λ told job handle given view.
+        shown_under (shelves_in desk.now) told job handle given view.seen.items) jobs.now
+        (λ made. made.items) linked.old linked.new result }
+{
+    let mut views = Vec::new(alloc);
+    for job in jobs {
+        let view = read_job(alloc, linked, desk, job)?;
+        push_view(&mut views, view)?;
+    }
+    Ok(views)
 }

@@ -1,0 +1,10 @@
+use Rattle.std.proofs.Common.{take}
+use Rattle.desk_store.specs.Views.{shelves_in}
+use Rattle.sync_session.specs.Readings.{reads_under, shown_under}
+use Rattle.sync_session.proofs.EachLaws.{EachSoFar}
+use Rattle.sync_session.proofs.reading.read_all.Given as goal
+
+abbrev pub invariant-loop-job : goal.invariant-loop-job
+invariant-loop-job g l = EachSoFar g.L.Link.talk g.L.Link.since g.L.Link.fault g.L.Link.downs (reads_under (shelves_in l.desk))
+    (λ told job handle given view. shown_under (shelves_in l.desk) told job handle given view.seen.items) (take l.job-index l.jobs) l.views.items
+    l.initial.linked l.linked
