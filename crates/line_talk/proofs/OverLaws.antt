@@ -8,6 +8,7 @@ use Rattle.line_steps.specs.declared.half.Wire.{Wire}
 use Rattle.line_laws.specs.Talking.{count_messages}
 use Rattle.trace_text.specs.declared.frame.End.{End}
 use Rattle.trace_text.specs.declared.frame.End.TheVariants.{Handheld, Desktop}
+use Rattle.line_steps.specs.Counting.{Counted}
 use Rattle.line_steps.specs.Telling.{IsInTurn, IsNextTo, Recorded, Talks}
 use Rattle.line_steps.specs.Turning.{Turn}
 use Rattle.line_steps.specs.declared.sending.Halt.TheVariants.{NoMemory}
@@ -38,3 +39,6 @@ over-unsent id message wire x y turn = record { by = turn.settled.go; talks = λ
 pub either_way : {T E A C : Type 0} {P : E → Type 0} (r : Result T E) → (A → C) → ((e : E) → P e → C) → OnOk r A → IfErr r P → C
 either_way (Ok x) f g a b = f a
 either_way (Err e) f g a b = g e b
+
+pub expects-counted : (wire : Wire) (x y new : Half) (id : ℕ) → new ≡ expecting y id → Counted wire x y → Counted wire x new
+expects-counted wire x y new id is counted = subst (λ (h : Half). Counted wire x h) (sym is) (record { by_y = counted.by_y; by_x = counted.by_x })

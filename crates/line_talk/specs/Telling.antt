@@ -6,11 +6,16 @@ use Rattle.cmp_hello.specs.HelloText.{hello_bytes}
 use Rattle.line_script.specs.Rules.{RuleValue}
 use Rattle.trace_text.specs.Talks.{Talk}
 use Rattle.line_steps.specs.declared.line.Line.{Line}
+use Rattle.line_steps.specs.Counting.{Counted}
 use Rattle.line_steps.specs.Telling.{Recorded, Talks}
 
 -- each frame has its number and the fate that the script gives it, and came exactly where it arrives and was taken
 abbrev pub LineRecords : List RuleValue → Line → Type 0
 LineRecords script line = Recorded script line.wire line.handheld line.desktop
+
+-- both readers counted what landed of all frames that were taken, and nothing else
+abbrev pub LineCounts : Line → Type 0
+LineCounts line = Counted line.wire line.handheld line.desktop
 
 -- the frames so far tell these messages
 abbrev pub LineTells : Talk → Line → Type 0

@@ -7,7 +7,7 @@ ghost use Rattle.trace_text.specs.Talks.{Talk};
 ghost use Rattle.line_laws.specs.Talking.{say};
 ghost use Rattle.line_talk.specs.Halting.{LineEnds};
 ghost use Rattle.line_talk.specs.Rests.{MayAnswer, MayAsk};
-ghost use Rattle.line_talk.specs.Telling.{HasSaid, LineRecords, LineTells};
+ghost use Rattle.line_talk.specs.Telling.{HasSaid, LineCounts, LineRecords, LineTells};
 
 use crate::over::send_over;
 use line_script::Script;
@@ -28,6 +28,7 @@ pub fn ask(
     ensures whole { OnOk result (whole_of line.new.handheld.receiver.pieces ≡ Some request.now) }
 
     ensures recorded { LineRecords script.now line.old → LineRecords script.now line.new }
+    ensures counted { LineCounts line.old → LineCounts line.new }
     ensures tells { OnOk result ((talk : Talk) → HasSaid talk requests requests →
         LineTells talk line.old → LineTells (say Desktop request.now talk) line.new) }
     ensures ends { IfErr result (λ halt. (talk : Talk) → HasSaid talk requests requests →
@@ -58,6 +59,7 @@ pub fn answer(
     ensures whole { OnOk result (whole_of line.new.desktop.receiver.pieces ≡ Some reply.now) }
 
     ensures recorded { LineRecords script.now line.old → LineRecords script.now line.new }
+    ensures counted { LineCounts line.old → LineCounts line.new }
     ensures tells { OnOk result ((talk : Talk) → HasSaid talk requests (requests + 1) →
         LineTells talk line.old → LineTells (say Handheld reply.now talk) line.new) }
     ensures ends { IfErr result (λ halt. (talk : Talk) → HasSaid talk requests (requests + 1) →

@@ -6,7 +6,7 @@ ghost use Rattle.padp_link.specs.Receivers.{whole_of};
 ghost use Rattle.line_steps.specs.Telling.{no_talk};
 ghost use Rattle.line_talk.specs.Halting.{LineEnds};
 ghost use Rattle.line_talk.specs.Rests.{MayAsk, MayGreet};
-ghost use Rattle.line_talk.specs.Telling.{LineRecords, LineTells, greeted};
+ghost use Rattle.line_talk.specs.Telling.{LineCounts, LineRecords, LineTells, greeted};
 
 use crate::over::send_over;
 use cmp_hello::{Hello, HelloKind, read_hello, write_hello};
@@ -28,6 +28,7 @@ pub fn greet(alloc: Global, line: &mut Line, script: &Script) -> Result<u32, Hal
     ensures asks { OnOk result (MayAsk line.new 0) }
 
     ensures recorded { LineRecords script.now line.old → LineRecords script.now line.new }
+    ensures counted { LineCounts line.old → LineCounts line.new }
     ensures tells { OnOk result (LineTells no_talk line.old → LineTells greeted line.new) }
     ensures ends { IfErr result (λ halt.
         LineTells no_talk line.old → LineEnds halt greeted line.new) }

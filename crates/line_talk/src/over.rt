@@ -5,6 +5,7 @@ ghost use Rattle.padp_link.specs.Senders.{Waits};
 ghost use Rattle.trace_text.specs.Talks.{Talk};
 ghost use Rattle.line_laws.specs.Talking.{say};
 ghost use Rattle.line_steps.specs.Carrying.{SameMessage};
+ghost use Rattle.line_steps.specs.Counting.{Counted};
 ghost use Rattle.line_steps.specs.Telling.{IsNextTo, Recorded, Talks};
 ghost use Rattle.line_steps.specs.Turning.{Turn};
 ghost use Rattle.line_talk.specs.Halting.{HaltedOver};
@@ -36,6 +37,7 @@ pub(crate) fn send_over(
 
     ensures recorded { Recorded script.now wire.old x.old y.old →
         Recorded script.now wire.new x.new y.new }
+    ensures counted { Counted wire.old x.old y.old → Counted wire.new x.new y.new }
     ensures talks { OnOk result ((talk : Talk) → IsNextTo talk x.old y.old id →
         Talks talk wire.old x.old y.old →
         Talks (say x.old.end message.now talk) wire.new x.new y.new) }

@@ -3,3 +3,4 @@ pub mod TalkLaws
 pub mod WentLaws
 pub mod WorldLaws
 pub mod OverLaws
+pub mod CauseLaws

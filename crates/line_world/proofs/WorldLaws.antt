@@ -36,13 +36,15 @@ use Rattle.trace_text.specs.Talks.{Talk, messages_of}
 use Rattle.line_talk.proofs.EndLaws.{asks-ends, greets-ends}
 use Rattle.line_talk.specs.Halting.{LineEnds}
 use Rattle.line_talk.specs.Rests.{MayGreet, MayAsk}
-use Rattle.line_talk.specs.Telling.{LineRecords, LineTells, bytes_of, greeted, init, wake}
+use Rattle.line_talk.specs.Telling.{LineCounts, LineRecords, LineTells, bytes_of, greeted, init, wake}
 use Rattle.line_world.specs.declared.down.Down.{Down}
 use Rattle.line_world.specs.declared.stop.Break.{Break}
-use Rattle.line_world.specs.Causes.{IsCause, halt_of, link_fault}
+use Rattle.line_world.specs.declared.stop.Break.TheVariants.{Line as OfLine}
+use Rattle.line_world.proofs.CauseLaws.{halt-by, no-halt}
+use Rattle.line_world.specs.Causes.{IsCause, IsCauseOf, halt_of, link_fault}
 use Rattle.line_world.specs.Conversing.{Answers, Breaks}
 use Rattle.line_world.specs.Logs.{LogValue, no_log, said_in}
-use Rattle.line_world.specs.Worlds.{IsLog, IsAtRest, IsWorld, TellAll, TellBoth}
+use Rattle.line_world.specs.Worlds.{IsLog, IsAtRest, IsTold, IsWorld, TellAll, TellBoth}
 use Rattle.line_world.proofs.LogLaws.{length-later, replies-all, log-answered}
 use Rattle.line_world.proofs.WentLaws.{log-went}
 
@@ -84,16 +86,17 @@ said-greeted log answered is all none =
 
 -- ---- the invariant
 
-pub world-new : (line : Line) (script : List RuleValue) (log : LogValue) (sound : Bool) → sound ≡ true → log ≡ no_log → Turn line.wire line.handheld line.desktop → IsNew line.handheld Handheld → IsNew line.desktop Desktop → LineTells no_talk line → line.wire.frames.items ≡ []
+pub world-new : (line : Line) (script : List RuleValue) (log : LogValue) (sound : Bool) → sound ≡ true → log ≡ no_log → Turn line.wire line.handheld line.desktop → IsNew line.handheld Handheld → IsNew line.desktop Desktop → LineTells no_talk line → LineCounts line → line.wire.frames.items ≡ []
     → IsWorld line script log sound 0 false None None
-world-new line script log sound is_sound quiet turn handheld desktop tells frames =
+world-new line script log sound is_sound quiet turn handheld desktop tells counted frames =
     let greets : MayGreet line = record { ends = record { handheld_is = handheld.end_is; desktop_is = desktop.end_is }; turn = turn; handheld_id = ap (λ (s : SenderValue). s.id) handheld.sender_is; desktop_id = ap (λ (s : SenderValue). s.id) desktop.sender_is } in
     record {
       recorded = record {
         by = subst (λ (fs : List Frame). AllBy script 1 fs) (sym frames) tt;
         came = subst (λ (fs : List Frame). CameByCursor 1 (cursor_of line.handheld line.desktop) (map frame_value fs)) (sym frames) tt;
       };
-      told = (NoMemory, subst (λ (l : LogValue). LineEnds NoMemory (said_in l) line) (sym quiet) (greets-ends line greets tells));
+      counted = counted;
+      told = record { halt = NoMemory; ends = subst (λ (l : LogValue). LineEnds NoMemory (said_in l) line) (sym quiet) (greets-ends line greets tells); halt_is = tt };
       is_log = subst (λ (l : LogValue). IsLog l 0) (sym quiet) (record { performed_is = refl; replied = omega arith; performed_few = omega arith; few = omega arith });
       running = λ none. record { is_sound = is_sound; all = ap (λ (l : LogValue). length l.issued) quiet; at_rest = (greets, refl, tells) };
       caused = refl;
@@ -104,23 +107,24 @@ caused-by None = refl
 caused-by (Some cause) = search
 
 pub world-greeted : (line new : Line) (script : List RuleValue) (log : LogValue) (sound : Bool) (answered : ℕ) (begun : Bool) (fault : Option LinkFault) (cause : Option Down) → IsWorld line script log sound answered begun fault cause → fault ≡ None → begun ≡ false
-    → LineRecords script new → MayAsk new 0 → LineTells greeted new → IsWorld new script log sound answered true fault cause
-world-greeted line new script log sound answered begun fault cause world none first by asks tells =
+    → LineRecords script new → LineCounts new → MayAsk new 0 → LineTells greeted new → IsWorld new script log sound answered true fault cause
+world-greeted line new script log sound answered begun fault cause world none first by counted asks tells =
     let running = world.running none in
     let greets = greets-of begun line log answered first running.at_rest in
     let says = subst (λ (t : Talk). LineTells t new) (sym (said-greeted log answered world.is_log running.all greets.none)) tells in
     record {
       recorded = by;
-      told = (NoMemory, asks-ends (said_in log) new 0 asks says);
+      counted = counted;
+      told = record { halt = NoMemory; ends = asks-ends (said_in log) new 0 asks says; halt_is = no-halt fault cause (length new.wire.frames.items) NoMemory world.caused none };
       is_log = world.is_log;
       running = λ is. record { is_sound = running.is_sound; all = running.all; at_rest = (subst (λ (n : ℕ). MayAsk new n) (sym greets.none) asks, says) };
       caused = world.caused;
     }
 
 pub world-answered : {F : Type 0} (contents : F → Option FileMap) (moments : F → Moments) (paths : F → Option (List (List ℕ))) (faults : F → ℕ) (old later_server : ServerValue F) (line new : Line) (script : List RuleValue) (log later : LogValue) (answered n : ℕ) (begun : Bool)
-    (fault : Option LinkFault) (cause : Option Down) (request reply : List ℕ) → IsWorld line script log old.sound answered begun fault cause → fault ≡ None → begun ≡ true → LineRecords script new → Answers contents moments paths faults old later_server log later new request reply → LineTells (said_in later) new
+    (fault : Option LinkFault) (cause : Option Down) (request reply : List ℕ) → IsWorld line script log old.sound answered begun fault cause → fault ≡ None → begun ≡ true → LineRecords script new → LineCounts new → Answers contents moments paths faults old later_server log later new request reply → LineTells (said_in later) new
     → n ≡ length later.replies → IsWorld new script later later_server.sound n begun fault cause
-world-answered contents moments paths faults old later_server line new script log later answered n begun fault cause request reply world none first by answers tells count =
+world-answered contents moments paths faults old later_server line new script log later answered n begun fault cause request reply world none first by counted answers tells count =
     let running = world.running none in
     let replied = replies-all log answered world.is_log running.all in
     let performs = answers.performs in
@@ -128,7 +132,8 @@ world-answered contents moments paths faults old later_server line new script lo
     let asked : length later.issued ≡ length log.issued + 1 = length-later log.issued later.issued request (ap (λ (l : LogValue). l.issued) performs.log_is) in
     record {
       recorded = by;
-      told = (NoMemory, asks-ends (said_in later) new (length log.issued + 1) answers.asks tells);
+      counted = counted;
+      told = record { halt = NoMemory; ends = asks-ends (said_in later) new (length log.issued + 1) answers.asks tells; halt_is = no-halt fault cause (length new.wire.frames.items) NoMemory world.caused none };
       is_log = subst (λ (k : ℕ). IsLog later k) (sym more) (subst (λ (l : LogValue). IsLog l (answered + 1)) (sym performs.log_is) (log-answered log answered request reply world.is_log running.all));
       running = λ is. record {
         is_sound = performs.sound;
@@ -139,24 +144,30 @@ world-answered contents moments paths faults old later_server line new script lo
     }
 
 pub world-broke : {F : Type 0} (contents : F → Option FileMap) (moments : F → Moments) (paths : F → Option (List (List ℕ))) (faults : F → ℕ) (old later_server : ServerValue F) (line new : Line) (script : List RuleValue) (log later : LogValue) (answered : ℕ) (begun : Bool) (fault : Option LinkFault)
-    (cause now : Option Down) (request : List ℕ) (ended : Break) → IsWorld line script log old.sound answered begun fault cause → fault ≡ None → LineRecords script new → LineEnds (halt_of ended) (said_in later) new → Breaks contents moments paths faults old later_server log later request ended
+    (cause now : Option Down) (request : List ℕ) (ended : Break) → IsWorld line script log old.sound answered begun fault cause → fault ≡ None → LineRecords script new → LineCounts new → LineEnds (halt_of ended) (said_in later) new → IsCauseOf ended (length new.wire.frames.items) now → Breaks contents moments paths faults old later_server log later request ended
     → IsWorld new script later later_server.sound answered begun (Some (link_fault now)) now
-world-broke contents moments paths faults old later_server line new script log later answered begun fault cause now request ended world none by over breaks = record {
+world-broke contents moments paths faults old later_server line new script log later answered begun fault cause now request ended world none by counted over is_cause breaks = record {
   recorded = by;
-  told = (halt_of ended, over);
+  counted = counted;
+  told = record { halt = halt_of ended; ends = over; halt_is = halt-by ended (length new.wire.frames.items) now is_cause };
   is_log = log-went contents moments paths faults breaks.went old later_server log later answered request world.is_log (world.running none).all breaks.is;
   running = λ is. absurd cc;
   caused = caused-by now;
 }
 
 pub world-halted : (line new : Line) (script : List RuleValue) (log : LogValue) (sound : Bool) (answered : ℕ) (begun : Bool) (fault : Option LinkFault) (cause now : Option Down) (halt : Halt) → IsWorld line script log sound answered begun fault cause → fault ≡ None → begun ≡ false
-    → LineRecords script new → LineEnds halt greeted new → IsWorld new script log sound answered begun (Some (link_fault now)) now
-world-halted line new script log sound answered begun fault cause now halt world none first by over =
+    → LineRecords script new → LineCounts new → LineEnds halt greeted new → IsCauseOf (OfLine halt) (length new.wire.frames.items) now → IsWorld new script log sound answered begun (Some (link_fault now)) now
+world-halted line new script log sound answered begun fault cause now halt world none first by counted over is_cause =
     let running = world.running none in
     let greets = greets-of begun line log answered first running.at_rest in
     record {
       recorded = by;
-      told = (halt, subst (λ (t : Talk). LineEnds halt t new) (sym (said-greeted log answered world.is_log running.all greets.none)) over);
+      counted = counted;
+      told = record {
+        halt = halt;
+        ends = subst (λ (t : Talk). LineEnds halt t new) (sym (said-greeted log answered world.is_log running.all greets.none)) over;
+        halt_is = halt-by (OfLine halt) (length new.wire.frames.items) now is_cause;
+      };
       is_log = world.is_log;
       running = λ is. absurd cc;
       caused = caused-by now;
@@ -170,16 +181,16 @@ went-down link.NoMemory = record { later = omega arith; rose = λ is. absurd cc 
 
 -- ---- the trace
 
-pub world-proper : (line : Line) (script : List RuleValue) (log : LogValue) → LineRecords script line → (halt : Halt) × LineEnds halt (said_in log) line → IsProper (fate_by script) (said_in log) (map frame_value line.wire.frames.items)
-world-proper line script log recorded told = halted_is_proper told.0 script (said_in log) line.wire line.handheld line.desktop told.1.ends.handheld_is told.1.ends.desktop_is told.1.by told.1.spoke recorded
+pub world-proper : (line : Line) (script : List RuleValue) (log : LogValue) (cause : Option Down) → LineRecords script line → IsTold line log cause → IsProper (fate_by script) (said_in log) (map frame_value line.wire.frames.items)
+world-proper line script log cause recorded told = halted_is_proper told.halt script (said_in log) line.wire line.handheld line.desktop told.ends.ends.handheld_is told.ends.ends.desktop_is told.ends.by told.ends.spoke recorded
 
-pub world-told : (line : Line) (script : List RuleValue) (log : LogValue) → LineRecords script line → (halt : Halt) × LineEnds halt (said_in log) line → TellBoth (said_in log) (map frame_value line.wire.frames.items)
-world-told line script log recorded told =
+pub world-told : (line : Line) (script : List RuleValue) (log : LogValue) (cause : Option Down) → LineRecords script line → IsTold line log cause → TellBoth (said_in log) (map frame_value line.wire.frames.items)
+world-told line script log cause recorded told =
     let frames = map frame_value line.wire.frames.items in
-    let both = halted_tells told.0 script (said_in log) line.wire line.handheld line.desktop told.1.by told.1.spoke recorded in
+    let both = halted_tells told.halt script (said_in log) line.wire line.handheld line.desktop told.ends.by told.ends.spoke recorded in
     record {
-      handheld_said = subst (λ (E : End). TellsOf E (messages_of E (said_in log)) frames) told.1.ends.handheld_is both.0;
-      desktop_said = subst (λ (E : End). TellsOf E (messages_of E (said_in log)) frames) told.1.ends.desktop_is both.1;
+      handheld_said = subst (λ (E : End). TellsOf E (messages_of E (said_in log)) frames) told.ends.ends.handheld_is both.0;
+      desktop_said = subst (λ (E : End). TellsOf E (messages_of E (said_in log)) frames) told.ends.ends.desktop_is both.1;
     }
 
 pub world-all_told : (line : Line) (script : List RuleValue) (log : LogValue) (sound : Bool) (answered : ℕ) (begun : Bool) (fault : Option LinkFault) (cause : Option Down) → IsWorld line script log sound answered begun fault cause → fault ≡ None → begun ≡ true

@@ -1,11 +1,17 @@
 -- Why a line is down, and what its link answers then.
-use Rattle.std.specs.Prelude.{◌≡◌, ℕ, Option, Some, None, IsSome}
+use Rattle.std.specs.Prelude.{◌≡◌, ℕ, ⊤, List, [], ◌∷◌, ◌++◌, length, Option, Some, None, IsSome}
 use Rattle.dlp_commands.specs.declared.link.LinkFault.{LinkFault}
 use Rattle.dlp_commands.specs.declared.link.LinkFault.TheVariants as link
 use Rattle.line_steps.specs.declared.harm.Stop.TheVariants as stop
 use Rattle.line_steps.specs.declared.sending.Halt.{Halt}
 use Rattle.line_steps.specs.declared.sending.Halt.TheVariants as halt
 use Rattle.trace_text.specs.declared.frame.End.{End}
+use Rattle.trace_text.specs.Frames.{past_of}
+use Rattle.trace_text.specs.TraceLines.{FrameValue}
+use Rattle.line_laws.specs.Framing.{CameByCursor}
+use Rattle.line_steps.specs.declared.harm.Stop.{Stop}
+use Rattle.line_steps.specs.Halting.{IsSpent}
+use Rattle.line_steps.specs.Sending.{StopsBy}
 use Rattle.line_world.specs.declared.down.Down.{Down}
 use Rattle.line_world.specs.declared.down.Down.TheVariants as down
 use Rattle.line_world.specs.declared.stop.Break.{Break}
@@ -46,3 +52,34 @@ abbrev pub IsCause : Option LinkFault → Option Down → Type 0
 IsCause None cause = cause ≡ None
 IsCause (Some link.Down) cause = IsSome cause
 IsCause (Some link.NoMemory) cause = cause ≡ None
+
+-- the run ends with the last of these frames, for this reason
+pub record EndsBy (stop : Stop) (frames : List FrameValue) : Type 0 where
+  pub before : List FrameValue
+  pub last : FrameValue
+  pub is : frames ≡ before ++ last ∷ []
+  pub stops : StopsBy last.fate last.bytes (Some stop)
+
+-- This end has spent its tries: its last ten data frames bear one key, no acknowledgement of it behind the first of them came, and ten faults stand among the last frames.
+pub record SpentIn (end : End) (frames : List FrameValue) : Type 0 where
+  pub cursor : End → ℕ
+  pub came : CameByCursor 1 cursor frames
+  pub spent : IsSpent end cursor (past_of frames)
+
+-- the frames bear a cause out
+abbrev pub BearsOut : Option Down → List FrameValue → Type 0
+BearsOut None frames = ⊤
+BearsOut (Some (down.LineDown end numbers)) frames = SpentIn end frames
+BearsOut (Some (down.Unplugged number)) frames = (number ≡ length frames) × EndsBy stop.Unplugged frames
+BearsOut (Some (down.Aborted number)) frames = (number ≡ length frames) × EndsBy stop.Aborted frames
+BearsOut (Some (down.Undetected number)) frames = (number ≡ length frames) × EndsBy stop.Undetected frames
+BearsOut (Some down.Keeper) frames = ⊤
+
+-- why it is over with the line, by the cause and how many frames there are
+abbrev pub IsHaltOf : Option Down → ℕ → Halt → Type 0
+IsHaltOf None count ended = ⊤
+IsHaltOf (Some (down.LineDown end numbers)) count ended = ended ≡ halt.Down end
+IsHaltOf (Some (down.Unplugged number)) count ended = (number ≡ count) × (ended ≡ halt.Stopped stop.Unplugged)
+IsHaltOf (Some (down.Aborted number)) count ended = (number ≡ count) × (ended ≡ halt.Stopped stop.Aborted)
+IsHaltOf (Some (down.Undetected number)) count ended = (number ≡ count) × (ended ≡ halt.Stopped stop.Undetected)
+IsHaltOf (Some down.Keeper) count ended = ⊤

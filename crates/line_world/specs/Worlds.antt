@@ -10,10 +10,15 @@ use Rattle.dlp_commands.specs.DeviceRuns.{Exchange, exchanged}
 use Rattle.dlp_commands.specs.Talks.{Talk}
 use Rattle.handheld_server.specs.Servers.{ServerValue}
 use Rattle.line_script.specs.Rules.{RuleValue}
+use Rattle.slp_frames.specs.Readers.{TallyValue}
+use Rattle.trace_text.specs.declared.frame.End.{End}
 use Rattle.trace_text.specs.declared.frame.End.TheVariants as ends
+use Rattle.trace_text.specs.declared.frame.Frame.{Frame}
+use Rattle.line_laws.specs.Framing.{CameByCursor}
+use Rattle.line_steps.specs.Counting.{counts}
 use Rattle.trace_text.specs.Stories.{IsStory}
 use Rattle.trace_text.specs.Talks as talks
-use Rattle.trace_text.specs.TraceLines.{FrameValue}
+use Rattle.trace_text.specs.TraceLines.{FrameValue, frame_value}
 use Rattle.line_steps.specs.declared.line.Line.{Line}
 use Rattle.line_steps.specs.declared.sending.Halt.{Halt}
 use Rattle.line_steps.specs.Promising.{TellsOf}
@@ -21,11 +26,11 @@ use Rattle.line_steps.specs.Stories.{told_from}
 use Rattle.line_steps.specs.Telling.{no_talk}
 use Rattle.line_world.specs.declared.down.Down.{Down}
 use Rattle.line_world.specs.declared.down.Down.TheVariants.{Keeper}
-use Rattle.line_world.specs.Causes.{IsCause}
+use Rattle.line_world.specs.Causes.{IsCause, IsHaltOf}
 use Rattle.line_world.specs.Folders.{ServedSince}
 use Rattle.line_talk.specs.Halting.{LineEnds}
 use Rattle.line_talk.specs.Rests.{MayGreet, MayAsk}
-use Rattle.line_talk.specs.Telling.{LineRecords, LineTells}
+use Rattle.line_talk.specs.Telling.{LineCounts, LineRecords, LineTells}
 use Rattle.line_world.specs.Logs.{LogValue, said_in}
 
 -- a world is the handheld's server, the script, what was said, how much of it was answered, the frames, whether it has begun, and why it is down
@@ -56,6 +61,12 @@ pub record TellBoth (talk : talks.Talk) (frames : List FrameValue) : Type 0 wher
 pub record TellAll (talk : talks.Talk) (frames : List FrameValue) : Type 0 where
   pub handheld_said : IsStory ends.Handheld frames (told_from 0 talk.handheld)
   pub desktop_said : IsStory ends.Desktop frames (told_from 0 talk.desktop)
+
+-- the reader of the end that takes the frames of X counted what landed of all that were taken of them, and nothing else
+pub record CountsOf (X : End) (tally : TallyValue) (frames : List Frame) : Type 0 where
+  pub cursor : End → ℕ
+  pub came : CameByCursor 1 cursor (map frame_value frames)
+  pub is : tally ≡ counts X (cursor X) frames (record { bytes = 0; packets = 0 })
 
 -- Since the first of the two more was sent, performed and replied: each request that was performed was one step of the device, in order. The script is the same.
 -- A folder that failed meanwhile had its count rise.
@@ -88,10 +99,17 @@ pub record IsRunning (line : Line) (log : LogValue) (sound : Bool) (answered : �
   pub all : length log.issued ≡ answered
   pub at_rest : IsAtRest begun line log answered
 
+-- the frames tell what was said, and say why it is over with the line
+pub record IsTold (line : Line) (log : LogValue) (cause : Option Down) : Type 0 where
+  pub halt : Halt
+  pub ends : LineEnds halt (said_in log) line
+  pub halt_is : IsHaltOf cause (length line.wire.frames.items) halt
+
 -- what holds of each world
 pub record IsWorld (line : Line) (script : List RuleValue) (log : LogValue) (sound : Bool) (answered : ℕ) (begun : Bool) (fault : Option LinkFault) (cause : Option Down) : Type 0 where
   pub recorded : LineRecords script line
-  pub told : (halt : Halt) × LineEnds halt (said_in log) line
+  pub counted : LineCounts line
+  pub told : IsTold line log cause
   pub is_log : IsLog log answered
   pub running : fault ≡ None → IsRunning line log sound answered begun
   pub caused : IsCause fault cause

@@ -3,7 +3,7 @@ ghost use Rattle.std.specs.Prelude.{◌≡◌, ◌≤◌, true, IfSome, OnOk, If
 ghost use Rattle.padp_link.specs.Receivers.{whole_of};
 ghost use Rattle.line_talk.specs.Halting.{LineEnds};
 ghost use Rattle.line_talk.specs.Rests.{MayAsk};
-ghost use Rattle.line_talk.specs.Telling.{LineRecords, LineTells};
+ghost use Rattle.line_talk.specs.Telling.{LineCounts, LineRecords, LineTells};
 ghost use Rattle.line_world.specs.Causes.{halt_of};
 ghost use Rattle.line_world.specs.Conversing.{Answers, Breaks};
 ghost use Rattle.line_world.specs.Logs.{log_value, said_in};
@@ -40,6 +40,7 @@ pub(crate) fn converse<F: Folder>(
         server.old server.new (log_value log.old) (log_value log.new) request.now ended) }
 
     ensures recorded { LineRecords script.now line.old → LineRecords script.now line.new }
+    ensures counted { LineCounts line.old → LineCounts line.new }
     ensures tells { OnOk result (LineTells (said_in (log_value log.old)) line.old →
         LineTells (said_in (log_value log.new)) line.new) }
     ensures ends { IfErr result (λ ended. LineTells (said_in (log_value log.old)) line.old →

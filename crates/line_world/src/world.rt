@@ -1,12 +1,14 @@
 //! The world of a line.
-ghost use Rattle.std.specs.Prelude.{◌≡◌, None, IfErr, IfOk, false, true, map, []};
+ghost use Rattle.std.specs.Prelude.{◌≡◌, None, IfErr, IfOk, false, true, length, map, []};
 ghost use Rattle.trace_text.specs.TraceLines.{frame_value};
 ghost use Rattle.std.specs.Option.{option_copied};
 ghost use Rattle.line_script.specs.Scripts.{fate_by};
+ghost use Rattle.trace_text.specs.declared.frame.End.TheVariants.{Handheld, Desktop};
 ghost use Rattle.trace_text.specs.Proper.{IsProper};
-ghost use Rattle.line_world.specs.Causes.{IsCause};
+ghost use Rattle.trace_text.specs.Tallies.{IsFairUpTo};
+ghost use Rattle.line_world.specs.Causes.{BearsOut, IsCause, down_end};
 ghost use Rattle.line_world.specs.Logs.{no_log, said_in, texts};
-ghost use Rattle.line_world.specs.Worlds.{IsLog, TellAll, TellBoth};
+ghost use Rattle.line_world.specs.Worlds.{CountsOf, IsLog, TellAll, TellBoth};
 
 use crate::down::Down;
 use crate::log::{LineLog, Log};
@@ -99,6 +101,10 @@ impl<F: Folder> World<F> {
         ensures cause { option_copied result ≡ self.now.cause }
         // It is there exactly where the link answers that it is down.
         ensures caused { IsCause self.now.fault self.now.cause }
+        // The frames bear it out, and where the script is fair up to the last of them no end has spent its tries.
+        ensures borne_out { BearsOut self.now.cause self.now.frames }
+        ensures fair { IsFairUpTo (length self.now.frames) (fate_by self.now.script) →
+            down_end self.now.cause ≡ None }
     {
         self.cause.as_ref()
     }
@@ -130,6 +136,9 @@ impl<F: Folder> World<F> {
         ensures told { TellBoth (said_in self.log) (map frame_value result.0.frames.items) }
         ensures all_told { self.fault ≡ None → self.begun ≡ true →
             TellAll (said_in self.log) (map frame_value result.0.frames.items) }
+        // Each reader counted what landed of the frames that were taken.
+        ensures to_handheld { CountsOf Desktop result.0.to_handheld result.0.frames.items }
+        ensures to_desktop { CountsOf Handheld result.0.to_desktop result.0.frames.items }
     {
         let World {
             line,

@@ -10,6 +10,7 @@ use Rattle.line_steps.proofs.TalkedLaws.{talks_turned}
 use Rattle.line_steps.proofs.TurnLaws.{apart_turned}
 use Rattle.line_talk.proofs.AskLaws.{two_ok, asks-next}
 use Rattle.line_talk.proofs.EndLaws.{ends-apart, halts-turned, spoke-turned}
+use Rattle.line_steps.proofs.CountingLaws.{counted_turned}
 use Rattle.line_talk.proofs.asking.ask.Goals as goal
 
 pub returns-clause-recorded : goal.returns-clause-recorded
@@ -46,3 +47,8 @@ returns-clause-ends c =
           (subst (λ (X : End). Spoke (say X c.args.request.now talk) c.send_over.new.wire c.send_over.new.x c.send_over.new.y) ends.desktop_is
           (halted.talks talk (asks-next line c.args.requests c.transaction.result talk c.requires.asks c.transaction.ensures said) (talks_turned talk line.wire line.handheld line.desktop (apart_turned _ _ apart) before)));
     }) done.halted
+
+pub returns-clause-counted : goal.returns-clause-counted
+returns-clause-counted c counted =
+    let line = c.args.line.now in
+    counted_turned c.send_over.new.wire c.send_over.new.x c.send_over.new.y (c.send_over.ensures.counted (counted_turned line.wire line.handheld line.desktop counted))

@@ -13,6 +13,7 @@ use Rattle.line_steps.proofs.TurnLaws.{apart_turned}
 use Rattle.line_talk.specs.Telling.{greeted, wake}
 use Rattle.line_talk.proofs.AskLaws.{greeted-tells, greets-tells, wakes-next, woke-tells}
 use Rattle.line_talk.proofs.EndLaws.{ends-apart, halts-turned, inits-greeted, spoke-turned, wakes-greeted}
+use Rattle.line_steps.proofs.CountingLaws.{counted_turned}
 use Rattle.line_talk.proofs.greeting.greet.Goals as goal
 
 pub returns-in_err-send_over-clause-recorded : goal.returns-in_err-send_over-clause-recorded
@@ -108,3 +109,15 @@ returns-in_err-settle-clause-ends c =
           (greeted-tells c.send_over-2.new.wire c.send_over-2.new.x c.send_over-2.new.y c.greeting-wake.result c.greeting-init.result c.greeting-wake.ensures.bytes init_is
           (greets-tells c.args.line.now c.send_over.new.wire c.send_over-2.new.wire c.send_over.new.x c.send_over.new.y c.send_over-2.new.y c.send_over-2.new.x c.greeting-wake.result c.greeting-init.result (apart_turned _ _ first.turn.settled.apart) ends.handheld_is d_end first.talks second.talks before)));
     })
+
+pub returns-in_err-send_over-2-clause-counted : goal.returns-in_err-send_over-2-clause-counted
+returns-in_err-send_over-2-clause-counted c counted =
+    counted_turned c.send_over-2.new.wire c.send_over-2.new.x c.send_over-2.new.y (c.send_over-2.ensures.counted (counted_turned c.send_over.new.wire c.send_over.new.x c.send_over.new.y (c.send_over.ensures.counted counted)))
+
+pub returns-in_err-settle-clause-counted : goal.returns-in_err-settle-clause-counted
+returns-in_err-settle-clause-counted c counted =
+    counted_turned c.settle.new.wire c.settle.new.x c.settle.new.y (c.settle.ensures.counted (c.send_over-2.ensures.counted (counted_turned c.send_over.new.wire c.send_over.new.x c.send_over.new.y (c.send_over.ensures.counted counted))))
+
+pub returns-clause-counted : goal.returns-clause-counted
+returns-clause-counted c counted =
+    counted_turned c.settle.new.wire c.settle.new.x c.settle.new.y (c.settle.ensures.counted (c.send_over-2.ensures.counted (counted_turned c.send_over.new.wire c.send_over.new.x c.send_over.new.y (c.send_over.ensures.counted counted))))

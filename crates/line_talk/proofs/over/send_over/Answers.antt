@@ -6,7 +6,7 @@ use Rattle.line_script.specs.Scripts.{fate_by}
 use Rattle.line_steps.specs.declared.half.Half.{Half}
 use Rattle.line_steps.specs.Halting.{Spoke}
 use Rattle.line_steps.specs.Telling.{Talks}
-use Rattle.line_talk.proofs.OverLaws.{either_way, expects-recorded, expects-next, expects-talks, over-unsent}
+use Rattle.line_talk.proofs.OverLaws.{either_way, expects-counted, expects-recorded, expects-next, expects-talks, over-unsent}
 use Rattle.line_talk.proofs.over.send_over.Goals as goal
 
 both_ok : {T E A B C : Type 0} (r : Result T E) → (A → B → C) → OnOk r A → OnOk r B → OnOk r C
@@ -26,6 +26,12 @@ returns-clause-recorded c recorded =
     let size : c.len.result ≡ length c.args.wire.now.frames.items = omega (arith, c.len.ensures) in
     c.carry.ensures.recorded (c.start.ensures.recorded c.args.script.now (c.in_ok-fate.ensures ∙ ap (λ (n : ℕ). fate_by c.args.script.now (n + 1)) size)
     (expects-recorded c.args.script.now c.args.wire.now c.args.x.now c.args.y.now c.expect.new.half c.args.id c.expect.ensures.receiver recorded))
+
+pub returns-in_err-start-clause-counted : goal.returns-in_err-start-clause-counted
+returns-in_err-start-clause-counted c counted = c.start.ensures.counted (expects-counted c.args.wire.now c.args.x.now c.args.y.now c.expect.new.half c.args.id c.expect.ensures.receiver counted)
+
+pub returns-clause-counted : goal.returns-clause-counted
+returns-clause-counted c counted = c.carry.ensures.counted (c.start.ensures.counted (expects-counted c.args.wire.now c.args.x.now c.args.y.now c.expect.new.half c.args.id c.expect.ensures.receiver counted))
 
 pub returns-clause-talks : goal.returns-clause-talks
 returns-clause-talks c =

@@ -26,6 +26,18 @@ returns-in_err-answer-clause-recorded g c recorded = c.answer.ensures.recorded (
 pub returns-clause-recorded : goal.returns-clause-recorded
 returns-clause-recorded g c recorded = c.answer.ensures.recorded (c.ask.ensures.recorded recorded)
 
+pub returns-in_err-ask-clause-counted : goal.returns-in_err-ask-clause-counted
+returns-in_err-ask-clause-counted g c counted = c.ask.ensures.counted counted
+
+pub returns-in_err-perform-clause-counted : goal.returns-in_err-perform-clause-counted
+returns-in_err-perform-clause-counted g c counted = c.ask.ensures.counted counted
+
+pub returns-in_err-answer-clause-counted : goal.returns-in_err-answer-clause-counted
+returns-in_err-answer-clause-counted g c counted = c.answer.ensures.counted (c.ask.ensures.counted counted)
+
+pub returns-clause-counted : goal.returns-clause-counted
+returns-clause-counted g c counted = c.answer.ensures.counted (c.ask.ensures.counted counted)
+
 pub returns-in_err-issue-clause-ends : goal.returns-in_err-issue-clause-ends
 returns-in_err-issue-clause-ends g c =
     let p = err_from_is_err_and c.from_residual.result c.from_residual.ensures.1 in

@@ -1,10 +1,12 @@
-use Rattle.std.proofs.Common.{◌≡◌, length, map, Some, refl, subst, sym, arith, inl, inr}
+use Rattle.std.proofs.Common.{◌≡◌, List, length, map, Some, refl, subst, sym, arith, inl, inr}
 use Rattle.std.proofs.lemmas.List.{length-map}
 use Rattle.dlp_args.specs.Messages.{MessageTextValue}
 use Rattle.dlp_commands.specs.declared.link.LinkFault.{LinkFault}
 use Rattle.dlp_commands.specs.Links.{MayExchange}
 use Rattle.dlp_commands.specs.Talks.{Answered, Unanswered}
+use Rattle.trace_text.specs.declared.frame.Frame.{Frame}
 use Rattle.trace_text.specs.TraceLines.{frame_value}
+use Rattle.line_world.specs.Causes.{IsCauseOf}
 use Rattle.line_world.specs.Conversing.{Served}
 use Rattle.line_world.specs.Logs.{log_value}
 use Rattle.line_world.specs.SinceLaws.{since_itself}
@@ -26,7 +28,7 @@ invariant_of-self g c =
     let running = c.self.invariant.running c.in_default.is in
     let count : c.len-self-inside.result ≡ length (log_value later).replies = omega (arith, c.len-self-inside.ensures, length-map later.replies.items (λ (t : MessageTextValue). t.bytes)) in
     world-answered g.F.Folder.contents g.F.Folder.moments g.F.Folder.paths g.F.Folder.faults w.server c.converse.new.server w.line c.converse.new.line w.script (log_value w.log) (log_value later) w.answered c.len-self-inside.result w.begun w.fault w.cause c.args.request.now c.converse.new.reply
-    c.self.invariant c.in_default.is first (c.converse.ensures.recorded c.self.invariant.recorded) c.in-Ok.ensures.answers (c.in-Ok.ensures.tells (tells-of w.begun w.line (log_value w.log) w.answered first running.at_rest)) count
+    c.self.invariant c.in_default.is first (c.converse.ensures.recorded c.self.invariant.recorded) (c.converse.ensures.counted c.self.invariant.counted) c.in-Ok.ensures.answers (c.in-Ok.ensures.tells (tells-of w.begun w.line (log_value w.log) w.answered first running.at_rest)) count
 
 pub invariant_of-self-in-Err : goal.invariant_of-self-in-Err
 invariant_of-self-in-Err g c =
@@ -37,7 +39,8 @@ invariant_of-self-in-Err g c =
     let running = c.self.invariant.running c.in_default.is in
     subst (λ (f : LinkFault). IsWorld c.converse.new.line w.script (log_value later) c.converse.new.server.sound w.answered w.begun (Some f) c.cause_of-cause.result) (sym c.fault_of-fault.ensures)
     (world-broke g.F.Folder.contents g.F.Folder.moments g.F.Folder.paths g.F.Folder.faults w.server c.converse.new.server w.line c.converse.new.line w.script (log_value w.log) (log_value later) w.answered w.begun w.fault w.cause c.cause_of-cause.result c.args.request.now c.in-Err.ended
-    c.self.invariant c.in_default.is (c.converse.ensures.recorded c.self.invariant.recorded) (c.in-Err.ensures.ends (tells-of w.begun w.line (log_value w.log) w.answered first running.at_rest)) c.in-Err.ensures.breaks)
+    c.self.invariant c.in_default.is (c.converse.ensures.recorded c.self.invariant.recorded) (c.converse.ensures.counted c.self.invariant.counted) (c.in-Err.ensures.ends (tells-of w.begun w.line (log_value w.log) w.answered first running.at_rest))
+    (subst (λ (fs : List Frame). IsCauseOf c.in-Err.ended (length fs) c.cause_of-cause.result) c.deref.ensures.value c.cause_of-cause.ensures.is) c.in-Err.ensures.breaks)
 
 pub returns-in-Ok-clause-answered : goal.returns-in-Ok-clause-answered
 returns-in-Ok-clause-answered g c =

@@ -1,10 +1,13 @@
 use Rattle.std.specs.Prelude.{IsErrOf}
-use Rattle.std.proofs.Common.{ℕ, map, true, Some, Ok, refl, sym, subst, ap, ◌∙◌, arith, inl}
+use Rattle.std.proofs.Common.{ℕ, List, length, map, true, Some, Ok, refl, sym, subst, ap, ◌∙◌, arith, inl}
 use Rattle.dlp_commands.specs.declared.link.LinkFault.{LinkFault}
 use Rattle.dlp_commands.specs.declared.link.LinkFault.TheVariants.{Down}
 use Rattle.dlp_commands.specs.Links.{WentDown}
 use Rattle.handheld_server.specs.SaidThings.{downs_of}
+use Rattle.trace_text.specs.declared.frame.Frame.{Frame}
 use Rattle.trace_text.specs.TraceLines.{frame_value}
+use Rattle.line_world.specs.declared.stop.Break.TheVariants.{Line as OfLine}
+use Rattle.line_world.specs.Causes.{IsCauseOf}
 use Rattle.line_world.specs.Logs.{log_value}
 use Rattle.line_world.specs.SinceLaws.{since_itself}
 use Rattle.line_world.specs.Worlds.{IsWorld, WorldSince, WorldValue}
@@ -21,7 +24,7 @@ invariant_of-self g c =
     let first = ap (λ (v : WorldValue g.row.F.Denot). v.begun) c.self.view_is ∙ c.requires in
     let running = c.self.invariant.running c.in_default.is in
     let greets = greets-of w.begun w.line (log_value w.log) w.answered first running.at_rest in
-    world-greeted w.line c.greet.new.line w.script (log_value w.log) w.server.sound w.answered w.begun w.fault w.cause c.self.invariant c.in_default.is first (c.greet.ensures.recorded c.self.invariant.recorded) c.in-Ok.ensures.asks (c.in-Ok.ensures.tells greets.tells)
+    world-greeted w.line c.greet.new.line w.script (log_value w.log) w.server.sound w.answered w.begun w.fault w.cause c.self.invariant c.in_default.is first (c.greet.ensures.recorded c.self.invariant.recorded) (c.greet.ensures.counted c.self.invariant.counted) c.in-Ok.ensures.asks (c.in-Ok.ensures.tells greets.tells)
 
 pub invariant_of-self-in-Err : goal.invariant_of-self-in-Err
 invariant_of-self-in-Err g c =
@@ -30,7 +33,8 @@ invariant_of-self-in-Err g c =
     let greets = greets-of w.begun w.line (log_value w.log) w.answered first (c.self.invariant.running c.in_default.is).at_rest in
     subst (λ (f : LinkFault). IsWorld c.greet.new.line w.script (log_value w.log) w.server.sound w.answered w.begun (Some f) c.cause_of-cause.result) (sym c.fault_of-fault.ensures)
     (world-halted w.line c.greet.new.line w.script (log_value w.log) w.server.sound w.answered w.begun w.fault w.cause c.cause_of-cause.result c.in-Err.halt c.self.invariant c.in_default.is first
-    (c.greet.ensures.recorded c.self.invariant.recorded) (c.in-Err.ensures.ends greets.tells))
+    (c.greet.ensures.recorded c.self.invariant.recorded) (c.greet.ensures.counted c.self.invariant.counted) (c.in-Err.ensures.ends greets.tells)
+    (subst (λ (fs : List Frame). IsCauseOf (OfLine c.in-Err.halt) (length fs) c.cause_of-cause.result) c.deref.ensures.value c.cause_of-cause.ensures.is))
 
 pub returns-in-Ok-clause-cause : goal.returns-in-Ok-clause-cause
 returns-in-Ok-clause-cause g c =

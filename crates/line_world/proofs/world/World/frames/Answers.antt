@@ -10,4 +10,4 @@ pub returns-clause-proper : goal.returns-clause-proper
 returns-clause-proper g c =
     let w = c.self.inside in
     subst (λ (v : WorldValue g.row.F.Denot). IsProper (fate_by v.script) (said_in v.log) v.frames) c.self.view_is
-    (world-proper w.line w.script (log_value w.log) c.self.invariant.recorded c.self.invariant.told)
+    (world-proper w.line w.script (log_value w.log) w.cause c.self.invariant.recorded c.self.invariant.told)

@@ -1,9 +1,12 @@
-use Rattle.std.proofs.Common.{◌≡◌, map, None, true, subst}
+use Rattle.std.proofs.Common.{◌≡◌, map, None, true, sym, subst}
 use Rattle.line_script.specs.Scripts.{fate_by}
 use Rattle.trace_text.specs.Proper.{IsProper}
 use Rattle.trace_text.specs.TraceLines.{frame_value}
 use Rattle.line_world.specs.Logs.{log_value, said_in}
-use Rattle.line_world.specs.Worlds.{IsLog, TellAll, TellBoth, WorldValue}
+use Rattle.line_world.specs.Worlds.{CountsOf, IsLog, TellAll, TellBoth, WorldValue}
+use Rattle.slp_frames.specs.Readers.{TallyValue}
+use Rattle.trace_text.specs.declared.frame.End.TheVariants.{Handheld, Desktop}
+use Rattle.line_world.proofs.CauseLaws.{counts-desktop, counts-handheld}
 use Rattle.line_world.proofs.WorldLaws.{world-all_told, world-proper, world-told}
 use Rattle.line_world.proofs.world.World.into_log.Goals as goal
 
@@ -14,16 +17,26 @@ pub returns-clause-proper : goal.returns-clause-proper
 returns-clause-proper g c =
     let w = c.self.inside in
     subst (λ (v : WorldValue g.row.F.Denot). IsProper (fate_by v.script) (said_in v.log) (map frame_value w.line.wire.frames.items)) c.self.view_is
-    (world-proper w.line w.script (log_value w.log) c.self.invariant.recorded c.self.invariant.told)
+    (world-proper w.line w.script (log_value w.log) w.cause c.self.invariant.recorded c.self.invariant.told)
 
 pub returns-clause-told : goal.returns-clause-told
 returns-clause-told g c =
     let w = c.self.inside in
     subst (λ (v : WorldValue g.row.F.Denot). TellBoth (said_in v.log) (map frame_value w.line.wire.frames.items)) c.self.view_is
-    (world-told w.line w.script (log_value w.log) c.self.invariant.recorded c.self.invariant.told)
+    (world-told w.line w.script (log_value w.log) w.cause c.self.invariant.recorded c.self.invariant.told)
 
 pub returns-clause-all_told : goal.returns-clause-all_told
 returns-clause-all_told g c =
     let w = c.self.inside in
     subst (λ (v : WorldValue g.row.F.Denot). v.fault ≡ None → v.begun ≡ true → TellAll (said_in v.log) (map frame_value w.line.wire.frames.items)) c.self.view_is
     (λ none first. world-all_told w.line w.script (log_value w.log) w.server.sound w.answered w.begun w.fault w.cause c.self.invariant none first)
+
+pub returns-clause-to_handheld : goal.returns-clause-to_handheld
+returns-clause-to_handheld g c =
+    let w = c.self.inside in
+    subst (λ (t : TallyValue). CountsOf Desktop t w.line.wire.frames.items) (sym c.tally.ensures) (counts-desktop w.script w.line c.self.invariant.told.ends.ends c.self.invariant.recorded c.self.invariant.counted)
+
+pub returns-clause-to_desktop : goal.returns-clause-to_desktop
+returns-clause-to_desktop g c =
+    let w = c.self.inside in
+    subst (λ (t : TallyValue). CountsOf Handheld t w.line.wire.frames.items) (sym c.tally-2.ensures) (counts-handheld w.script w.line c.self.invariant.told.ends.ends c.self.invariant.recorded c.self.invariant.counted)
