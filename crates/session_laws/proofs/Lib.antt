@@ -4,6 +4,7 @@ pub mod DesktopLaws
 pub mod FirstLaws
 pub mod GivenLaws
 pub mod HandheldLaws
+pub mod MeetingLaws
 pub mod NewsLaws
 pub mod RenamingLaws
 pub mod RepeatLaws
