@@ -17,7 +17,7 @@ use Rattle.desktop_session.specs.Tellings.{device_after}
 use Rattle.desktop_session.proofs.TellLaws.{said_device}
 use Rattle.slow_mirror.specs.Asks.{Asks}
 use Rattle.slow_mirror.specs.Entries.{seen_in}
-use Rattle.slow_mirror.proofs.AskLaws.{SoFar, asked_part, asks_then, none_said, said_all, said_on, said_part}
+use Rattle.slow_mirror.proofs.AskLaws.{SoFar, asked_part, asks_then, none_said, said_all, said_on}
 use Rattle.slow_mirror.proofs.ReadLaws.{after_append}
 use Rattle.fast_mirror.specs.FastReads.{changed_reads, changed_reads_of, changed_seen, next_seen, where_lent}
 use Rattle.fast_mirror.specs.Shells.{AreRead, IsRead}
@@ -193,25 +193,6 @@ changed_ends talk since fault downs since_more handle here most k seen old now n
     )
 
 -- ---- a stop
-
--- what would follow
-rest_of : Option Talk → ℕ → ℕ → List Act → List Act
-rest_of None handle n acts = []
-rest_of (Some told) handle n acts = changed_reads handle n (device_after acts told.device)
-
-part_said : (o : Option Talk) (handle most k : ℕ) (acts : List Act) (seen : List Seen) → IfSome o (λ told. GoesOn handle most k acts seen told.device)
-    → IfSome o (λ told. acts ++ rest_of o handle (most - k) acts ≡ changed_reads_of handle most (Some told))
-unfolding rest_of
-part_said None handle most k acts seen on = tt
-part_said (Some told) handle most k acts seen on = sym on.reads
-
-pub changed_part : {L A : Type 0} (talk : L → Option Talk) (since : L → L → Type 0) (fault : L → Option LinkFault) (downs : L → ℕ) (handle most k : ℕ)
-    (seen : List Seen) (old now : SessionValue L) (cause : SessionFault) → ChangedSoFar talk since fault downs handle most k seen old now
-    → Asks {A = A} talk since fault downs (changed_reads_of handle most (talk old.link)) old now (Err cause)
-changed_part talk since fault downs handle most k seen old now cause before =
-    asks_as talk since fault downs (before.acts ++ rest_of (talk old.link) handle (most - k) before.acts) (changed_reads_of handle most) old now (Err cause)
-    (part_said (talk old.link) handle most k before.acts seen before.goes_on)
-    (said_part talk since fault downs before.acts (rest_of (talk old.link) handle (most - k) before.acts) old now cause before.said)
 
 -- what would follow behind the next request
 then_of : Option Talk → ℕ → ℕ → List Act → List Act

@@ -1,21 +1,17 @@
 -- What a reply lends, where it lends something.
-use Rattle.std.proofs.Common.{◌≡◌, refl, ap, subst, Bool, true, false, [], ◌∷◌}
+use Rattle.std.proofs.Common.{◌≡◌, ap, subst, Bool, true, false, [], ◌∷◌}
 use Rattle.std.specs.Prelude.{Option, Some, None, IfOk, Result, Ok, Err, ◌==◌, if◌then◌else◌}
-use Rattle.pdb_values.specs.declared.record.Kind.{Kind}
-use Rattle.pdb_values.specs.declared.record.Kind.TheVariants.{Archived, Deleted, Live}
 use Rattle.dlp_replies.specs.declared.error_code.ErrorCode.{ErrorCode}
 use Rattle.dlp_replies.specs.declared.fault.ReplyFault.{ReplyFault}
 use Rattle.dlp_replies.specs.ReplyValues as reply
 use Rattle.dlp_replies.specs.ReplyValues.{ReplyValue}
 use Rattle.dlp_commands.specs.declared.link.LinkFault.{LinkFault}
-use Rattle.conduit_rules.specs.Views.{state_as}
 use Rattle.desktop_session.specs.declared.fault.SessionFault.{SessionFault}
 use Rattle.desktop_session.specs.declared.fault.SessionFault.TheVariants as session
 use Rattle.desktop_session.specs.Answers.{answer_by, or_none, record_of, said_in}
-use Rattle.desktop_session.specs.Lent.{LentValue, lent_kind}
+use Rattle.desktop_session.specs.Lent.{LentValue}
 use Rattle.slow_mirror.specs.Entries.{seen_in, seen_of}
 use Rattle.slow_mirror.proofs.EntryLaws.{IsShort}
-use Rattle.fast_mirror.specs.Shells.{IsRead, waits}
 
 no_lent : (b : Bool) (code : ErrorCode) (lent : LentValue)
     → ◌≡◌ {A = Result (Option LentValue) SessionFault} (if b then Ok None else Err (session.Refused code)) (Ok (Some lent)) → ⊥
@@ -35,18 +31,3 @@ found_seen None (Ok (reply.Refused number code)) lent is = absurd (no_lent (code
 found_seen None (Ok value) lent is = let same : record_of value ≡ lent = cc in ap (λ (l : LentValue). seen_of l ∷ []) same
 found_seen None (Err bad) lent is = absurd cc
 found_seen (Some other) read lent is = absurd cc
-
-pub found_none : (fault : Option LinkFault) (read : Result ReplyValue ReplyFault) → answer_by fault (or_none (said_in record_of read)) ≡ Ok None
-    → seen_in read ≡ []
-found_none None (Ok (reply.Refused number code)) is = refl
-found_none None (Ok value) is = absurd cc
-found_none None (Err bad) is = absurd cc
-found_none (Some other) read is = absurd cc
-
-kind_read : (kind : Kind) → waits (state_as kind) ≡ false
-kind_read Live = refl
-kind_read Archived = refl
-kind_read Deleted = refl
-
-pub is_read : (lent : LentValue) → IsRead (seen_of lent)
-is_read lent = kind_read (lent_kind lent.attributes)

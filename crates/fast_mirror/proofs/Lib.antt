@@ -2,8 +2,12 @@ mod ChangedLaws
 mod FillLaws
 mod LentLaws
 mod ListingLaws
+mod NextLaws
 mod PlaceLaws
 pub mod PlanLaws
+mod RisingLaws
+mod SayLaws
 mod SideLaws
 mod ToldLaws
+mod ViewLaws
 mod WholeLaws

@@ -72,9 +72,6 @@ pub no_place : (id : ℕ) (base : List Record) → place_of_id id base ≡ None 
 no_place id base none =
     ap (λ o. row_content (based_under false id o)) (first_is id base ∙ ap (option_and_then (slice_get base)) none) ∙ none_by (id == 0)
 
-pub no_id : (id : ℕ) (base : List Record) → (id == 0) ≡ true → row_content (base_at base false id) ≡ None
-no_id id base none = rw none refl
-
 pub row_there : (id k : ℕ) (base : List Record) (item : Record) → (id == 0) ≡ false → place_of_id id base ≡ Some k → slice_get base k ≡ Some item
     → row_content (base_at base false id) ≡ row_content (if item.deleted then no_base else row item.content)
 row_there id k base item other placed here =

@@ -1,13 +1,14 @@
 -- A fast reading of an open database: the number of its entries, the ids of its records, each changed record, and by its id each
 -- other record that the base has no row of.
-use Rattle.std.specs.Prelude.{ℕ, zero, suc, Bool, true, false, List, [], ◌∷◌, ◌++◌, length, map, Option, None, Some}
+use Rattle.std.specs.Prelude.{ℕ, zero, suc, Bool, true, false, List, [], ◌∷◌, ◌++◌, length, map, Option, None, Some, filter, replicate, if◌then◌else◌}
 use Rattle.pdb_values.specs.declared.record.Record.{Record}
 use Rattle.dlp_replies.specs.ReplyReading.{reply_at}
 use Rattle.palm_device.specs.Devices.{Device}
 use Rattle.palm_device.specs.FreshIds.{is_among}
+use Rattle.palm_device.specs.Records.{is_changed}
 use Rattle.dlp_commands.specs.Talks.{Talk}
 use Rattle.conduit_rules.specs.ById.{each_id}
-use Rattle.conduit_rules.specs.States.{Based, no_base, row, gone, base_at}
+use Rattle.conduit_rules.specs.States.{Based, no_base, row, gone, base_at, first}
 use Rattle.conduit_rules.specs.Views.{first_seen}
 use Rattle.conduit_rules.specs.declared.view.Seen.{Seen}
 use Rattle.conduit_rules.specs.declared.view.SeenState.TheVariants.{Unread}
@@ -113,3 +114,16 @@ fast_shown base handle device =
 abbrev pub fast_reads_of : List Record → ℕ → Option Talk → List Act
 fast_reads_of base handle None = []
 fast_reads_of base handle (Some talk) = fast_reads base handle talk.device
+
+-- ---- by the records of a database
+
+-- a record that did not change and has no base row is read by its id
+abbrev pub asks_of : List Record → ℕ → Option Record → List Act
+asks_of base handle None = []
+asks_of base handle (Some item) = if is_changed item then [] else other_reads handle item.id (base_at base false item.id)
+
+-- one request more for a changed record than there are, and one for each record that did not change and has no base row
+abbrev pub fast_asks : List Record → ℕ → List Record → List Act
+fast_asks base handle records =
+    (counting handle ∷ id_listings handle (id_parts (length records)))
+    ++ (replicate (suc (length (filter is_changed records))) (reading_next handle) ++ each_id (λ i. asks_of base handle (first i records)))

@@ -1,9 +1,14 @@
 // What holds of what is planned by a fast reading.
-ghost use Rattle.std.specs.Prelude.{◌↔◌, Bool, List};
+ghost use Rattle.std.specs.Prelude.{◌≡◌, ◌↔◌, ◌^◌, ◌<◌, ℕ, Bool, List, Some, true};
 ghost use Rattle.pdb_values.specs.declared.record.Record.{Record};
+ghost use Rattle.palm_device.specs.Devices.{Device};
+ghost use Rattle.palm_device.specs.Handles.{Base, base_at};
+ghost use Rattle.dlp_commands.specs.Holding.{on_records};
 ghost use Rattle.conduit_rules.specs.Choices.{sides_of};
 ghost use Rattle.conduit_rules.specs.Plans.{IsPlan};
 ghost use Rattle.conduit_rules.specs.Views.{IsHonest, fast_view, slow_view};
+ghost use Rattle.desktop_session.specs.Tellings.{AreSayable, IsProper};
+ghost use Rattle.fast_mirror.specs.FastReads.{fast_asks, fast_reads, fast_shown};
 
 use conduit_rules::{Action, Plan};
 
@@ -14,4 +19,23 @@ pub fn fast_readings_are_planned_as_slow_ones()
         → IsHonest base records
         → IsPlan action (sides_of (fast_view base records) rows base gone_counts) plan
         ↔ IsPlan action (sides_of (slow_view records) rows base gone_counts) plan }
+{}
+
+/// Over a device whose values keep their bounds a fast reading of a database of records, of which no
+/// changed record was asked for yet, shows the fast view of the database's records. Of these it asks
+/// for each changed one, once more than there are, and for each other one without a base row. Each
+/// request fits into a message, so the device takes one step for each, in order.
+pub fn fast_readings_show_the_records()
+    ensures view { (device : Device) (handle : ℕ) (base : Base) (rows : List Record)
+        → IsProper device → handle < 2 ^ 8 → base_at device handle ≡ Some base
+        → on_records base.database ≡ true → base.opened.next ≡ 0
+        → fast_shown rows handle device ≡ fast_view rows base.database.records }
+    ensures asks { (device : Device) (handle : ℕ) (base : Base) (rows : List Record)
+        → IsProper device → handle < 2 ^ 8 → base_at device handle ≡ Some base
+        → on_records base.database ≡ true → base.opened.next ≡ 0
+        → fast_reads rows handle device ≡ fast_asks rows handle base.database.records }
+    ensures fits { (device : Device) (handle : ℕ) (base : Base) (rows : List Record)
+        → IsProper device → handle < 2 ^ 8 → base_at device handle ≡ Some base
+        → on_records base.database ≡ true → base.opened.next ≡ 0
+        → AreSayable (fast_reads rows handle device) device }
 {}

@@ -15,5 +15,5 @@ mod reading;
 mod rows;
 
 pub use agreement::agree;
-pub use laws::fast_readings_are_planned_as_slow_ones;
+pub use laws::{fast_readings_are_planned_as_slow_ones, fast_readings_show_the_records};
 pub use reading::read_side;

@@ -12,7 +12,7 @@ ghost use Rattle.desktop_session.specs.Requests.{reading_of};
 ghost use Rattle.desktop_session.specs.Stops.{Asked};
 ghost use Rattle.slow_mirror.specs.Asks.{Asks};
 ghost use Rattle.slow_mirror.specs.Entries.{AreBounded, seen_in};
-ghost use Rattle.fast_mirror.specs.Shells.{filled_reads, filled_seen, shell};
+ghost use Rattle.fast_mirror.specs.Shells.{Adds, Fills, IsOf, filled_reads, filled_seen, shell};
 
 use crate::list::push;
 use crate::rows::row_of;
@@ -74,6 +74,7 @@ fn read_of<L: Link>(
     ensures seen { IfOk result (λ found. option_to_list found
         ≡ map (λ (entry : Seen). record entry { id = id })
         (seen_in (reply_at 0x20 db.new.linked.now.reply))) }
+    ensures own { IfOk result (IsOf id) }
     ensures cause { IfErr result (HasCause (L.fault db.new.linked.now.link)
         (reply_at 0x20 db.new.linked.now.reply)) }
 {
@@ -108,6 +109,7 @@ fn filled<L: Link>(
         db.old.linked.now db.new.linked.now result }
     ensures seen { IfOk result (λ found. IfSome (L.talk db.old.linked.now.link)
         (λ talk. option_to_list found ≡ filled_seen base.now db.old.handle talk.device entry)) }
+    ensures own { IfOk result (IsOf entry.id) }
     ensures cause { IfErr result (HasCause (L.fault db.new.linked.now.link)
         (reply_at 0x20 db.new.linked.now.reply)) }
 {
@@ -145,6 +147,7 @@ fn fill<L: Link>(
     ensures seen { OnOk result (IfSome (L.talk db.old.linked.now.link)
         (λ talk. seen.new.items ≡ seen.old.items
         ++ filled_seen base.now db.old.handle talk.device entry)) }
+    ensures adds { OnOk result (Adds entry.id seen.old.items seen.new.items) }
     ensures cause { IfErr result (HasCause (L.fault db.new.linked.now.link)
         (reply_at 0x20 db.new.linked.now.reply)) }
 {
@@ -172,6 +175,7 @@ pub(crate) fn fill_all<L: Link>(
     ensures seen { IfOk result (λ view. IfSome (L.talk db.old.linked.now.link)
         (λ talk. view.seen.items
         ≡ flat_map (filled_seen base.now db.old.handle talk.device) entries.items)) }
+    ensures fills { IfOk result (λ view. Fills entries.items view.seen.items) }
     ensures cause { IfErr result (HasCause (L.fault db.new.linked.now.link)
         (reply_at 0x20 db.new.linked.now.reply)) }
 {

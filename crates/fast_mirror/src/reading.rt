@@ -6,7 +6,7 @@ ghost use Rattle.desktop_session.specs.Acts.{text};
 ghost use Rattle.desktop_session.specs.Lists.{HasCause};
 ghost use Rattle.desktop_session.specs.Stops.{Does, Stops};
 ghost use Rattle.slow_mirror.specs.Asks.{Asks};
-ghost use Rattle.slow_mirror.specs.Entries.{AreBounded};
+ghost use Rattle.slow_mirror.specs.Entries.{AreBounded, ordered};
 ghost use Rattle.fast_mirror.specs.FastReads.{fast_reads_of, fast_shown, ids_told, listing_acts};
 ghost use Rattle.fast_mirror.specs.FastReads.{reads_at, shown_at};
 ghost use Rattle.fast_mirror.specs.Shells.{AreRead};
@@ -63,6 +63,7 @@ fn read_others<L: Link>(
     ensures view { IfOk result (λ view. IfSome (L.talk db.old.linked.now.link)
         (λ talk. view.seen.items
         ≡ each_id (shown_at base.now db.old.handle talk.device ids.now seen.items))) }
+    ensures rising { IfOk result (λ view. ordered view.seen.items ≡ view.seen.items) }
     ensures cause { IfErr result (HasCause (L.fault db.new.linked.now.link)
         (reply_at 0x20 db.new.linked.now.reply)) }
 {
@@ -92,6 +93,7 @@ pub fn read_side<L: Link>(
         db.old.linked.now db.new.linked.now result }
     ensures view { IfOk result (λ view. IfSome (L.talk db.old.linked.now.link)
         (λ talk. view.seen.items ≡ fast_shown base.now db.old.handle talk.device)) }
+    ensures rising { IfOk result (λ view. ordered view.seen.items ≡ view.seen.items) }
     ensures none { OnOk result (L.fault db.new.linked.now.link ≡ None) }
     ensures cause { IfErr result (λ cause.
         HasCause (L.fault db.new.linked.now.link) (reply_at 0x2B db.new.linked.now.reply) cause

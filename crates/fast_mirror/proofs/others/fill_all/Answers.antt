@@ -3,6 +3,7 @@ use Rattle.std.proofs.Common.{◌≡◌, ◌∙◌, ◌++◌, ◌∷◌, [], len
 use Rattle.std.proofs.lemmas.List.{append-nil}
 use Rattle.std.proofs.lemmas.Result.{err_from_is_err_and}
 use Rattle.fast_mirror.proofs.FillLaws.{filled_all, filled_none, filled_on, filled_stop, none_left, shown_all}
+use Rattle.fast_mirror.proofs.RisingLaws.{fills_all, fills_none, fills_on}
 use Rattle.fast_mirror.proofs.others.fill_all.Goals as goal
 
 pub loop-entry-init : goal.loop-entry-init
@@ -11,6 +12,7 @@ loop-entry-init g c = record {
   handle = refl;
   count = search rules;
   all = c.into_iter-entry-iterator.ensures.into_iter_gives.0;
+  fills = fills_none c.new-seen.result.items c.new-seen.ensures.items;
   said = filled_none g.L.Link.talk g.L.Link.since g.L.Link.fault g.L.Link.downs g.met.L.Link.since_itself c.args.base.now c.args.db.now.handle
       c.new-seen.result.items c.args.db.now.linked.now c.new-seen.ensures.items;
 }
@@ -26,6 +28,7 @@ loop-entry-preserved g c =
           let all = ap length step in let whole = before.count in omega arith;
       all = append_assoc c.loop-entry.yielded (c.in-Some.entry ∷ []) c.next.new.self.rest.items ∙ ap (λ xs. c.loop-entry.yielded ++ xs) (sym step)
           ∙ before.all;
+      fills = fills_on c.loop-entry.yielded c.in-Some.entry c.loop-entry.seen.items c.fill.new.seen.items before.fills c.in_ok-fill.ensures.adds;
       said = filled_on g.L.Link.talk g.L.Link.since g.L.Link.fault g.L.Link.downs g.met.L.Link.since_more c.args.base.now c.args.db.now.handle
           c.loop-entry.db.handle c.loop-entry.yielded c.in-Some.entry c.loop-entry.seen.items c.fill.new.seen.items c.args.db.now.linked.now
           c.loop-entry.db.linked.now c.fill.new.db.linked.now c.in_ok-fill.field-0 before.handle before.said c.in_ok-fill.ensures.asks
@@ -61,3 +64,11 @@ returns-clause-seen g c =
     sym (append-nil c.loop-entry.yielded) ∙ ap (λ xs. c.loop-entry.yielded ++ xs) (sym none) ∙ c.loop-entry.invariant.all in
     shown_all g.L.Link.talk g.L.Link.since g.L.Link.fault g.L.Link.downs c.args.base.now c.args.db.now.handle c.loop-entry.yielded
     c.args.entries.items c.loop-entry.seen.items c.args.db.now.linked.now c.loop-entry.db.linked.now all c.loop-entry.invariant.said
+
+pub returns-clause-fills : goal.returns-clause-fills
+returns-clause-fills g c =
+    let none : c.loop-entry.entry-iterator.rest.items ≡ [] =
+    none_left c.loop-entry.entry-iterator.rest.items (sym c.loop-entry.invariant.count ∙ c.in-None.ensures.steps.0) in
+    let all : c.loop-entry.yielded ≡ c.args.entries.items =
+    sym (append-nil c.loop-entry.yielded) ∙ ap (λ xs. c.loop-entry.yielded ++ xs) (sym none) ∙ c.loop-entry.invariant.all in
+    fills_all c.loop-entry.yielded c.args.entries.items c.loop-entry.seen.items all c.loop-entry.invariant.fills

@@ -1,4 +1,5 @@
 use Rattle.std.proofs.Common.{◌≡◌, ◌++◌, length}
+use Rattle.fast_mirror.specs.Shells.{Fills}
 use Rattle.fast_mirror.proofs.FillLaws.{FilledSoFar}
 use Rattle.fast_mirror.proofs.others.fill_all.Given as goal
 
@@ -8,6 +9,7 @@ invariant-loop-entry g l = record {
   handle : l.db.handle ≡ l.initial.db.handle;
   count : l.entry-iterator.rest.len ≡ length l.entry-iterator.rest.items;
   all : l.yielded ++ l.entry-iterator.rest.items ≡ l.fn.entries.items;
+  fills : Fills l.yielded l.seen.items;
   said : FilledSoFar g.L.Link.talk g.L.Link.since g.L.Link.fault g.L.Link.downs l.base l.initial.db.handle l.yielded l.seen.items l.initial.db.linked.now
       l.db.linked.now;
 }

@@ -1,5 +1,6 @@
 -- Entries in rising ids, each filled, are what is read and shown by the ids.
 use Rattle.std.proofs.lemmas.Result.{err_from_is_err_and}
+use Rattle.fast_mirror.proofs.RisingLaws.{rises_too}
 use Rattle.fast_mirror.proofs.WholeLaws.{none_asked, others_asked, others_shown}
 use Rattle.fast_mirror.proofs.reading.read_others.Goals as goal
 
@@ -32,3 +33,8 @@ returns-clause-view g c =
     others_shown (λ view. view.seen.items) (g.L.Link.talk c.args.db.now.linked.now.link) c.args.base.now c.args.db.now.handle c.args.ids.now
     c.args.seen.items c.add_shells.new.seen.items c.in_ok-view.view.seen.items c.fill_all.result c.requires.read
     c.in_ok-add_shells.ensures.seen c.in_ok-view.ensures.ordered c.fill_all.ensures.seen
+
+pub returns-clause-rising : goal.returns-clause-rising
+returns-clause-rising g c =
+    rises_too (λ view. view.seen.items) c.fill_all.result c.add_shells.new.seen.items c.in_ok-view.view.seen.items c.in_ok-view.ensures.ordered
+    c.fill_all.ensures.fills
