@@ -70,7 +70,7 @@ zero_bare : (now : ℕ → Held) (i : ℕ) → now 0 ≡ nothing → (i == 0) �
 zero_bare now i bare is = let same : i ≡ 0 = grind (arith, nat_tests, is) in ap now same ∙ bare
 
 -- no row stands under id 0
-kept_zero : (a : Action) (s : Sides) → s.base 0 ≡ no_base → s.handheld 0 ≡ nothing → (fate_for a s 0).keep ≡ None
+pub kept_zero : (a : Action) (s : Sides) → s.base 0 ≡ no_base → s.handheld 0 ≡ nothing → (fate_for a s 0).keep ≡ None
 kept_zero Sync s none free = ap {A = Based × Held} (λ p. Fate.keep (fate_under Sync p.0 p.1 (s.desktop 0))) (λ k. (none k, free k))
 kept_zero Handheld s none free = ap live_of free
 kept_zero Desktop s none free = ap (λ b. Fate.keep (fate_under Desktop b (s.handheld 0) (s.desktop 0))) none

@@ -5,7 +5,13 @@ pub mod FirstLaws
 pub mod GivenLaws
 pub mod HandheldLaws
 pub mod MeetingLaws
+pub mod MergedLaws
 pub mod NewsLaws
 pub mod RenamingLaws
 pub mod RepeatLaws
 pub mod ResumeLaws
+pub mod ShelfLaws
+pub mod SkipLaws
+pub mod SoundLaws
+pub mod TaskLaws
+pub mod WholeLaws

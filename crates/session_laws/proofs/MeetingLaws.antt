@@ -3,14 +3,18 @@ use Rattle.std.proofs.Common.{◌≡◌, ◌<◌, ◌==◌, ◌&&◌, ℕ, Bool,
 use Rattle.std.proofs.lemmas.Bool.Decides.{nat_tests}
 use Rattle.pdb_values.specs.NamedDatabases.{database_of}
 use Rattle.conduit_rules.specs.declared.action.Action.{Action}
-use Rattle.conduit_rules.specs.Views.{slow_view, fast_view}
+use Rattle.palm_device.specs.Soundness.{ids_of, AreIds}
+use Rattle.conduit_rules.specs.States.{held}
+use Rattle.conduit_rules.specs.Views.{slow_view, fast_view, view_held, IsHonest}
+use Rattle.conduit_merge.specs.Merging.{AreBounded}
+use Rattle.conduit_merge.proofs.ShownLaws.{slow_shows, fast_shows}
 use Rattle.run_words.specs.Actions.{action_for}
 use Rattle.sync_session.specs.Archives.{entries_of}
 use Rattle.sync_session.specs.Choosing.{action_or_sync, agrees, base_rows, is_fast, is_fast_by, view}
 use Rattle.sync_session.specs.Tasks.{Meeting, Task, action_of_word, task_of, slot_of, records_of}
-use Rattle.session_laws.specs.Meetings.{found_of, action_at, AsksTheSame, IsUnderWay, LeftAmongNews, LeftBehindCommit, LeftAtEnd, Follows, AllFollow, last_of, places_of}
+use Rattle.session_laws.specs.Meetings.{found, found_of, action_at, AsksTheSame, IsUnderWay, LeftAmongNews, LeftBehindCommit, LeftAtEnd, Follows, AllFollow, last_of, places_of}
 use Rattle.session_laws.specs.Renaming.{AreUnknown, SameEnds}
-use Rattle.session_laws.specs.Repeats.{Found, EndAlike, ended, GotIds, GotAllIds, Place, among_news, behind_commit, at_end, left_by, all_ids, AreStops}
+use Rattle.session_laws.specs.Repeats.{IsRead, Found, EndAlike, ended, GotIds, GotAllIds, Place, among_news, behind_commit, at_end, left_by, all_ids, AreStops}
 use Rattle.session_laws.proofs.RepeatLaws.{repeat, repeat_anew}
 
 -- ---- the marks
@@ -97,23 +101,34 @@ all-follow meeting name (e ∷ es) follow =
       rest.1 ∙ ap {A = Action × Found} (λ p. left_by p.0 p.1 (places_of es)) (λ k. (follow.0.action k, follow.0.finds k)),
     )
 
-pub meetings-end : (meeting : Meeting) (name : List ℕ) (es : List (Meeting × Place)) (later : List ℕ) → AllFollow meeting name es → AreStops (action_at meeting name) (found_of meeting name) (places_of es)
+pub meetings-end : (meeting : Meeting) (name : List ℕ) (es : List (Meeting × Place)) (later : List ℕ) → AllFollow meeting name es → IsRead (found_of meeting name) → AreStops (action_at meeting name) (found_of meeting name) (places_of es)
     → GotIds (action_at meeting name) (found_of (last_of meeting es) name) later
     → EndAlike (ended (action_at (last_of meeting es) name) (found_of (last_of meeting es) name) later) (ended (action_at meeting name) (found_of meeting name) (all_ids (action_at meeting name) (places_of es) later))
-meetings-end meeting name es later follow stops got =
+meetings-end meeting name es later follow read stops got =
     let a = action_at meeting name in
     let x = found_of meeting name in
     let all = all-follow meeting name es follow in
     subst (λ (p : Action × Found). EndAlike (ended p.0 p.1 later) (ended a x (all_ids a (places_of es) later))) (sym (λ k. (all.0 k, all.1 k)))
-    (repeat a x (places_of es) later stops (subst (λ y. GotIds a y later) all.1 got))
+    (repeat a x (places_of es) later read stops (subst (λ y. GotIds a y later) all.1 got))
 
-pub meetings-same : (meeting : Meeting) (name : List ℕ) (es : List (Meeting × Place)) (later new : List ℕ) → AllFollow meeting name es → AreStops (action_at meeting name) (found_of meeting name) (places_of es)
+pub meetings-same : (meeting : Meeting) (name : List ℕ) (es : List (Meeting × Place)) (later new : List ℕ) → AllFollow meeting name es → IsRead (found_of meeting name) → AreStops (action_at meeting name) (found_of meeting name) (places_of es)
     → GotAllIds (action_at meeting name) (found_of (last_of meeting es) name) later → AreUnknown (found_of meeting name) (all_ids (action_at meeting name) (places_of es) later)
     → GotAllIds (action_at meeting name) (found_of meeting name) new → AreUnknown (found_of meeting name) new
     → SameEnds (found_of meeting name) (ended (action_at (last_of meeting es) name) (found_of (last_of meeting es) name) later) (ended (action_at meeting name) (found_of meeting name) new)
-meetings-same meeting name es later new follow stops all_got un new_all new_un =
+meetings-same meeting name es later new follow read stops all_got un new_all new_un =
     let a = action_at meeting name in
     let x = found_of meeting name in
     let all = all-follow meeting name es follow in
     subst (λ (p : Action × Found). SameEnds x (ended p.0 p.1 later) (ended a x new)) (sym (λ k. (all.0 k, all.1 k)))
-    (repeat_anew a x (places_of es) later new stops (subst (λ y. GotAllIds a y later) all.1 all_got) un new_all new_un)
+    (repeat_anew a x (places_of es) later new read stops (subst (λ y. GotAllIds a y later) all.1 all_got) un new_all new_un)
+
+-- ---- what a session reads
+
+-- a slow reading shows what the records hold, and so does a fast one where these are honest
+pub reading-shows : (m : Meeting) (t : Task) → AreIds (ids_of (records_of t.handheld)) → AreBounded (records_of t.handheld) → (is_fast m t ≡ true → IsHonest (base_rows t) (records_of t.handheld)) → IsRead (found m t)
+unfolding view
+reading-shows m t ids bounded honest = record { ids = ids; bounded = bounded; shows = by (is_fast m t) honest }
+  where
+    by : (b : Bool) → (b ≡ true → IsHonest (base_rows t) (records_of t.handheld)) → (i : ℕ) → view_held (if b then fast_view (base_rows t) (records_of t.handheld) else slow_view (records_of t.handheld)) i ≡ held (records_of t.handheld) i
+    by true is_honest i = fast_shows (base_rows t) (records_of t.handheld) bounded (is_honest refl) i
+    by false is_honest i = slow_shows (records_of t.handheld) bounded i

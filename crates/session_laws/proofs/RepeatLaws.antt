@@ -13,14 +13,15 @@ use Rattle.conduit_rules.specs.declared.action.Action.TheVariants.{Sync, Handhel
 use Rattle.conduit_rules.proofs.ActionLaws.{handheld-is}
 use Rattle.conduit_merge.specs.Merging.{settled_record, gone_record, kept_record, new_under, merged_archive}
 use Rattle.conduit_merge.specs.Writes.{after, numbered, replaces, AreFree}
-use Rattle.session_laws.specs.Repeats.{Found, IsRead, Ended, EndAlike, ended, sides, chosen, shown, GotIds, GotAllIds, Place, before_mark, among_news, behind_commit, at_end}
+use Rattle.session_laws.specs.Repeats.{StopsAmongNews, Found, IsRead, Ended, EndAlike, ended, sides, chosen, shown, GotIds, GotAllIds, Place, before_mark, among_news, behind_commit, at_end}
 use Rattle.session_laws.specs.Repeats.{left, MayStop, left_by, left_among_news, left_behind_commit, left_at_end, ids_with, all_ids, AreStops}
 use Rattle.session_laws.specs.Renaming.{AreUnknown, SameLive, SameEnds}
 use Rattle.session_laws.proofs.CommitLaws.{behind-commit, commit-adds, at-end, end-adds, no_contents}
 use Rattle.session_laws.proofs.DesktopLaws.{desktop-news, chosen-again}
 use Rattle.session_laws.proofs.HandheldLaws.{handheld-news, handheld-behind}
-use Rattle.session_laws.proofs.NewsLaws.{news_and_ids, news-adds}
+use Rattle.session_laws.proofs.NewsLaws.{news, news_and_ids, news-adds}
 use Rattle.session_laws.proofs.RenamingLaws.{renamed}
+use Rattle.session_laws.proofs.SoundLaws.{read-news, read-commit}
 
 pub alike_same : (e f : Ended) → e ≡ f → EndAlike e f
 alike_same e f is = subst (EndAlike e) is (record { records = refl; rows = refl; base = λ i. refl; archive = refl })
@@ -79,7 +80,7 @@ sync_stop x (among_news given n) later read may then_read got =
     let both = news_and_ids x given later n may then_read got in
     (both.0, alike_same (ended Sync (left Sync x (among_news given n)) later) (ended Sync x (given ++ later)) both.1)
 sync_stop x (behind_commit given n) later read may then_read got = by_ids Sync x given later (left Sync x (behind_commit given n)) may (behind-commit Sync x given later n tt read may.got then_read)
-sync_stop x (at_end given view g) later read may then_read got = by_ids Sync x given later (left Sync x (at_end given view g)) may (at-end Sync x given later view g read may.got then_read)
+sync_stop x (at_end given view g) later read may then_read got = by_ids Sync x given later (left Sync x (at_end given view g)) may.0 (at-end Sync x given later view g read may.0.got then_read)
 
 handheld_stop : (x : Found) (place : Place) (later : List ℕ) → IsRead x → MayStop Handheld x place → IsRead (left Handheld x place) → GotIds Handheld (left Handheld x place) later → TakenUp Handheld x place later
 handheld_stop x before_mark later read may then_read got = (got, alike_same (ended Handheld x later) (ended Handheld x later) refl)
@@ -88,13 +89,13 @@ handheld_stop x (among_news given n) later read may then_read got = (
   alike_same (ended Handheld (left Handheld x (among_news given n)) later) (ended Handheld x (given ++ later)) (handheld-news x given later n read then_read ∙ ended-any x later (given ++ later)),
 )
 handheld_stop x (behind_commit given n) later read may then_read got = by_ids Handheld x given later (left Handheld x (behind_commit given n)) may (handheld-behind x given later n read may.got then_read)
-handheld_stop x (at_end given view g) later read may then_read got = by_ids Handheld x given later (left Handheld x (at_end given view g)) may (at-end Handheld x given later view g read may.got then_read)
+handheld_stop x (at_end given view g) later read may then_read got = by_ids Handheld x given later (left Handheld x (at_end given view g)) may.0 (at-end Handheld x given later view g read may.0.got then_read)
 
 desktop_stop : (x : Found) (place : Place) (later : List ℕ) → IsRead x → MayStop Desktop x place → IsRead (left Desktop x place) → GotIds Desktop (left Desktop x place) later → TakenUp Desktop x place later
 desktop_stop x before_mark later read may then_read got = (got, alike_same (ended Desktop x later) (ended Desktop x later) refl)
 desktop_stop x (among_news given n) later read may then_read got = desktop-news x given later n read may then_read got
 desktop_stop x (behind_commit given n) later read may then_read got = by_ids Desktop x given later (left Desktop x (behind_commit given n)) may (behind-commit Desktop x given later n tt read may.got then_read)
-desktop_stop x (at_end given view g) later read may then_read got = by_ids Desktop x given later (left Desktop x (at_end given view g)) may (at-end Desktop x given later view g read may.got then_read)
+desktop_stop x (at_end given view g) later read may then_read got = by_ids Desktop x given later (left Desktop x (at_end given view g)) may.0 (at-end Desktop x given later view g read may.0.got then_read)
 
 one_stop : (a : Action) (x : Found) (place : Place) (later : List ℕ) → IsRead x → MayStop a x place → IsRead (left a x place) → GotIds a (left a x place) later → TakenUp a x place later
 one_stop Sync x place later read may then_read got = sync_stop x place later read may then_read got
@@ -103,22 +104,44 @@ one_stop Desktop x place later read may then_read got = desktop_stop x place lat
 
 -- ---- one after another
 
-is_read : (a : Action) (x : Found) (places : List Place) → AreStops a x places → IsRead x
-is_read a x [] stops = stops.0
-is_read a x (place ∷ places) stops = stops.0
+-- what is left can be read
+read-left : (a : Action) (x : Found) (place : Place) → IsRead x → MayStop a x place → IsRead (left a x place)
+read-left a x before_mark read may = read
+read-left Sync x (among_news given n) read may = read-news Sync x given n read may.got
+read-left Handheld x (among_news given n) read may = read-news Handheld x given n read (got-any x given)
+read-left Desktop x (among_news given n) read may = read-news Desktop x given n read may
+read-left a x (behind_commit given n) read may = read-commit a x given n read may.got
+read-left a x (at_end given view g) read may = may.1
 
-both_repeat : (a : Action) (x : Found) (places : List Place) (later : List ℕ) → AreStops a x places → GotIds a (left_by a x places) later
+both_repeat : (a : Action) (x : Found) (places : List Place) (later : List ℕ) → IsRead x → AreStops a x places → GotIds a (left_by a x places) later
     → GotIds a x (all_ids a places later) × EndAlike (ended a (left_by a x places) later) (ended a x (all_ids a places later))
-both_repeat a x [] later stops got = (got, alike_same (ended a x later) (ended a x later) refl)
-both_repeat a x (place ∷ places) later stops got =
+both_repeat a x [] later read stops got = (got, alike_same (ended a x later) (ended a x later) refl)
+both_repeat a x (place ∷ places) later read stops got =
     let y = left a x place in
-    let rest = both_repeat a y places later stops.2 got in
-    let here = one_stop a x place (all_ids a places later) stops.0 stops.1 (is_read a y places stops.2) rest.0 in
+    let then_read = read-left a x place read stops.0 in
+    let rest = both_repeat a y places later then_read stops.1 got in
+    let here = one_stop a x place (all_ids a places later) read stops.0 then_read rest.0 in
     (here.0, alike_then (ended a (left_by a y places) later) (ended a y (all_ids a places later)) (ended a x (ids_with a place (all_ids a places later))) rest.1 here.1)
 
-pub repeat : (a : Action) (x : Found) (places : List Place) (later : List ℕ) → AreStops a x places → GotIds a (left_by a x places) later
+pub repeat : (a : Action) (x : Found) (places : List Place) (later : List ℕ) → IsRead x → AreStops a x places → GotIds a (left_by a x places) later
     → EndAlike (ended a (left_by a x places) later) (ended a x (all_ids a places later))
-repeat a x places later stops got = (both_repeat a x places later stops got).1
+repeat a x places later read stops got = (both_repeat a x places later read stops got).1
+
+-- each place alone
+pub news-alone : (x : Found) (given later : List ℕ) (n : ℕ) → StopsAmongNews Sync x given n → GotIds Sync (left_among_news Sync x given n) later → ended Sync (left_among_news Sync x given n) later ≡ ended Sync x (given ++ later)
+news-alone x given later n stops got = news x given later n stops (read-news Sync x given n stops.read stops.got) got
+
+pub handheld-alone : (x : Found) (given later : List ℕ) (n : ℕ) → IsRead x → ended Handheld (left_among_news Handheld x given n) later ≡ ended Handheld x later
+handheld-alone x given later n read = handheld-news x given later n read (read-news Handheld x given n read (got-any x given))
+
+pub desktop-alone : (x : Found) (given later : List ℕ) (n : ℕ) → IsRead x → GotIds Desktop x given → GotIds Desktop (left_among_news Desktop x given n) later
+    → EndAlike (ended Desktop (left_among_news Desktop x given n) later) (ended Desktop x later)
+desktop-alone x given later n read got later_got = (desktop-news x given later n read got (read-news Desktop x given n read got) later_got).1
+
+pub purges-alone : (a : Action) (x : Found) (given later : List ℕ) (n : ℕ) → IsRead x → GotIds a x given → EndAlike (ended a (left_behind_commit a x given n) later) (ended a x given)
+purges-alone Sync x given later n read got = behind-commit Sync x given later n tt read got (read-commit Sync x given n read got)
+purges-alone Handheld x given later n read got = handheld-behind x given later n read got (read-commit Handheld x given n read got)
+purges-alone Desktop x given later n read got = behind-commit Desktop x given later n tt read got (read-commit Desktop x given n read got)
 
 -- ---- as many ids stand as there are adds
 
@@ -140,14 +163,14 @@ sync_enough x (among_news given n) later read may then_read is = length-append g
 sync_enough x (behind_commit given n) later read may then_read is =
     both_lengths given later (chosen Sync x).adds (chosen Sync (left_behind_commit Sync x given n)).adds may.each is (commit-adds Sync x given n tt read may.got then_read)
 sync_enough x (at_end given view g) later read may then_read is =
-    both_lengths given later (chosen Sync x).adds (chosen Sync (left_at_end Sync x given view g)).adds may.each is (end-adds Sync x given view g read may.got then_read)
+    both_lengths given later (chosen Sync x).adds (chosen Sync (left_at_end Sync x given view g)).adds may.0.each is (end-adds Sync x given view g read may.0.got then_read)
 
 handheld_enough : (x : Found) (place : Place) (later : List ℕ) → MayStop Handheld x place → AreEnough Handheld x place later
 handheld_enough x before_mark later may is = is
 handheld_enough x (among_news given n) later may is =
     ap (λ ids. length (ids ++ later)) may ∙ is ∙ ap length (none_added (left_among_news Handheld x given n) ∙ sym (none_added x))
 handheld_enough x (behind_commit given n) later may is = both_lengths given later (chosen Handheld x).adds (chosen Handheld (left_behind_commit Handheld x given n)).adds may.each is (none_added (left_behind_commit Handheld x given n))
-handheld_enough x (at_end given view g) later may is = both_lengths given later (chosen Handheld x).adds (chosen Handheld (left_at_end Handheld x given view g)).adds may.each is (none_added (left_at_end Handheld x given view g))
+handheld_enough x (at_end given view g) later may is = both_lengths given later (chosen Handheld x).adds (chosen Handheld (left_at_end Handheld x given view g)).adds may.0.each is (none_added (left_at_end Handheld x given view g))
 
 desktop_enough : (x : Found) (place : Place) (later : List ℕ) → IsRead x → MayStop Desktop x place → IsRead (left Desktop x place) → AreEnough Desktop x place later
 desktop_enough x before_mark later read may then_read is = is
@@ -155,17 +178,18 @@ desktop_enough x (among_news given n) later read may then_read is = is ∙ ap (�
 desktop_enough x (behind_commit given n) later read may then_read is =
     both_lengths given later (chosen Desktop x).adds (chosen Desktop (left_behind_commit Desktop x given n)).adds may.each is (commit-adds Desktop x given n tt read may.got then_read)
 desktop_enough x (at_end given view g) later read may then_read is =
-    both_lengths given later (chosen Desktop x).adds (chosen Desktop (left_at_end Desktop x given view g)).adds may.each is (end-adds Desktop x given view g read may.got then_read)
+    both_lengths given later (chosen Desktop x).adds (chosen Desktop (left_at_end Desktop x given view g)).adds may.0.each is (end-adds Desktop x given view g read may.0.got then_read)
 
 one_enough : (a : Action) (x : Found) (place : Place) (later : List ℕ) → IsRead x → MayStop a x place → IsRead (left a x place) → AreEnough a x place later
 one_enough Sync x place later read may then_read is = sync_enough x place later read may then_read is
 one_enough Handheld x place later read may then_read is = handheld_enough x place later may is
 one_enough Desktop x place later read may then_read is = desktop_enough x place later read may then_read is
 
-all_enough : (a : Action) (x : Found) (places : List Place) (later : List ℕ) → AreStops a x places → length later ≡ length (chosen a (left_by a x places)).adds → length (all_ids a places later) ≡ length (chosen a x).adds
-all_enough a x [] later stops is = is
-all_enough a x (place ∷ places) later stops is =
-    one_enough a x place (all_ids a places later) stops.0 stops.1 (is_read a (left a x place) places stops.2) (all_enough a (left a x place) places later stops.2 is)
+all_enough : (a : Action) (x : Found) (places : List Place) (later : List ℕ) → IsRead x → AreStops a x places → length later ≡ length (chosen a (left_by a x places)).adds → length (all_ids a places later) ≡ length (chosen a x).adds
+all_enough a x [] later read stops is = is
+all_enough a x (place ∷ places) later read stops is =
+    let then_read = read-left a x place read stops.0 in
+    one_enough a x place (all_ids a places later) read stops.0 then_read (all_enough a (left a x place) places later then_read stops.1 is)
 
 -- ---- up to the ids of new records
 
@@ -176,9 +200,9 @@ alike_ends x e f g alike same = record {
   archive = alike.archive ∙ same.archive;
 }
 
-pub repeat_anew : (a : Action) (x : Found) (places : List Place) (later new : List ℕ) → AreStops a x places → GotAllIds a (left_by a x places) later → AreUnknown x (all_ids a places later) → GotAllIds a x new → AreUnknown x new
+pub repeat_anew : (a : Action) (x : Found) (places : List Place) (later new : List ℕ) → IsRead x → AreStops a x places → GotAllIds a (left_by a x places) later → AreUnknown x (all_ids a places later) → GotAllIds a x new → AreUnknown x new
     → SameEnds x (ended a (left_by a x places) later) (ended a x new)
-repeat_anew a x places later new stops all un new_all new_un =
-    let both = both_repeat a x places later stops all.got in
+repeat_anew a x places later new read stops all un new_all new_un =
+    let both = both_repeat a x places later read stops all.got in
     alike_ends x (ended a (left_by a x places) later) (ended a x (all_ids a places later)) (ended a x new) both.1
-    (renamed a x (all_ids a places later) new (is_read a x places stops) (record { got = both.0; each = all_enough a x places later stops all.each }) new_all un new_un)
+    (renamed a x (all_ids a places later) new read (record { got = both.0; each = all_enough a x places later read stops all.each }) new_all un new_un)

@@ -165,22 +165,22 @@ MayStopAmongNews Sync x given n = StopsAmongNews Sync x given n
 MayStopAmongNews Handheld x given n = given ≡ []
 MayStopAmongNews Desktop x given n = GotIds Desktop x given
 
--- a session may stop there
+-- a session may stop there; behind a whole one the view shows what the records hold
 abbrev pub MayStop : Action → Found → Place → Type 0
 MayStop a x before_mark = Unit {0}
 MayStop a x (among_news given n) = MayStopAmongNews a x given n
 MayStop a x (behind_commit given n) = GotAllIds a x given
-MayStop a x (at_end given view gone_counts) = GotAllIds a x given
+MayStop a x (at_end given view gone_counts) = GotAllIds a x given × IsRead (left_at_end a x given view gone_counts)
 
 -- what the session behind all of these finds
 abbrev pub left_by : Action → Found → List Place → Found
 left_by a x [] = x
 left_by a x (place ∷ places) = left_by a (left a x place) places
 
--- each of these sessions reads what it finds, and stops at its place
+-- each of these sessions may stop at its place
 abbrev pub AreStops : Action → Found → List Place → Type 0
-AreStops a x [] = IsRead x × Unit {0}
-AreStops a x (place ∷ places) = IsRead x × MayStop a x place × AreStops a (left a x place) places
+AreStops a x [] = Unit {0}
+AreStops a x (place ∷ places) = MayStop a x place × AreStops a (left a x place) places
 
 -- the ids that stand in the end, where these stand that are given later: those that were given before them too. But what a session added
 -- that goes by the desktop and stopped before its commit doesn't stand

@@ -15,7 +15,7 @@ pub fn news_are_taken_up()
     ensures { (x : Found) (given later : List ℕ) (n : ℕ)
         → StopsAmongNews Sync x given n
         → let y = left_among_news Sync x given n in
-        IsRead y → GotIds Sync y later
+        GotIds Sync y later
         → ended Sync y later ≡ ended Sync x (given ++ later) }
 {}
 
@@ -24,7 +24,7 @@ pub fn news_are_taken_up()
 pub fn a_handheld_is_read_again()
     ensures { (x : Found) (given later : List ℕ) (n : ℕ) → IsRead x
         → let y = left_among_news Handheld x given n in
-        IsRead y → ended Handheld y later ≡ ended Handheld x later }
+        ended Handheld y later ≡ ended Handheld x later }
 {}
 
 /// A session that goes by the desktop and stops among its replacements and adds is begun anew by the next
@@ -32,22 +32,16 @@ pub fn a_handheld_is_read_again()
 pub fn a_desktop_is_sent_again()
     ensures { (x : Found) (given later : List ℕ) (n : ℕ) → IsRead x → GotIds Desktop x given
         → let y = left_among_news Desktop x given n in
-        IsRead y → GotIds Desktop y later
+        GotIds Desktop y later
         → EndAlike (ended Desktop y later) (ended Desktop x later) }
 {}
 
 /// A session that stops behind the desktop's commit, anywhere among its purges, its clean up and its reset,
 /// is ended by the next one as it would have ended.
 pub fn purges_are_taken_up()
-    ensures both { (x : Found) (given later : List ℕ) (n : ℕ) → IsRead x → GotIds Sync x given
-        → let y = left_behind_commit Sync x given n in
-        IsRead y → EndAlike (ended Sync y later) (ended Sync x given) }
-    ensures handheld { (x : Found) (given later : List ℕ) (n : ℕ) → IsRead x → GotIds Handheld x given
-        → let y = left_behind_commit Handheld x given n in
-        IsRead y → EndAlike (ended Handheld y later) (ended Handheld x given) }
-    ensures desktop { (x : Found) (given later : List ℕ) (n : ℕ) → IsRead x → GotIds Desktop x given
-        → let y = left_behind_commit Desktop x given n in
-        IsRead y → EndAlike (ended Desktop y later) (ended Desktop x given) }
+    ensures { (a : Action) (x : Found) (given later : List ℕ) (n : ℕ) → IsRead x → GotIds a x given
+        → let y = left_behind_commit a x given n in
+        EndAlike (ended a y later) (ended a x given) }
 {}
 
 /// What is merged on both sides stays as it is, whichever sides the sessions go by, and whichever way the
@@ -63,7 +57,8 @@ pub fn an_ended_session_is_not_undone()
 /// ended, under the ids that were given in all of them; where they go by the desktop, under those from the
 /// commit on.
 pub fn stopped_sessions_end_as_one()
-    ensures { (a : Action) (x : Found) (places : List Place) (later : List ℕ) → AreStops a x places
+    ensures { (a : Action) (x : Found) (places : List Place) (later : List ℕ) → IsRead x
+        → AreStops a x places
         → let y = left_by a x places in
         GotIds a y later
         → EndAlike (ended a y later) (ended a x (all_ids a places later)) }
@@ -79,7 +74,8 @@ pub fn new_ids_are_of_no_account()
 /// After any number of sessions that stopped, the one that ends leaves what one whole session would have
 /// left, whichever ids that one would have given to its new records.
 pub fn nothing_is_doubled_or_lost()
-    ensures { (a : Action) (x : Found) (places : List Place) (later new : List ℕ) → AreStops a x places
+    ensures { (a : Action) (x : Found) (places : List Place) (later new : List ℕ) → IsRead x
+        → AreStops a x places
         → let y = left_by a x places in
         GotAllIds a y later → AreUnknown x (all_ids a places later)
         → GotAllIds a x new → AreUnknown x new
