@@ -82,7 +82,7 @@ count_split script front back all go =
     ∙ (count_behind script (1 + length front) (past_now front) back (by_back script 1 front back all) (go_back 1 front back go)
     ∙ ap (λ (p : List Sent). count faulted p + faults_from (fate_by script) (1 + length front) (length back)) (sym (whole_front front back go)))
 
-count_at : (script : List RuleValue) (frames : List Frame) (n : ℕ) → n ≤ length frames → AllBy script 1 frames → AllGo 1 frames → count faulted (past_now frames) ≡ count faulted (at n (past_now frames)) + faults_from (fate_by script) (1 + n) (length frames - n)
+pub count_at : (script : List RuleValue) (frames : List Frame) (n : ℕ) → n ≤ length frames → AllBy script 1 frames → AllGo 1 frames → count faulted (past_now frames) ≡ count faulted (at n (past_now frames)) + faults_from (fate_by script) (1 + n) (length frames - n)
 count_at script frames n inside all go =
     let whole : take n frames ++ drop n frames ≡ frames = take-append-drop n frames in
     let front : length (take n frames) ≡ n = omega (arith, length-take n frames, inside) in

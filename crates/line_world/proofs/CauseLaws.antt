@@ -8,7 +8,7 @@ use Rattle.trace_text.specs.declared.frame.End.{End}
 use Rattle.trace_text.specs.declared.frame.End.TheVariants.{Handheld, Desktop}
 use Rattle.trace_text.specs.declared.frame.Frame.{Frame}
 use Rattle.trace_text.specs.Tallies.{IsFairUpTo}
-use Rattle.trace_text.specs.TraceLines.{frame_value}
+use Rattle.trace_text.specs.TraceLines.{FrameValue, frame_value}
 use Rattle.line_steps.specs.declared.harm.Stop.{Stop}
 use Rattle.line_steps.specs.declared.harm.Stop.TheVariants as stop
 use Rattle.line_steps.specs.declared.line.Line.{Line}
@@ -24,9 +24,12 @@ use Rattle.line_world.specs.declared.down.Down.{Down}
 use Rattle.line_world.specs.declared.down.Down.TheVariants as down
 use Rattle.line_world.specs.declared.stop.Break.{Break}
 use Rattle.line_world.specs.declared.stop.Break.TheVariants.{NoMemory, Line as OfLine, Keeper}
-use Rattle.line_world.specs.Causes.{BearsOut, EndsBy, IsCause, IsCauseOf, IsHaltOf, down_end, halt_of}
+use Rattle.line_world.specs.Causes.{BearsOut, EndsBy, IsCause, IsCauseOf, IsHaltOf, NamesLast, down_end, halt_of}
+use Rattle.line_world.proofs.FaultLaws.{ten-last}
 use Rattle.line_world.specs.Logs.{LogValue}
-use Rattle.line_world.specs.Worlds.{CountsOf, IsTold}
+use Rattle.line_world.specs.Worlds.{IsTold}
+use Rattle.line_world.specs.Counts.{AgreesWith, CountsOf}
+use Rattle.line_world.proofs.TallyLaws.{agrees}
 
 -- ---- the cause
 
@@ -52,6 +55,10 @@ pub no-halt : (fault : Option LinkFault) (cause : Option Down) (count : ℕ) (en
 no-halt None cause count ended is none = subst (λ (o : Option Down). IsHaltOf o count ended) (sym is) tt
 no-halt (Some fault) cause count ended is none = absurd cc
 
+pub no-names : (fault : Option LinkFault) (cause : Option Down) (frames : List FrameValue) → IsCause fault cause → fault ≡ None → NamesLast cause frames
+no-names None cause frames is none = subst (λ (o : Option Down). NamesLast o frames) (sym is) tt
+no-names (Some fault) cause frames is none = absurd cc
+
 -- ---- the frames bear it out
 
 ends-by : (why : Stop) (frames : List Frame) → EndsWith why frames → EndsBy why (map frame_value frames)
@@ -71,11 +78,9 @@ stopped why line log cause number it told by is = (
 
 pub bears-out : (script : List RuleValue) (line : Line) (log : LogValue) (cause : Option Down) → LineRecords script line → IsTold line log cause → BearsOut cause (map frame_value line.wire.frames.items)
 bears-out script line log None recorded told = tt
-bears-out script line log (Some (down.LineDown end numbers)) recorded told = record {
-  cursor = cursor_of line.handheld line.desktop;
-  came = recorded.came;
-  spent = (subst (λ (h : Halt). HaltsBy h (cursor_of line.handheld line.desktop) line.wire.frames.items) told.halt_is told.ends.by).1;
-}
+bears-out script line log (Some (down.LineDown end numbers)) recorded told =
+    let by = subst (λ (h : Halt). HaltsBy h (cursor_of line.handheld line.desktop) line.wire.frames.items) told.halt_is told.ends.by in
+    (record { cursor = cursor_of line.handheld line.desktop; came = recorded.came; spent = by.1 }, ten-last script line.wire.frames.items numbers recorded.by by.0 by.1.faults told.names.0 told.names.1)
 bears-out script line log (Some (down.Unplugged number)) recorded told = stopped stop.Unplugged line log (Some (down.Unplugged number)) number told told.halt told.ends.by told.halt_is
 bears-out script line log (Some (down.Aborted number)) recorded told = stopped stop.Aborted line log (Some (down.Aborted number)) number told told.halt told.ends.by told.halt_is
 bears-out script line log (Some (down.Undetected number)) recorded told = stopped stop.Undetected line log (Some (down.Undetected number)) number told told.halt told.ends.by told.halt_is
@@ -100,18 +105,16 @@ pub counts-desktop : (script : List RuleValue) (line : Line) → AreEnds line �
 counts-desktop script line ends recorded counted =
     let frames = line.wire.frames.items in
     let here : cursor_of line.handheld line.desktop Desktop ≡ line.desktop.taken = ap (λ (E : End). cursors E line.handheld.taken line.desktop.taken Desktop) ends.handheld_is in
-    record {
-      cursor = cursor_of line.handheld line.desktop;
-      came = recorded.came;
-      is = counted.by_x ∙ (ap (λ (E : End). counts E line.desktop.taken frames (record { bytes = 0; packets = 0 })) ends.desktop_is ∙ ap (λ (n : ℕ). counts Desktop n frames (record { bytes = 0; packets = 0 })) (sym here));
-    }
+    let cursor = cursor_of line.handheld line.desktop in
+    let is : line.handheld.reader.tally ≡ counts Desktop (cursor Desktop) frames (record { bytes = 0; packets = 0 }) =
+    counted.by_x ∙ (ap (λ (E : End). counts E line.desktop.taken frames (record { bytes = 0; packets = 0 })) ends.desktop_is ∙ ap (λ (n : ℕ). counts Desktop n frames (record { bytes = 0; packets = 0 })) (sym here)) in
+    record { cursor = cursor; came = recorded.came; is = is; sums = subst (AgreesWith Desktop (map frame_value frames)) (sym is) (agrees Desktop cursor frames recorded.came) }
 
 pub counts-handheld : (script : List RuleValue) (line : Line) → AreEnds line → LineRecords script line → LineCounts line → CountsOf Handheld line.desktop.reader.tally line.wire.frames.items
 counts-handheld script line ends recorded counted =
     let frames = line.wire.frames.items in
     let here : cursor_of line.handheld line.desktop Handheld ≡ line.handheld.taken = ap (λ (E : End). cursors E line.handheld.taken line.desktop.taken Handheld) ends.handheld_is in
-    record {
-      cursor = cursor_of line.handheld line.desktop;
-      came = recorded.came;
-      is = counted.by_y ∙ (ap (λ (E : End). counts E line.handheld.taken frames (record { bytes = 0; packets = 0 })) ends.handheld_is ∙ ap (λ (n : ℕ). counts Handheld n frames (record { bytes = 0; packets = 0 })) (sym here));
-    }
+    let cursor = cursor_of line.handheld line.desktop in
+    let is : line.desktop.reader.tally ≡ counts Handheld (cursor Handheld) frames (record { bytes = 0; packets = 0 }) =
+    counted.by_y ∙ (ap (λ (E : End). counts E line.handheld.taken frames (record { bytes = 0; packets = 0 })) ends.handheld_is ∙ ap (λ (n : ℕ). counts Handheld n frames (record { bytes = 0; packets = 0 })) (sym here)) in
+    record { cursor = cursor; came = recorded.came; is = is; sums = subst (AgreesWith Handheld (map frame_value frames)) (sym is) (agrees Handheld cursor frames recorded.came) }

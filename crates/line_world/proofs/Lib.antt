@@ -4,3 +4,5 @@ pub mod WentLaws
 pub mod WorldLaws
 pub mod OverLaws
 pub mod CauseLaws
+pub mod FaultLaws
+pub mod TallyLaws

@@ -40,8 +40,8 @@ use Rattle.line_talk.specs.Telling.{LineCounts, LineRecords, LineTells, bytes_of
 use Rattle.line_world.specs.declared.down.Down.{Down}
 use Rattle.line_world.specs.declared.stop.Break.{Break}
 use Rattle.line_world.specs.declared.stop.Break.TheVariants.{Line as OfLine}
-use Rattle.line_world.proofs.CauseLaws.{halt-by, no-halt}
-use Rattle.line_world.specs.Causes.{IsCause, IsCauseOf, halt_of, link_fault}
+use Rattle.line_world.proofs.CauseLaws.{halt-by, no-halt, no-names}
+use Rattle.line_world.specs.Causes.{IsCause, IsCauseOf, NamesLast, halt_of, link_fault}
 use Rattle.line_world.specs.Conversing.{Answers, Breaks}
 use Rattle.line_world.specs.Logs.{LogValue, no_log, said_in}
 use Rattle.line_world.specs.Worlds.{IsLog, IsAtRest, IsTold, IsWorld, TellAll, TellBoth}
@@ -96,7 +96,7 @@ world-new line script log sound is_sound quiet turn handheld desktop tells count
         came = subst (λ (fs : List Frame). CameByCursor 1 (cursor_of line.handheld line.desktop) (map frame_value fs)) (sym frames) tt;
       };
       counted = counted;
-      told = record { halt = NoMemory; ends = subst (λ (l : LogValue). LineEnds NoMemory (said_in l) line) (sym quiet) (greets-ends line greets tells); halt_is = tt };
+      told = record { halt = NoMemory; ends = subst (λ (l : LogValue). LineEnds NoMemory (said_in l) line) (sym quiet) (greets-ends line greets tells); halt_is = tt; names = tt };
       is_log = subst (λ (l : LogValue). IsLog l 0) (sym quiet) (record { performed_is = refl; replied = omega arith; performed_few = omega arith; few = omega arith });
       running = λ none. record { is_sound = is_sound; all = ap (λ (l : LogValue). length l.issued) quiet; at_rest = (greets, refl, tells) };
       caused = refl;
@@ -115,7 +115,7 @@ world-greeted line new script log sound answered begun fault cause world none fi
     record {
       recorded = by;
       counted = counted;
-      told = record { halt = NoMemory; ends = asks-ends (said_in log) new 0 asks says; halt_is = no-halt fault cause (length new.wire.frames.items) NoMemory world.caused none };
+      told = record { halt = NoMemory; ends = asks-ends (said_in log) new 0 asks says; halt_is = no-halt fault cause (length new.wire.frames.items) NoMemory world.caused none; names = no-names fault cause (map frame_value new.wire.frames.items) world.caused none };
       is_log = world.is_log;
       running = λ is. record { is_sound = running.is_sound; all = running.all; at_rest = (subst (λ (n : ℕ). MayAsk new n) (sym greets.none) asks, says) };
       caused = world.caused;
@@ -133,7 +133,7 @@ world-answered contents moments paths faults old later_server line new script lo
     record {
       recorded = by;
       counted = counted;
-      told = record { halt = NoMemory; ends = asks-ends (said_in later) new (length log.issued + 1) answers.asks tells; halt_is = no-halt fault cause (length new.wire.frames.items) NoMemory world.caused none };
+      told = record { halt = NoMemory; ends = asks-ends (said_in later) new (length log.issued + 1) answers.asks tells; halt_is = no-halt fault cause (length new.wire.frames.items) NoMemory world.caused none; names = no-names fault cause (map frame_value new.wire.frames.items) world.caused none };
       is_log = subst (λ (k : ℕ). IsLog later k) (sym more) (subst (λ (l : LogValue). IsLog l (answered + 1)) (sym performs.log_is) (log-answered log answered request reply world.is_log running.all));
       running = λ is. record {
         is_sound = performs.sound;
@@ -144,20 +144,20 @@ world-answered contents moments paths faults old later_server line new script lo
     }
 
 pub world-broke : {F : Type 0} (contents : F → Option FileMap) (moments : F → Moments) (paths : F → Option (List (List ℕ))) (faults : F → ℕ) (old later_server : ServerValue F) (line new : Line) (script : List RuleValue) (log later : LogValue) (answered : ℕ) (begun : Bool) (fault : Option LinkFault)
-    (cause now : Option Down) (request : List ℕ) (ended : Break) → IsWorld line script log old.sound answered begun fault cause → fault ≡ None → LineRecords script new → LineCounts new → LineEnds (halt_of ended) (said_in later) new → IsCauseOf ended (length new.wire.frames.items) now → Breaks contents moments paths faults old later_server log later request ended
+    (cause now : Option Down) (request : List ℕ) (ended : Break) → IsWorld line script log old.sound answered begun fault cause → fault ≡ None → LineRecords script new → LineCounts new → LineEnds (halt_of ended) (said_in later) new → IsCauseOf ended (length new.wire.frames.items) now → NamesLast now (map frame_value new.wire.frames.items) → Breaks contents moments paths faults old later_server log later request ended
     → IsWorld new script later later_server.sound answered begun (Some (link_fault now)) now
-world-broke contents moments paths faults old later_server line new script log later answered begun fault cause now request ended world none by counted over is_cause breaks = record {
+world-broke contents moments paths faults old later_server line new script log later answered begun fault cause now request ended world none by counted over is_cause names breaks = record {
   recorded = by;
   counted = counted;
-  told = record { halt = halt_of ended; ends = over; halt_is = halt-by ended (length new.wire.frames.items) now is_cause };
+  told = record { halt = halt_of ended; ends = over; halt_is = halt-by ended (length new.wire.frames.items) now is_cause; names = names };
   is_log = log-went contents moments paths faults breaks.went old later_server log later answered request world.is_log (world.running none).all breaks.is;
   running = λ is. absurd cc;
   caused = caused-by now;
 }
 
 pub world-halted : (line new : Line) (script : List RuleValue) (log : LogValue) (sound : Bool) (answered : ℕ) (begun : Bool) (fault : Option LinkFault) (cause now : Option Down) (halt : Halt) → IsWorld line script log sound answered begun fault cause → fault ≡ None → begun ≡ false
-    → LineRecords script new → LineCounts new → LineEnds halt greeted new → IsCauseOf (OfLine halt) (length new.wire.frames.items) now → IsWorld new script log sound answered begun (Some (link_fault now)) now
-world-halted line new script log sound answered begun fault cause now halt world none first by counted over is_cause =
+    → LineRecords script new → LineCounts new → LineEnds halt greeted new → IsCauseOf (OfLine halt) (length new.wire.frames.items) now → NamesLast now (map frame_value new.wire.frames.items) → IsWorld new script log sound answered begun (Some (link_fault now)) now
+world-halted line new script log sound answered begun fault cause now halt world none first by counted over is_cause names =
     let running = world.running none in
     let greets = greets-of begun line log answered first running.at_rest in
     record {
@@ -167,6 +167,7 @@ world-halted line new script log sound answered begun fault cause now halt world
         halt = halt;
         ends = subst (λ (t : Talk). LineEnds halt t new) (sym (said-greeted log answered world.is_log running.all greets.none)) over;
         halt_is = halt-by (OfLine halt) (length new.wire.frames.items) now is_cause;
+        names = names;
       };
       is_log = world.is_log;
       running = λ is. absurd cc;

@@ -1,11 +1,13 @@
 -- Why a line is down, and what its link answers then.
-use Rattle.std.specs.Prelude.{◌≡◌, ℕ, ⊤, List, [], ◌∷◌, ◌++◌, length, Option, Some, None, IsSome}
+use Rattle.std.specs.Prelude.{◌≡◌, ℕ, ◌+◌, ◌≤◌, ◌<◌, ⊤, List, [], ◌∷◌, ◌++◌, length, if◌then◌else◌, Option, Some, None, IsSome}
+use Rattle.std.specs.List.{AllByRecursion}
 use Rattle.dlp_commands.specs.declared.link.LinkFault.{LinkFault}
 use Rattle.dlp_commands.specs.declared.link.LinkFault.TheVariants as link
 use Rattle.line_steps.specs.declared.harm.Stop.TheVariants as stop
 use Rattle.line_steps.specs.declared.sending.Halt.{Halt}
 use Rattle.line_steps.specs.declared.sending.Halt.TheVariants as halt
 use Rattle.trace_text.specs.declared.frame.End.{End}
+use Rattle.trace_text.specs.Fates.{is_fault}
 use Rattle.trace_text.specs.Frames.{past_of}
 use Rattle.trace_text.specs.TraceLines.{FrameValue}
 use Rattle.line_laws.specs.Framing.{CameByCursor}
@@ -66,10 +68,31 @@ pub record SpentIn (end : End) (frames : List FrameValue) : Type 0 where
   pub came : CameByCursor 1 cursor frames
   pub spent : IsSpent end cursor (past_of frames)
 
+-- the numbers of the frames that the line did harm, in order
+abbrev pub faults_in : List FrameValue → List ℕ
+faults_in [] = []
+faults_in (frame ∷ later) = if is_fault frame.fate then frame.number ∷ faults_in later else faults_in later
+
+-- where there are ten of them, these are the last ten
+abbrev pub AreLastTen : List ℕ → List FrameValue → Type 0
+AreLastTen numbers frames = 10 ≤ length (faults_in frames) → (before : List ℕ) × (faults_in frames ≡ before ++ numbers)
+
+-- what a cause names, where it names frames
+abbrev pub NamesLast : Option Down → List FrameValue → Type 0
+NamesLast (Some (down.LineDown end numbers)) frames = (length numbers ≡ 10) × AreLastTen numbers frames
+NamesLast cause frames = ⊤
+
+-- the last ten frames that the line did harm, all among the last 64
+pub record AreTenFaults (numbers : List ℕ) (frames : List FrameValue) : Type 0 where
+  pub before : List ℕ
+  pub is : faults_in frames ≡ before ++ numbers
+  pub ten : length numbers ≡ 10
+  pub near : AllByRecursion (λ number. length frames < number + 64) numbers
+
 -- the frames bear a cause out
 abbrev pub BearsOut : Option Down → List FrameValue → Type 0
 BearsOut None frames = ⊤
-BearsOut (Some (down.LineDown end numbers)) frames = SpentIn end frames
+BearsOut (Some (down.LineDown end numbers)) frames = SpentIn end frames × AreTenFaults numbers frames
 BearsOut (Some (down.Unplugged number)) frames = (number ≡ length frames) × EndsBy stop.Unplugged frames
 BearsOut (Some (down.Aborted number)) frames = (number ≡ length frames) × EndsBy stop.Aborted frames
 BearsOut (Some (down.Undetected number)) frames = (number ≡ length frames) × EndsBy stop.Undetected frames

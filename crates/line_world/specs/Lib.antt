@@ -5,3 +5,4 @@ pub mod Serving
 pub mod Conversing
 pub mod Worlds
 pub mod SinceLaws
+pub mod Counts

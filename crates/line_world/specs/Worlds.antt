@@ -10,12 +10,7 @@ use Rattle.dlp_commands.specs.DeviceRuns.{Exchange, exchanged}
 use Rattle.dlp_commands.specs.Talks.{Talk}
 use Rattle.handheld_server.specs.Servers.{ServerValue}
 use Rattle.line_script.specs.Rules.{RuleValue}
-use Rattle.slp_frames.specs.Readers.{TallyValue}
-use Rattle.trace_text.specs.declared.frame.End.{End}
 use Rattle.trace_text.specs.declared.frame.End.TheVariants as ends
-use Rattle.trace_text.specs.declared.frame.Frame.{Frame}
-use Rattle.line_laws.specs.Framing.{CameByCursor}
-use Rattle.line_steps.specs.Counting.{counts}
 use Rattle.trace_text.specs.Stories.{IsStory}
 use Rattle.trace_text.specs.Talks as talks
 use Rattle.trace_text.specs.TraceLines.{FrameValue, frame_value}
@@ -26,7 +21,7 @@ use Rattle.line_steps.specs.Stories.{told_from}
 use Rattle.line_steps.specs.Telling.{no_talk}
 use Rattle.line_world.specs.declared.down.Down.{Down}
 use Rattle.line_world.specs.declared.down.Down.TheVariants.{Keeper}
-use Rattle.line_world.specs.Causes.{IsCause, IsHaltOf}
+use Rattle.line_world.specs.Causes.{IsCause, IsHaltOf, NamesLast}
 use Rattle.line_world.specs.Folders.{ServedSince}
 use Rattle.line_talk.specs.Halting.{LineEnds}
 use Rattle.line_talk.specs.Rests.{MayGreet, MayAsk}
@@ -61,12 +56,6 @@ pub record TellBoth (talk : talks.Talk) (frames : List FrameValue) : Type 0 wher
 pub record TellAll (talk : talks.Talk) (frames : List FrameValue) : Type 0 where
   pub handheld_said : IsStory ends.Handheld frames (told_from 0 talk.handheld)
   pub desktop_said : IsStory ends.Desktop frames (told_from 0 talk.desktop)
-
--- the reader of the end that takes the frames of X counted what landed of all that were taken of them, and nothing else
-pub record CountsOf (X : End) (tally : TallyValue) (frames : List Frame) : Type 0 where
-  pub cursor : End → ℕ
-  pub came : CameByCursor 1 cursor (map frame_value frames)
-  pub is : tally ≡ counts X (cursor X) frames (record { bytes = 0; packets = 0 })
 
 -- Since the first of the two more was sent, performed and replied: each request that was performed was one step of the device, in order. The script is the same.
 -- A folder that failed meanwhile had its count rise.
@@ -104,6 +93,7 @@ pub record IsTold (line : Line) (log : LogValue) (cause : Option Down) : Type 0 
   pub halt : Halt
   pub ends : LineEnds halt (said_in log) line
   pub halt_is : IsHaltOf cause (length line.wire.frames.items) halt
+  pub names : NamesLast cause (map frame_value line.wire.frames.items)
 
 -- what holds of each world
 pub record IsWorld (line : Line) (script : List RuleValue) (log : LogValue) (sound : Bool) (answered : ℕ) (begun : Bool) (fault : Option LinkFault) (cause : Option Down) : Type 0 where

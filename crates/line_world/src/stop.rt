@@ -1,6 +1,9 @@
 //! Why a run ends.
-ghost use Rattle.std.specs.Prelude.{◌≡◌, length};
-ghost use Rattle.line_world.specs.Causes.{IsCauseOf, KeeperOnly, link_fault};
+ghost use Rattle.std.specs.Prelude.{◌≡◌, length, map};
+ghost use Rattle.trace_text.specs.Fates as fates;
+ghost use Rattle.trace_text.specs.Fates.{fate_value};
+ghost use Rattle.trace_text.specs.TraceLines.{frame_value};
+ghost use Rattle.line_world.specs.Causes.{AreLastTen, IsCauseOf, KeeperOnly, NamesLast, link_fault};
 
 use crate::down::Down;
 use dlp_commands::LinkFault;
@@ -57,6 +60,7 @@ impl From<ServeFault> for Break {
 pub(crate) fn cause_of(ended: Break, frames: &[Frame]) -> Option<Down>
     ensures is { IsCauseOf ended (length frames.now) result }
     ensures keeper { KeeperOnly ended result }
+    ensures names { NamesLast result (map frame_value frames.now) }
 {
     let last = frames.len() as u64;
     match ended {
@@ -83,13 +87,16 @@ pub(crate) fn fault_of(cause: &Option<Down>) -> LinkFault
 }
 
 /// The numbers of the last ten frames that the line did harm, in order.
-fn last_faults(frames: &[Frame]) -> [u64; 10] {
+fn last_faults(frames: &[Frame]) -> [u64; 10]
+    ensures ten { length result ≡ 10 }
+    ensures last { AreLastTen result (map frame_value frames.now) }
+{
     let mut numbers = [0; 10];
     let mut place = 10;
-    for frame in frames.iter().rev() {
-        if place == 0 {
-            return numbers;
-        }
+    let mut left = frames.len();
+    while left > 0 && place > 0 {
+        left -= 1;
+        let frame = &frames[left];
         if is_fault(&frame.fate) {
             place -= 1;
             numbers[place] = frame.number;
@@ -99,7 +106,9 @@ fn last_faults(frames: &[Frame]) -> [u64; 10] {
 }
 
 /// Whether the line does harm to a frame of this fate.
-fn is_fault(fate: &Fate) -> bool {
+fn is_fault(fate: &Fate) -> bool
+    ensures { result ≡ fates.is_fault (fate_value fate.now) }
+{
     match fate {
         Fate::Lost | Fate::Late | Fate::Cut(_) | Fate::Hit(_, _) => true,
         Fate::Ok | Fate::Noise(_) | Fate::Unplug | Fate::Abort => false,

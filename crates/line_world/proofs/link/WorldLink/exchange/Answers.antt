@@ -6,7 +6,7 @@ use Rattle.dlp_commands.specs.Links.{MayExchange}
 use Rattle.dlp_commands.specs.Talks.{Answered, Unanswered}
 use Rattle.trace_text.specs.declared.frame.Frame.{Frame}
 use Rattle.trace_text.specs.TraceLines.{frame_value}
-use Rattle.line_world.specs.Causes.{IsCauseOf}
+use Rattle.line_world.specs.Causes.{IsCauseOf, NamesLast}
 use Rattle.line_world.specs.Conversing.{Served}
 use Rattle.line_world.specs.Logs.{log_value}
 use Rattle.line_world.specs.SinceLaws.{since_itself}
@@ -40,7 +40,8 @@ invariant_of-self-in-Err g c =
     subst (λ (f : LinkFault). IsWorld c.converse.new.line w.script (log_value later) c.converse.new.server.sound w.answered w.begun (Some f) c.cause_of-cause.result) (sym c.fault_of-fault.ensures)
     (world-broke g.F.Folder.contents g.F.Folder.moments g.F.Folder.paths g.F.Folder.faults w.server c.converse.new.server w.line c.converse.new.line w.script (log_value w.log) (log_value later) w.answered w.begun w.fault w.cause c.cause_of-cause.result c.args.request.now c.in-Err.ended
     c.self.invariant c.in_default.is (c.converse.ensures.recorded c.self.invariant.recorded) (c.converse.ensures.counted c.self.invariant.counted) (c.in-Err.ensures.ends (tells-of w.begun w.line (log_value w.log) w.answered first running.at_rest))
-    (subst (λ (fs : List Frame). IsCauseOf c.in-Err.ended (length fs) c.cause_of-cause.result) c.deref.ensures.value c.cause_of-cause.ensures.is) c.in-Err.ensures.breaks)
+    (subst (λ (fs : List Frame). IsCauseOf c.in-Err.ended (length fs) c.cause_of-cause.result) c.deref.ensures.value c.cause_of-cause.ensures.is)
+    (subst (λ (fs : List Frame). NamesLast c.cause_of-cause.result (map frame_value fs)) c.deref.ensures.value c.cause_of-cause.ensures.names) c.in-Err.ensures.breaks)
 
 pub returns-in-Ok-clause-answered : goal.returns-in-Ok-clause-answered
 returns-in-Ok-clause-answered g c =

@@ -2,8 +2,9 @@ use Rattle.std.proofs.Common.{◌≡◌, map, None, true, sym, subst}
 use Rattle.line_script.specs.Scripts.{fate_by}
 use Rattle.trace_text.specs.Proper.{IsProper}
 use Rattle.trace_text.specs.TraceLines.{frame_value}
+use Rattle.line_world.specs.Counts.{CountsOf}
 use Rattle.line_world.specs.Logs.{log_value, said_in}
-use Rattle.line_world.specs.Worlds.{CountsOf, IsLog, TellAll, TellBoth, WorldValue}
+use Rattle.line_world.specs.Worlds.{IsLog, TellAll, TellBoth, WorldValue}
 use Rattle.slp_frames.specs.Readers.{TallyValue}
 use Rattle.trace_text.specs.declared.frame.End.TheVariants.{Handheld, Desktop}
 use Rattle.line_world.proofs.CauseLaws.{counts-desktop, counts-handheld}
