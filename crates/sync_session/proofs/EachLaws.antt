@@ -1,20 +1,20 @@
 -- Stretches of a session grow by one.
 use Rattle.std.proofs.Common.{◌≡◌, ◌∙◌, refl, ap, sym, subst, ℕ, List, [], ◌∷◌, ◌++◌, map, append_assoc}
 use Rattle.std.proofs.lemmas.List.{map-append}
-use Rattle.std.specs.Prelude.{Option, Ok, Err}
+use Rattle.std.specs.Prelude.{Option, Ok, Err, Result, IfOk, OnOk, None}
 use Rattle.dlp_commands.specs.declared.link.LinkFault.{LinkFault}
 use Rattle.dlp_commands.specs.Talks.{Talk}
 use Rattle.desktop_session.specs.declared.fault.SessionFault.{SessionFault}
 use Rattle.desktop_session.specs.Acts.{Act, text}
 use Rattle.desktop_session.specs.Says.{saying}
 use Rattle.desktop_session.specs.Sessions.{SessionValue}
-use Rattle.desktop_session.specs.Stops.{Stops}
+use Rattle.desktop_session.specs.Stops.{Stops, Asked, Does}
 use Rattle.desktop_session.proofs.SaysLaws.{saying_none, saying_then}
-use Rattle.desktop_session.proofs.StopLaws.{stops_then}
-use Rattle.slow_mirror.proofs.AskLaws.{SoFar, all_said, asks_then, none_said}
+use Rattle.desktop_session.proofs.StopLaws.{does_then, stops_then}
+use Rattle.slow_mirror.proofs.AskLaws.{SoFar, all_said, asked_part, asks_then, none_said, one_said}
 use Rattle.slow_mirror.specs.Asks.{Asks}
 use Rattle.sync_session.specs.Spans.{Spans}
-use Rattle.sync_session.specs.Stretches.{EachSays, SpansEach, Stretch, done_each, each_acts}
+use Rattle.sync_session.specs.Stretches.{EachSays, SpansBehind, SpansEach, Stretch, done_each, each_acts}
 
 -- stretches behind others that all have answers
 each_acts-append : {J A : Type 0} (acts : Option Talk → J → ℕ → List ℕ → List Act) (says : Option Talk → J → ℕ → List ℕ → A → Type 0)
@@ -184,3 +184,50 @@ each_done talk since fault downs acts says done jobs xs each made old new all ar
 pub done_each-append : {J : Type 0} (done : List J) (job : J) → done_each (done ++ job ∷ []) tt ≡ done_each done tt ++ tt ∷ []
 done_each-append [] job = refl
 done_each-append (one ∷ done) job = ap (λ xs. tt ∷ xs) (done_each-append done job)
+
+-- the first act was refused
+pub behind_none : {L J A B : Type 0} (talk : L → Option Talk) (since : L → L → Type 0) (fault : L → Option LinkFault) (downs : L → ℕ) (first : Act)
+    (acts : Option Talk → J → ℕ → List ℕ → List Act) (says : Option Talk → J → ℕ → List ℕ → A → Type 0) (jobs : List J) (each : B → List A)
+    (old new : SessionValue L) (cause : SessionFault) → Asked talk since fault downs first old new
+    → SpansBehind talk since fault downs first acts says jobs each old new (Err cause)
+behind_none {L} {J} {A} {B} talk since fault downs first acts says jobs each old new cause asked =
+    let part = asked_part {A = B} talk since fault downs first (each_acts acts (saying (first ∷ []) (talk old.link)) jobs []) old new cause asked in
+    record { stretches = []; stops = part.stops; does = tt; clear = tt; user = part.user; closed = tt; said = tt }
+
+behind_does : {L B : Type 0} (talk : L → Option Talk) (first : Act) (rest acts : List Act) (a b c : L) (answer : Result B SessionFault)
+    → first ∷ rest ≡ first ∷ acts → Does talk (first ∷ []) a b → OnOk answer (Does talk rest b c) → OnOk answer (Does talk (first ∷ acts) a c)
+behind_does talk first rest acts a b c (Ok made) same before does =
+    subst (λ zs. Does talk zs a c) same (does_then talk (first ∷ []) rest a b c before does)
+behind_does talk first rest acts a b c (Err cause) same before does = tt
+
+behind_clear : {B : Type 0} (P Q R : Type 0) (answer : Result B SessionFault) → (P → Q) → OnOk answer (Q → R) → OnOk answer (P → R)
+behind_clear P Q R (Ok made) before clear = λ p. clear (before p)
+behind_clear P Q R (Err cause) before clear = tt
+
+behind_closed : {B C : Type 0} (x y z : C) (answer : Result B SessionFault) → y ≡ x → OnOk answer (z ≡ y) → OnOk answer (z ≡ x)
+behind_closed x y z (Ok made) before closed = closed ∙ before
+behind_closed x y z (Err cause) before closed = tt
+
+-- it was answered, and the stretches were asked for
+pub behind_one : {L J A B : Type 0} (talk : L → Option Talk) (since : L → L → Type 0) (fault : L → Option LinkFault) (downs : L → ℕ)
+    (since_more : (a b c : L) → since a b → since b c → since a c) (first : Act) (acts : Option Talk → J → ℕ → List ℕ → List Act)
+    (says : Option Talk → J → ℕ → List ℕ → A → Type 0) (jobs : List J) (each : B → List A) (old now new : SessionValue L) (answer : Result B SessionFault)
+    → fault now.link ≡ None → Asked talk since fault downs first old now → SpansEach talk since fault downs acts says jobs each now new answer
+    → SpansBehind talk since fault downs first acts says jobs each old new answer
+behind_one {L} {J} {A} {B} talk since fault downs since_more first acts says jobs each old now new answer none asked spans =
+    let before = one_said talk since fault downs first old now none asked in
+    let told : talk now.link ≡ saying (first ∷ []) (talk old.link) = before.does.said in
+    let rest : List Act = each_acts acts (talk now.link) jobs spans.stretches in
+    let same : first ∷ rest ≡ first ∷ each_acts acts (saying (first ∷ []) (talk old.link)) jobs spans.stretches
+    = ap (λ t. first ∷ each_acts acts t jobs spans.stretches) told in
+    record {
+      stretches = spans.stretches;
+      stops = subst (λ zs. Stops talk since fault downs (map text zs) old.link new.link) same
+          (stops_then talk since fault downs since_more (first ∷ []) (map text rest) old.link now.link new.link before.does before.stops spans.stops);
+      does = behind_does talk first rest (each_acts acts (saying (first ∷ []) (talk old.link)) jobs spans.stretches) old.link now.link new.link answer same
+          before.does spans.does;
+      clear = behind_clear (fault old.link ≡ None) (fault now.link ≡ None) (fault new.link ≡ None) answer (λ ok. none) spans.clear;
+      user = spans.user ∙ before.user;
+      closed = behind_closed old.abandoned now.abandoned new.abandoned answer before.abandoned spans.closed;
+      said = subst (λ t. IfOk answer (λ made. EachSays acts says t jobs spans.stretches (each made))) told spans.said;
+    }

@@ -10,11 +10,12 @@ use Rattle.desktop_session.specs.declared.fault.SessionFault.{SessionFault}
 use Rattle.desktop_session.specs.Requests.{making, opening}
 use Rattle.desktop_session.specs.Says.{saying}
 use Rattle.desktop_session.specs.Sessions.{SessionValue}
-use Rattle.slow_mirror.specs.News.{AreFreeFor, AreIdsOf, as_new, news_of, puts}
+use Rattle.slow_mirror.specs.News.{AreFreeFor, AreIdsOf, as_new, news_of, purge_writes, puts}
 use Rattle.slow_mirror.proofs.AskLaws.{none_said}
+use Rattle.sync_session.specs.declared.skip.Skip.{Skip}
 use Rattle.sync_session.specs.Gains.{AreGained}
 use Rattle.sync_session.specs.Heads.{made_head}
-use Rattle.sync_session.specs.Phases.{gained_by, news_by, nothing, opened_news}
+use Rattle.sync_session.specs.Phases.{gained_by, news_by, nothing, opened_news, purges_by}
 use Rattle.sync_session.specs.Spans.{Spans, within}
 
 none_put : (rows : List (ℕ × ContentValue)) (adds : List ContentValue) → length rows + length adds ≡ 0 → rows ++ as_new adds ≡ []
@@ -82,39 +83,70 @@ spans_something talk since fault downs name plan says old new answer some spans 
 
 -- the same, by what the handheld and the desktop have
 pub planned_old : {L A : Type 0} (talk : L → Option Talk) (since : L → L → Type 0) (fault : L → Option LinkFault) (downs : L → ℕ) (told : Option Talk)
-    (handheld rows : Option DbHead) (head : DbHead) (name : List ℕ) (plan : Plan) (items : A → List ℕ) (old new : SessionValue L)
-    (answer : Result A SessionFault) → handheld ≡ Some head
+    (skip : Option Skip) (handheld rows : Option DbHead) (head : DbHead) (name : List ℕ) (plan : Plan) (items : A → List ℕ) (old new : SessionValue L)
+    (answer : Result A SessionFault) → skip ≡ None → handheld ≡ Some head
     → Spans talk since fault downs (opened_news name (news_of plan))
     (λ handle given ids. AreGained (saying (opening name ∷ []) told) plan handle given (items ids)) old new answer
-    → Spans talk since fault downs (news_by handheld rows name (news_of plan))
-    (λ handle given ids. gained_by handheld rows name plan told handle given (items ids)) old new answer
-planned_old {L} {A} talk since fault downs told handheld rows head name plan items old new answer is spans =
-    subst (λ h. Spans talk since fault downs (news_by h rows name (news_of plan))
-    (λ handle given (ids : A). gained_by h rows name plan told handle given (items ids)) old new answer) (sym is) spans
+    → Spans talk since fault downs (news_by skip handheld rows name (news_of plan))
+    (λ handle given ids. gained_by skip handheld rows name plan told handle given (items ids)) old new answer
+planned_old {L} {A} talk since fault downs told skip handheld rows head name plan items old new answer kept is spans =
+    subst (λ s. Spans talk since fault downs (news_by s handheld rows name (news_of plan))
+    (λ handle given (ids : A). gained_by s handheld rows name plan told handle given (items ids)) old new answer) (sym kept)
+    (subst (λ h. Spans talk since fault downs (news_by None h rows name (news_of plan))
+    (λ handle given (ids : A). gained_by None h rows name plan told handle given (items ids)) old new answer) (sym is) spans)
 
 pub planned_new : {L A : Type 0} (talk : L → Option Talk) (since : L → L → Type 0) (fault : L → Option LinkFault) (downs : L → ℕ) (told : Option Talk)
-    (handheld rows : Option DbHead) (head made : DbHead) (name : List ℕ) (plan : Plan) (items : A → List ℕ) (old new : SessionValue L)
-    (answer : Result A SessionFault) → handheld ≡ None → rows ≡ Some head → made ≡ made_head head
+    (skip : Option Skip) (handheld rows : Option DbHead) (head made : DbHead) (name : List ℕ) (plan : Plan) (items : A → List ℕ) (old new : SessionValue L)
+    (answer : Result A SessionFault) → skip ≡ None → handheld ≡ None → rows ≡ Some head → made ≡ made_head head
     → Spans talk since fault downs (within (making made) (λ handle given. puts handle given (news_of plan)))
     (λ handle given ids. AreGained (saying (making made ∷ []) told) plan handle given (items ids)) old new answer
-    → Spans talk since fault downs (news_by handheld rows name (news_of plan))
-    (λ handle given ids. gained_by handheld rows name plan told handle given (items ids)) old new answer
-planned_new {L} {A} talk since fault downs told handheld rows head made name plan items old new answer none is head_is spans =
-    subst (λ h. Spans talk since fault downs (news_by h rows name (news_of plan))
-    (λ handle given (ids : A). gained_by h rows name plan told handle given (items ids)) old new answer) (sym none)
-    (subst (λ r. Spans talk since fault downs (news_by None r name (news_of plan))
-    (λ handle given (ids : A). gained_by None r name plan told handle given (items ids)) old new answer) (sym is)
+    → Spans talk since fault downs (news_by skip handheld rows name (news_of plan))
+    (λ handle given ids. gained_by skip handheld rows name plan told handle given (items ids)) old new answer
+planned_new {L} {A} talk since fault downs told skip handheld rows head made name plan items old new answer kept none is head_is spans =
+    subst (λ s. Spans talk since fault downs (news_by s handheld rows name (news_of plan))
+    (λ handle given (ids : A). gained_by s handheld rows name plan told handle given (items ids)) old new answer) (sym kept)
+    (subst (λ h. Spans talk since fault downs (news_by None h rows name (news_of plan))
+    (λ handle given (ids : A). gained_by None h rows name plan told handle given (items ids)) old new answer) (sym none)
+    (subst (λ r. Spans talk since fault downs (news_by None None r name (news_of plan))
+    (λ handle given (ids : A). gained_by None None r name plan told handle given (items ids)) old new answer) (sym is)
     (subst (λ m. Spans talk since fault downs (within (making m) (λ handle given. puts handle given (news_of plan)))
-    (λ handle given (ids : A). AreGained (saying (making m ∷ []) told) plan handle given (items ids)) old new answer) head_is spans))
+    (λ handle given (ids : A). AreGained (saying (making m ∷ []) told) plan handle given (items ids)) old new answer) head_is spans)))
 
 pub planned_none : {L A : Type 0} (talk : L → Option Talk) (since : L → L → Type 0) (fault : L → Option LinkFault) (downs : L → ℕ)
-    (itself : (a : L) → since a a) (told : Option Talk) (handheld rows : Option DbHead) (name : List ℕ) (plan : Plan) (items : A → List ℕ)
-    (old : SessionValue L) (x : A) → handheld ≡ None → rows ≡ None → items x ≡ []
-    → Spans talk since fault downs (news_by handheld rows name (news_of plan))
-    (λ handle given ids. gained_by handheld rows name plan told handle given (items ids)) old old (Ok x)
-planned_none {L} {A} talk since fault downs itself told handheld rows name plan items old x none is empty =
-    subst (λ h. Spans talk since fault downs (news_by h rows name (news_of plan))
-    (λ handle given (ids : A). gained_by h rows name plan told handle given (items ids)) old old (Ok x)) (sym none)
-    (subst (λ r. Spans talk since fault downs (news_by None r name (news_of plan))
-    (λ handle given (ids : A). gained_by None r name plan told handle given (items ids)) old old (Ok x)) (sym is)
-    (span_none talk since fault downs itself (λ handle given (ids : A). items ids ≡ []) old x empty))
+    (itself : (a : L) → since a a) (told : Option Talk) (skip : Option Skip) (handheld rows : Option DbHead) (name : List ℕ) (plan : Plan) (items : A → List ℕ)
+    (old : SessionValue L) (x : A) → skip ≡ None → handheld ≡ None → rows ≡ None → items x ≡ []
+    → Spans talk since fault downs (news_by skip handheld rows name (news_of plan))
+    (λ handle given ids. gained_by skip handheld rows name plan told handle given (items ids)) old old (Ok x)
+planned_none {L} {A} talk since fault downs itself told skip handheld rows name plan items old x kept none is empty =
+    subst (λ s. Spans talk since fault downs (news_by s handheld rows name (news_of plan))
+    (λ handle given (ids : A). gained_by s handheld rows name plan told handle given (items ids)) old old (Ok x)) (sym kept)
+    (subst (λ h. Spans talk since fault downs (news_by None h rows name (news_of plan))
+    (λ handle given (ids : A). gained_by None h rows name plan told handle given (items ids)) old old (Ok x)) (sym none)
+    (subst (λ r. Spans talk since fault downs (news_by None None r name (news_of plan))
+    (λ handle given (ids : A). gained_by None None r name plan told handle given (items ids)) old old (Ok x)) (sym is)
+    (span_none talk since fault downs itself (λ handle given (ids : A). items ids ≡ []) old x empty)))
+
+-- it is skipped
+pub planned_skipped : {L A : Type 0} (talk : L → Option Talk) (since : L → L → Type 0) (fault : L → Option LinkFault) (downs : L → ℕ)
+    (itself : (a : L) → since a a) (told : Option Talk) (skip : Option Skip) (handheld rows : Option DbHead) (why : Skip) (name : List ℕ) (plan : Plan)
+    (items : A → List ℕ) (old : SessionValue L) (x : A) → skip ≡ Some why → items x ≡ []
+    → Spans talk since fault downs (news_by skip handheld rows name (news_of plan))
+    (λ handle given ids. gained_by skip handheld rows name plan told handle given (items ids)) old old (Ok x)
+planned_skipped {L} {A} talk since fault downs itself told skip handheld rows why name plan items old x is empty =
+    subst (λ s. Spans talk since fault downs (news_by s handheld rows name (news_of plan))
+    (λ handle given (ids : A). gained_by s handheld rows name plan told handle given (items ids)) old old (Ok x)) (sym is)
+    (span_none talk since fault downs itself (λ handle given (ids : A). items ids ≡ []) old x empty)
+
+-- what a database loses, by whether it is skipped
+pub purges_skipped : {L A : Type 0} (talk : L → Option Talk) (since : L → L → Type 0) (fault : L → Option LinkFault) (downs : L → ℕ)
+    (itself : (a : L) → since a a) (skip : Option Skip) (why : Skip) (name ids : List ℕ) (says : ℕ → List ℕ → A → Type 0) (old : SessionValue L) (x : A)
+    → skip ≡ Some why → says 0 [] x → Spans talk since fault downs (purges_by skip name ids) says old old (Ok x)
+purges_skipped talk since fault downs itself skip why name ids says old x is done =
+    subst (λ s. Spans talk since fault downs (purges_by s name ids) says old old (Ok x)) (sym is) (span_none talk since fault downs itself says old x done)
+
+pub purges_kept : {L A : Type 0} (talk : L → Option Talk) (since : L → L → Type 0) (fault : L → Option LinkFault) (downs : L → ℕ)
+    (skip : Option Skip) (name ids : List ℕ) (says : ℕ → List ℕ → A → Type 0) (old new : SessionValue L) (answer : Result A SessionFault) → skip ≡ None
+    → Spans talk since fault downs (within (opening name) (λ handle given. purge_writes handle ids)) says old new answer
+    → Spans talk since fault downs (purges_by skip name ids) says old new answer
+purges_kept talk since fault downs skip name ids says old new answer is spans =
+    subst (λ s. Spans talk since fault downs (purges_by s name ids) says old new answer) (sym is) spans

@@ -1,10 +1,13 @@
 pub mod ArchiveLaws
 pub mod EachLaws
+pub mod EndLaws
 pub mod GiveLaws
 pub mod IdsLaws
 pub mod MarkLaws
 pub mod MeetLaws
 pub mod NamesLaws
+pub mod PlanningLaws
 pub mod QuietLaws
 pub mod ReadingLaws
+pub mod RowLaws
 pub mod SpanLaws

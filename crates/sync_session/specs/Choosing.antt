@@ -1,5 +1,6 @@
 -- What a session sees of a database, and what it chooses.
 use Rattle.std.specs.Prelude.{ℕ, Bool, true, false, not, ◌&&◌, List, [], if◌then◌else◌, is_some, Option, Some, None}
+use Rattle.pdb_values.specs.Databases.{DatabaseValue}
 use Rattle.pdb_values.specs.declared.record.Record.{Record}
 use Rattle.conduit_rules.specs.States.{Held}
 use Rattle.conduit_rules.specs.Views.{slow_view, fast_view}
@@ -33,8 +34,11 @@ is_fast meeting task =
     is_fast_by (agrees meeting) meeting.wishes.slow (action_or_sync task.action) (is_some task.handheld) (is_some task.rows) (is_some task.base)
 
 -- the base rows: none where the rows or the base rows are missing
+abbrev pub base_rows_by : Option DatabaseValue → Option DatabaseValue → List Record
+base_rows_by rows base = if is_some rows then records_of base else []
+
 abbrev pub base_rows : Task → List Record
-base_rows task = if is_some task.rows then records_of task.base else []
+base_rows task = base_rows_by task.rows task.base
 
 -- what is seen of the handheld's records
 unfoldable pub view : Meeting → Task → List Seen
@@ -42,8 +46,11 @@ view meeting task =
     if is_fast meeting task then fast_view (base_rows task) (records_of task.handheld) else slow_view (records_of task.handheld)
 
 -- the database as its base, its view and its rows show it; gone rows count where the sides don't agree
+abbrev pub sides_by : List Seen → Option DatabaseValue → Option DatabaseValue → Bool → Sides
+sides_by view rows base agree = sides_of view (records_of rows) (base_rows_by rows base) (not agree)
+
 unfoldable pub sides : Meeting → Task → Sides
-sides meeting task = sides_of (view meeting task) (records_of task.rows) (base_rows task) (not (agrees meeting))
+sides meeting task = sides_by (view meeting task) task.rows task.base (agrees meeting)
 
 -- what is chosen
 unfoldable pub choice : Meeting → Task → Choice

@@ -1,5 +1,6 @@
 pub mod Archives
 pub mod Choosing
+pub mod Endings
 pub mod Fronts
 pub mod Gains
 pub mod Heads
@@ -9,10 +10,12 @@ pub mod Meets
 pub mod Merges
 pub mod News
 pub mod Phases
+pub mod Planning
 pub mod Quiet
 pub mod Readings
 pub mod Reads
 pub mod Reports
+pub mod Rows
 pub mod Sessions
 pub mod Sizes
 pub mod Skips

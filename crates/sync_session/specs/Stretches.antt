@@ -48,3 +48,15 @@ done_each (job ∷ jobs) done = tt ∷ done_each jobs done
 
 abbrev pub says_nothing : {J : Type 0} → Option Talk → J → ℕ → List ℕ → Unit {0} → Type 0
 says_nothing told job handle given done = Unit {0}
+
+-- The same behind an act that is asked for first: what is told to the stretches is told behind it.
+pub record SpansBehind {L J A B : Type 0} (talk : L → Option Talk) (since : L → L → Type 0) (fault : L → Option LinkFault) (downs : L → ℕ) (first : Act)
+    (acts : Option Talk → J → ℕ → List ℕ → List Act) (says : Option Talk → J → ℕ → List ℕ → A → Type 0) (jobs : List J) (each : B → List A)
+    (old new : SessionValue L) (answer : Result B SessionFault) : Type 0 where
+  pub stretches : List Stretch
+  pub stops : Stops talk since fault downs (map text (first ∷ each_acts acts (saying (first ∷ []) (talk old.link)) jobs stretches)) old.link new.link
+  pub does : OnOk answer (Does talk (first ∷ each_acts acts (saying (first ∷ []) (talk old.link)) jobs stretches) old.link new.link)
+  pub clear : OnOk answer (fault old.link ≡ None → fault new.link ≡ None)
+  pub user : new.user ≡ old.user
+  pub closed : OnOk answer (new.abandoned ≡ old.abandoned)
+  pub said : IfOk answer (λ made. EachSays acts says (saying (first ∷ []) (talk old.link)) jobs stretches (each made))

@@ -1,16 +1,18 @@
 // What a handheld gets before the desktop commits.
 ghost use Rattle.std.specs.Prelude.{◌≡◌, ◌+◌, ◌↔◌, ◌∷◌, ◌++◌, [], IfErr, IsTrue, OnOk, false, length};
 ghost use Rattle.desktop_session.specs.declared.fault.SessionFault.TheVariants as session;
-ghost use Rattle.desktop_session.specs.Requests.{making, opening};
+ghost use Rattle.desktop_session.specs.Requests.{making, marking, opening};
 ghost use Rattle.desktop_session.specs.Says.{saying};
 ghost use Rattle.slow_mirror.specs.News.{news_of, puts};
 ghost use Rattle.sync_session.specs.Gains.{AreGained};
 ghost use Rattle.sync_session.specs.Heads as heads;
 ghost use Rattle.sync_session.specs.Phases.{gained, news_under, opened_news};
 ghost use Rattle.sync_session.specs.Spans.{Spans, within};
-ghost use Rattle.sync_session.specs.Stretches.{SpansEach};
+ghost use Rattle.sync_session.specs.Users as users;
+ghost use Rattle.sync_session.specs.Stretches.{SpansBehind, SpansEach};
 
 use crate::heads::made_head;
+use crate::marking::begin;
 use crate::planned::Planned;
 use conduit_rules::Plan;
 use desktop_session::{Linked, SessionFault};
@@ -98,7 +100,7 @@ fn give_old<L: Link>(
     give_one(alloc, linked, name, plan)
 }
 
-// Gives a database what its plan says; one that the handheld lacks is made.
+// Gives a database what its plan says, unless it is skipped; one that the handheld lacks is made.
 fn give_planned<L: Link>(
     alloc: Global,
     linked: &mut Linked<L>,
@@ -109,11 +111,14 @@ fn give_planned<L: Link>(
         (λ handle given ids. gained (L.talk linked.old.link) one.now handle given ids.items)
         linked.old linked.new result }
 {
-    match &one.job.handheld {
-        Some(_) => give_old(alloc, linked, &one.job.name, &one.plan),
-        None => match &one.job.rows {
-            Some(rows) => make_one(alloc, linked, &made_head(rows), &one.plan),
-            None => Ok(Vec::new(alloc)),
+    match &one.job.skip {
+        Some(_) => Ok(Vec::new(alloc)),
+        None => match &one.job.handheld {
+            Some(_) => give_old(alloc, linked, &one.job.name, &one.plan),
+            None => match &one.job.rows {
+                Some(rows) => make_one(alloc, linked, &made_head(rows), &one.plan),
+                None => Ok(Vec::new(alloc)),
+            },
         },
     }
 }
@@ -128,8 +133,8 @@ fn push_ids(ids: &mut Vec<Vec<RecordId>>, more: Vec<RecordId>) -> Result<(), Ses
 }
 
 /// Gives each of these databases of the handheld what its plan says, one database after another, and answers the ids that the new
-/// records of each got. A database that the handheld lacks is made by the head of the desktop's rows, and one that gets nothing is
-/// not opened.
+/// records of each got. A database that the handheld lacks is made by the head of the desktop's rows, and one that gets nothing or
+/// is skipped is not opened.
 pub fn give_all<L: Link>(
     alloc: Global,
     linked: &mut Linked<L>,
@@ -146,4 +151,20 @@ pub fn give_all<L: Link>(
         push_ids(&mut ids, more)?;
     }
     Ok(ids)
+}
+
+/// Marks the handheld as one whose session is under way, then gives each of these databases what its plan says, as `give_all` does.
+pub fn send_all<L: Link>(
+    alloc: Global,
+    linked: &mut Linked<L>,
+    planned: &[Planned],
+) -> Result<Vec<Vec<RecordId>>, SessionFault>
+    requires { linked.old.abandoned ≡ false }
+    ensures sends { SpansBehind L.talk L.since L.fault L.downs
+        (marking (users.begun_user linked.old.user) 0x40) news_under
+        (λ told one handle given ids. gained told one handle given ids.items) planned.now
+        (λ made. made.items) linked.old linked.new result }
+{
+    begin(linked)?;
+    give_all(alloc, linked, planned)
 }

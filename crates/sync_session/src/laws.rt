@@ -1,9 +1,15 @@
 //! What holds of every session. Each function here does nothing: its contract is the law.
 ghost use Rattle.std.specs.Prelude.{◌≡◌, ℕ, List, map};
+ghost use Rattle.conduit_rules.specs.Choices.{Sides, choice_for};
+ghost use Rattle.conduit_rules.specs.Plans.{IsPlan};
+ghost use Rattle.conduit_merge.specs.Merging.{merged_base, merged_rows};
 ghost use Rattle.desktop_session.specs.Acts.{text};
 ghost use Rattle.sync_session.specs.Quiet.{AreQuiet};
+ghost use Rattle.sync_session.specs.Rows.{planned_base, planned_rows};
 ghost use Rattle.sync_session.specs.Sessions.{before_writes, requests, session};
 ghost use Rattle.sync_session.specs.Tasks.{Meeting};
+
+use conduit_rules::{Action, Plan};
 
 /// What is said up to the first mark changes no database and not the user.
 pub fn nothing_is_written_before_the_mark()
@@ -14,4 +20,12 @@ pub fn nothing_is_written_before_the_mark()
 pub fn requests_bear_no_given_id()
     ensures { (meeting : Meeting) (given : List ℕ)
         → map text (session meeting given) ≡ requests meeting }
+{}
+
+/// The rows and the base rows of a plan are those of the merge.
+pub fn planned_rows_are_merged()
+    ensures rows { (action : Action) (sides : Sides) (plan : Plan) (given : List ℕ) → IsPlan action sides plan
+        → planned_rows plan given ≡ merged_rows (choice_for action sides) given }
+    ensures base { (action : Action) (sides : Sides) (plan : Plan) (given : List ℕ) → IsPlan action sides plan
+        → planned_base plan given ≡ merged_base (choice_for action sides) sides.handheld given }
 {}

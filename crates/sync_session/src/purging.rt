@@ -37,15 +37,28 @@ pub fn purge_one<L: Link>(
     opened.close()
 }
 
+// Takes away from a database what its plan does not keep, unless it is skipped.
+fn purge_planned<L: Link>(linked: &mut Linked<L>, one: &Planned) -> Result<(), SessionFault>
+    requires { linked.old.abandoned ≡ false }
+    ensures spans { Spans L.talk L.since L.fault L.downs
+        (purges_under (L.talk linked.old.link) one.now) (λ handle given done. Unit {0})
+        linked.old linked.new result }
+{
+    match &one.job.skip {
+        Some(_) => Ok(()),
+        None => purge_one(linked, &one.job.name, &one.plan),
+    }
+}
+
 /// Takes away from each of these databases of the handheld what its plan does not keep, one database after another, as `purge_one`
-/// does.
+/// does. One that is skipped is not opened.
 pub fn purge_all<L: Link>(linked: &mut Linked<L>, planned: &[Planned]) -> Result<(), SessionFault>
     requires { linked.old.abandoned ≡ false }
     ensures purges { SpansEach L.talk L.since L.fault L.downs purges_under says_nothing
         planned.now (done_each planned.now) linked.old linked.new result }
 {
     for one in planned {
-        purge_one(linked, &one.job.name, &one.plan)?;
+        purge_planned(linked, one)?;
     }
     Ok(())
 }

@@ -1,0 +1,15 @@
+use Rattle.std.proofs.Common.{◌≡◌, ◌++◌, length, map}
+use Rattle.std.specs.List.{AllByRecursion}
+use Rattle.desk_store.specs.Views.{shelves_in}
+use Rattle.sync_session.specs.declared.planned.Planned.{Planned}
+use Rattle.sync_session.specs.Planning.{IsPlanUnder}
+use Rattle.sync_session.proofs.planning.plan_all.Given as goal
+
+abbrev pub invariant-loop-job : goal.invariant-loop-job
+invariant-loop-job g l = record {
+  job_count : l.job-iterator.a.rest.len ≡ length l.job-iterator.a.rest.items;
+  jobs : map (λ (one : Planned). one.job) l.planned.items ++ l.job-iterator.a.rest.items ≡ l.fn.jobs.items;
+  view_count : l.job-iterator.b.rest.len ≡ length l.job-iterator.b.rest.items;
+  views : map (λ (one : Planned). one.view) l.planned.items ++ l.job-iterator.b.rest.items ≡ l.fn.views.items;
+  plans : AllByRecursion (λ (one : Planned). IsPlanUnder (shelves_in l.desk) l.agree one.job one.view one.plan) l.planned.items;
+}

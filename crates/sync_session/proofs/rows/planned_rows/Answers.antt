@@ -1,0 +1,24 @@
+-- Rows in rising ids, settled.
+use Rattle.std.proofs.Common.{◌≡◌, ◌∙◌, ◌++◌, ap, map, subst, sym}
+use Rattle.std.proofs.lemmas.List.{map-append}
+use Rattle.std.specs.Prelude.{IfOk}
+use Rattle.conduit_rules.specs.declared.view.Seen.{Seen}
+use Rattle.conduit_merge.specs.Merging.{settled_record}
+use Rattle.conduit_merge.specs.Writes.{numbered}
+use Rattle.slow_mirror.specs.Entries.{ordered}
+use Rattle.sync_session.specs.Rows.{row_entries, row_seen}
+use Rattle.sync_session.proofs.RowLaws.{settled-ordered}
+use Rattle.sync_session.proofs.rows.planned_rows.Goals as goal
+
+pub returns : goal.returns
+returns c =
+    let kept = c.args.plan.now.kept.items in
+    let added = numbered c.args.given.now c.args.plan.now.adds.items in
+    let entries : c.put_added.new.rows.items ≡ map row_seen (row_entries c.args.plan.now c.args.given.now)
+    = c.in_ok-put_added.ensures.rows ∙ ap (λ xs. xs ++ map row_seen (numbered c.args.given.now c.deref-2.result.now)) c.in_ok-put_kept.ensures.rows
+    ∙ ap (λ xs. (xs ++ map row_seen c.deref.result.now) ++ map row_seen (numbered c.args.given.now c.deref-2.result.now)) c.new-rows.ensures.items
+    ∙ ap (λ ks. map row_seen ks ++ map row_seen (numbered c.args.given.now c.deref-2.result.now)) c.deref.ensures.value
+    ∙ ap (λ cs. map row_seen kept ++ map row_seen (numbered c.args.given.now cs)) c.deref-2.ensures.value ∙ sym (map-append row_seen kept added) in
+    subst (λ xs. IfOk c.settled_all.result (λ rows. rows.items ≡ xs))
+    (ap (map (λ (seen : Seen). settled_record (seen.id, seen.content))) (c.in_ok-view.ensures.ordered ∙ ap ordered entries)
+    ∙ settled-ordered (row_entries c.args.plan.now c.args.given.now)) c.settled_all.ensures

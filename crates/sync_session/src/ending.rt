@@ -1,0 +1,32 @@
+// The end of a session, once the desktop has committed.
+ghost use Rattle.std.specs.Prelude.{◌≡◌, ◌∷◌, [], false};
+ghost use Rattle.desktop_session.specs.Requests.{ending, marking};
+ghost use Rattle.sync_session.specs.Endings.{Ends};
+ghost use Rattle.sync_session.specs.Users as users;
+
+use crate::marking::finish;
+use crate::planned::Planned;
+use crate::purging::purge_all;
+use desktop_session::{Ended, Halted, Linked};
+use dlp_commands::Link;
+use pdb_values::{Marks, PalmDate};
+
+/// Purges each of these databases of the handheld that is not skipped, then marks the handheld as one whose session is done, with the
+/// user that both sides agree on, this desktop and the date, and ends the session.
+pub fn end_all<L: Link>(
+    linked: Linked<L>,
+    planned: &[Planned],
+    date: PalmDate,
+    slot: &Marks,
+) -> Result<Ended<L>, Halted<L>>
+    requires { linked.abandoned ≡ false }
+    ensures { Ends L.talk L.since L.fault L.downs planned.now
+        (marking (users.done_user date linked.user slot.now) 0xF0 ∷ ending ∷ [])
+        linked result }
+{
+    let mut linked = linked;
+    match purge_all(&mut linked, planned) {
+        Ok(()) => finish(linked, date, slot),
+        Err(cause) => Err(linked.halt(cause)),
+    }
+}
