@@ -1,0 +1,12 @@
+pub mod AlongLaws
+pub mod CountLaws
+pub mod EachLaws
+pub mod MergeActs
+pub mod OpenActs
+pub mod PhaseActs
+pub mod PutActs
+pub mod ReadActs
+pub mod ReadyLaws
+pub mod SortedLaws
+pub mod TaskActs
+pub mod WriteActs

@@ -1,0 +1,22 @@
+-- Both sides before a session, as their types keep them.
+use Rattle.std.specs.Prelude.{◌≡◌, ◌<◌, ◌≤◌, ◌^◌, ◌==◌, false, length}
+use Rattle.std.specs.List.{AllByRecursion, list_any}
+use Rattle.palm_device.specs.Bounds.{IsBoundedDatabase}
+use Rattle.palm_device.specs.Handles.{no_handles}
+use Rattle.desktop_session.specs.Tellings.{IsProper}
+use Rattle.desk_store.specs.Shelves.{SlotValue}
+use Rattle.sync_session.specs.Tasks.{Meeting, slot_of}
+
+-- rows and base rows within the bounds of databases, and a user's name of at most 40 bytes, none of them zero
+pub record IsSoundSlot (slot : SlotValue) : Type 0 where
+  pub rows : AllByRecursion IsBoundedDatabase slot.shelves.rows
+  pub bases : AllByRecursion IsBoundedDatabase slot.shelves.bases
+  pub short : length slot.marks.name ≤ 40
+  pub no_zero : list_any (λ byte. byte == 0) slot.marks.name ≡ false
+
+-- a handheld with nothing open and a desktop's picked slot, whose values keep the bounds of their types, and a date of 32 bits
+pub record IsSoundMeeting (meeting : Meeting) : Type 0 where
+  pub device : IsProper meeting.device
+  pub closed : meeting.device.handles ≡ no_handles
+  pub slot : IsSoundSlot (slot_of meeting)
+  pub date : meeting.wishes.date < 2 ^ 32

@@ -1,0 +1,5 @@
+//! Where a handheld stands after a session, and after any beginning of it, as laws over what the session
+//! says: there is no code.
+#![tactic(auto)]
+
+pub mod laws;
