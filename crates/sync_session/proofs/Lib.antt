@@ -6,8 +6,10 @@ pub mod IdsLaws
 pub mod MarkLaws
 pub mod MeetLaws
 pub mod NamesLaws
+pub mod PlannedLaws
 pub mod PlanningLaws
 pub mod QuietLaws
 pub mod ReadingLaws
 pub mod RowLaws
+pub mod SeenCountLaws
 pub mod SpanLaws

@@ -10,6 +10,9 @@ pub mod Meets
 pub mod Merges
 pub mod News
 pub mod Phases
+pub mod PlannedLimits
+pub mod PlannedReports
+pub mod PlannedTasks
 pub mod Planning
 pub mod Quiet
 pub mod Readings

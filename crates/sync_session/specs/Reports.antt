@@ -1,5 +1,5 @@
 -- What is told of each database once a session has ended.
-use Rattle.std.specs.Prelude.{ℕ, ◌-◌, Bool, true, false, List, [], filter, length, Option, Some, None}
+use Rattle.std.specs.Prelude.{ℕ, ◌-◌, Bool, true, false, List, [], filter, length, map, Option, Some, None}
 use Rattle.conduit_rules.specs.Plans.{replaced_rows, purged_ids}
 use Rattle.conduit_rules.specs.declared.view.Seen.{Seen}
 use Rattle.conduit_rules.specs.declared.view.SeenState.{SeenState}
@@ -7,12 +7,13 @@ use Rattle.conduit_rules.specs.declared.view.SeenState.TheVariants.{Unread}
 use Rattle.conduit_merge.specs.Merging.{one_copy_behind}
 use Rattle.sync_session.specs.declared.skip.Skip.{Skip}
 use Rattle.sync_session.specs.Archives.{entries_of}
-use Rattle.sync_session.specs.Tasks.{Meeting, Task, records_of}
+use Rattle.sync_session.specs.Tasks.{Meeting, Task, records_of, tasks}
 use Rattle.sync_session.specs.Skips.{skip_of}
 use Rattle.sync_session.specs.Choosing.{choice, is_fast, seen_held, view}
 use Rattle.sync_session.specs.News.{add_count}
 use Rattle.sync_session.specs.Limits.{archive_count, row_count}
 use Rattle.sync_session.specs.declared.report.Counts.{Counts}
+use Rattle.sync_session.specs.declared.report.DbReport.{DbReport}
 use Rattle.sync_session.specs.declared.report.Did.{Did}
 use Rattle.sync_session.specs.declared.report.Did.TheVariants.{Synced, Skipped}
 
@@ -48,3 +49,11 @@ did_by meeting task (Some skip) = Skipped skip
 -- what was done with a database
 unfoldable pub did_of : Meeting → Task → Did
 did_of meeting task = did_by meeting task (skip_of task)
+
+-- what is told of a database: what was done, under its name
+abbrev pub report_of : Meeting → Task → DbReport
+report_of meeting task = record { name = task.name; did = did_of meeting task }
+
+-- of all databases of a session, in byte order of their names
+unfoldable pub reports : Meeting → List DbReport
+reports meeting = map (report_of meeting) (tasks meeting)

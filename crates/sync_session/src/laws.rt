@@ -1,14 +1,22 @@
 //! What holds of every session. Each function here does nothing: its contract is the law.
-ghost use Rattle.std.specs.Prelude.{◌≡◌, ℕ, List, map};
+ghost use Rattle.std.specs.Prelude.{◌≡◌, ℕ, List, None, length, map};
 ghost use Rattle.conduit_rules.specs.Choices.{Sides, choice_for};
 ghost use Rattle.conduit_rules.specs.Plans.{IsPlan};
 ghost use Rattle.conduit_merge.specs.Merging.{merged_base, merged_rows};
+ghost use Rattle.desk_store.specs.Desks.{all_rows};
 ghost use Rattle.desktop_session.specs.Acts.{text};
+ghost use Rattle.desktop_session.specs.Tellings.{IsProper};
+ghost use Rattle.sync_session.specs.Limits.{first_over};
+ghost use Rattle.sync_session.specs.PlannedLimits.{over_planned};
+ghost use Rattle.sync_session.specs.PlannedReports.{reports_planned};
+ghost use Rattle.sync_session.specs.PlannedTasks.{ArePlannedFor};
 ghost use Rattle.sync_session.specs.Quiet.{AreQuiet};
+ghost use Rattle.sync_session.specs.Reports.{reports};
 ghost use Rattle.sync_session.specs.Rows.{planned_base, planned_rows};
 ghost use Rattle.sync_session.specs.Sessions.{before_writes, requests, session};
-ghost use Rattle.sync_session.specs.Tasks.{Meeting};
+ghost use Rattle.sync_session.specs.Tasks.{Meeting, slot_of};
 
+use crate::planned::Planned;
 use conduit_rules::{Action, Plan};
 
 /// What is said up to the first mark changes no database and not the user.
@@ -28,4 +36,19 @@ pub fn planned_rows_are_merged()
         → planned_rows plan given ≡ merged_rows (choice_for action sides) given }
     ensures base { (action : Action) (sides : Sides) (plan : Plan) (given : List ℕ) → IsPlan action sides plan
         → planned_base plan given ≡ merged_base (choice_for action sides) sides.handheld given }
+{}
+
+/// The first planned database that would pass a limit is the first one of the meeting, over a handheld whose values keep their bounds.
+pub fn the_first_over_is_the_meetings()
+    ensures { (meeting : Meeting) (planned : List Planned)
+        → IsProper meeting.device → ArePlannedFor meeting planned
+        → over_planned (slot_of meeting).shelves (length meeting.device.databases) (all_rows meeting.slots) planned
+        ≡ first_over meeting }
+{}
+
+/// Where none would pass a limit, what is told of the planned databases is what is told of the meeting.
+pub fn what_is_told_is_the_meetings()
+    ensures { (meeting : Meeting) (planned : List Planned)
+        → IsProper meeting.device → ArePlannedFor meeting planned → first_over meeting ≡ None
+        → reports_planned (slot_of meeting).shelves planned ≡ reports meeting }
 {}

@@ -21,6 +21,7 @@ mod planning;
 mod purging;
 mod reading;
 mod report;
+mod reporting;
 mod rows;
 mod sizes;
 mod skip;
@@ -38,6 +39,7 @@ pub use jobs::jobs_of;
 pub use judge::{action_of, skip_of};
 pub use laws::{
     nothing_is_written_before_the_mark, planned_rows_are_merged, requests_bear_no_given_id,
+    the_first_over_is_the_meetings, what_is_told_is_the_meetings,
 };
 pub use limits::is_over;
 pub use marking::{begin, finish};
@@ -48,6 +50,7 @@ pub use planning::plan_all;
 pub use purging::{purge_all, purge_one};
 pub use reading::{read_all, read_changed, read_one};
 pub use report::{Counts, DbReport, Did};
+pub use reporting::reports_of;
 pub use rows::{planned_base, planned_rows};
 pub use sizes::Sizes;
 pub use skip::Skip;

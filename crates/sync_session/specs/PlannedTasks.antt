@@ -1,0 +1,39 @@
+-- Planned databases that are those of a meeting.
+use Rattle.std.specs.Prelude.{◌≡◌, List, [], ◌∷◌, is_some, None, Option}
+use Rattle.std.specs.Option.{option_map}
+use Rattle.pdb_values.specs.Databases.{DatabaseValue}
+use Rattle.pdb_values.specs.declared.head.DbHead.{DbHead}
+use Rattle.dlp_commands.specs.DatabaseFunctions.{listed}
+use Rattle.conduit_rules.specs.Plans.{IsPlan}
+use Rattle.sync_session.specs.declared.job.Job.{Job}
+use Rattle.sync_session.specs.declared.planned.Planned.{Planned}
+use Rattle.sync_session.specs.Choosing.{action_or_sync, agrees, sides, view}
+use Rattle.sync_session.specs.Jobs.{job_by}
+use Rattle.sync_session.specs.Skips.{head_of, skip_of}
+use Rattle.sync_session.specs.Tasks.{Meeting, Task, tasks}
+
+-- the head of a database as a list of the handheld tells it
+abbrev pub listed_head : Option DatabaseValue → Option DbHead
+listed_head database = option_map (λ (database : DatabaseValue). listed database.head) database
+
+-- a database of a meeting, as it is before it is read
+abbrev pub job_for : Meeting → Task → Job
+job_for meeting task =
+    job_by task.name (listed_head task.handheld) (head_of task.rows) (is_some task.base) task.action (agrees meeting) meeting.wishes.slow
+
+-- it is that of the meeting, and where it isn't skipped it was seen as it is, and what is planned is the plan of its action
+pub record IsPlannedFor (meeting : Meeting) (task : Task) (one : Planned) : Type 0 where
+  pub job : one.job ≡ job_for meeting task
+  pub seen : skip_of task ≡ None → one.view.seen.items ≡ view meeting task
+  pub plan : skip_of task ≡ None → IsPlan (action_or_sync task.action) (sides meeting task) one.plan
+
+-- each in order
+abbrev pub AreEachPlannedFor : Meeting → List Task → List Planned → Type 0
+AreEachPlannedFor meeting [] [] = Unit {0}
+AreEachPlannedFor meeting [] (one ∷ planned) = ⊥
+AreEachPlannedFor meeting (task ∷ later) [] = ⊥
+AreEachPlannedFor meeting (task ∷ later) (one ∷ planned) = IsPlannedFor meeting task one × AreEachPlannedFor meeting later planned
+
+-- these are the databases of a meeting, all of them
+abbrev pub ArePlannedFor : Meeting → List Planned → Type 0
+ArePlannedFor meeting planned = AreEachPlannedFor meeting (tasks meeting) planned
