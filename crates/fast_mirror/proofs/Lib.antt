@@ -9,5 +9,5 @@ mod RisingLaws
 mod SayLaws
 mod SideLaws
 mod ToldLaws
-mod ViewLaws
+pub mod ViewLaws
 mod WholeLaws

@@ -13,8 +13,10 @@ use Rattle.desktop_session.proofs.SaysLaws.{saying_none, saying_then}
 use Rattle.desktop_session.proofs.StopLaws.{does_then, stops_then}
 use Rattle.slow_mirror.proofs.AskLaws.{SoFar, all_said, asked_part, asks_then, none_said, one_said}
 use Rattle.slow_mirror.specs.Asks.{Asks}
+use Rattle.sync_session.specs.Causes.{IsLater}
+use Rattle.sync_session.specs.Rests.{IsFirst}
 use Rattle.sync_session.specs.Spans.{Spans}
-use Rattle.sync_session.specs.Stretches.{EachSays, SpansBehind, SpansEach, Stretch, done_each, each_acts}
+use Rattle.sync_session.specs.Stretches.{AreFirst, EachSays, SpansBehind, SpansEach, Stretch, done_each, each_acts}
 
 -- stretches behind others that all have answers
 each_acts-append : {J A : Type 0} (acts : Option Talk → J → ℕ → List ℕ → List Act) (says : Option Talk → J → ℕ → List ℕ → A → Type 0)
@@ -55,6 +57,30 @@ each_says-append acts says told (job ∷ done) jobs (one ∷ ones) more (x ∷ x
           (subst (λ t. EachSays acts says t jobs more ys) (sym (saying_then first rest told)) later),
     )
 
+pub first-none : {J : Type 0} (acts : Option Talk → J → ℕ → List ℕ → List Act) (told : Option Talk) (jobs : List J) → AreFirst acts told jobs []
+first-none acts told [] = tt
+first-none acts told (job ∷ jobs) = tt
+
+first-append : {J A : Type 0} (acts : Option Talk → J → ℕ → List ℕ → List Act) (says : Option Talk → J → ℕ → List ℕ → A → Type 0)
+    (told : Option Talk) (done jobs : List J) (ones more : List Stretch) (xs : List A) → EachSays acts says told done ones xs
+    → AreFirst acts told done ones → AreFirst acts (saying (each_acts acts told done ones) told) jobs more
+    → AreFirst acts told (done ++ jobs) (ones ++ more)
+first-append acts says told [] jobs [] more [] all before later = subst (λ t. AreFirst acts t jobs more) (saying_none told) later
+first-append acts says told [] jobs [] more (x ∷ xs) all before later = absurd all
+first-append acts says told [] jobs (one ∷ ones) more [] all before later = absurd all
+first-append acts says told [] jobs (one ∷ ones) more (x ∷ xs) all before later = absurd all
+first-append acts says told (job ∷ done) jobs [] more [] all before later = absurd all
+first-append acts says told (job ∷ done) jobs [] more (x ∷ xs) all before later = absurd all
+first-append acts says told (job ∷ done) jobs (one ∷ ones) more [] all before later = absurd all
+first-append acts says told (job ∷ done) jobs (one ∷ ones) more (x ∷ xs) all before later =
+    let first : List Act = acts told job one.handle one.given in
+    let then : Option Talk = saying first told in
+    let rest : List Act = each_acts acts then done ones in (
+      before.0,
+      first-append acts says then done jobs ones more xs all.1 before.1
+          (subst (λ t. AreFirst acts t jobs more) (sym (saying_then first rest told)) later),
+    )
+
 each_acts-none : {J : Type 0} (acts : Option Talk → J → ℕ → List ℕ → List Act) (told : Option Talk) (jobs : List J) → each_acts acts told jobs [] ≡ []
 each_acts-none acts told [] = refl
 each_acts-none acts told (job ∷ jobs) = refl
@@ -71,6 +97,7 @@ pub record EachSoFar {L J A : Type 0} (talk : L → Option Talk) (since : L → 
     (acts : Option Talk → J → ℕ → List ℕ → List Act) (says : Option Talk → J → ℕ → List ℕ → A → Type 0) (done : List J) (xs : List A)
     (old now : SessionValue L) : Type 0 where
   pub stretches : List Stretch
+  pub firsts : AreFirst acts (talk old.link) done stretches
   pub so : SoFar talk since fault downs (each_acts acts (talk old.link) done stretches) old now
   pub said : EachSays acts says (talk old.link) done stretches xs
 
@@ -78,7 +105,7 @@ pub each_none : {L J A : Type 0} (talk : L → Option Talk) (since : L → L →
     (itself : (a : L) → since a a) (acts : Option Talk → J → ℕ → List ℕ → List Act) (says : Option Talk → J → ℕ → List ℕ → A → Type 0)
     (old : SessionValue L) → EachSoFar talk since fault downs acts says [] [] old old
 each_none talk since fault downs itself acts says old =
-    record { stretches = []; so = none_said talk since fault downs itself old; said = tt }
+    record { stretches = []; firsts = tt; so = none_said talk since fault downs itself old; said = tt }
 
 -- one stretch more
 pub each_on : {L J A : Type 0} (talk : L → Option Talk) (since : L → L → Type 0) (fault : L → Option LinkFault) (downs : L → ℕ)
@@ -103,6 +130,8 @@ each_on {L} {J} {A} talk since fault downs since_more acts says done job xs x ol
     ∙ sym (each_acts-append acts says told done (job ∷ []) before.stretches (one ∷ []) xs before.said) in
     record {
       stretches = before.stretches ++ one ∷ [];
+      firsts = first-append acts says told done (job ∷ []) before.stretches (one ∷ []) xs before.said before.firsts
+          (subst (λ t. IsFirst t spans.handle) is spans.first, tt);
       so = subst (λ zs. SoFar talk since fault downs zs old new) same whole;
       said = each_says-append acts says told done (job ∷ []) before.stretches (one ∷ []) xs (x ∷ []) before.said
           (subst (λ t. says t job spans.handle spans.given x) is spans.said, tt);
@@ -112,11 +141,11 @@ each_on {L} {J} {A} talk since fault downs since_more acts says done job xs x ol
 pub each_stopped : {L J A B : Type 0} (talk : L → Option Talk) (since : L → L → Type 0) (fault : L → Option LinkFault) (downs : L → ℕ)
     (since_more : (a b c : L) → since a b → since b c → since a c) (acts : Option Talk → J → ℕ → List ℕ → List Act)
     (says : Option Talk → J → ℕ → List ℕ → A → Type 0) (done : List J) (job : J) (rest jobs : List J) (xs : List A) (each : B → List A)
-    (old now new : SessionValue L) (cause other : SessionFault) → done ++ job ∷ rest ≡ jobs
+    (old now new : SessionValue L) (cause : SessionFault) → done ++ job ∷ rest ≡ jobs
     → EachSoFar talk since fault downs acts says done xs old now
     → Spans {A = A} talk since fault downs (acts (talk now.link) job) (says (talk now.link) job) now new (Err cause)
-    → SpansEach talk since fault downs acts says jobs each old new (Err other)
-each_stopped {L} {J} {A} {B} talk since fault downs since_more acts says done job rest jobs xs each old now new cause other split before spans =
+    → SpansEach talk since fault downs acts says jobs each old new (Err cause)
+each_stopped {L} {J} {A} {B} talk since fault downs since_more acts says done job rest jobs xs each old now new cause split before spans =
     let told : Option Talk = talk old.link in
     let said : List Act = each_acts acts told done before.stretches in
     let one : Stretch = record { handle = spans.handle; given = spans.given } in
@@ -130,14 +159,20 @@ each_stopped {L} {J} {A} {B} talk since fault downs since_more acts says done jo
     ∙ sym (each_acts-append acts says told done (job ∷ rest) before.stretches (one ∷ []) xs before.said) in
     let stops = subst (λ zs. Stops talk since fault downs zs old.link new.link) (sym (map-append text said mine))
     (stops_then talk since fault downs since_more said (map text mine) old.link now.link new.link before.so.does before.so.stops spans.stops) in
-    subst (λ js. SpansEach talk since fault downs acts says js each old new (Err other)) split
+    subst (λ js. SpansEach talk since fault downs acts says js each old new (Err cause)) split
     (record {
       stretches = before.stretches ++ one ∷ [];
+      firsts = first-append acts says told done (job ∷ rest) before.stretches (one ∷ []) xs before.said before.firsts (
+        subst (λ t. IsFirst t spans.handle) is spans.first,
+        first-none acts (saying (acts (saying said told) job spans.handle spans.given)
+            (saying said told)) rest,
+      );
       stops = subst (λ zs. Stops talk since fault downs (map text zs) old.link new.link) same stops;
       does = tt;
       clear = tt;
       user = spans.user ∙ before.so.user;
       closed = tt;
+      cause = spans.cause;
       said = tt;
     })
 
@@ -145,8 +180,8 @@ each_stopped {L} {J} {A} {B} talk since fault downs since_more acts says done jo
 pub each_part : {L J A B : Type 0} (talk : L → Option Talk) (since : L → L → Type 0) (fault : L → Option LinkFault) (downs : L → ℕ)
     (acts : Option Talk → J → ℕ → List ℕ → List Act) (says : Option Talk → J → ℕ → List ℕ → A → Type 0) (done rest jobs : List J) (xs : List A)
     (each : B → List A) (old new : SessionValue L) (other : SessionFault) → done ++ rest ≡ jobs → EachSoFar talk since fault downs acts says done xs old new
-    → SpansEach talk since fault downs acts says jobs each old new (Err other)
-each_part {L} {J} {A} {B} talk since fault downs acts says done rest jobs xs each old new other split before =
+    → IsLater (fault new.link) other → SpansEach talk since fault downs acts says jobs each old new (Err other)
+each_part {L} {J} {A} {B} talk since fault downs acts says done rest jobs xs each old new other split before later =
     let told : Option Talk = talk old.link in
     let said : List Act = each_acts acts told done before.stretches in
     let same : said ≡ each_acts acts told (done ++ rest) (before.stretches ++ [])
@@ -155,11 +190,13 @@ each_part {L} {J} {A} {B} talk since fault downs acts says done rest jobs xs eac
     subst (λ js. SpansEach talk since fault downs acts says js each old new (Err other)) split
     (record {
       stretches = before.stretches ++ [];
+      firsts = first-append acts says told done rest before.stretches [] xs before.said before.firsts (first-none acts (saying said told) rest);
       stops = subst (λ zs. Stops talk since fault downs (map text zs) old.link new.link) same before.so.stops;
       does = tt;
       clear = tt;
       user = before.so.user;
       closed = tt;
+      cause = later;
       said = tt;
     })
 
@@ -172,11 +209,13 @@ each_done talk since fault downs acts says done jobs xs each made old new all ar
     subst (λ js. SpansEach talk since fault downs acts says js each old new (Ok made)) all
     (record {
       stretches = before.stretches;
+      firsts = before.firsts;
       stops = before.so.stops;
       does = before.so.does;
       clear = before.so.clear;
       user = before.so.user;
       closed = before.so.abandoned;
+      cause = tt;
       said = subst (λ ys. EachSays acts says (talk old.link) done before.stretches ys) are before.said;
     })
 
@@ -189,10 +228,21 @@ done_each-append (one ∷ done) job = ap (λ xs. tt ∷ xs) (done_each-append do
 pub behind_none : {L J A B : Type 0} (talk : L → Option Talk) (since : L → L → Type 0) (fault : L → Option LinkFault) (downs : L → ℕ) (first : Act)
     (acts : Option Talk → J → ℕ → List ℕ → List Act) (says : Option Talk → J → ℕ → List ℕ → A → Type 0) (jobs : List J) (each : B → List A)
     (old new : SessionValue L) (cause : SessionFault) → Asked talk since fault downs first old new
-    → SpansBehind talk since fault downs first acts says jobs each old new (Err cause)
-behind_none {L} {J} {A} {B} talk since fault downs first acts says jobs each old new cause asked =
+    → IsLater (fault new.link) cause → SpansBehind talk since fault downs first acts says jobs each old new (Err cause)
+behind_none {L} {J} {A} {B} talk since fault downs first acts says jobs each old new cause asked later =
     let part = asked_part {A = B} talk since fault downs first (each_acts acts (saying (first ∷ []) (talk old.link)) jobs []) old new cause asked in
-    record { stretches = []; stops = part.stops; does = tt; clear = tt; user = part.user; closed = tt; said = tt }
+    record {
+      stretches = [];
+      firsts = first-none acts (saying (first ∷ [])
+          (talk old.link)) jobs;
+      stops = part.stops;
+      does = tt;
+      clear = tt;
+      user = part.user;
+      closed = tt;
+      cause = later;
+      said = tt;
+    }
 
 behind_does : {L B : Type 0} (talk : L → Option Talk) (first : Act) (rest acts : List Act) (a b c : L) (answer : Result B SessionFault)
     → first ∷ rest ≡ first ∷ acts → Does talk (first ∷ []) a b → OnOk answer (Does talk rest b c) → OnOk answer (Does talk (first ∷ acts) a c)
@@ -222,12 +272,14 @@ behind_one {L} {J} {A} {B} talk since fault downs since_more first acts says job
     = ap (λ t. first ∷ each_acts acts t jobs spans.stretches) told in
     record {
       stretches = spans.stretches;
+      firsts = subst (λ t. AreFirst acts t jobs spans.stretches) told spans.firsts;
       stops = subst (λ zs. Stops talk since fault downs (map text zs) old.link new.link) same
           (stops_then talk since fault downs since_more (first ∷ []) (map text rest) old.link now.link new.link before.does before.stops spans.stops);
       does = behind_does talk first rest (each_acts acts (saying (first ∷ []) (talk old.link)) jobs spans.stretches) old.link now.link new.link answer same
           before.does spans.does;
       clear = behind_clear (fault old.link ≡ None) (fault now.link ≡ None) (fault new.link ≡ None) answer (λ ok. none) spans.clear;
       user = spans.user ∙ before.user;
+      cause = spans.cause;
       closed = behind_closed old.abandoned now.abandoned new.abandoned answer before.abandoned spans.closed;
       said = subst (λ t. IfOk answer (λ made. EachSays acts says t jobs spans.stretches (each made))) told spans.said;
     }

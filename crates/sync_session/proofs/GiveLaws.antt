@@ -17,6 +17,7 @@ use Rattle.sync_session.specs.Gains.{AreGained}
 use Rattle.sync_session.specs.Heads.{made_head}
 use Rattle.sync_session.specs.Phases.{gained_by, news_by, nothing, opened_news, purges_by}
 use Rattle.sync_session.specs.Spans.{Spans, within}
+use Rattle.sync_session.proofs.HandleLaws.{one_first}
 
 none_put : (rows : List (ℕ × ContentValue)) (adds : List ContentValue) → length rows + length adds ≡ 0 → rows ++ as_new adds ≡ []
 none_put [] [] none = refl
@@ -38,11 +39,22 @@ something_put name plan some = some_put name plan.replace.items plan.adds.items 
 
 -- nothing is said, and this is answered
 pub span_none : {L A : Type 0} (talk : L → Option Talk) (since : L → L → Type 0) (fault : L → Option LinkFault) (downs : L → ℕ)
-    (itself : (a : L) → since a a) (says : ℕ → List ℕ → A → Type 0) (old : SessionValue L) (x : A) → says 0 [] x
+    (itself : (a : L) → since a a) (says : ℕ → List ℕ → A → Type 0) (old : SessionValue L) (x : A) → says 1 [] x
     → Spans talk since fault downs nothing says old old (Ok x)
 span_none talk since fault downs itself says old x is =
     let none = none_said talk since fault downs itself old in
-    record { handle = 0; given = []; stops = none.stops; does = none.does; clear = none.clear; user = refl; closed = refl; said = is }
+    record {
+      handle = 1;
+      given = [];
+      first = one_first (talk old.link);
+      stops = none.stops;
+      does = none.does;
+      clear = none.clear;
+      user = refl;
+      closed = refl;
+      cause = tt;
+      said = is;
+    }
 
 no_drop : (n : ℕ) → drop {A = ℕ} n [] ≡ []
 no_drop zero = refl
@@ -67,10 +79,11 @@ pub spans_nothing : {L A : Type 0} (talk : L → Option Talk) (since : L → L �
     → length plan.replace.items + length plan.adds.items ≡ 0 → items x ≡ []
     → Spans talk since fault downs (opened_news name (news_of plan)) (λ handle given ids. AreGained told plan handle given (items ids)) old old (Ok x)
 spans_nothing {L} {A} talk since fault downs itself told name plan items old x none is =
-    subst (λ news. Spans talk since fault downs (opened_news name news) (λ handle given (ids : A). AreGained told plan handle given (items ids)) old old (Ok x))
+    subst (λ news. Spans talk since fault downs (opened_news name news) (λ handle given (ids : A). AreGained told plan handle given (items ids)) old old
+    (Ok x))
     (sym (nothing_put plan none))
     (span_none talk since fault downs itself (λ handle given (ids : A). AreGained told plan handle given (items ids)) old x
-    (none_gained told plan 0 (items x) none is))
+    (none_gained told plan 1 (items x) none is))
 
 -- something is
 pub spans_something : {L A : Type 0} (talk : L → Option Talk) (since : L → L → Type 0) (fault : L → Option LinkFault) (downs : L → ℕ) (name : List ℕ)
@@ -113,7 +126,8 @@ planned_new {L} {A} talk since fault downs told skip handheld rows head made nam
     (λ handle given (ids : A). AreGained (saying (making m ∷ []) told) plan handle given (items ids)) old new answer) head_is spans)))
 
 pub planned_none : {L A : Type 0} (talk : L → Option Talk) (since : L → L → Type 0) (fault : L → Option LinkFault) (downs : L → ℕ)
-    (itself : (a : L) → since a a) (told : Option Talk) (skip : Option Skip) (handheld rows : Option DbHead) (name : List ℕ) (plan : Plan) (items : A → List ℕ)
+    (itself : (a : L) → since a a) (told : Option Talk) (skip : Option Skip) (handheld rows : Option DbHead) (name : List ℕ) (plan : Plan) (items : A
+    → List ℕ)
     (old : SessionValue L) (x : A) → skip ≡ None → handheld ≡ None → rows ≡ None → items x ≡ []
     → Spans talk since fault downs (news_by skip handheld rows name (news_of plan))
     (λ handle given ids. gained_by skip handheld rows name plan told handle given (items ids)) old old (Ok x)
@@ -140,7 +154,7 @@ planned_skipped {L} {A} talk since fault downs itself told skip handheld rows wh
 -- what a database loses, by whether it is skipped
 pub purges_skipped : {L A : Type 0} (talk : L → Option Talk) (since : L → L → Type 0) (fault : L → Option LinkFault) (downs : L → ℕ)
     (itself : (a : L) → since a a) (skip : Option Skip) (why : Skip) (name ids : List ℕ) (says : ℕ → List ℕ → A → Type 0) (old : SessionValue L) (x : A)
-    → skip ≡ Some why → says 0 [] x → Spans talk since fault downs (purges_by skip name ids) says old old (Ok x)
+    → skip ≡ Some why → says 1 [] x → Spans talk since fault downs (purges_by skip name ids) says old old (Ok x)
 purges_skipped talk since fault downs itself skip why name ids says old x is done =
     subst (λ s. Spans talk since fault downs (purges_by s name ids) says old old (Ok x)) (sym is) (span_none talk since fault downs itself says old x done)
 

@@ -15,7 +15,8 @@ use Rattle.sync_session.specs.News.{add_count, all_news, news_acts, news_by, ope
 use Rattle.sync_session.specs.Users.{begin_mark}
 use Rattle.sync_session.specs.Sessions.{adds_of, after_commit, before_commit, before_writes, requests, session}
 
-text-puts : (handle : ℕ) (entries : List (ℕ × ContentValue)) (ids others : List ℕ) → map text (puts handle ids entries) ≡ map text (puts handle others entries)
+pub text-puts : (handle : ℕ) (entries : List (ℕ × ContentValue)) (ids others : List ℕ)
+    → map text (puts handle ids entries) ≡ map text (puts handle others entries)
 unfolding puts text
 text-puts handle [] ids others = refl
 text-puts handle (e ∷ es) [] [] = refl
@@ -23,12 +24,12 @@ text-puts handle (e ∷ es) [] (o ∷ others) = ap (λ zs. text (putting 0 handl
 text-puts handle (e ∷ es) (i ∷ ids) [] = ap (λ zs. text (putting 0 handle e.0 e.1) ∷ zs) (text-puts handle es ids [])
 text-puts handle (e ∷ es) (i ∷ ids) (o ∷ others) = ap (λ zs. text (putting 0 handle e.0 e.1) ∷ zs) (text-puts handle es ids others)
 
-text-around : (first : Act) (acts others : List Act) → map text acts ≡ map text others
+pub text-around : (first : Act) (acts others : List Act) → map text acts ≡ map text others
     → map text (first ∷ (acts ++ closing 1 ∷ [])) ≡ map text (first ∷ (others ++ closing 1 ∷ []))
 text-around first acts others same = ap (λ zs. text first ∷ zs)
     (map-append text acts (closing 1 ∷ []) ∙ ap (λ zs. zs ++ text (closing 1) ∷ []) same ∙ sym (map-append text others (closing 1 ∷ [])))
 
-text-opened_for : (name : List ℕ) (acts others : List Act) → map text acts ≡ map text others
+pub text-opened_for : (name : List ℕ) (acts others : List Act) → map text acts ≡ map text others
     → map text (opened_for name acts) ≡ map text (opened_for name others)
 text-opened_for name [] [] same = refl
 text-opened_for name [] (other ∷ others) same = absurd cc
@@ -42,14 +43,16 @@ text-news_by None None task acts others is same = rw is refl
 text-news_by None (Some rows) task acts others is same = rw is (text-around (making (made_head rows.head)) acts others same)
 
 -- the ids of a database don't show
-text-news_acts : (meeting : Meeting) (task : Task) (ids others : List ℕ) → map text (news_acts meeting task ids) ≡ map text (news_acts meeting task others)
+pub text-news_acts : (meeting : Meeting) (task : Task) (ids others : List ℕ)
+    → map text (news_acts meeting task ids) ≡ map text (news_acts meeting task others)
 unfolding news_acts
 text-news_acts meeting task ids others =
     let zeros : List ℕ = replicate (length (replaced meeting task)) 0 in
     text-news_by task.handheld task.rows task (writes meeting task ids) (writes meeting task others) refl
     (text-puts 1 (replaced meeting task ++ as_new (choice meeting task).adds) (zeros ++ ids) (zeros ++ others))
 
-text-all_news : (meeting : Meeting) (tasks : List Task) (ids others : List ℕ) → map text (all_news meeting tasks ids) ≡ map text (all_news meeting tasks others)
+pub text-all_news : (meeting : Meeting) (tasks : List Task) (ids others : List ℕ)
+    → map text (all_news meeting tasks ids) ≡ map text (all_news meeting tasks others)
 unfolding all_news
 text-all_news meeting [] ids others = refl
 text-all_news meeting (task ∷ later) ids others =
@@ -59,7 +62,7 @@ text-all_news meeting (task ∷ later) ids others =
     ∙ ap (λ zs. map text (news_acts meeting task (take n others)) ++ zs) (text-all_news meeting later (drop n ids) (drop n others))
     ∙ sym (map-append text (news_acts meeting task (take n others)) (all_news meeting later (drop n others)))
 
-text-before_commit : (meeting : Meeting) (ids others : List ℕ) → map text (before_commit meeting ids) ≡ map text (before_commit meeting others)
+pub text-before_commit : (meeting : Meeting) (ids others : List ℕ) → map text (before_commit meeting ids) ≡ map text (before_commit meeting others)
 unfolding before_commit
 text-before_commit meeting ids others =
     map-append text (before_writes meeting) (begin_mark meeting ∷ all_news meeting (active meeting) ids)

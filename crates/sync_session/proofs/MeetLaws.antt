@@ -1,6 +1,6 @@
 -- A greeting, and then a list.
-use Rattle.std.proofs.Common.{◌≡◌, sym, subst, inl, inr, ℕ, Bool, false, List, map, arith}
-use Rattle.std.specs.Prelude.{◌⊎◌, ◌-◌, Option, None, IfSome, Ok, Err}
+use Rattle.std.proofs.Common.{◌≡◌, ◌<◌, ◌+◌, sym, subst, inl, inr, ℕ, Bool, true, false, List, map, arith}
+use Rattle.std.specs.Prelude.{◌⊎◌, ◌-◌, Option, None, Some, IfSome, Ok, Err}
 use Rattle.pdb_values.specs.declared.user.UserInfo.{UserInfo}
 use Rattle.dlp_replies.specs.ReplyReading.{reply_at}
 use Rattle.dlp_commands.specs.declared.link.LinkFault.{LinkFault}
@@ -11,6 +11,7 @@ use Rattle.desktop_session.specs.Acts.{text}
 use Rattle.desktop_session.specs.Greetings.{Greeted, greeted}
 use Rattle.desktop_session.specs.Lists.{HasCause, HasReplied, IsByReplyTo, IsNotMissing, Lists, has_more, heads_listed, list_reply, listings}
 use Rattle.desktop_session.specs.Requests.{listing}
+use Rattle.desktop_session.specs.Says.{saying}
 use Rattle.desktop_session.specs.Sessions.{SessionValue}
 use Rattle.desktop_session.specs.Stops.{Does, Stops}
 use Rattle.desktop_session.proofs.StopLaws.{does_then, stops_then}
@@ -18,6 +19,11 @@ use Rattle.slow_mirror.proofs.AskLaws.{answered_none}
 use Rattle.sync_session.specs.declared.meeting.Met.{Met}
 use Rattle.sync_session.specs.Sessions.{greeting}
 use Rattle.sync_session.specs.Meets.{IsUnlisted, Meets, meeting_acts}
+
+-- no more were asked for than one
+few_more : (o : Option Talk) → IfSome o (λ talk. (k : ℕ) → k + 1 < 0 → has_more (list_reply talk.device k) ≡ true)
+few_more None = tt
+few_more (Some talk) = λ k below. absurd (omega arith)
 
 -- the greeting stopped
 pub meets_not : {L : Type 0} (talk : L → Option Talk) (since : L → L → Type 0) (fault : L → Option LinkFault) (downs : L → ℕ) (users : List ℕ) (add : Bool)
@@ -27,9 +33,11 @@ unfolding listings
 meets_not talk since fault downs users add old halted stops refused = record {
   count = 0;
   few = omega arith;
+  more = few_more (saying greeting (talk old));
   stops = stops;
   does = tt;
   user = tt;
+  some = tt;
   heads = tt;
   last = tt;
   closed = tt;
@@ -52,9 +60,11 @@ pub meets_done : {L : Type 0} (talk : L → Option Talk) (since : L → L → Ty
 meets_done talk since fault downs since_more users add old mid met stops does said none lists rest = record {
   count = lists.count;
   few = lists.few;
+  more = subst (λ t. IfSome t (λ told. (k : ℕ) → k + 1 < lists.count → has_more (list_reply told.device k) ≡ true)) does.said lists.more;
   stops = stops_then talk since fault downs since_more greeting (map text (listings lists.count)) old mid.link met.linked.link does stops lists.stops;
   does = does_then talk greeting (listings lists.count) old mid.link met.linked.link does lists.does;
   user = subst (λ u. Greeted users add (talk old) None (Ok u)) (sym rest.0) (clear users add (talk old) (fault mid.link) mid.user said);
+  some = lists.some;
   heads = subst (λ t. IfSome t (λ told. met.heads.items ≡ heads_listed told.device lists.count)) does.said lists.heads;
   last = subst (λ t. IfSome t (λ told. (lists.count ≡ 65536) ⊎ (has_more (list_reply told.device (lists.count - 1)) ≡ false))) does.said lists.last;
   closed = subst (λ b. b ≡ false) (sym rest.1) none;
@@ -71,10 +81,12 @@ pub meets_unlisted : {L : Type 0} (talk : L → Option Talk) (since : L → L �
 meets_unlisted talk since fault downs since_more users add old mid new halted cause stops does said lists by others replied link is = record {
   count = lists.count;
   few = lists.few;
+  more = subst (λ t. IfSome t (λ told. (k : ℕ) → k + 1 < lists.count → has_more (list_reply told.device k) ≡ true)) does.said lists.more;
   stops = subst (λ l. Stops talk since fault downs (map text (meeting_acts lists.count)) old l) (sym link)
       (stops_then talk since fault downs since_more greeting (map text (listings lists.count)) old mid.link new.link does stops lists.stops);
   does = tt;
   user = tt;
+  some = tt;
   heads = tt;
   last = tt;
   closed = tt;

@@ -1,8 +1,10 @@
 pub mod Archives
+pub mod Causes
 pub mod Choosing
 pub mod Endings
 pub mod Fronts
 pub mod Gains
+pub mod Given
 pub mod Heads
 pub mod Jobs
 pub mod Limits
@@ -18,6 +20,7 @@ pub mod Quiet
 pub mod Readings
 pub mod Reads
 pub mod Reports
+pub mod Rests
 pub mod Rows
 pub mod Sessions
 pub mod Sizes

@@ -1,5 +1,5 @@
 -- How both sides of a session meet: the handheld is greeted, and its databases are listed.
-use Rattle.std.specs.Prelude.{◌≡◌, ◌≤◌, ◌-◌, ◌⊎◌, ◌++◌, ℕ, Bool, false, List, map, Option, None, IfErr, IfOk, IfSome, Result, Ok, Err}
+use Rattle.std.specs.Prelude.{◌≡◌, ◌≤◌, ◌<◌, ◌+◌, ◌-◌, ◌⊎◌, ◌++◌, ℕ, Bool, true, false, List, map, Option, None, IfErr, IfOk, IfSome, Result, Ok, Err}
 use Rattle.pdb_values.specs.declared.user.UserInfo.{UserInfo}
 use Rattle.dlp_replies.specs.ReplyReading.{reply_at}
 use Rattle.dlp_commands.specs.declared.link.LinkFault.{LinkFault}
@@ -33,16 +33,19 @@ pub record IsUnlisted (users : List ℕ) (add : Bool) (talk : Option Talk) (faul
   pub others : IsNotMissing cause
   pub told : fault ≡ None → IfSome (saying greeting talk) (λ talk. HasReplied 65536 listing talk.device reply)
 
--- Nothing went out but a greeting and then a list, as far as the answers go. Where both sides met, each request was answered, the user
--- has a slot, the heads are those that the device lists behind the greeting, in so many replies, and the last of these said that no more
--- follow, unless it was the 65,536th. Else the greeting or the list was refused.
+-- Nothing went out but a greeting and then a list, as far as the answers go, each request of the list but the first where the reply before
+-- it said that more follow. Where both sides met, each request was answered, the user has a slot, the heads are those that the device lists
+-- behind the greeting, in so many replies, and the last of these said that no more follow, unless it was the 65,536th. Else the greeting or
+-- the list was refused.
 pub record Meets {L : Type 0} (talk : L → Option Talk) (since : L → L → Type 0) (fault : L → Option LinkFault) (downs : L → ℕ)
     (users : List ℕ) (add : Bool) (old : L) (answer : Result (Met L) (Halted L)) : Type 0 where
   pub count : ℕ
   pub few : count ≤ 65536
+  pub more : IfSome (saying greeting (talk old)) (λ talk. (k : ℕ) → k + 1 < count → has_more (list_reply talk.device k) ≡ true)
   pub stops : Stops talk since fault downs (map text (meeting_acts count)) old (link_met answer)
   pub does : IfOk answer (λ met. Does talk (meeting_acts count) old met.linked.link)
   pub user : IfOk answer (λ met. Greeted users add (talk old) None (Ok met.linked.user))
+  pub some : IfOk answer (λ met. 0 < count)
   pub heads : IfOk answer (λ met. IfSome (saying greeting (talk old)) (λ talk. met.heads.items ≡ heads_listed talk.device count))
   pub last : IfOk answer (λ met. IfSome (saying greeting (talk old))
       (λ talk. (count ≡ 65536) ⊎ (has_more (list_reply talk.device (count - 1)) ≡ false)))

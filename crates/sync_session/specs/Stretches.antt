@@ -1,5 +1,5 @@
 -- Several stretches of a session, one after another: one for each of a list, each under the handle of its own database.
-use Rattle.std.specs.Prelude.{◌≡◌, ℕ, List, [], ◌∷◌, ◌++◌, map, Option, None, IfOk, OnOk, Result}
+use Rattle.std.specs.Prelude.{◌≡◌, ℕ, List, [], ◌∷◌, ◌++◌, map, Option, None, IfErr, IfOk, OnOk, Result}
 use Rattle.dlp_commands.specs.declared.link.LinkFault.{LinkFault}
 use Rattle.dlp_commands.specs.Talks.{Talk}
 use Rattle.desktop_session.specs.declared.fault.SessionFault.{SessionFault}
@@ -7,6 +7,8 @@ use Rattle.desktop_session.specs.Acts.{Act, text}
 use Rattle.desktop_session.specs.Says.{saying}
 use Rattle.desktop_session.specs.Sessions.{SessionValue}
 use Rattle.desktop_session.specs.Stops.{Does, Stops}
+use Rattle.sync_session.specs.Causes.{IsLater}
+use Rattle.sync_session.specs.Rests.{IsFirst}
 
 -- the handle of a stretch, and the ids that its new records got
 pub record Stretch : Type 0 where
@@ -28,17 +30,26 @@ EachSays acts says told (job ∷ jobs) (one ∷ more) (x ∷ xs) =
     says told job one.handle one.given x × EachSays acts says (saying (acts told job one.handle one.given) told) jobs more xs
 EachSays acts says told jobs stretches xs = ⊥
 
+-- each handle is the first where nothing was open
+abbrev pub AreFirst : {J : Type 0} → (Option Talk → J → ℕ → List ℕ → List Act) → Option Talk → List J → List Stretch → Type 0
+AreFirst acts told [] stretches = Unit {0}
+AreFirst acts told (job ∷ jobs) [] = Unit {0}
+AreFirst acts told (job ∷ jobs) (one ∷ more) =
+    IsFirst told one.handle × AreFirst acts (saying (acts told job one.handle one.given) told) jobs more
+
 -- A session asked for these stretches, in order, and for nothing else. With Ok each was answered, and each answer says this; with a
 -- refusal a beginning of them went out. The user is as before, and with Ok no open database was left.
 pub record SpansEach {L J A B : Type 0} (talk : L → Option Talk) (since : L → L → Type 0) (fault : L → Option LinkFault) (downs : L → ℕ)
     (acts : Option Talk → J → ℕ → List ℕ → List Act) (says : Option Talk → J → ℕ → List ℕ → A → Type 0) (jobs : List J) (each : B → List A)
     (old new : SessionValue L) (answer : Result B SessionFault) : Type 0 where
   pub stretches : List Stretch
+  pub firsts : AreFirst acts (talk old.link) jobs stretches
   pub stops : Stops talk since fault downs (map text (each_acts acts (talk old.link) jobs stretches)) old.link new.link
   pub does : OnOk answer (Does talk (each_acts acts (talk old.link) jobs stretches) old.link new.link)
   pub clear : OnOk answer (fault old.link ≡ None → fault new.link ≡ None)
   pub user : new.user ≡ old.user
   pub closed : OnOk answer (new.abandoned ≡ old.abandoned)
+  pub cause : IfErr answer (IsLater (fault new.link))
   pub said : IfOk answer (λ made. EachSays acts says (talk old.link) jobs stretches (each made))
 
 -- nothing is answered but that each was done
@@ -54,9 +65,11 @@ pub record SpansBehind {L J A B : Type 0} (talk : L → Option Talk) (since : L 
     (acts : Option Talk → J → ℕ → List ℕ → List Act) (says : Option Talk → J → ℕ → List ℕ → A → Type 0) (jobs : List J) (each : B → List A)
     (old new : SessionValue L) (answer : Result B SessionFault) : Type 0 where
   pub stretches : List Stretch
+  pub firsts : AreFirst acts (saying (first ∷ []) (talk old.link)) jobs stretches
   pub stops : Stops talk since fault downs (map text (first ∷ each_acts acts (saying (first ∷ []) (talk old.link)) jobs stretches)) old.link new.link
   pub does : OnOk answer (Does talk (first ∷ each_acts acts (saying (first ∷ []) (talk old.link)) jobs stretches) old.link new.link)
   pub clear : OnOk answer (fault old.link ≡ None → fault new.link ≡ None)
   pub user : new.user ≡ old.user
   pub closed : OnOk answer (new.abandoned ≡ old.abandoned)
+  pub cause : IfErr answer (IsLater (fault new.link))
   pub said : IfOk answer (λ made. EachSays acts says (saying (first ∷ []) (talk old.link)) jobs stretches (each made))

@@ -5,13 +5,14 @@ ghost use Rattle.conduit_rules.specs.Plans.{IsPlan};
 ghost use Rattle.conduit_merge.specs.Merging.{merged_base, merged_rows};
 ghost use Rattle.desk_store.specs.Desks.{all_rows};
 ghost use Rattle.desktop_session.specs.Acts.{text};
-ghost use Rattle.desktop_session.specs.Tellings.{IsProper};
+ghost use Rattle.desktop_session.specs.Tellings.{IsProper, device_after};
 ghost use Rattle.sync_session.specs.Limits.{first_over};
 ghost use Rattle.sync_session.specs.PlannedLimits.{over_planned};
 ghost use Rattle.sync_session.specs.PlannedReports.{reports_planned};
 ghost use Rattle.sync_session.specs.PlannedTasks.{ArePlannedFor};
 ghost use Rattle.sync_session.specs.Quiet.{AreQuiet};
 ghost use Rattle.sync_session.specs.Reports.{reports};
+ghost use Rattle.sync_session.specs.Rests.{IsAtRest};
 ghost use Rattle.sync_session.specs.Rows.{planned_base, planned_rows};
 ghost use Rattle.sync_session.specs.Sessions.{before_writes, requests, session};
 ghost use Rattle.sync_session.specs.Tasks.{Meeting, slot_of};
@@ -22,6 +23,13 @@ use conduit_rules::{Action, Plan};
 /// What is said up to the first mark changes no database and not the user.
 pub fn nothing_is_written_before_the_mark()
     ensures { (meeting : Meeting) → AreQuiet (before_writes meeting) }
+{}
+
+/// What is said up to the first mark leaves a handheld on which nothing is open as it was: the readings close
+/// each database that they open.
+pub fn readings_leave_the_handheld()
+    ensures { (meeting : Meeting) → IsAtRest meeting.device
+        → device_after (before_writes meeting) meeting.device ≡ meeting.device }
 {}
 
 /// The requests of a session are the same whatever ids its new records get.

@@ -1,11 +1,12 @@
 // The marks that begin and end what a session writes.
-ghost use Rattle.std.specs.Prelude.{◌≡◌, ◌∷◌, [], IfOk, false};
+ghost use Rattle.std.specs.Prelude.{◌≡◌, ◌∷◌, [], IfErr, IfOk, false};
 ghost use Rattle.dlp_replies.specs.ReplyReading.{reply_at};
 ghost use Rattle.desktop_session.specs.Acts.{text};
 ghost use Rattle.desktop_session.specs.Answers.{answer_by, no_more, said_in};
 ghost use Rattle.desktop_session.specs.Ends.{link_ended};
 ghost use Rattle.desktop_session.specs.Requests.{ending, marking};
 ghost use Rattle.desktop_session.specs.Stops.{Asked, Does, Stops};
+ghost use Rattle.sync_session.specs.Causes.{IsLater};
 ghost use Rattle.sync_session.specs.Users as users;
 
 use crate::users::{begun_user, done_user};
@@ -39,6 +40,7 @@ pub fn finish<L: Link>(
     ensures does { IfOk result (λ ended. Does L.talk
         (marking (users.done_user date linked.user slot.now) 0xF0 ∷ ending ∷ [])
         linked.link ended.link) }
+    ensures cause { IfErr result (λ halted. IsLater (L.fault halted.link) halted.cause) }
 {
     let mut linked = linked;
     let user = done_user(date, linked.user(), slot);

@@ -20,9 +20,10 @@ returns-in-Ok g c =
     same c.finish.ensures.stops)
     (subst (λ u. IfOk c.finish.result (λ ended. Does g.L.Link.talk (marking (users.done_user c.args.date u c.args.slot.now) 0xF0 ∷ ending ∷ [])
     c.purge_all.new.linked.link ended.link)) same c.finish.ensures.does)
+    c.finish.ensures.cause
 
 pub returns-in-Err : goal.returns-in-Err
 returns-in-Err g c =
     ends_not g.L.Link.talk g.L.Link.since g.L.Link.fault g.L.Link.downs c.args.planned.now
     (marking (users.done_user c.args.date c.args.linked.user c.args.slot.now) 0xF0 ∷ ending ∷ []) c.args.linked c.purge_all.new.linked
-    c.in-Err.cause c.halt.result c.in-Err.ensures.purges c.halt.ensures.link
+    c.in-Err.cause c.halt.result c.in-Err.ensures.purges c.halt.ensures.link c.halt.ensures.cause

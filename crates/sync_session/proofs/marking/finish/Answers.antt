@@ -9,6 +9,7 @@ use Rattle.desktop_session.specs.Stops.{Asked}
 use Rattle.desktop_session.proofs.GreetLaws.{no_fault_said}
 use Rattle.desktop_session.proofs.StopLaws.{stops_between, stops_more, stops_then}
 use Rattle.sync_session.specs.Users as users
+use Rattle.sync_session.proofs.CauseLaws.{later_ended, later_left, later_refused}
 use Rattle.sync_session.proofs.MarkLaws.{does_before}
 use Rattle.sync_session.proofs.marking.finish.Goals as goal
 
@@ -44,3 +45,12 @@ returns-in-Err-clause-stops g c =
     (stops_more g.L.Link.talk g.L.Link.since g.L.Link.fault g.L.Link.downs
     (text (marking (users.done_user c.args.date c.args.linked.user c.args.slot.now) 0xF0) ∷ []) (text ending ∷ []) c.args.linked.link
     c.mark.new.self.link asked.stops)
+
+pub returns-in-Ok-clause-cause : goal.returns-in-Ok-clause-cause
+returns-in-Ok-clause-cause g c =
+    later_ended g.L.Link.fault (reply_at 0x2F c.finish.ensures.answer.reply) c.finish.result c.finish.ensures.answer.is
+
+pub returns-in-Err-clause-cause : goal.returns-in-Err-clause-cause
+returns-in-Err-clause-cause g c =
+    later_left g.L.Link.fault c.mark.new.self.link c.in-Err.cause c.halt.result c.halt.ensures.link c.halt.ensures.cause
+    (later_refused (g.L.Link.fault c.mark.new.self.link) no_more (reply_at 0x11 c.mark.new.self.reply) c.in-Err.cause c.in-Err.ensures.answer)

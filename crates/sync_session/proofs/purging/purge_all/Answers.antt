@@ -29,7 +29,7 @@ returns-in_err-purge_planned g c =
     let done = take c.loop-one.one-index c.args.planned.now in
     let split = split_at c.args.planned.now c.loop-one.one-index c.one-item.result c.loop-one-test.true c.one-item.is in
     record {
-      purges = rw p.1 (each_stopped g.L.Link.talk g.L.Link.since g.L.Link.fault g.L.Link.downs g.met.L.Link.since_more purges_under says_nothing done
+      purges = rw (p.1, p.2) (each_stopped g.L.Link.talk g.L.Link.since g.L.Link.fault g.L.Link.downs g.met.L.Link.since_more purges_under says_nothing done
           c.one-item.result split.rest c.args.planned.now (done_each done tt) (done_each c.args.planned.now) c.args.linked.now c.loop-one.linked
-          c.purge_planned.new.linked _ _ split.is c.loop-one.invariant c.in_err-purge_planned.ensures.spans);
+          c.purge_planned.new.linked _ split.is c.loop-one.invariant c.in_err-purge_planned.ensures.spans);
     }

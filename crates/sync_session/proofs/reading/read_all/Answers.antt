@@ -4,6 +4,7 @@ use Rattle.std.proofs.lemmas.Result.{err_from_is_err_and}
 use Rattle.slow_mirror.proofs.NewsLaws.{split_at}
 use Rattle.desk_store.specs.Views.{shelves_in}
 use Rattle.sync_session.specs.Readings.{reads_under, shown_under}
+use Rattle.sync_session.specs.Causes.{IsLater}
 use Rattle.sync_session.proofs.EachLaws.{EachSoFar, each_none, each_on, each_part, each_stopped, one_more}
 use Rattle.sync_session.proofs.reading.read_all.Goals as goal
 
@@ -39,10 +40,11 @@ returns-in_err-view g c =
     let done = take c.loop-job.job-index c.args.jobs.now in
     let split = split_at c.args.jobs.now c.loop-job.job-index c.job-item.result c.loop-job-test.true c.job-item.is in
     record {
-      reads = rw p.1 (each_stopped g.L.Link.talk g.L.Link.since g.L.Link.fault g.L.Link.downs g.met.L.Link.since_more (reads_under (shelves_in c.args.desk.now))
+      reads = rw (p.1, p.2) (each_stopped g.L.Link.talk g.L.Link.since g.L.Link.fault g.L.Link.downs g.met.L.Link.since_more (reads_under
+          (shelves_in c.args.desk.now))
           (λ told job handle given view. shown_under (shelves_in c.args.desk.now) told job handle given view.seen.items)
           done c.job-item.result split.rest c.args.jobs.now
-          c.loop-job.views.items (λ made. made.items) c.args.linked.now c.loop-job.linked c.read_job.new.linked _ _ split.is c.loop-job.invariant
+          c.loop-job.views.items (λ made. made.items) c.args.linked.now c.loop-job.linked c.read_job.new.linked _ split.is c.loop-job.invariant
           c.in_err-view.ensures.spans);
     }
 
@@ -56,9 +58,10 @@ returns-in_err-push_view g c =
     done c.job-item.result c.loop-job.views.items c.in_ok-view.view
     c.args.linked.now c.loop-job.linked c.read_job.new.linked c.loop-job.invariant c.in_ok-view.ensures.spans in
     record {
-      reads = rw p.1 (each_part g.L.Link.talk g.L.Link.since g.L.Link.fault g.L.Link.downs (reads_under (shelves_in c.args.desk.now))
+      reads = rw (p.1, p.2) (each_part g.L.Link.talk g.L.Link.since g.L.Link.fault g.L.Link.downs (reads_under (shelves_in c.args.desk.now))
           (λ told job handle given view. shown_under (shelves_in c.args.desk.now) told job handle given view.seen.items)
           (done ++ c.job-item.result ∷ []) split.rest c.args.jobs.now
           (c.loop-job.views.items ++ c.in_ok-view.view ∷ []) (λ made. made.items) c.args.linked.now c.read_job.new.linked _
-          (one_more done c.job-item.result split.rest ∙ split.is) more);
+          (one_more done c.job-item.result split.rest ∙ split.is) more
+          (subst (IsLater (g.L.Link.fault c.read_job.new.linked.link)) (sym c.in_err-push_view.ensures.memory) tt));
     }
