@@ -7,6 +7,7 @@ pub mod FreeLaws
 pub mod GiveLaws
 pub mod HandleLaws
 pub mod IdsLaws
+pub mod LimitLaws
 pub mod MarkLaws
 pub mod MeetJoins
 pub mod MeetLaws

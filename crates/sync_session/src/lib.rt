@@ -41,7 +41,7 @@ pub use laws::{
     nothing_is_written_before_the_mark, planned_rows_are_merged, readings_leave_the_handheld,
     requests_bear_no_given_id, the_first_over_is_the_meetings, what_is_told_is_the_meetings,
 };
-pub use limits::is_over;
+pub use limits::{first_over, is_over};
 pub use marking::{begin, finish};
 pub use meeting::{Met, meet};
 pub use names::put_name;
