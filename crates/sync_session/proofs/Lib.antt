@@ -1,6 +1,7 @@
 pub mod ArchiveLaws
 pub mod CauseLaws
 pub mod CloseLaws
+pub mod CommitLaws
 pub mod EachLaws
 pub mod EndLaws
 pub mod FreeLaws
@@ -26,3 +27,4 @@ pub mod SeenCountLaws
 pub mod SessionJoins
 pub mod SpanLaws
 pub mod StretchLaws
+pub mod TakeLaws

@@ -1,6 +1,7 @@
 pub mod Archives
 pub mod Causes
 pub mod Choosing
+pub mod Commits
 pub mod Endings
 pub mod Fronts
 pub mod Gains
@@ -27,5 +28,6 @@ pub mod Sizes
 pub mod Skips
 pub mod Spans
 pub mod Stretches
+pub mod Takes
 pub mod Tasks
 pub mod Users

@@ -4,6 +4,7 @@
 
 mod archive;
 mod building;
+mod committing;
 mod counts;
 mod ending;
 mod giving;
@@ -25,11 +26,13 @@ mod reporting;
 mod rows;
 mod sizes;
 mod skip;
+mod taking;
 mod users;
 mod wishes;
 
 pub use archive::{merged_archive, settled};
-pub use building::beside;
+pub use building::{beside, refilled};
+pub use committing::commit_all;
 pub use counts::read_count;
 pub use ending::end_all;
 pub use giving::{give_all, give_one, make_one, send_all};

@@ -15,7 +15,7 @@ use pdb_values::{Database, Record};
 use std::alloc::{AllocError, Global};
 
 // The records of a database that may not be there.
-fn records(database: Option<&Database>) -> &[Record]
+pub(crate) fn records_in(database: Option<&Database>) -> &[Record]
     ensures { result.now ≡ records_of (option_copied database.entry) }
 {
     match database {
@@ -29,7 +29,7 @@ fn base_records<'d>(rows: Option<&'d Database>, base: Option<&'d Database>) -> &
     ensures { result.now ≡ base_rows_by (option_copied rows.entry) (option_copied base.entry) }
 {
     match rows {
-        Some(_) => records(base),
+        Some(_) => records_in(base),
         None => &[],
     }
 }
@@ -59,7 +59,7 @@ fn plan_job<D: Folder>(
     plan(
         alloc,
         view,
-        records(rows),
+        records_in(rows),
         base,
         !agree,
         action_of(job.action),

@@ -1,0 +1,123 @@
+-- The changes of planned databases, one after another, and what a commit makes of them.
+use Rattle.std.proofs.Common.{◌≡◌, ◌∙◌, ◌<◌, ◌+◌, ap, refl, sym, subst, ℕ, true, false, List, [], ◌∷◌, ◌++◌, map, take, length, get_or, append_assoc, arith}
+use Rattle.std.specs.Prelude.{◌&&◌, ◌≤◌, IfSome, Option, option_to_list}
+use Rattle.std.specs.Global.{Vec}
+use Rattle.std.proofs.lemmas.List.{length-map, length-take-le, map-append, append-nil, take_all, take_more}
+use Rattle.std.proofs.lemmas.Bool.{and_parts}
+use Rattle.std.specs.List.{list_all}
+use Rattle.pdb_values.specs.Databases.{DatabaseValue}
+use Rattle.pdb_values.specs.NamedDatabases.{NamesRise, comes_before}
+use Rattle.pdb_values.proofs.NamedLaws.{comes_before-trans}
+use Rattle.pdb_values.specs.Heads.{holds_resources}
+use Rattle.pdb_values.specs.declared.record.Record.{Record}
+use Rattle.palm_device.specs.Records.{with_records}
+use Rattle.desk_store.specs.Changes.{IsDbChange, IsOf}
+use Rattle.desk_store.specs.Shelves.{ShelvesValue}
+use Rattle.desk_store.specs.declared.change.DbChange.{DbChange}
+use Rattle.sync_session.specs.Merges.{archive_of, beside}
+use Rattle.sync_session.specs.Takes.{change_of, changes_of, each_of}
+use Rattle.sync_session.specs.declared.planned.Planned.{Planned}
+
+-- ---- one database
+
+archive_fit : (rows : DatabaseValue) (es : List Record) → holds_resources rows.head.attributes ≡ false
+    → IfSome (archive_of rows es) (λ archive. IsOf rows.head.name archive × (0 < length archive.records))
+archive_fit rows [] records = tt
+archive_fit rows (e ∷ es) records = (record { records = records; named = refl }, omega arith)
+
+-- a change that is made of a database of records is one that a desktop takes
+pub change_fit : (rows new base : DatabaseValue) (archive : Option DatabaseValue) (rs bs es : List Record) → holds_resources rows.head.attributes ≡ false
+    → new ≡ with_records rs rows → base ≡ beside rows bs → archive ≡ archive_of rows es → IsDbChange (record { rows = new; base = base; archive = archive })
+change_fit rows new base archive rs bs es records one two three =
+    let same : DbChange = record { rows = with_records rs rows; base = beside rows bs; archive = archive_of rows es } in
+    let equal : same ≡ record { rows = new; base = base; archive = archive } = sym (λ k. record { rows = one k; base = two k; archive = three k }) in
+    subst IsDbChange equal (record { rows = records; base = record { records = records; named = refl }; archive = archive_fit rows es records })
+
+-- ---- one after another
+
+-- one more database, with its ids
+changes_of-push : (date : ℕ) (shelves : ShelvesValue) (planned : List Planned) (ids : List (List ℕ)) (one : Planned) (given : List ℕ)
+    → length ids ≡ length planned
+    → changes_of date shelves (planned ++ one ∷ []) (ids ++ given ∷ []) ≡ changes_of date shelves planned ids ++ change_of date shelves one given
+unfolding changes_of
+changes_of-push date shelves [] [] one given same = append-nil (change_of date shelves one given)
+changes_of-push date shelves [] (g ∷ ids) one given same = absurd (omega arith)
+changes_of-push date shelves (p ∷ planned) [] one given same = absurd (omega arith)
+changes_of-push date shelves (p ∷ planned) (g ∷ ids) one given same =
+    ap (λ xs. change_of date shelves p g ++ xs) (changes_of-push date shelves planned ids one given (omega arith))
+    ∙ sym (append_assoc (change_of date shelves p g) (changes_of date shelves planned ids) (change_of date shelves one given))
+
+changes_more : (date : ℕ) (shelves : ShelvesValue) (planned : List Planned) (ids : List (Vec ℕ)) (k : ℕ) (one : Planned) (given : Vec ℕ)
+    → length ids ≡ length planned → k < length planned → one ≡ get_or planned k one → given ≡ get_or ids k given
+    → changes_of date shelves (take (k + 1) planned) (each_of (take (k + 1) ids))
+    ≡ changes_of date shelves (take k planned) (each_of (take k ids)) ++ change_of date shelves one given.items
+changes_more date shelves planned ids k one given same within one_is given_is =
+    let left = length-take-le k planned (omega arith) in
+    let right = length-map (take k ids) (λ (x : Vec ℕ). x.items) ∙ length-take-le k ids (omega arith) in
+    ap (λ ps. changes_of date shelves ps (each_of (take (k + 1) ids))) (take_more planned k one within ∙ ap (λ y. take k planned ++ y ∷ []) (sym one_is))
+    ∙ ap (λ xs. changes_of date shelves (take k planned ++ one ∷ []) (each_of xs))
+    (take_more ids k given (omega arith) ∙ ap (λ y. take k ids ++ y ∷ []) (sym given_is))
+    ∙ ap (changes_of date shelves (take k planned ++ one ∷ [])) (map-append (λ (x : Vec ℕ). x.items) (take k ids) (given ∷ []))
+    ∙ changes_of-push date shelves (take k planned) (each_of (take k ids)) one given.items (right ∙ sym left)
+
+pub changes_step : (date : ℕ) (shelves : ShelvesValue) (planned : List Planned) (ids : List (Vec ℕ)) (k : ℕ) (one : Planned) (given : Vec ℕ)
+    (lent : List ℕ) (before now : List DbChange) (change : Option DbChange) → length ids ≡ length planned → k < length planned
+    → one ≡ get_or planned k one → given ≡ get_or ids k given → now ≡ before ++ option_to_list change
+    → before ≡ changes_of date shelves (take k planned) (each_of (take k ids)) → option_to_list change ≡ change_of date shelves one lent
+    → lent ≡ given.items → now ≡ changes_of date shelves (take (k + 1) planned) (each_of (take (k + 1) ids))
+changes_step date shelves planned ids k one given lent before now change same within one_is given_is put is own lends =
+    put ∙ ap (λ xs. xs ++ option_to_list change) is
+    ∙ ap (λ xs. changes_of date shelves (take k planned) (each_of (take k ids)) ++ xs) (own ∙ ap (change_of date shelves one) lends)
+    ∙ sym (changes_more date shelves planned ids k one given same within one_is given_is)
+
+pub changes_none : (date : ℕ) (shelves : ShelvesValue) → changes_of date shelves [] [] ≡ []
+unfolding changes_of
+changes_none date shelves = refl
+
+-- ---- names in byte order
+
+before_all : (name : List ℕ) (xs : List DatabaseValue) (last : DatabaseValue)
+    → list_all (λ (later : DatabaseValue). comes_before name later.head.name) (xs ++ last ∷ []) ≡ true → comes_before name last.head.name ≡ true
+before_all name [] last all = (and_parts (comes_before name last.head.name) true all).0
+before_all name (x ∷ xs) last all =
+    before_all name xs last (and_parts (comes_before name x.head.name) (list_all (λ (later : DatabaseValue). comes_before name later.head.name) (xs ++ last ∷ [])) all).1
+
+all_more : (name : List ℕ) (xs : List DatabaseValue) (new : DatabaseValue)
+    → list_all (λ (later : DatabaseValue). comes_before name later.head.name) xs ≡ true → comes_before name new.head.name ≡ true
+    → list_all (λ (later : DatabaseValue). comes_before name later.head.name) (xs ++ new ∷ []) ≡ true
+all_more name [] new all next = ap (λ b. b && true) next
+all_more name (x ∷ xs) new all next =
+    let both = and_parts (comes_before name x.head.name) (list_all (λ (later : DatabaseValue). comes_before name later.head.name) xs) all in
+    ap (λ b. b && list_all (λ (later : DatabaseValue). comes_before name later.head.name) (xs ++ new ∷ [])) both.0 ∙ all_more name xs new both.1 next
+
+rise-push : (xs : List DatabaseValue) (last new : DatabaseValue) → NamesRise (xs ++ last ∷ []) → comes_before last.head.name new.head.name ≡ true
+    → NamesRise ((xs ++ last ∷ []) ++ new ∷ [])
+rise-push [] last new rise next = (ap (λ b. b && true) next, (refl, tt))
+rise-push (x ∷ xs) last new rise next = (
+  all_more x.head.name (xs ++ last ∷ []) new rise.0
+      (comes_before-trans x.head.name last.head.name new.head.name (before_all x.head.name xs last rise.0) next),
+  rise-push xs last new rise.1 next,
+)
+
+abbrev rows_in : DbChange → DatabaseValue
+rows_in change = change.rows
+
+pub rise_first : (changes : List DbChange) → NamesRise (map (λ (change : DbChange). change.rows) (take 1 changes))
+rise_first [] = tt
+rise_first (x ∷ changes) = (refl, tt)
+
+pub rise_more : (changes : List DbChange) (k j : ℕ) (a b : DbChange) → k ≡ j + 1 → k < length changes → a ≡ get_or changes j a → b ≡ get_or changes k b
+    → comes_before a.rows.head.name b.rows.head.name ≡ true → NamesRise (map (λ (change : DbChange). change.rows) (take k changes))
+    → NamesRise (map (λ (change : DbChange). change.rows) (take (k + 1) changes))
+rise_more changes k j a b is within a_is b_is next rise =
+    let last : take k changes ≡ take j changes ++ a ∷ []
+    = ap (λ n. take n changes) is ∙ take_more changes j a (omega arith) ∙ ap (λ y. take j changes ++ y ∷ []) (sym a_is) in
+    let all : take (k + 1) changes ≡ take k changes ++ b ∷ [] = take_more changes k b within ∙ ap (λ y. take k changes ++ y ∷ []) (sym b_is) in
+    let old : map rows_in (take k changes) ≡ map rows_in (take j changes) ++ a.rows ∷ [] = ap (map rows_in) last ∙ map-append rows_in (take j changes) (a ∷ []) in
+    let new : map rows_in (take (k + 1) changes) ≡ (map rows_in (take j changes) ++ a.rows ∷ []) ++ b.rows ∷ []
+    = ap (map rows_in) all ∙ map-append rows_in (take k changes) (b ∷ []) ∙ ap (λ xs. xs ++ b.rows ∷ []) old in
+    subst NamesRise (sym new) (rise-push (map rows_in (take j changes)) a.rows b.rows (subst NamesRise old rise) next)
+
+pub rise_all : (changes : List DbChange) (k : ℕ) → length changes ≤ k → NamesRise (map (λ (change : DbChange). change.rows) (take k changes))
+    → NamesRise (map (λ (change : DbChange). change.rows) changes)
+rise_all changes k past rise = subst (λ xs. NamesRise (map rows_in xs)) (take_all k changes past) rise
