@@ -1,10 +1,11 @@
 -- What holds of a handheld after any beginning of acts whose new records get free ids.
-use Rattle.std.proofs.Common.{◌≡◌, ◌∙◌, ◌+◌, refl, ap, sym, subst, ℕ, zero, suc, Bool, true, false, List, [], ◌∷◌, ◌++◌, append_assoc, append-nil, take, map, if◌then◌else◌, length, filter}
-use Rattle.std.specs.Prelude.{Result, Ok, Err}
+use Rattle.std.proofs.Common.{◌≡◌, ◌∙◌, refl, ap, sym, subst, ℕ, zero, suc, Bool, true, false, List, [], ◌∷◌, ◌++◌, append_assoc, append-nil, take, map, if◌then◌else◌, filter}
+use Rattle.std.specs.Prelude.{Ok, Err}
 use Rattle.dlp_args.specs.Fields.{Fields}
 use Rattle.dlp_requests.specs.Forms as form
 use Rattle.dlp_requests.specs.Forms.{Form, kinds_of}
 use Rattle.dlp_requests.specs.Forms.{number_of as number_of_form}
+use Rattle.dlp_replies.specs.ReplyValues as reply
 use Rattle.palm_device.specs.Devices.{Device}
 use Rattle.dlp_commands.specs.Changes.{asks_by, changes, is_change}
 use Rattle.dlp_commands.specs.DeviceSteps.{FormMayGive, function_number, outcome, tried}
@@ -14,19 +15,28 @@ use Rattle.dlp_commands.proofs.StepLaws.{changes-text}
 use Rattle.dlp_commands.proofs.TableLaws.{tried_done}
 use Rattle.dlp_commands.proofs.TriedLaws.{Keeps}
 use Rattle.desktop_session.specs.Acts.{Act, acted, text}
-use Rattle.desktop_session.specs.Tellings.{device_after}
-use Rattle.slow_mirror.proofs.ReadLaws.{after_append}
+use Rattle.desktop_session.specs.Tellings.{device_after, told}
 use Rattle.session_fronts.specs.Given.{GetFreeIds, id_in, ids_in}
-use Rattle.session_fronts.proofs.PutActs.{free-append, free-front}
 
 -- the id that an act may give
 abbrev pub MayAct : Act → Device → Type 0
 MayAct act device = FormMayGive device act.given act.asks.form act.asks.fields
 
--- after each beginning, where so many ids were given before
+-- a new record is told the id that it got
+abbrev pub TellsId : Act → Device → Type 0
+TellsId act device = asks_by act.asks.form act.asks.fields ≡ true → told act device ≡ reply.WriteRecord act.given
+
+pub none-told : (act : Act) (device : Device) → asks_by act.asks.form act.asks.fields ≡ false → TellsId act device
+none-told act device none is = absurd (let no : true ≡ false = sym is ∙ none in cc)
+
+pub none-in : (act : Act) → asks_by act.asks.form act.asks.fields ≡ false → id_in act ≡ []
+none-in act none = ap (λ (b : Bool). if b then act.given ∷ [] else []) none
+
+-- after each beginning, where these ids were given before; and each new record is told its id
 abbrev pub Along : (List ℕ → Device → Type 0) → List ℕ → List Act → Device → Type 0
 Along P ids [] device = P ids device
-Along P ids (act ∷ acts) device = P ids device × (MayAct act device → Along P (ids ++ id_in act) acts (acted act device).1)
+Along P ids (act ∷ acts) device =
+    P ids device × (MayAct act device → TellsId act device × Along P (ids ++ id_in act) acts (acted act device).1)
 
 pub along-first : (P : List ℕ → Device → Type 0) (ids : List ℕ) (acts : List Act) (device : Device) → Along P ids acts device → P ids device
 along-first P ids [] device along = along
@@ -37,7 +47,7 @@ pub along-map : (P Q : List ℕ → Device → Type 0) (ids : List ℕ) (acts : 
 along-map P Q ids [] device turn along = turn ids device along
 along-map P Q ids (act ∷ acts) device turn along = (
   turn ids device along.0,
-  λ may. along-map P Q (ids ++ id_in act) acts (acted act device).1 turn (along.1 may),
+  λ may. ((along.1 may).0, along-map P Q (ids ++ id_in act) acts (acted act device).1 turn (along.1 may).1),
 )
 
 pub along-append : (P : List ℕ → Device → Type 0) (ids : List ℕ) (xs ys : List Act) (device : Device) → Along P ids xs device
@@ -45,8 +55,11 @@ pub along-append : (P : List ℕ → Device → Type 0) (ids : List ℕ) (xs ys 
 along-append P ids [] ys device first second = subst (λ is. Along P is ys device) (append-nil ids) (second tt)
 along-append P ids (x ∷ xs) ys device first second = (
   first.0,
-  λ may. along-append P (ids ++ id_in x) xs ys (acted x device).1 (first.1 may)
-      (λ free. subst (λ is. Along P is ys (device_after xs (acted x device).1)) (sym (append_assoc ids (id_in x) (ids_in xs))) (second (may, free))),
+  λ may. (
+    (first.1 may).0,
+    along-append P (ids ++ id_in x) xs ys (acted x device).1 (first.1 may).1
+        (λ free. subst (λ is. Along P is ys (device_after xs (acted x device).1)) (sym (append_assoc ids (id_in x) (ids_in xs))) (second (may, free))),
+  ),
 )
 
 pub along-take : (P : List ℕ → Device → Type 0) (ids : List ℕ) (acts : List Act) (device : Device) (n : ℕ) → Along P ids acts device
@@ -55,7 +68,36 @@ along-take P ids acts device zero along free = subst (λ is. P is device) (sym (
 along-take P ids [] device (suc n) along free = subst (λ is. P is device) (sym (append-nil ids)) along
 along-take P ids (x ∷ xs) device (suc n) along free =
     subst (λ is. P is (device_after (take n xs) (acted x device).1)) (append_assoc ids (id_in x) (ids_in (take n xs)))
-    (along-take P (ids ++ id_in x) xs (acted x device).1 n (along.1 free.0) free.1)
+    (along-take P (ids ++ id_in x) xs (acted x device).1 n (along.1 free.0).1 free.1)
+
+pub along-last : (P : List ℕ → Device → Type 0) (ids : List ℕ) (acts : List Act) (device : Device) → Along P ids acts device → GetFreeIds acts device
+    → P (ids ++ ids_in acts) (device_after acts device)
+along-last P ids [] device along free = subst (λ is. P is device) (sym (append-nil ids)) along
+along-last P ids (x ∷ xs) device along free =
+    subst (λ is. P is (device_after xs (acted x device).1)) (append_assoc ids (id_in x) (ids_in xs))
+    (along-last P (ids ++ id_in x) xs (acted x device).1 (along.1 free.0).1 free.1)
+
+-- each new record of these acts is told its id
+abbrev pub TellIds : List Act → Device → Type 0
+TellIds [] device = Unit {0}
+TellIds (act ∷ acts) device = TellsId act device × TellIds acts (acted act device).1
+
+pub along-tells : (P : List ℕ → Device → Type 0) (ids : List ℕ) (acts : List Act) (device : Device) (n : ℕ) → Along P ids acts device
+    → GetFreeIds (take n acts) device → TellIds (take n acts) device
+along-tells P ids acts device zero along free = tt
+along-tells P ids [] device (suc n) along free = tt
+along-tells P ids (x ∷ xs) device (suc n) along free =
+    let step = along.1 free.0 in (step.0, along-tells P (ids ++ id_in x) xs (acted x device).1 n step.1 free.1)
+
+pub along-told : (P : List ℕ → Device → Type 0) (ids : List ℕ) (acts : List Act) (device : Device) → Along P ids acts device → GetFreeIds acts device
+    → TellIds acts device
+along-told P ids [] device along free = tt
+along-told P ids (x ∷ xs) device along free =
+    let step = along.1 free.0 in (step.0, along-told P (ids ++ id_in x) xs (acted x device).1 step.1 free.1)
+
+pub told-append : (xs ys : List Act) (device : Device) → TellIds xs device → TellIds ys (device_after xs device) → TellIds (xs ++ ys) device
+told-append [] ys device first second = second
+told-append (x ∷ xs) ys device first second = (first.0, told-append xs ys (acted x device).1 first.1 second)
 
 -- ---- acts that change nothing
 
@@ -76,7 +118,7 @@ quiet-one act device may quiet = by (tried act.given device act.asks) (tried_don
     by (Err code) keeps = record { databases = refl; user = refl }
 
 -- a request that changes nothing asks for no id
-form_asks : (f : Form) (fields : Fields (kinds_of f)) → is_change (number_of_form f) ≡ false → asks_by f fields ≡ false
+pub form_asks : (f : Form) (fields : Fields (kinds_of f)) → is_change (number_of_form f) ≡ false → asks_by f fields ≡ false
 form_asks form.WriteRecord fields quiet = absurd (cc)
 form_asks other fields quiet = refl
 
@@ -88,7 +130,7 @@ pub quiet-may : (act : Act) (device : Device) → is_change (function_number act
 quiet-may act device quiet = form_may device act.given act.asks.form act.asks.fields quiet
 
 pub quiet-asks : (act : Act) → is_change (function_number act.asks) ≡ false → id_in act ≡ []
-quiet-asks act quiet = ap (λ (b : Bool). if b then act.given ∷ [] else []) (form_asks act.asks.form act.asks.fields quiet)
+quiet-asks act quiet = none-in act (form_asks act.asks.form act.asks.fields quiet)
 
 -- none of these acts changes a database or the user
 abbrev pub Quiet : List Act → Type 0
@@ -122,6 +164,10 @@ pub along-quiet : (P : List ℕ → Device → Type 0) (ids : List ℕ) (acts : 
 along-quiet P ids [] device quiet holds = holds device (record { databases = refl; user = refl })
 along-quiet P ids (act ∷ acts) device quiet holds = (
   holds device (record { databases = refl; user = refl }),
-  λ may. subst (λ is. Along P is acts (acted act device).1) (sym (ap (λ is. ids ++ is) (quiet-asks act quiet.0) ∙ append-nil ids))
-      (along-quiet P ids acts (acted act device).1 quiet.1 (λ d is. holds d (holds-then device (acted act device).1 d (quiet-one act device may quiet.0) is))),
+  λ may. (
+    none-told act device (form_asks act.asks.form act.asks.fields quiet.0),
+    subst (λ is. Along P is acts (acted act device).1) (sym (ap (λ is. ids ++ is) (quiet-asks act quiet.0) ∙ append-nil ids))
+        (along-quiet P ids acts (acted act device).1 quiet.1
+        (λ d is. holds d (holds-then device (acted act device).1 d (quiet-one act device may quiet.0) is))),
+  ),
 )

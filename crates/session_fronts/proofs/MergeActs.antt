@@ -39,7 +39,7 @@ use Rattle.session_fronts.proofs.TaskActs.{AreGiven, with_news}
 
 -- ---- before the first write
 
-closed_device : (m : Meeting) → IsSoundMeeting m → m.device ≡ all_closed m.device.databases m.device.user
+pub closed_device : (m : Meeting) → IsSoundMeeting m → m.device ≡ all_closed m.device.databases m.device.user
 closed_device m sound = λ k. record { databases = m.device.databases; user = m.device.user; handles = sound.closed k }
 
 pub before-same : (m : Meeting) → IsSoundMeeting m → device_after (before_writes m) m.device ≡ m.device
@@ -68,7 +68,7 @@ pub begun : (m : Meeting) → IsSoundMeeting m → (databases : List DatabaseVal
     → (acted (begin_mark m) (all_closed databases m.device.user)).1 ≡ all_closed databases (begun_user m.device.user)
 begun m sound databases = marked_does (all_closed databases m.device.user) (begun_user m.device.user) 0x40 (begin_is m sound)
 
-name_of_both : (m : Meeting) → IsSoundMeeting m
+pub name_of_both : (m : Meeting) → IsSoundMeeting m
     → (length (agreed_name m.device.user (slot_of m).marks) ≤ 40) × (list_any (λ byte. byte == 0) (agreed_name m.device.user (slot_of m).marks) ≡ false)
 name_of_both m sound = by (slots_user_stays m.device.user (slot_of m).marks)
   where
@@ -85,7 +85,7 @@ pub done : (m : Meeting) → IsSoundMeeting m → (databases : List DatabaseValu
 done m sound databases =
     marked_does (all_closed databases (begun_user m.device.user)) (done_user m.wishes.date m.device.user (slot_of m).marks) 0xF0 (end_is m sound)
 
-ended : (databases : List DatabaseValue) (user : UserInfo) → (acted ending (all_closed databases user)).1 ≡ all_closed databases user
+pub ended : (databases : List DatabaseValue) (user : UserInfo) → (acted ending (all_closed databases user)).1 ≡ all_closed databases user
 unfolding acted tried
 ended databases user = refl
 
@@ -96,7 +96,7 @@ pub record IsCommitted (m : Meeting) (given : List ℕ) : Type 0 where
       ≡ all_closed (put_each m (with_news m) (active m) given m.device.databases) (begun_user m.device.user)
   pub dealt : AreDealt m (active m) given
 
-within_all : (m : Meeting) → first_over m ≡ None → first_behind m (length m.device.databases) (all_rows m.slots) (active m) ≡ None
+pub within_all : (m : Meeting) → first_over m ≡ None → first_behind m (length m.device.databases) (all_rows m.slots) (active m) ≡ None
 unfolding first_over
 within_all m none = none
 
@@ -139,7 +139,7 @@ make_all m (t ∷ ts) given sound kept dealt = (
 )
 
 -- news and then all writes are all writes
-both : (m : Meeting) (given : List ℕ) → IsSoundMeeting m → AreDealt m (active m) given
+pub both : (m : Meeting) (given : List ℕ) → IsSoundMeeting m → AreDealt m (active m) given
     → put_each m (with_all m) (active m) given (put_each m (with_news m) (active m) given m.device.databases)
     ≡ merged_databases m (active m) given m.device.databases
 both m given sound dealt =

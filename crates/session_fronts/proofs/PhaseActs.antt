@@ -107,7 +107,7 @@ within_by sizes is =
       not_over most_entries sizes.records (left_false c d (right_false b (c || d) (right_false a (b || (c || d)) is))),
     )
 
-within : (m : Meeting) (t : Task) (handhelds desktops : ℕ) → is_over (sizes_of m handhelds desktops t) ≡ false → IsWithin m t handhelds
+pub within : (m : Meeting) (t : Task) (handhelds desktops : ℕ) → is_over (sizes_of m handhelds desktops t) ≡ false → IsWithin m t handhelds
 within m t handhelds desktops is =
     let both = within_by (sizes_of m handhelds desktops t) is in
     record {
@@ -117,7 +117,7 @@ within m t handhelds desktops is =
       room = both.1;
     }
 
-first_not : (m : Meeting) (t : Task) (ts : List Task) (handhelds desktops : ℕ) → first_behind m handhelds desktops (t ∷ ts) ≡ None
+pub first_not : (m : Meeting) (t : Task) (ts : List Task) (handhelds desktops : ℕ) → first_behind m handhelds desktops (t ∷ ts) ≡ None
     → (is_over (sizes_of m handhelds desktops t) ≡ false)
     × (first_behind m (with_one t.handheld handhelds) (with_one t.rows desktops) ts ≡ None)
 unfolding first_behind
@@ -128,7 +128,7 @@ first_not m t ts handhelds desktops none = by (is_over (sizes_of m handhelds des
     by true is = absurd (cc)
     by false is = (refl, is)
 
-has_room : (m : Meeting) (t : Task) (is : IsReady m t) (handhelds : ℕ) → ShowsNoOther (seen_held m t) (records_of t.handheld) → IsWithin m t handhelds
+pub has_room : (m : Meeting) (t : Task) (is : IsReady m t) (handhelds : ℕ) → ShowsNoOther (seen_held m t) (records_of t.handheld) → IsWithin m t handhelds
     → HasRoom m t is.b.records
 has_room m t is handhelds shown within =
     let count = appended-count (choice m t).keep (seen_held m t) (records_of t.handheld) shown in
@@ -136,7 +136,7 @@ has_room m t is handhelds shown within =
     subst (HasRoom m t) (sym (before_records m t is)) (omega (arith, count, room))
 
 -- how many databases there are then
-length_put : (m : Meeting) (f : Change) → KeepsName f → (t : Task) (is : IsReady m t) (ids : List ℕ) (databases : List DatabaseValue)
+pub length_put : (m : Meeting) (f : Change) → KeepsName f → (t : Task) (is : IsReady m t) (ids : List ℕ) (databases : List DatabaseValue)
     → database_of t.name databases ≡ t.handheld → length (put_at_task f t ids databases) ≡ with_one t.handheld (length databases)
 length_put m f keeps t is ids databases here =
     ap length (put-is m f t is ids databases)
@@ -147,7 +147,7 @@ length_put m f keeps t is ids databases here =
     look : database_of (f t ids is.b).head.name databases ≡ t.handheld
     look = ap (λ n. database_of n databases) (keeps t ids is.b ∙ is.own) ∙ here
 
-stand-put : (m : Meeting) (f : Change) → KeepsName f → (ts : List Task) (databases : List DatabaseValue) (t : Task) (is : IsReady m t) (ids : List ℕ)
+pub stand-put : (m : Meeting) (f : Change) → KeepsName f → (ts : List Task) (databases : List DatabaseValue) (t : Task) (is : IsReady m t) (ids : List ℕ)
     → NotNamed t.name ts → Stand ts databases → Stand ts (put_at_task f t ids databases)
 stand-put m f keeps [] databases t is ids unnamed stand = tt
 stand-put m f keeps (u ∷ ts) databases t is ids unnamed stand = (

@@ -22,7 +22,7 @@ use Rattle.desktop_session.specs.Requests.{putting}
 use Rattle.desktop_session.specs.Tellings.{device_after}
 use Rattle.slow_mirror.specs.News.{as_new, puts}
 use Rattle.session_fronts.specs.Given.{GetFreeIds}
-use Rattle.session_fronts.proofs.WriteActs.{CanPut, MayWrite, holding, holding_base, put_does}
+use Rattle.session_fronts.proofs.WriteActs.{CanPut, IsSorted, MayWrite, holding, holding_base, put_does}
 
 -- ---- the acts, apart
 
@@ -43,7 +43,7 @@ free-front (x ∷ xs) ys device free = (free.0, free-front xs ys (acted x device
 -- ---- room
 
 -- how many records there are then
-put-length : (i : ℕ) (c : ContentValue) (rs : List Record) → length (put_record i c rs) ≡ length rs + (if is_none (first i rs) then 1 else 0)
+pub put-length : (i : ℕ) (c : ContentValue) (rs : List Record) → length (put_record i c rs) ≡ length rs + (if is_none (first i rs) then 1 else 0)
 put-length i c [] = ap length (put_record-nil i c)
 put-length i c (r ∷ rs) = ap length (put_record-cons i c r rs) ∙ by (r.id == i) (put-length i c rs)
   where
@@ -65,7 +65,7 @@ appended-length e es rs = by (is_none (first e.0 rs))
     by true = omega arith
     by false = omega arith
 
-room_then : (e : ℕ × ContentValue) (es : List (ℕ × ContentValue)) (rs : List Record) → at e.0 es ≡ None → length rs + length (appended rs (e ∷ es)) ≤ 65535
+pub room_then : (e : ℕ × ContentValue) (es : List (ℕ × ContentValue)) (rs : List Record) → at e.0 es ≡ None → length rs + length (appended rs (e ∷ es)) ≤ 65535
     → length (put_record e.0 e.1 rs) + length (appended (put_record e.0 e.1 rs) es) ≤ 65535
 room_then e es rs none few =
     let grown = put-length e.0 e.1 rs in
@@ -73,7 +73,7 @@ room_then e es rs none few =
     let more = appended-length e es rs in
     omega (arith, grown, same, more, few)
 
-room_now : (e : ℕ × ContentValue) (es : List (ℕ × ContentValue)) (rs : List Record) → 0 < e.0 → length rs + length (appended rs (e ∷ es)) ≤ 65535
+pub room_now : (e : ℕ × ContentValue) (es : List (ℕ × ContentValue)) (rs : List Record) → 0 < e.0 → length rs + length (appended rs (e ∷ es)) ≤ 65535
     → (not (is_new e.0 rs) || nat_lt (length rs) 65535) ≡ true
 room_now e es rs some few = by (place_of_id e.0 rs) refl
   where
@@ -103,7 +103,7 @@ pub record IsReplacement (e : ℕ × ContentValue) : Type 0 where
   pub some : 0 < e.0
   pub can : CanPut e.0 e.1
 
-own_id : (i : ℕ) → given_id 0 i ≡ i
+pub own_id : (i : ℕ) → given_id 0 i ≡ i
 own_id zero = refl
 own_id (suc i) = grind (arith, nat_tests)
 
@@ -127,16 +127,16 @@ pub record AreAdded (o : Opened) (d : DatabaseValue) (databases : List DatabaseV
   pub free : AreFree (numbered given cs) rs
   pub each : length cs ≤ length given
 
-is_free : (o : Opened) (d : DatabaseValue) (databases : List DatabaseValue) (user : UserInfo) (rs : List Record) (g : ℕ) → MayWrite o d databases
+pub is_free : (o : Opened) (d : DatabaseValue) (databases : List DatabaseValue) (user : UserInfo) (rs : List Record) (g : ℕ) → MayWrite o d databases
     → IfSome (base_at (holding o d databases user rs) 1) (λ base. ◌≡◌ {A = ℕ} 0 0 → IsFree g base.database.records) → IsFree g rs
 is_free o d databases user rs g may if_some =
     subst (λ (b : Option Base). IfSome b (λ base. ◌≡◌ {A = ℕ} 0 0 → IsFree g base.database.records)) (holding_base o d databases user rs may) if_some refl
 
-add_room : (rs : List Record) → length rs < 65535 → (not (is_new 0 rs) || nat_lt (length rs) 65535) ≡ true
+pub add_room : (rs : List Record) → length rs < 65535 → (not (is_new 0 rs) || nat_lt (length rs) 65535) ≡ true
 add_room rs few = grind (arith, nat_tests, few)
 
 pub adds_do : (o : Opened) (d : DatabaseValue) (databases : List DatabaseValue) (user : UserInfo) (rs : List Record) (given : List ℕ)
-    (cs : List ContentValue) → MayWrite o d databases → AllByRecursion (λ (c : ContentValue). c.category ≤ 15) cs → length rs + length cs ≤ 65535
+    (cs : List ContentValue) → MayWrite o d databases → AllByRecursion IsSorted cs → length rs + length cs ≤ 65535
     → GetFreeIds (puts 1 given (as_new cs)) (holding o d databases user rs) → AreAdded o d databases user rs given cs
 unfolding puts
 adds_do o d databases user rs [] [] may each few free = record { does = refl; free = tt; each = omega arith }

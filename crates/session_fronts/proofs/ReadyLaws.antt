@@ -1,5 +1,5 @@
 -- The databases of a session that aren't skipped can be read and written.
-use Rattle.std.proofs.Common.{◌≡◌, ◌∙◌, ◌||◌, not, refl, ap, sym, subst, ℕ, Bool, true, false, List, [], ◌∷◌, map, filter, if◌then◌else◌, arith, is_none, is_some}
+use Rattle.std.proofs.Common.{◌≡◌, ◌≤◌, ◌∙◌, ◌||◌, not, refl, ap, sym, subst, ℕ, Bool, true, false, List, [], ◌∷◌, length, map, filter, if◌then◌else◌, arith, is_none, is_some}
 use Rattle.std.specs.Prelude.{Option, Some, None}
 use Rattle.std.specs.List.{AllByRecursion, list_any}
 use Rattle.std.specs.Str.{bytes_eq}
@@ -40,8 +40,9 @@ use Rattle.session_fronts.specs.Sound.{IsSoundMeeting}
 use Rattle.session_fronts.proofs.EachLaws.{AreReady, HaveNames}
 use Rattle.session_fronts.proofs.PhaseActs.{ShowAll, Stand}
 use Rattle.session_fronts.proofs.PutActs.{IsReplacement}
-use Rattle.session_fronts.proofs.SortedLaws.{AreSorted, HasNoZero, HasSorted, IsSorted, SeenSorted, adds-sorted, fast-sorted, replaced-sorted, sides-sorted, slow-sorted}
+use Rattle.session_fronts.proofs.SortedLaws.{AreSorted, HasNoZero, HasSorted, SeenSorted, adds-sorted, fast-sorted, replaced-sorted, sides-sorted, slow-sorted}
 use Rattle.session_fronts.proofs.TaskActs.{IsReady}
+use Rattle.session_fronts.proofs.WriteActs.{IsSorted}
 
 -- ---- the databases that aren't skipped
 
@@ -50,18 +51,18 @@ pub record IsKept (m : Meeting) (t : Task) : Type 0 where
   pub side : (is_some t.handheld || is_some t.rows) ≡ true
   pub kept : is_none (skip_of t) ≡ true
 
-all-map : {A : Type 0} (P Q : A → Type 0) (xs : List A) → ((x : A) → P x → Q x) → AllByRecursion P xs → AllByRecursion Q xs
+pub all-map : {A : Type 0} (P Q : A → Type 0) (xs : List A) → ((x : A) → P x → Q x) → AllByRecursion P xs → AllByRecursion Q xs
 all-map P Q [] turn all = tt
 all-map P Q (x ∷ xs) turn all = (turn x all.0, all-map P Q xs turn all.1)
 
-abbrev IsIn : List (List ℕ) → List ℕ → Type 0
+abbrev pub IsIn : List (List ℕ) → List ℕ → Type 0
 IsIn ns n = list_any (λ other. bytes_eq other n) ns ≡ true
 
 or_true : (a b : Bool) → b ≡ true → (a || b) ≡ true
 or_true true b is = refl
 or_true false b is = is
 
-are_in : (ns : List (List ℕ)) → AllByRecursion (IsIn ns) ns
+pub are_in : (ns : List (List ℕ)) → AllByRecursion (IsIn ns) ns
 are_in [] = tt
 are_in (n ∷ ns) = (
   ap (λ b. b || list_any (λ other. bytes_eq other n) ns) (bytes_eq-own n),
@@ -133,25 +134,29 @@ pub record AreSound (records : List Record) : Type 0 where
   pub ids : AreIds (ids_of records)
   pub bounded : AreBounded records
   pub sorted : AllByRecursion HasSorted records
+  pub kept : AllByRecursion IsBoundedRecord records
+  pub few : length records ≤ 65535
 
 bounded_ids : (records : List Record) → AllByRecursion IsBoundedRecord records → AreBounded records
 bounded_ids [] all = tt
 bounded_ids (r ∷ records) all = ((let l = all.0.id in let is = id_bound-is in grind (arith, nat_tests, l, is)), bounded_ids records all.1)
 
 sorted_records : (records : List Record) → AllByRecursion IsBoundedRecord records → AllByRecursion HasSorted records
-sorted_records records all = all-map IsBoundedRecord HasSorted records (λ r is. is.category) all
+sorted_records records all = all-map IsBoundedRecord HasSorted records (λ r is. record { category = is.category; short = is.short }) all
 
 pub handheld-sound : (m : Meeting) → IsSoundMeeting m → (t : Task) → t ≡ task_of m t.name → AreSound (records_of t.handheld)
 handheld-sound m sound t is = by t.handheld (ap (λ (x : Task). x.handheld) is)
   where
     by : (h : Option DatabaseValue) → h ≡ database_of t.name m.device.databases → AreSound (records_of h)
-    by None there = record { ids = tt; bounded = tt; sorted = tt }
+    by None there = record { ids = tt; bounded = tt; sorted = tt; kept = tt; few = omega arith }
     by (Some d) there =
         let bounded = AllByRecursion-database_of IsBoundedDatabase t.name m.device.databases d sound.device.bounded.databases (sym there) in
         record {
           ids = AllByRecursion-database_of (λ database. AreIds (ids_of database.records)) t.name m.device.databases d sound.device.sound.ids (sym there);
           bounded = bounded_ids d.records bounded.records;
           sorted = sorted_records d.records bounded.records;
+          kept = bounded.records;
+          few = bounded.whole.few_records;
         }
 
 shelf_sorted : (name : List ℕ) (databases : List DatabaseValue) (o : Option DatabaseValue) → AllByRecursion IsBoundedDatabase databases

@@ -25,10 +25,7 @@ use Rattle.conduit_rules.specs.declared.view.SeenState.{SeenState}
 use Rattle.conduit_rules.specs.declared.view.SeenState.TheVariants as states
 use Rattle.conduit_rules.proofs.ByIdLaws.{each_below-zero, each_below-suc}
 use Rattle.session_fronts.proofs.PutActs.{IsReplacement}
-
--- one of the sixteen categories
-abbrev pub IsSorted : ContentValue → Type 0
-IsSorted c = c.category ≤ 15
+use Rattle.session_fronts.proofs.WriteActs.{IsSorted}
 
 abbrev pub HasSorted : Record → Type 0
 HasSorted r = IsSorted r.content
@@ -45,22 +42,23 @@ IfBased (gone c) = IsSorted c
 
 -- ---- lists
 
-all-append : {A : Type 0} (P : A → Type 0) (xs ys : List A) → AllByRecursion P xs → AllByRecursion P ys → AllByRecursion P (xs ++ ys)
+pub all-append : {A : Type 0} (P : A → Type 0) (xs ys : List A) → AllByRecursion P xs → AllByRecursion P ys → AllByRecursion P (xs ++ ys)
 all-append P [] ys first second = second
 all-append P (x ∷ xs) ys first second = (first.0, all-append P xs ys first.1 second)
 
-all-flat_map : {A B : Type 0} (P : A → Type 0) (Q : B → Type 0) (f : A → List B) (xs : List A) → ((x : A) → P x → AllByRecursion Q (f x)) → AllByRecursion P xs
+pub all-flat_map : {A B : Type 0} (P : A → Type 0) (Q : B → Type 0) (f : A → List B) (xs : List A) → ((x : A) → P x → AllByRecursion Q (f x))
+    → AllByRecursion P xs
     → AllByRecursion Q (flat_map f xs)
 all-flat_map P Q f [] each all = tt
 all-flat_map P Q f (x ∷ xs) each all = all-append Q (f x) (flat_map f xs) (each x all.0) (all-flat_map P Q f xs each all.1)
 
-all-below : {A : Type 0} (P : A → Type 0) (f : ℕ → List A) (n : ℕ) → ((i : ℕ) → i < n → AllByRecursion P (f i)) → AllByRecursion P (each_below f n)
+pub all-below : {A : Type 0} (P : A → Type 0) (f : ℕ → List A) (n : ℕ) → ((i : ℕ) → i < n → AllByRecursion P (f i)) → AllByRecursion P (each_below f n)
 all-below P f zero each = subst (AllByRecursion P) (sym (each_below-zero f)) tt
 all-below P f (suc n) each =
     subst (AllByRecursion P) (sym (each_below-suc f n))
     (all-append P (each_below f n) (f n) (all-below P f n (λ i l. each i (omega (arith, l)))) (each n (omega arith)))
 
-found : {A : Type 0} (P : A → Type 0) (test : A → Bool) (xs : List A) → AllByRecursion P xs → IfSome (find test xs) P
+pub found : {A : Type 0} (P : A → Type 0) (test : A → Bool) (xs : List A) → AllByRecursion P xs → IfSome (find test xs) P
 found P test [] all = tt
 found P test (x ∷ xs) all = by (test x) (found P test xs all.1)
   where
@@ -244,7 +242,7 @@ adds-sorted a s are =
     (all-below IsSorted (λ i. option_to_list (fate_for a s i).news) id_bound
     (λ i l. listed IsSorted (fate_for a s i).news (fate_news a (s.base i) (s.handheld i) (s.desktop i) (are.desktop i)))))
 
-below_bound : (i : ℕ) → i < id_bound → i ≤ 16777215
+pub below_bound : (i : ℕ) → i < id_bound → i ≤ 16777215
 unfolding id_bound
 below_bound i l = omega (arith, l)
 

@@ -36,8 +36,7 @@ use Rattle.sync_session.specs.Tasks.{Meeting, Task}
 use Rattle.session_fronts.specs.Given.{GetFreeIds}
 use Rattle.session_fronts.proofs.OpenActs.{all_closed, around, one_open, open_does}
 use Rattle.session_fronts.proofs.PutActs.{IsReplacement, adds_do, free-append, free-front, puts-append, replaces_do, replaces-length}
-use Rattle.session_fronts.proofs.SortedLaws.{IsSorted}
-use Rattle.session_fronts.proofs.WriteActs.{MayWrite, holding, holding_own, purges_do}
+use Rattle.session_fronts.proofs.WriteActs.{IsSorted, MayWrite, holding, holding_own, purges_do}
 
 -- a database of a session, as it is before it: one of records that may be written, of whose news each can be put and has room
 pub record IsReady (m : Meeting) (t : Task) : Type 0 where
@@ -114,11 +113,11 @@ opened_for_does : (name : List ℕ) (acts : List Act) (old new : Device) → dev
 opened_for_does name [] old new does none = sym none ∙ does
 opened_for_does name (act ∷ acts) old new does none = does
 
-opened_for_free : (name : List ℕ) (acts : List Act) (old : Device) → GetFreeIds (opened_for name acts) old → GetFreeIds (opened name acts) old
+pub opened_for_free : (name : List ℕ) (acts : List Act) (old : Device) → GetFreeIds (opened_for name acts) old → GetFreeIds (opened name acts) old
 opened_for_free name [] old free = (tt, (tt, tt))
 opened_for_free name (act ∷ acts) old free = free
 
-may_old : (m : Meeting) (t : Task) (is : IsReady m t) (databases : List DatabaseValue) → database_of t.name databases ≡ Some is.b
+pub may_old : (m : Meeting) (t : Task) (is : IsReady m t) (databases : List DatabaseValue) → database_of t.name databases ≡ Some is.b
     → MayWrite (just_opened t.name 0xD0) is.b databases
 may_old m t is databases here = record { here = here; mode = refl; writable = is.writable; records = is.records }
 
@@ -169,7 +168,7 @@ put_new new b databases same none rise =
     over true rest = refl
     over false rest = refl
 
-may_new : (m : Meeting) (t : Task) (is : IsReady m t) (databases : List DatabaseValue) → database_of is.b.head.name databases ≡ None
+pub may_new : (m : Meeting) (t : Task) (is : IsReady m t) (databases : List DatabaseValue) → database_of is.b.head.name databases ≡ None
     → MayWrite (just_opened is.b.head.name 0xC0) is.b (with_new is.b databases)
 may_new m t is databases none = record {
   here = database_of-with_new is.b.head.name is.b databases none
@@ -180,7 +179,7 @@ may_new m t is databases none = record {
 }
 
 -- the acts that make it
-made_opens : (rows b : DatabaseValue) (databases : List DatabaseValue) (user : UserInfo) → new_database (made_head rows.head) ≡ b → IsName b.head.name
+pub made_opens : (rows b : DatabaseValue) (databases : List DatabaseValue) (user : UserInfo) → new_database (made_head rows.head) ≡ b → IsName b.head.name
     → database_of b.head.name databases ≡ None → length databases < most_databases
     → (acted (making (made_head rows.head)) (all_closed databases user)).1 ≡ one_open (just_opened b.head.name 0xC0) (with_new b databases) user
 made_opens rows b databases user is named none room =
@@ -222,10 +221,10 @@ news_new m t is rows databases user ids no_handheld some_rows head none few rise
 
 -- ---- either
 
-abbrev Before : Task → DatabaseValue → Type 0
+abbrev pub Before : Task → DatabaseValue → Type 0
 Before t b = (t.handheld ≡ Some b) ⊎ ((rows : DatabaseValue) × (t.handheld ≡ None) × (t.rows ≡ Some rows) × (new_database (made_head rows.head) ≡ b))
 
-before_is : (t : Task) (b : DatabaseValue) → handheld_before t.handheld t.rows ≡ Some b → Before t b
+pub before_is : (t : Task) (b : DatabaseValue) → handheld_before t.handheld t.rows ≡ Some b → Before t b
 before_is t b is = by t.handheld t.rows refl refl is
   where
     by : (h r : Option DatabaseValue) → t.handheld ≡ h → t.rows ≡ r → handheld_before h r ≡ Some b → Before t b

@@ -26,7 +26,7 @@ use Rattle.dlp_commands.specs.Writings as writing
 use Rattle.dlp_commands.specs.Writings.{WritingValue, written_in}
 use Rattle.desktop_session.specs.Acts.{acted}
 use Rattle.desktop_session.specs.Requests.{cleaning, putting, removing, resetting, secret_bit}
-use Rattle.desktop_session.specs.Tellings.{device_after}
+use Rattle.desktop_session.specs.Tellings.{device_after, tells, told}
 use Rattle.desktop_session.proofs.RowLaws.{writes_row}
 use Rattle.slow_mirror.specs.News.{purge_writes}
 use Rattle.slow_mirror.proofs.ReadLaws.{after_append}
@@ -94,10 +94,15 @@ put_written : (free id : ℕ) (content : ContentValue) (rs : List Record) (d : D
     ≡ Ok (with_records (put_record (given_id free id) content rs) d, reply.WriteRecord (given_id free id))
 put_written free id content rs d records bounded sorted room = rw (records, bounded, sorted, room, secret_again content.secret) refl
 
--- an id of a record and one of the sixteen categories
+-- one of the sixteen categories, and at most 65,500 bytes
+pub record IsSorted (content : ContentValue) : Type 0 where
+  pub category : content.category ≤ 15
+  pub short : length content.bytes ≤ 65500
+
+-- an id of a record and such a content
 pub record CanPut (id : ℕ) (content : ContentValue) : Type 0 where
   pub bounded : id ≤ 16777215
-  pub sorted : content.category ≤ 15
+  pub sorted : IsSorted content
 
 pub put_does : (o : Opened) (d : DatabaseValue) (databases : List DatabaseValue) (user : UserInfo) (rs : List Record) (free id : ℕ)
     (content : ContentValue) → MayWrite o d databases → CanPut id content → (not (is_new id rs) || nat_lt (length rs) 65535) ≡ true
@@ -105,10 +110,22 @@ pub put_does : (o : Opened) (d : DatabaseValue) (databases : List DatabaseValue)
 unfolding acted tried
 put_does o d databases user rs free id content may can room =
     let bounded : nat_le id 16777215 ≡ true = (let l = can.bounded in grind (arith, nat_tests, l)) in
-    let sorted : nat_le content.category 15 ≡ true = (let l = can.sorted in grind (arith, nat_tests, l)) in
+    let sorted : nat_le content.category 15 ≡ true = (let l = can.sorted.category in grind (arith, nat_tests, l)) in
     write_done o d databases user rs (put_record (given_id free id) content rs) free 0x21
     (writing.WriteRecord id (secret_bit content.secret) content.category content.bytes) (reply.WriteRecord (given_id free id)) may
     (put_written free id content rs d may.records bounded sorted room)
+
+pub put_tells : (o : Opened) (d : DatabaseValue) (databases : List DatabaseValue) (user : UserInfo) (rs : List Record) (free id : ℕ)
+    (content : ContentValue) → MayWrite o d databases → CanPut id content → (not (is_new id rs) || nat_lt (length rs) 65535) ≡ true
+    → told (putting free 1 id content) (holding o d databases user rs) ≡ reply.WriteRecord (given_id free id)
+unfolding told tried
+put_tells o d databases user rs free id content may can room =
+    let bounded : nat_le id 16777215 ≡ true = (let l = can.bounded in grind (arith, nat_tests, l)) in
+    let sorted : nat_le content.category 15 ≡ true = (let l = can.sorted.category in grind (arith, nat_tests, l)) in
+    ap (tells 0x21)
+    (writes_row free (holding o d databases user rs) 1 (writing.WriteRecord id (secret_bit content.secret) content.category content.bytes) (base_with o d rs)
+    (with_records (put_record (given_id free id) content rs) d) (reply.WriteRecord (given_id free id)) (holding_base o d databases user rs may)
+    (base_writable o d databases rs may) (put_written free id content rs d may.records bounded sorted room))
 
 -- ---- what is taken away
 

@@ -1,12 +1,17 @@
 //! What a session makes of a handheld. Each function here does nothing: its contract is the law.
-ghost use Rattle.std.specs.Prelude.{◌≡◌, ℕ, List, None};
-ghost use Rattle.desktop_session.specs.Tellings.{device_after};
+ghost use Rattle.std.specs.Prelude.{◌≡◌, ◌≤◌, ℕ, List, None, filter, length, map, take};
+ghost use Rattle.palm_device.specs.Devices.{Device};
+ghost use Rattle.dlp_commands.specs.Changes.{changes};
+ghost use Rattle.desktop_session.specs.Acts.{Act, text};
+ghost use Rattle.desktop_session.specs.Tellings.{AreSayable, device_after};
+ghost use Rattle.sync_session.specs.Fronts.{Front};
 ghost use Rattle.sync_session.specs.Limits.{first_over};
 ghost use Rattle.sync_session.specs.Merges.{merged_device};
-ghost use Rattle.sync_session.specs.Sessions.{session};
+ghost use Rattle.sync_session.specs.Sessions.{session, writes_before_commit};
 ghost use Rattle.sync_session.specs.Tasks.{Meeting};
-ghost use Rattle.session_fronts.specs.Given.{GetFreeIds};
+ghost use Rattle.session_fronts.specs.Given.{GetFreeIds, ids_in};
 ghost use Rattle.session_fronts.specs.Sound.{IsSoundMeeting};
+ghost use Rattle.session_fronts.specs.Stops.{StandsAmongNews, StandsBehindCommit};
 
 /// The acts of a whole session that passes no limit make the merged handheld, where each new record got an
 /// id that no record had at its turn.
@@ -14,4 +19,36 @@ pub fn the_merge_is_reached()
     ensures { (meeting : Meeting) (given : List ℕ) → IsSoundMeeting meeting → first_over meeting ≡ None
         → GetFreeIds (session meeting given) meeting.device
         → device_after (session meeting given) meeting.device ≡ merged_device meeting given }
+{}
+
+/// What a session says fits into messages: so any beginning of it can be said whose new records get free
+/// ids, and whatever can be said gives free ids.
+pub fn a_session_can_be_said()
+    ensures said { (meeting : Meeting) (given : List ℕ) (n : ℕ) → IsSoundMeeting meeting
+        → let acts = take n (session meeting given) in
+        GetFreeIds acts meeting.device → AreSayable acts meeting.device }
+    ensures free { (acts : List Act) (device : Device) → AreSayable acts device
+        → GetFreeIds acts device }
+{}
+
+/// Any beginning of a session's acts leads to a front, which has as many writes as the acts have, and the
+/// ids that these gave.
+pub fn acts_lead_to_fronts()
+    ensures { (meeting : Meeting) (given : List ℕ) (n : ℕ) → IsSoundMeeting meeting
+        → first_over meeting ≡ None
+        → let acts = take n (session meeting given) in
+        GetFreeIds acts meeting.device
+        → Front meeting (length (filter changes (map text acts))) (ids_in acts)
+        (device_after acts meeting.device) }
+{}
+
+/// A front with no more writes than stand before the desktop's commit is among the news of the databases,
+/// and one with no fewer is behind the commit.
+pub fn fronts_stand()
+    ensures news { (meeting : Meeting) (writes : ℕ) (given : List ℕ) (device : Device)
+        → IsSoundMeeting meeting → first_over meeting ≡ None → Front meeting writes given device
+        → writes ≤ writes_before_commit meeting → StandsAmongNews meeting given device }
+    ensures commit { (meeting : Meeting) (writes : ℕ) (given : List ℕ) (device : Device)
+        → IsSoundMeeting meeting → first_over meeting ≡ None → Front meeting writes given device
+        → writes_before_commit meeting ≤ writes → StandsBehindCommit meeting given device }
 {}

@@ -1,0 +1,163 @@
+-- A front is where acts of the session lead to, and what it is.
+use Rattle.std.proofs.Common.{◌≡◌, ◌∙◌, ◌≤◌, refl, ap, sym, subst, ℕ, zero, suc, Bool, true, false, List, [], ◌∷◌, ◌++◌, length, map, filter, take, if◌then◌else◌}
+use Rattle.std.specs.Prelude.{None}
+use Rattle.std.specs.List.{AllByRecursion, flat_map}
+use Rattle.palm_device.specs.Devices.{Device}
+use Rattle.dlp_commands.specs.Changes.{changes, given_in}
+use Rattle.dlp_commands.specs.DeviceRuns.{Exchange, Ran, exchanged}
+use Rattle.desktop_session.specs.Acts.{Act, text}
+use Rattle.desktop_session.specs.Tellings.{AreSayable, device_after, exchanges}
+use Rattle.desktop_session.proofs.TellLaws.{acts_ran}
+use Rattle.sync_session.specs.Fronts.{Front}
+use Rattle.sync_session.specs.Limits.{first_over}
+use Rattle.sync_session.specs.Sessions.{requests, session, writes_before_commit}
+use Rattle.sync_session.specs.Tasks.{Meeting}
+use Rattle.sync_session.proofs.IdsLaws.{text-session}
+use Rattle.session_fronts.specs.Given.{GetFreeIds, ids_in}
+use Rattle.session_fronts.specs.Sound.{IsSoundMeeting}
+use Rattle.session_fronts.specs.Stops.{StandsAmongNews, StandsBehindCommit}
+use Rattle.session_fronts.proofs.AlongLaws.{Holds}
+use Rattle.session_fronts.proofs.AmongActs.{AmongPart, respects-among}
+use Rattle.session_fronts.proofs.BehindActs.{respects-behind}
+use Rattle.session_fronts.proofs.CutActs.{IsCut, cut-acts, writes_in}
+use Rattle.session_fronts.proofs.FitLaws.{Fit, FitsOne, fit-session}
+use Rattle.session_fronts.proofs.NameLaws.{stands-among, stands-behind}
+use Rattle.session_fronts.proofs.ReadyLaws.{ready-all}
+use Rattle.session_fronts.proofs.RelabelLaws.{session-labelled}
+use Rattle.session_fronts.proofs.RunLaws.{RunsBy, answers, answers-count, asks, asks_in, count_one, exchanges-are, given-all, given_to, ids_left, relabel, relabel-take, runs-by, sayable-all}
+
+-- ---- the requests of a beginning
+
+take-map : {A B : Type 0} (f : A → B) (n : ℕ) (xs : List A) → take n (map f xs) ≡ map f (take n xs)
+take-map f zero xs = refl
+take-map f (suc n) [] = refl
+take-map {A} {B} f (suc n) (x ∷ xs) = ap (λ (ys : List B). f x ∷ ys) (take-map f n xs)
+
+all-take : {A : Type 0} (P : A → Type 0) (n : ℕ) (xs : List A) → AllByRecursion P xs → AllByRecursion P (take n xs)
+all-take P zero xs all = tt
+all-take P (suc n) [] all = tt
+all-take P (suc n) (x ∷ xs) all = (all.0, all-take P n xs all.1)
+
+first_requests : (m : Meeting) (ids : List ℕ) (n : ℕ) → take n (requests m) ≡ map text (take n (session m ids))
+first_requests m ids n = ap (take n) (sym (text-session m ids)) ∙ take-map text n (session m ids)
+
+first_fit : (m : Meeting) → IsSoundMeeting m → (ids : List ℕ) (n : ℕ) → Fit (take n (session m ids))
+first_fit m sound ids n = all-take FitsOne n (session m ids) (fit-session m sound ids)
+
+pub first-said : (m : Meeting) (given : List ℕ) (n : ℕ) → IsSoundMeeting m → GetFreeIds (take n (session m given)) m.device
+    → AreSayable (take n (session m given)) m.device
+first-said m given n sound free = sayable-all (take n (session m given)) m.device (first_fit m sound given n) free
+
+-- ---- acts lead to a front
+
+pub acts-front : (m : Meeting) (given : List ℕ) (n : ℕ) → IsSoundMeeting m → first_over m ≡ None → GetFreeIds (take n (session m given)) m.device
+    → Front m (length (filter changes (map text (take n (session m given))))) (ids_in (take n (session m given)))
+    (device_after (take n (session m given)) m.device)
+acts-front m given n sound none free =
+    let acts : List Act = take n (session m given) in
+    let fit : Fit acts = first_fit m sound given n in
+    let asked : take n (requests m) ≡ map text acts = first_requests m given n in
+    let replies : List (List ℕ) = answers (exchanges acts m.device) in
+    let told : exchanged (take n (requests m)) replies ≡ exchanges acts m.device =
+    ap (λ (rs : List (List ℕ)). exchanged rs replies) asked ∙ exchanges-are acts m.device in
+    record {
+      count = n;
+      replies = replies;
+      reached = device_after acts m.device;
+      run = record {
+        same = answers-count acts m.device ∙ sym (ap length asked);
+        ran = subst (λ (es : List Exchange). Ran m.device es (device_after acts m.device)) (sym told)
+            (acts_ran acts m.device (sayable-all acts m.device fit free));
+      };
+      holds = ap (λ (rs : List (List ℕ)). length (filter changes rs)) asked;
+      ids = ap (λ (es : List Exchange). flat_map (λ (e : Exchange). given_in e.request e.reply) es) told
+          ∙ given-all acts m.device fit sound.device free (cut-acts m sound given none n free).tells;
+      databases = refl;
+      user = refl;
+    }
+
+-- ---- a front is where acts lead to
+
+ids_of_label : (ids : List ℕ) (acts : List Act) → length ids ≡ asks_in acts → ids_in (relabel ids acts) ≡ ids
+ids_of_label [] [] count = refl
+ids_of_label (i ∷ ids) [] count = absurd (cc)
+ids_of_label ids (act ∷ acts) count = by (asks act) refl ids count (λ is same. ids_of_label is acts same)
+  where
+    pred_of : ℕ → ℕ
+    pred_of zero = zero
+    pred_of (suc n) = n
+
+    one : (b : Bool) (is : List ℕ) → (if asks (given_to b is act) then (given_to b is act).given ∷ [] else [])
+        ≡ (if asks act then (given_to b is act).given ∷ [] else [])
+    one true is = refl
+    one false is = refl
+
+    by : (b : Bool) → asks act ≡ b → (is : List ℕ) → length is ≡ count_one b (asks_in acts)
+        → ((js : List ℕ) → length js ≡ asks_in acts → ids_in (relabel js acts) ≡ js)
+        → (if asks (given_to b is act) then (given_to b is act).given ∷ [] else []) ++ ids_in (relabel (ids_left b is) acts) ≡ is
+    by true is_asked [] same rest = absurd (cc)
+    by true is_asked (i ∷ is) same rest =
+        ap (λ b. (if b then i ∷ [] else []) ++ ids_in (relabel is acts)) is_asked ∙ ap (λ js. i ∷ js) (rest is (ap pred_of same))
+    by false is_asked is same rest = ap (λ b. (if b then act.given ∷ [] else []) ++ ids_in (relabel is acts)) is_asked ∙ rest is same
+
+pub record IsActs (m : Meeting) (sound : IsSoundMeeting m) (writes : ℕ) (given : List ℕ) (device : Device) : Type 0 where
+  pub acts : List Act
+  pub cut : IsCut m sound given acts
+  pub count : writes_in acts ≡ writes
+  pub ids : ids_in acts ≡ given
+  pub holds : Holds device (device_after acts m.device)
+
+pub front-acts : (m : Meeting) (sound : IsSoundMeeting m) (writes : ℕ) (given : List ℕ) (device : Device) → first_over m ≡ None
+    → Front m writes given device → IsActs m sound writes given device
+front-acts m sound writes given device none front =
+    let n : ℕ = front.count in
+    let bare : List Act = take n (session m []) in
+    let asked : take n (requests m) ≡ map text bare = first_requests m [] n in
+    let runs : RunsBy bare m.device front.reached front.replies =
+    runs-by bare m.device front.reached front.replies (first_fit m sound [] n) (front.run.same ∙ ap length asked)
+    (subst (λ (rs : List (List ℕ)). Ran m.device (exchanged rs front.replies) front.reached) asked front.run.ran) in
+    let acts : List Act = take n (session m runs.ids) in
+    let same : acts ≡ relabel runs.ids bare = ap (take n) (session-labelled m sound runs.ids) ∙ relabel-take n runs.ids (session m []) in
+    let free : GetFreeIds acts m.device = subst (λ (zs : List Act). GetFreeIds zs m.device) (sym same) runs.free in
+    let fit : Fit acts = first_fit m sound runs.ids n in
+    let cut : IsCut m sound runs.ids acts = cut-acts m sound runs.ids none n free in
+    let own : ids_in acts ≡ runs.ids = ap ids_in same ∙ ids_of_label runs.ids bare runs.all in
+    let now : take n (requests m) ≡ map text acts = first_requests m runs.ids n in
+    let replies : front.replies ≡ answers (exchanges acts m.device) =
+    runs.told ∙ ap (λ (zs : List Act). answers (exchanges zs m.device)) (sym same) in
+    let told : exchanged (take n (requests m)) front.replies ≡ exchanges acts m.device =
+    ap {A = List (List ℕ) × List (List ℕ)} (λ p. exchanged p.0 p.1) (λ k. (now k, replies k)) ∙ exchanges-are acts m.device in
+    let ids : given ≡ ids_in acts =
+    sym front.ids ∙ ap (λ (es : List Exchange). flat_map (λ (e : Exchange). given_in e.request e.reply) es) told
+    ∙ given-all acts m.device fit sound.device free cut.tells in
+    let reached : front.reached ≡ device_after acts m.device = sym runs.reaches ∙ ap (λ (zs : List Act). device_after zs m.device) (sym same) in
+    record {
+      acts = acts;
+      cut = subst (λ (is : List ℕ). IsCut m sound is acts) (sym own ∙ sym ids) cut;
+      count = sym (ap (λ (rs : List (List ℕ)). length (filter changes rs)) now) ∙ front.holds;
+      ids = sym ids;
+      holds = record {
+        databases = front.databases ∙ ap (λ (d : Device). d.databases) reached;
+        user = front.user ∙ ap (λ (d : Device). d.user) reached;
+      };
+    }
+
+-- ---- what a front is
+
+pub front-among : (m : Meeting) (writes : ℕ) (given : List ℕ) (device : Device) → IsSoundMeeting m → first_over m ≡ None
+    → Front m writes given device → writes ≤ writes_before_commit m → StandsAmongNews m given device
+front-among m writes given device sound none front few =
+    let is = front-acts m sound writes given device none front in
+    let part = is.cut.among (subst (λ n. n ≤ writes_before_commit m) (sym is.count) few) in
+    stands-among m sound given device
+    (respects-among m (ready-all m sound) given (device_after is.acts m.device) device is.holds
+    (subst (λ ids. AmongPart m (ready-all m sound) ids (device_after is.acts m.device)) is.ids part))
+
+pub front-behind : (m : Meeting) (writes : ℕ) (given : List ℕ) (device : Device) → IsSoundMeeting m → first_over m ≡ None
+    → Front m writes given device → writes_before_commit m ≤ writes → StandsBehindCommit m given device
+front-behind m writes given device sound none front most =
+    let is = front-acts m sound writes given device none front in
+    let enough = subst (λ n. writes_before_commit m ≤ n) (sym is.count) most in
+    stands-behind m sound given (ids_in is.acts) (ids_in is.acts) device
+    (respects-behind m given (ready-all m sound) (ids_in is.acts) (ids_in is.acts) (device_after is.acts m.device) device is.holds (is.cut.behind enough))
+    (is.cut.dealt enough)

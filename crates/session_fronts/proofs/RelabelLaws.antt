@@ -1,0 +1,229 @@
+-- A session with other ids is the same but for the ids of its new records.
+use Rattle.std.proofs.Common.{◌≡◌, ◌∙◌, ◌+◌, refl, ap, sym, subst, ℕ, zero, suc, Bool, true, false, List, [], ◌∷◌, ◌++◌, length, map, take, drop, arith}
+use Rattle.std.specs.Prelude.{Option, Some, None, replicate, flat_map}
+use Rattle.std.specs.List.{AllByRecursion}
+use Rattle.pdb_values.specs.Contents.{ContentValue}
+use Rattle.pdb_values.specs.Databases.{DatabaseValue}
+use Rattle.conduit_rules.specs.Plans.{purged_ids}
+use Rattle.desktop_session.specs.Acts.{Act}
+use Rattle.desktop_session.specs.Requests.{cleaning, closing, ending, making, opening, putting, removing, resetting}
+use Rattle.slow_mirror.specs.News.{as_new, purge_writes, puts}
+use Rattle.sync_session.specs.Choosing.{choice, seen_held}
+use Rattle.sync_session.specs.Heads.{made_head}
+use Rattle.sync_session.specs.Merges.{handheld_before}
+use Rattle.sync_session.specs.News.{add_count, all_news, made, news_acts, news_by, opened_for, purge_acts, writes}
+use Rattle.sync_session.specs.News.{replaced as replacements}
+use Rattle.sync_session.specs.Sessions.{after_commit, before_commit, before_writes, session}
+use Rattle.sync_session.specs.Skips.{active}
+use Rattle.sync_session.specs.Tasks.{Meeting, Task}
+use Rattle.sync_session.specs.Users.{begin_mark, end_mark}
+use Rattle.sync_session.proofs.QuietLaws.{quiet-before_writes}
+use Rattle.session_fronts.specs.Sound.{IsSoundMeeting}
+use Rattle.session_fronts.proofs.AlongLaws.{Quiet, form_asks, quiet-all}
+use Rattle.session_fronts.proofs.EachLaws.{AreReady}
+use Rattle.session_fronts.proofs.PartActs.{not_zero}
+use Rattle.session_fronts.proofs.PutActs.{IsReplacement, puts-append}
+use Rattle.session_fronts.proofs.ReadyLaws.{ready-all}
+use Rattle.session_fronts.proofs.RunLaws.{asks, asks_in, count_one, given_to, ids_left, relabel}
+use Rattle.session_fronts.proofs.TaskActs.{IsReady}
+
+-- ---- lists
+
+abbrev NoAsk : List Act → Type 0
+NoAsk [] = Unit {0}
+NoAsk (act ∷ acts) = (asks act ≡ false) × NoAsk acts
+
+none-append : (xs ys : List Act) → NoAsk xs → NoAsk ys → NoAsk (xs ++ ys)
+none-append [] ys first second = second
+none-append (x ∷ xs) ys first second = (first.0, none-append xs ys first.1 second)
+
+none-same : (ids : List ℕ) (acts : List Act) → NoAsk acts → relabel ids acts ≡ acts
+none-same ids [] none = refl
+none-same ids (act ∷ acts) none =
+    ap (λ b. given_to b ids act ∷ relabel (ids_left b ids) acts) none.0 ∙ ap (λ (zs : List Act). act ∷ zs) (none-same ids acts none.1)
+
+none-count : (acts : List Act) → NoAsk acts → asks_in acts ≡ 0
+none-count [] none = refl
+none-count (act ∷ acts) none = ap (λ b. count_one b (asks_in acts)) none.0 ∙ none-count acts none.1
+
+drop_left : (b : Bool) (n : ℕ) (ids : List ℕ) → drop (count_one b n) ids ≡ drop n (ids_left b ids)
+drop_left true zero [] = refl
+drop_left true (suc n) [] = refl
+drop_left true n (i ∷ ids) = refl
+drop_left false n ids = refl
+
+relabel-append : (ids : List ℕ) (xs ys : List Act) → relabel ids (xs ++ ys) ≡ relabel ids xs ++ relabel (drop (asks_in xs) ids) ys
+relabel-append ids [] ys = refl
+relabel-append ids (x ∷ xs) ys =
+    ap (λ (zs : List Act). given_to (asks x) ids x ∷ zs)
+    (relabel-append (ids_left (asks x) ids) xs ys
+    ∙ ap (λ is. relabel (ids_left (asks x) ids) xs ++ relabel is ys) (sym (drop_left (asks x) (asks_in xs) ids)))
+
+count-append : (xs ys : List Act) → asks_in (xs ++ ys) ≡ asks_in xs + asks_in ys
+count-append [] ys = omega arith
+count-append (x ∷ xs) ys = ap (count_one (asks x)) (count-append xs ys) ∙ by (asks x)
+  where
+    by : (b : Bool) → count_one b (asks_in xs + asks_in ys) ≡ count_one b (asks_in xs) + asks_in ys
+    by true = omega arith
+    by false = refl
+
+-- no more ids are looked at than are asked for
+relabel-few : (ids : List ℕ) (acts : List Act) → relabel ids acts ≡ relabel (take (asks_in acts) ids) acts
+relabel-few ids [] = refl
+relabel-few ids (act ∷ acts) = by (asks act) ids (λ is. relabel-few is acts)
+  where
+    by : (b : Bool) (is : List ℕ) → ((js : List ℕ) → relabel js acts ≡ relabel (take (asks_in acts) js) acts)
+        → given_to b is act ∷ relabel (ids_left b is) acts
+        ≡ given_to b (take (count_one b (asks_in acts)) is) act ∷ relabel (ids_left b (take (count_one b (asks_in acts)) is)) acts
+    by true [] rest = refl
+    by true (i ∷ is) rest = ap (λ (zs : List Act). record act { given = i } ∷ zs) (rest is)
+    by false is rest = ap (λ (zs : List Act). act ∷ zs) (rest is)
+
+-- one list of acts is the other with these ids, of which it asks for so many
+record IsLabelled (ids : List ℕ) (n : ℕ) (bare acts : List Act) : Type 0 where
+  same : acts ≡ relabel ids bare
+  count : asks_in bare ≡ n
+
+-- ---- the writes of a database
+
+adds-labelled : (ids : List ℕ) (cs : List ContentValue) → IsLabelled ids (length cs) (puts 1 [] (as_new cs)) (puts 1 ids (as_new cs))
+unfolding puts
+adds-labelled [] [] = record { same = refl; count = refl }
+adds-labelled (i ∷ ids) [] = record { same = refl; count = refl }
+adds-labelled [] (c ∷ cs) =
+    let rest = adds-labelled [] cs in
+    record { same = ap (λ (zs : List Act). putting 0 1 0 c ∷ zs) rest.same; count = ap suc rest.count }
+adds-labelled (i ∷ ids) (c ∷ cs) =
+    let rest = adds-labelled ids cs in
+    record { same = ap (λ (zs : List Act). putting i 1 0 c ∷ zs) rest.same; count = ap suc rest.count }
+
+none-replaced : (es : List (ℕ × ContentValue)) → AllByRecursion IsReplacement es → NoAsk (puts 1 (replicate (length es) 0) es)
+unfolding puts
+none-replaced [] each = tt
+none-replaced (e ∷ es) each = (not_zero e.0 each.0.some, none-replaced es each.1)
+
+writes-labelled : (m : Meeting) (t : Task) → IsReady m t → (ids : List ℕ) → IsLabelled ids (add_count m t) (writes m t []) (writes m t ids)
+writes-labelled m t is ids =
+    let es : List (ℕ × ContentValue) = replacements m t in
+    let cs : List ContentValue = (choice m t).adds in
+    let first : List Act = puts 1 (replicate (length es) 0) es in
+    let none = none-replaced es is.replaced in
+    let adds = adds-labelled ids cs in
+    let bare : writes m t [] ≡ first ++ puts 1 [] (as_new cs) = puts-append es (as_new cs) [] in
+    record {
+      same = puts-append es (as_new cs) ids
+          ∙ ap (λ (zs : List Act). first ++ zs) adds.same
+          ∙ sym (ap (relabel ids) bare ∙ relabel-append ids first (puts 1 [] (as_new cs))
+          ∙ ap {A = List Act × ℕ} (λ p. p.0 ++ relabel (drop p.1 ids) (puts 1 [] (as_new cs))) (λ k. (none-same ids first none k, none-count first none k)));
+      count = ap asks_in bare
+          ∙ (let parts = count-append first (puts 1 [] (as_new cs)) in let zero_first = none-count first none in let rest = adds.count in
+          omega (arith, parts, zero_first, rest));
+    }
+
+-- what is done while a database is open
+around-labelled : (ids : List ℕ) (n : ℕ) (first : Act) (bare acts : List Act) → asks first ≡ false → IsLabelled ids n bare acts
+    → IsLabelled ids n (first ∷ (bare ++ closing 1 ∷ [])) (first ∷ (acts ++ closing 1 ∷ []))
+around-labelled ids n first bare acts none is = record {
+  same = ap (λ (zs : List Act). first ∷ (zs ++ closing 1 ∷ [])) is.same
+      ∙ ap (λ (zs : List Act). first ∷ zs) (sym (relabel-append ids bare (closing 1 ∷ [])))
+      ∙ sym (ap (λ b. given_to b ids first ∷ relabel (ids_left b ids) (bare ++ closing 1 ∷ [])) none);
+  count = ap (λ b. count_one b (asks_in (bare ++ closing 1 ∷ []))) none ∙ count-append bare (closing 1 ∷ []) ∙ ap (λ k. k + 0) is.count ∙ plus_none n;
+}
+  where
+    plus_none : (k : ℕ) → k + 0 ≡ k
+    plus_none k = omega arith
+
+opened-labelled : (ids : List ℕ) (n : ℕ) (name : List ℕ) (bare acts : List Act) → IsLabelled ids n bare acts
+    → IsLabelled ids n (opened_for name bare) (opened_for name acts)
+opened-labelled ids n name bare acts is =
+    subst (λ (zs : List Act). IsLabelled ids n (opened_for name bare) (opened_for name zs)) (sym is.same) (by bare is.count)
+  where
+    by : (zs : List Act) → asks_in zs ≡ n → IsLabelled ids n (opened_for name zs) (opened_for name (relabel ids zs))
+    by [] count = record { same = refl; count = count }
+    by (z ∷ zs) count = around-labelled ids n (opening name) (z ∷ zs) (relabel ids (z ∷ zs)) refl (record { same = refl; count = count })
+
+news-labelled : (m : Meeting) (t : Task) → IsReady m t → (ids : List ℕ) → IsLabelled ids (add_count m t) (news_acts m t []) (news_acts m t ids)
+unfolding news_acts
+news-labelled m t is ids = by t.handheld t.rows refl is.before
+  where
+    n : ℕ
+    n = add_count m t
+
+    by : (h r : Option DatabaseValue) → t.rows ≡ r → handheld_before h r ≡ Some is.b
+        → IsLabelled ids n (news_by h t (writes m t [])) (news_by h t (writes m t ids))
+    by (Some d) r rows before = opened-labelled ids n t.name (writes m t []) (writes m t ids) (writes-labelled m t is ids)
+    by None (Some r) rows before =
+        subst (λ (o : Option DatabaseValue). IsLabelled ids n (made o (writes m t [])) (made o (writes m t ids))) (sym rows)
+        (around-labelled ids n (making (made_head r.head)) (writes m t []) (writes m t ids) refl (writes-labelled m t is ids))
+    by None None rows before = absurd (cc)
+
+-- ---- all of a session
+
+take_none : (n : ℕ) → take {A = ℕ} n [] ≡ []
+take_none zero = refl
+take_none (suc n) = refl
+
+drop_none : (n : ℕ) → drop {A = ℕ} n [] ≡ []
+drop_none zero = refl
+drop_none (suc n) = refl
+
+all-labelled : (m : Meeting) (ts : List Task) → AreReady m ts → (ids : List ℕ) → all_news m ts ids ≡ relabel ids (all_news m ts [])
+unfolding all_news
+all-labelled m [] ready ids = refl
+all-labelled m (t ∷ ts) ready ids =
+    let n : ℕ = add_count m t in
+    let one = news-labelled m t ready.0 (take n ids) in
+    let bare : List Act = news_acts m t [] in
+    let rest : List Act = all_news m ts [] in
+    let start : news_acts m t (take n []) ++ all_news m ts (drop n []) ≡ bare ++ rest =
+    ap {A = List ℕ × List ℕ} (λ p. news_acts m t p.0 ++ all_news m ts p.1) (λ k. (take_none n k, drop_none n k)) in
+    let own : news_acts m t (take n ids) ≡ relabel ids bare =
+    one.same ∙ ap (λ k. relabel (take k ids) bare) (sym one.count) ∙ sym (relabel-few ids bare) in
+    let later : all_news m ts (drop n ids) ≡ relabel (drop (asks_in bare) ids) rest =
+    all-labelled m ts ready.1 (drop n ids) ∙ ap (λ k. relabel (drop k ids) rest) (sym one.count) in
+    ap {A = List Act × List Act} (λ p. p.0 ++ p.1) (λ k. (own k, later k)) ∙ sym (relabel-append ids bare rest) ∙ ap (relabel ids) (sym start)
+
+none-quiet : (acts : List Act) → Quiet acts → NoAsk acts
+none-quiet [] quiet = tt
+none-quiet (act ∷ acts) quiet = (form_asks act.asks.form act.asks.fields quiet.0, none-quiet acts quiet.1)
+
+none-removes : (ids : List ℕ) → NoAsk (map (removing 1) ids)
+none-removes [] = tt
+none-removes (i ∷ ids) = (refl, none-removes ids)
+
+none-purges : (m : Meeting) (t : Task) → NoAsk (purge_acts m t)
+unfolding purge_acts
+none-purges m t =
+    let ids : List ℕ = purged_ids (choice m t).keep (seen_held m t) in (
+      refl,
+      none-append (purge_writes 1 ids) (closing 1 ∷ [])
+          (none-append (map (removing 1) ids) (cleaning 1 ∷ resetting 1 ∷ []) (none-removes ids) (refl, (refl, tt)))
+          (refl, tt),
+    )
+
+none-all : (m : Meeting) (ts : List Task) → NoAsk (flat_map (purge_acts m) ts)
+none-all m [] = tt
+none-all m (t ∷ ts) = none-append (purge_acts m t) (flat_map (purge_acts m) ts) (none-purges m t) (none-all m ts)
+
+none-after : (m : Meeting) → NoAsk (after_commit m)
+unfolding after_commit
+none-after m = none-append (flat_map (purge_acts m) (active m)) (end_mark m ∷ ending ∷ []) (none-all m (active m)) (refl, (refl, tt))
+
+before-labelled : (m : Meeting) → IsSoundMeeting m → (ids : List ℕ) → before_commit m ids ≡ relabel ids (before_commit m [])
+unfolding before_commit
+before-labelled m sound ids =
+    let reading : List Act = before_writes m in
+    let none : NoAsk reading = none-quiet reading (quiet-all reading (quiet-before_writes m)) in
+    let bare : List Act = all_news m (active m) [] in
+    ap (λ (zs : List Act). reading ++ begin_mark m ∷ zs) (all-labelled m (active m) (ready-all m sound) ids)
+    ∙ sym (relabel-append ids reading (begin_mark m ∷ bare)
+    ∙ ap {A = List Act × ℕ} (λ p. p.0 ++ relabel (drop p.1 ids) (begin_mark m ∷ bare)) (λ k. (none-same ids reading none k, none-count reading none k)))
+
+pub session-labelled : (m : Meeting) → IsSoundMeeting m → (ids : List ℕ) → session m ids ≡ relabel ids (session m [])
+unfolding session
+session-labelled m sound ids =
+    let bare : List Act = before_commit m [] in
+    let last : List Act = after_commit m in
+    ap (λ (zs : List Act). zs ++ last) (before-labelled m sound ids)
+    ∙ ap (λ (zs : List Act). relabel ids bare ++ zs) (sym (none-same (drop (asks_in bare) ids) last (none-after m)))
+    ∙ sym (relabel-append ids bare last)
