@@ -128,7 +128,7 @@ jobs_meet meeting heads shelves agree wishes heads_are shelves_are same asked =
 
 -- ---- the user
 
-user_told : (device : Device) → IsProper device → said_in user_of (reply_at 0x10 (acted reading_user device).0) ≡ Ok device.user
+pub user_told : (device : Device) → IsProper device → said_in user_of (reply_at 0x10 (acted reading_user device).0) ≡ Ok device.user
 unfolding told tried
 user_told device proper = ap (said_in user_of) (acted_reads reading_user device proper (act_sayable reading_user.asks device user_fits refl))
 

@@ -32,7 +32,7 @@ use Rattle.sync_session.specs.declared.planned.Planned.{Planned}
 use Rattle.sync_session.specs.declared.skip.Skip.{Skip}
 use Rattle.sync_session.specs.Choosing.{action_or_sync, agrees, choice, seen_held, sides, sides_by, view}
 use Rattle.sync_session.specs.Gains.{AreGained}
-use Rattle.sync_session.specs.Given.{GetFreeIds}
+use Rattle.sync_session.specs.Given.{AreDealtTo, GetFreeIds}
 use Rattle.sync_session.specs.Heads.{made_head}
 use Rattle.sync_session.specs.News as session
 use Rattle.sync_session.specs.News.{add_count, all_news, made, news_acts, opened_for, replaced, writes}
@@ -159,8 +159,7 @@ rowless_adds meeting task none =
 
 -- so many, where the test holds
 abbrev kept_count : Bool → ℕ → ℕ
-kept_count true n = n
-kept_count false n = 0
+kept_count b n = if b then n else 0
 
 opened_same : (name : List ℕ) (entries : List (ℕ × ContentValue)) (given : List ℕ)
     → opened_news name entries 1 given ≡ opened_for name (puts 1 given entries)
@@ -311,19 +310,21 @@ abbrev pub is_active : Task → Bool
 is_active task = is_none (skip_of task)
 
 -- what all databases got: the ids that were given are dealt out to them in order, each was free at its turn, and then nothing is open
-pub record NewsJoin (meeting : Meeting) (ts : List Task) (told : Option Talk) (planned : List Planned) (ones : List Stretch) (given : List ℕ) : Type 0 where
+pub record NewsJoin (meeting : Meeting) (ts : List Task) (told : Option Talk) (planned : List Planned) (ones : List Stretch) (given : List ℕ)
+    (each : List (List ℕ)) : Type 0 where
   pub free : IfSome told (λ talk. GetFreeIds (each_acts news_under told planned ones) talk.device)
   pub acts : each_acts news_under told planned ones ≡ all_news meeting (filter is_active ts) given
   pub closed : TellsClosed (saying (each_acts news_under told planned ones) told)
   pub count : length given ≡ sum_by (add_count meeting) (filter is_active ts)
+  pub dealt : AreDealtTo meeting ts each
 
 news_each : {V : Type 0} (items : V → List ℕ) (meeting : Meeting) (ts : List Task) (told : Option Talk) (planned : List Planned) (ones : List Stretch)
     (ids : List V) → AreEachPlannedFor meeting ts planned → TellsClosed told → AreFirst news_under told planned ones
     → EachSays news_under (λ told one handle given got. gained told one handle given (items got)) told planned ones ids
-    → NewsJoin meeting ts told planned ones (flat_map items ids)
+    → NewsJoin meeting ts told planned ones (flat_map items ids) (map items ids)
 unfolding all_news
 news_each items meeting [] told [] [] [] are tells firsts all =
-    record { free = nothing_free told; acts = refl; closed = subst TellsClosed (sym (saying_none told)) tells; count = refl }
+    record { free = nothing_free told; acts = refl; closed = subst TellsClosed (sym (saying_none told)) tells; count = refl; dealt = tt }
 news_each items meeting [] told [] [] (x ∷ ids) are tells firsts all = absurd all
 news_each items meeting [] told [] (one ∷ ones) [] are tells firsts all = absurd all
 news_each items meeting [] told [] (one ∷ ones) (x ∷ ids) are tells firsts all = absurd all
@@ -355,12 +356,13 @@ news_each items meeting (task ∷ ts) told (p ∷ planned) (one ∷ ones) (x ∷
           ∙ deal meeting task (filter is_active ts) (is_active task) (items x) rest step.count;
       closed = subst TellsClosed (saying_then mine (each_acts news_under (saying mine told) planned ones) told) later.closed;
       count = adds_more meeting task (filter is_active ts) (is_active task) (items x) rest step.count later.count;
+      dealt = (step.count, later.dealt);
     }
 
 pub news_join : {V : Type 0} (items : V → List ℕ) (meeting : Meeting) (told : Option Talk) (planned : List Planned) (ones : List Stretch)
     (ids : List V) → ArePlannedFor meeting planned → TellsClosed told → AreFirst news_under told planned ones
     → EachSays news_under (λ told one handle given got. gained told one handle given (items got)) told planned ones ids
-    → NewsJoin meeting (tasks meeting) told planned ones (flat_map items ids)
+    → NewsJoin meeting (tasks meeting) told planned ones (flat_map items ids) (map items ids)
 news_join items meeting told planned ones ids are tells firsts all = news_each items meeting (tasks meeting) told planned ones ids are tells firsts all
 
 -- ---- some of them: what their texts begin with

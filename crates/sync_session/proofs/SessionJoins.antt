@@ -26,7 +26,7 @@ use Rattle.sync_session.specs.declared.job.Job.{Job}
 use Rattle.sync_session.specs.declared.meeting.Met.{Met}
 use Rattle.sync_session.specs.declared.planned.Planned.{Planned}
 use Rattle.sync_session.specs.Endings.{Ends}
-use Rattle.sync_session.specs.Given.{GetFreeIds}
+use Rattle.sync_session.specs.Given.{AreDealtTo, GetFreeIds}
 use Rattle.sync_session.specs.Meets.{Meets, link_met, meeting_acts}
 use Rattle.sync_session.specs.News.{all_news, purge_acts}
 use Rattle.sync_session.specs.Phases.{gained, news_under}
@@ -222,11 +222,12 @@ commit_free meeting told acts tells free =
 
 -- what precedes the desktop's commit was done, where the new records got these ids, and nothing is open
 pub record NewsReach {L : Type 0} (talk : L → Option Talk) (since : L → L → Type 0) (fault : L → Option LinkFault) (downs : L → ℕ) (meeting : Meeting)
-    (given : List ℕ) (old new : L) : Type 0 where
+    (given : List ℕ) (each_given : List (List ℕ)) (old new : L) : Type 0 where
   pub reached : Reached talk since fault downs (before_commit meeting given) old new
   pub closed : TellsClosed (talk new)
   pub free : GetFreeIds (before_commit meeting given) meeting.device
   pub count : length given ≡ adds_of meeting
+  pub dealt : AreDealtTo meeting (tasks meeting) each_given
 
 pub news_reach : {L B V : Type 0} (talk : L → Option Talk) (since : L → L → Type 0) (fault : L → Option LinkFault) (downs : L → ℕ)
     (since_more : (a b c : L) → since a b → since b c → since a c) (meeting : Meeting) (user : UserInfo) (planned : List Planned) (items : V → List ℕ)
@@ -234,7 +235,7 @@ pub news_reach : {L B V : Type 0} (talk : L → Option Talk) (since : L → L �
     → Reached talk since fault downs (before_writes meeting) old now.link → Tells meeting.device (talk now.link)
     → SpansBehind talk since fault downs (marking (users.begun_user user) 0x40) news_under
     (λ told one handle given got. gained told one handle given (items got)) planned each now new (Ok ids)
-    → NewsReach talk since fault downs meeting (flat_map items (each ids)) old new.link
+    → NewsReach talk since fault downs meeting (flat_map items (each ids)) (map items (each ids)) old new.link
 unfolding before_commit adds_of active
 news_reach {L} {B} {V} talk since fault downs since_more meeting user planned items each old now new ids rests known are read tells spans =
     let says : Option Talk → Planned → ℕ → List ℕ → V → Type 0 = λ told one handle given got. gained told one handle given (items got) in
@@ -257,6 +258,7 @@ news_reach {L} {B} {V} talk since fault downs since_more meeting user planned it
           (subst (GetFreeIds (begin_mark meeting ∷ news)) (sym (writes_leave meeting rests))
           (commit_free meeting (talk now.link) news tells joined.free)));
       count = joined.count;
+      dealt = joined.dealt;
     }
 
 -- they are sent, or the sending stopped
@@ -288,12 +290,12 @@ news_stop {L} {B} {V} talk since fault downs since_more meeting user planned ite
 
 pub end_reach : {L : Type 0} (talk : L → Option Talk) (since : L → L → Type 0) (fault : L → Option LinkFault) (downs : L → ℕ)
     (since_more : (a b c : L) → since a b → since b c → since a c) (meeting : Meeting) (date : ℕ) (user : UserInfo) (slot : Marks) (planned : List Planned)
-    (given : List ℕ) (old : L) (between : SessionValue L) (ended : Ended L) → date ≡ meeting.wishes.date → user ≡ meeting.device.user
-    → slot ≡ (slot_of meeting).marks → ArePlannedFor meeting planned → NewsReach talk since fault downs meeting given old between.link
+    (given : List ℕ) (dealt : List (List ℕ)) (old : L) (between : SessionValue L) (ended : Ended L) → date ≡ meeting.wishes.date → user ≡ meeting.device.user
+    → slot ≡ (slot_of meeting).marks → ArePlannedFor meeting planned → NewsReach talk since fault downs meeting given dealt old between.link
     → Ends talk since fault downs planned (marking (users.done_user date user slot) 0xF0 ∷ ending ∷ []) between (Ok ended)
     → Reached talk since fault downs (session meeting given) old ended.link
 unfolding session after_commit
-end_reach {L} talk since fault downs since_more meeting date user slot planned given old between ended dated known marked are news ends =
+end_reach {L} talk since fault downs since_more meeting date user slot planned given dealt old between ended dated known marked are news ends =
     let here : Ends talk since fault downs planned (end_mark meeting ∷ ending ∷ []) between (Ok ended)
     = subst (λ s. Ends talk since fault downs planned (marking (users.done_user meeting.wishes.date meeting.device.user s) 0xF0 ∷ ending ∷ []) between
     (Ok ended))
@@ -309,13 +311,14 @@ end_reach {L} talk since fault downs since_more meeting date user slot planned g
 
 -- it ended, or stopped
 pub end_stop : {L : Type 0} (talk : L → Option Talk) (since : L → L → Type 0) (fault : L → Option LinkFault) (downs : L → ℕ) (meeting : Meeting) (date : ℕ)
-    (user : UserInfo) (slot : Marks) (planned : List Planned) (given : List ℕ) (old : L) (between : SessionValue L) (answer : Result (Ended L) (Halted L))
+    (user : UserInfo) (slot : Marks) (planned : List Planned) (given : List ℕ) (dealt : List (List ℕ)) (old : L) (between : SessionValue L)
+    (answer : Result (Ended L) (Halted L))
     → date ≡ meeting.wishes.date → user ≡ meeting.device.user → slot ≡ (slot_of meeting).marks → ArePlannedFor meeting planned
-    → NewsReach talk since fault downs meeting given old between.link
+    → NewsReach talk since fault downs meeting given dealt old between.link
     → Ends talk since fault downs planned (marking (users.done_user date user slot) 0xF0 ∷ ending ∷ []) between answer
     → Stops talk since fault downs (map text (after_commit meeting)) between.link (link_ended answer)
 unfolding after_commit
-end_stop {L} talk since fault downs meeting date user slot planned given old between answer dated known marked are news ends =
+end_stop {L} talk since fault downs meeting date user slot planned given dealt old between answer dated known marked are news ends =
     let here : Ends talk since fault downs planned (end_mark meeting ∷ ending ∷ []) between answer
     = subst (λ s. Ends talk since fault downs planned (marking
     (users.done_user meeting.wishes.date meeting.device.user s) 0xF0 ∷ ending ∷ []) between answer) marked
