@@ -8,6 +8,7 @@ pub mod FreeLaws
 pub mod GiveLaws
 pub mod HandleLaws
 pub mod IdsLaws
+pub mod LeaveLaws
 pub mod LimitLaws
 pub mod MarkLaws
 pub mod MeetJoins
@@ -17,12 +18,14 @@ pub mod NewsJoins
 pub mod PlanJoins
 pub mod PlannedLaws
 pub mod PlanningLaws
+pub mod PreparingLaws
 pub mod PurgeJoins
 pub mod QuietLaws
 pub mod ReadJoins
 pub mod ReadingLaws
 pub mod RestLaws
 pub mod RowLaws
+pub mod SeatLaws
 pub mod SeenCountLaws
 pub mod SessionJoins
 pub mod SpanLaws

@@ -2,16 +2,19 @@ pub mod Archives
 pub mod Causes
 pub mod Choosing
 pub mod Commits
+pub mod Courses
 pub mod Endings
 pub mod Fronts
 pub mod Gains
 pub mod Given
 pub mod Heads
 pub mod Jobs
+pub mod Leaving
 pub mod Limits
 pub mod Meets
 pub mod Merges
 pub mod News
+pub mod Outcomes
 pub mod Phases
 pub mod PlannedLimits
 pub mod PlannedReports
@@ -27,6 +30,7 @@ pub mod Sessions
 pub mod Sizes
 pub mod Skips
 pub mod Spans
+pub mod Stopping
 pub mod Stretches
 pub mod Takes
 pub mod Tasks

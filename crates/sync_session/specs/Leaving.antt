@@ -1,0 +1,29 @@
+-- What a session leaves of its link and of the desktop's folder, over any link.
+use Rattle.std.specs.Prelude.{◌≡◌, ◌⊎◌, ℕ, List, Option, OnOk, Some, IsErrOf}
+use Rattle.std.specs.Option.{option_map}
+use Rattle.hs_folders.specs.Causes.{HasCause}
+use Rattle.hs_folders.specs.FileMaps.{FileMap}
+use Rattle.hs_folders.specs.Moments.{EachMomentSince, Moments}
+use Rattle.dlp_commands.specs.declared.link.LinkFault.{LinkFault}
+use Rattle.dlp_commands.specs.declared.link.LinkFault.TheVariants.{Down}
+use Rattle.dlp_commands.specs.Links.{WentDown}
+use Rattle.desk_journal.specs.Entries.{EntryValue}
+use Rattle.desk_journal.specs.Overlays.{StandsAs, put_all}
+use Rattle.sync_session.specs.declared.outcome.Outcome.{Outcome}
+use Rattle.sync_session.specs.declared.stop.Stop.TheVariants as stop
+
+-- With these files put over the others the folder has what an ended session leaves. One that stopped left it standing for what it stood for,
+-- or for that. At each moment since it stood for that. Its failure is told exactly where its count rose.
+pub record LeavesFolder {L F : Type 0} (contents : F → Option FileMap) (moments : F → Moments) (paths : F → Option (List (List ℕ))) (faults : F → ℕ)
+    (folder : F) (left : Outcome L F) : Type 0 where
+  pub entries : List EntryValue
+  pub written : OnOk left.end (contents left.folder ≡ option_map (put_all entries) (contents folder))
+  pub stands : StandsAs (contents folder) (contents left.folder) ⊎ StandsAs (option_map (put_all entries) (contents folder)) (contents left.folder)
+  pub each_moment : EachMomentSince (StandsAs (option_map (put_all entries) (contents folder))) (moments folder) (moments left.folder)
+  pub cause : HasCause (faults folder) (faults left.folder) (IsErrOf left.end stop.DeskFault)
+  pub same_paths : paths left.folder ≡ paths folder
+
+-- The link's own relation holds, and it is down only where its count rose or it was down before.
+pub record Leaves {L : Type 0} (since : L → L → Type 0) (fault : L → Option LinkFault) (downs : L → ℕ) (old new : L) : Type 0 where
+  pub later : since old new
+  pub fell : WentDown (fault old) (downs old) (downs new) (fault new ≡ Some Down)

@@ -1,0 +1,126 @@
+-- How a session over a link that tells its device ends, and what it leaves of both sides.
+use Rattle.std.specs.Prelude.{◌≡◌, ◌⊎◌, ℕ, List, map, replicate, slice_index, Option, None, Some, IfErr, IfOk, IfSome, IsSome, OnErr, Result}
+use Rattle.std.specs.Global.{Vec}
+use Rattle.hs_folders.specs.FileMaps.{FileMap}
+use Rattle.hs_folders.specs.Moments.{EachMomentSince, Moments}
+use Rattle.pdb_values.specs.Slots.{slot_for}
+use Rattle.pdb_values.specs.declared.slot.Slot.{Slot}
+use Rattle.pdb_values.specs.declared.slot.Slot.TheVariants.{Full, Refused}
+use Rattle.folder_files.specs.Slots.{users_of}
+use Rattle.dlp_commands.specs.declared.link.LinkFault.{LinkFault}
+use Rattle.dlp_commands.specs.declared.link.LinkFault.TheVariants.{Down}
+use Rattle.dlp_commands.specs.Talks.{Talk}
+use Rattle.desk_journal.specs.Overlays.{StandsAs, overlay}
+use Rattle.desk_store.specs.Desks.{IsDesk, IsDeskOf}
+use Rattle.desk_store.specs.Shelves.{SlotValue, marks_of}
+use Rattle.desktop_session.specs.declared.fault.SessionFault.TheVariants as session
+use Rattle.desktop_session.specs.Acts.{text}
+use Rattle.desktop_session.specs.Stops.{Does, Stops}
+use Rattle.sync_session.specs.declared.report.DbReport.{DbReport}
+use Rattle.sync_session.specs.declared.stop.Stop.{Stop}
+use Rattle.sync_session.specs.declared.stop.Stop.TheVariants as stop
+use Rattle.sync_session.specs.Given.{GetFreeIds}
+use Rattle.sync_session.specs.Limits.{first_over}
+use Rattle.sync_session.specs.Merges.{merged_slots}
+use Rattle.sync_session.specs.Reports.{reports as reports_of}
+use Rattle.sync_session.specs.Sessions.{adds_of, after_commit, before_commit, before_writes, session}
+use Rattle.sync_session.specs.Tasks.{Meeting}
+
+-- ---- the desktop's folder
+
+-- it stands for these slots: its files, and over them those of a journal that was not finished
+abbrev pub StandsForSlots : List SlotValue → Option FileMap → Type 0
+StandsForSlots slots told = IfSome told (λ held. IsDeskOf (overlay held) slots)
+
+-- at each moment since, it stood for the merge, which it never leaves
+abbrev pub MergedSince : Meeting → List ℕ → Moments → Moments → Type 0
+MergedSince meeting given = EachMomentSince (StandsForSlots (merged_slots meeting given))
+
+-- what was told of a folder before a session and is told after it, and the moments up to both
+pub record Tellings : Type 0 where
+  pub before : Option FileMap
+  pub after : Option FileMap
+  pub moments_before : Moments
+  pub moments_after : Moments
+
+abbrev pub tellings : {F : Type 0} → (F → Option FileMap) → (F → Moments) → F → F → Tellings
+tellings contents moments before after =
+    record { before = contents before; after = contents after; moments_before = moments before; moments_after = moments after }
+
+-- ---- a session that ended
+
+-- All of the session's requests went out and were answered, and the new records got ids that were free at their turns. The folder is that
+-- of a desktop with the merge under these ids, without a journal, and what was done with each database is told in order.
+pub record IsEnded {L : Type 0} (talk : L → Option Talk) (meeting : Meeting) (old new : L) (folder : Tellings) (reports : List DbReport) : Type 0 where
+  pub given : List ℕ
+  pub free : GetFreeIds (session meeting given) meeting.device
+  pub does : Does talk (session meeting given) old new
+  pub desk : IsDesk folder.after (merged_slots meeting given)
+  pub moments : MergedSince meeting given folder.moments_before folder.moments_after
+  pub told : reports ≡ reports_of meeting
+
+-- ---- a session that stopped
+
+-- the requests up to the desktop's commit, whichever ids are given
+abbrev pub requests_before_commit : Meeting → List (List ℕ)
+requests_before_commit meeting = map text (before_commit meeting (replicate (adds_of meeting) 0))
+
+-- The folder stands for what it stood for, and no more went out than a beginning of what precedes the commit.
+pub record IsUncommitted {L : Type 0} (talk : L → Option Talk) (since : L → L → Type 0) (fault : L → Option LinkFault) (downs : L → ℕ)
+    (meeting : Meeting) (old new : L) (folder : Tellings) : Type 0 where
+  pub given : List ℕ
+  pub stops : Stops talk since fault downs (requests_before_commit meeting) old new
+  pub stands : StandsAs folder.before folder.after
+  pub moments : MergedSince meeting given folder.moments_before folder.moments_after
+
+-- All that precedes the commit was answered, the folder stands for the merge, and no more went out then than a beginning of what follows.
+pub record IsCommitted {L : Type 0} (talk : L → Option Talk) (since : L → L → Type 0) (fault : L → Option LinkFault) (downs : L → ℕ)
+    (meeting : Meeting) (old new : L) (folder : Tellings) : Type 0 where
+  pub given : List ℕ
+  pub between : L
+  pub free : GetFreeIds (before_commit meeting given) meeting.device
+  pub does : Does talk (before_commit meeting given) old between
+  pub stops : Stops talk since fault downs (requests_before_commit meeting) old between
+  pub rest : Stops talk since fault downs (map text (after_commit meeting)) between new
+  pub stands : StandsForSlots (merged_slots meeting given) folder.after
+  pub moments : MergedSince meeting given folder.moments_before folder.moments_after
+
+-- ---- why it stopped
+
+-- the slot for the handheld's user
+abbrev pub slot_in : Meeting → Slot
+slot_in meeting = slot_for (users_of (marks_of meeting.slots)) meeting.device.user.user meeting.wishes.add_user
+
+-- both sides have a user, and no slot has the handheld's
+pub record IsOtherUser (meeting : Meeting) (handheld desktop : ℕ) : Type 0 where
+  pub slot : slot_in meeting ≡ Refused
+  pub handheld_is : handheld ≡ meeting.device.user.user
+  pub desktop_is : desktop ≡ slice_index (users_of (marks_of meeting.slots)) 0
+
+-- this database would pass a limit first, and all is read and nothing written
+pub record IsLimit {L : Type 0} (talk : L → Option Talk) (meeting : Meeting) (old new : L) (name : List ℕ) : Type 0 where
+  pub first : first_over meeting ≡ Some name
+  pub does : Does talk (before_writes meeting) old new
+
+-- The cause of a stop. A reply is refused only where the link has no fault; want of memory is free, and the folder tells its own failure by
+-- its count.
+abbrev pub IsStopOf : {L : Type 0} → (L → Option Talk) → (L → Option LinkFault) → Meeting → L → L → Stop → Type 0
+IsStopOf talk fault meeting old new (stop.Session session.Down) = fault new ≡ Some Down
+IsStopOf talk fault meeting old new (stop.Session (session.Refused code)) = fault new ≡ None
+IsStopOf talk fault meeting old new (stop.Session (session.BadReply broken)) = fault new ≡ None
+IsStopOf talk fault meeting old new (stop.Session (session.OtherUser handheld desktop)) = IsOtherUser meeting handheld desktop
+IsStopOf talk fault meeting old new (stop.Session session.TooManyUsers) = slot_in meeting ≡ Full
+IsStopOf talk fault meeting old new (stop.Session session.NoMemory) = Unit {0}
+IsStopOf talk fault meeting old new (stop.Limit name) = IsLimit talk meeting old new name
+IsStopOf talk fault meeting old new stop.DeskFault = Unit {0}
+
+-- ---- both
+
+-- A session of these two sides ended, or it stopped: before the desktop's commit or behind it, and by its cause. Where a limit would be
+-- passed, nothing is written.
+pub record SessionEnds {L : Type 0} (talk : L → Option Talk) (since : L → L → Type 0) (fault : L → Option LinkFault) (downs : L → ℕ)
+    (meeting : Meeting) (old new : L) (folder : Tellings) (answer : Result (Vec DbReport) Stop) : Type 0 where
+  pub ended : IfOk answer (λ reports. IsEnded talk meeting old new folder reports.items)
+  pub stopped : OnErr answer (IsUncommitted talk since fault downs meeting old new folder ⊎ IsCommitted talk since fault downs meeting old new folder)
+  pub cause : IfErr answer (IsStopOf talk fault meeting old new)
+  pub over : IsSome (first_over meeting) → Stops talk since fault downs (map text (before_writes meeting)) old new

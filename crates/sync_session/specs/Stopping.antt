@@ -1,0 +1,22 @@
+-- Why a session stops, by what a part of it answered.
+use Rattle.std.specs.Prelude.{◌≡◌, ℕ, List, Option, None, Some, Result, Ok, Err}
+use Rattle.std.specs.Global.{Vec}
+use Rattle.desk_store.specs.declared.fault.CommitFault.{CommitFault}
+use Rattle.desk_store.specs.declared.fault.CommitFault.TheVariants as commit
+use Rattle.desktop_session.specs.declared.fault.SessionFault.TheVariants as session
+use Rattle.sync_session.specs.declared.report.DbReport.{DbReport}
+use Rattle.sync_session.specs.declared.stop.Stop.{Stop}
+use Rattle.sync_session.specs.declared.stop.Stop.TheVariants as stop
+
+-- a refused commit
+abbrev pub stop_of : CommitFault → Stop
+stop_of commit.DeskFault = stop.DeskFault
+stop_of commit.NoMemory = stop.Session session.NoMemory
+
+-- what is told where the limits were looked at: the reports where none would be passed, else the name of the first database that would
+-- pass one, unless memory ran out
+abbrev pub Judges : Option (List ℕ) → List DbReport → Result (Vec DbReport) Stop → Type 0
+Judges over reports (Ok made) = (over ≡ None) × (made.items ≡ reports)
+Judges over reports (Err (stop.Limit name)) = over ≡ Some name
+Judges over reports (Err (stop.Session session.NoMemory)) = Unit {0}
+Judges over reports (Err other) = ⊥

@@ -1,0 +1,85 @@
+// What a session does before it writes.
+ghost use Rattle.std.specs.Prelude.{◌≡◌, OnOk, false};
+ghost use Rattle.desk_store.specs.Desks.{all_rows};
+ghost use Rattle.desk_store.specs.Views.{shelves_in};
+ghost use Rattle.sync_session.specs.Courses.{Prepares, ReadsAll};
+ghost use Rattle.sync_session.specs.PlannedLimits.{over_planned};
+ghost use Rattle.sync_session.specs.PlannedReports.{reports_planned};
+ghost use Rattle.sync_session.specs.Stopping.{Judges};
+
+use crate::jobs::jobs_of;
+use crate::limits::first_over;
+use crate::planned::Planned;
+use crate::planning::plan_all;
+use crate::reading::read_all;
+use crate::report::DbReport;
+use crate::reporting::reports_of;
+use crate::stop::Stop;
+use crate::wishes::Wishes;
+use desk_store::Desk;
+use desktop_session::{Linked, SessionFault};
+use dlp_commands::Link;
+use fast_mirror::agree;
+use hs_folders::Folder;
+use pdb_values::DbHead;
+use std::alloc::Global;
+
+/// The databases of a session once they are read and planned, and what is told of them once it has ended.
+#[derive(Drop)]
+pub struct Prepared {
+    pub planned: Vec<Planned>,
+    pub reports: Vec<DbReport>,
+}
+
+/// Reads each database of a session, and plans what is done with it.
+pub fn read_and_plan<L: Link, D: Folder>(
+    alloc: Global,
+    linked: &mut Linked<L>,
+    desk: &Desk<D>,
+    heads: &[DbHead],
+    wishes: &Wishes,
+) -> Result<Vec<Planned>, SessionFault>
+    requires { linked.old.abandoned ≡ false }
+    ensures reads { ReadsAll L.talk L.since L.fault L.downs heads.now wishes.now desk.now linked.old
+        linked.new result }
+    ensures open { OnOk result (linked.new.abandoned ≡ false) }
+{
+    let agree = agree(linked.user(), desk.marks());
+    let jobs = jobs_of(alloc, heads, desk, agree, wishes)?;
+    let views = read_all(alloc, linked, desk, &jobs)?;
+    Ok(plan_all(alloc, desk, agree, jobs, views)?)
+}
+
+// Looks at the limits of both sides, and tells what will have been done. `listed` is how many databases the handheld listed.
+fn judge<D: Folder>(
+    alloc: Global,
+    desk: &Desk<D>,
+    listed: usize,
+    planned: &[Planned],
+) -> Result<Vec<DbReport>, Stop>
+    ensures { Judges (over_planned (shelves_in desk.now) listed (all_rows desk.now.slots) planned.now)
+        (reports_planned (shelves_in desk.now) planned.now) result }
+{
+    match first_over(alloc, desk, listed, planned)? {
+        Some(name) => Err(Stop::Limit(name)),
+        None => Ok(reports_of(alloc, desk, planned)?),
+    }
+}
+
+/// Reads and plans each database of a session, and looks at the limits of both sides.
+pub fn prepare<L: Link, D: Folder>(
+    alloc: Global,
+    linked: &mut Linked<L>,
+    desk: &Desk<D>,
+    heads: &[DbHead],
+    wishes: &Wishes,
+) -> Result<Prepared, Stop>
+    requires { linked.old.abandoned ≡ false }
+    ensures prepares { Prepares L.talk L.since L.fault L.downs heads.now wishes.now desk.now linked.old
+        linked.new result }
+    ensures open { OnOk result (linked.new.abandoned ≡ false) }
+{
+    let planned = read_and_plan(alloc, linked, desk, heads, wishes)?;
+    let reports = judge(alloc, desk, heads.len(), &planned)?;
+    Ok(Prepared { planned, reports })
+}

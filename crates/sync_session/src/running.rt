@@ -1,0 +1,189 @@
+// A session of both sides, from the greeting to the end.
+ghost use Rattle.std.specs.Prelude.{◌≡◌, ◌≤◌, false, length};
+ghost use Rattle.desk_store.specs.Views.{marks_in};
+ghost use Rattle.pdb_values.specs.Slots.{slot_for as slot_of};
+ghost use Rattle.sync_session.specs.Courses.{Carries, Closes, GoesOn, IsSeated, MeetsOrNot, Runs, Writes, stopped as left_by};
+ghost use Rattle.sync_session.specs.Leaving.{Leaves, LeavesFolder};
+ghost use Rattle.sync_session.specs.Takes.{each_of};
+
+use crate::committing::commit_all;
+use crate::ending::end_all;
+use crate::giving::send_all;
+use crate::meeting::{Met, meet};
+use crate::outcome::Outcome;
+use crate::preparing::{Prepared, prepare};
+use crate::stop::Stop;
+use crate::wishes::Wishes;
+use desk_store::Desk;
+use desktop_session::{Halted, Idle, Linked, SessionFault};
+use dlp_commands::Link;
+use hs_folders::Folder;
+use pdb_values::{Marks, PalmDate, RecordId, slot_for};
+use std::alloc::{AllocError, Global};
+
+// The same marks once more.
+fn same_marks(marks: &Marks) -> Marks
+    ensures { result ≡ marks.now }
+{
+    Marks {
+        pc: marks.pc,
+        user: marks.user,
+        last: marks.last,
+        name: marks.name.copy(),
+    }
+}
+
+// A session that stopped, and the desktop as it is.
+fn stopped<L: Link, D: Folder>(link: L, desk: Desk<D>, stop: Stop) -> Outcome<L, D>
+    ensures { result ≡ left_by link desk.folder stop }
+{
+    Outcome {
+        link,
+        folder: desk.into_folder(),
+        end: Err(stop),
+    }
+}
+
+// The link of a session that goes no further.
+fn link_of<L: Link>(linked: Linked<L>) -> L
+    ensures { result ≡ linked.link }
+{
+    let Halted { link, .. } = linked.halt(SessionFault::NoMemory);
+    link
+}
+
+// The databases are purged, and the session is ended.
+fn close<L: Link, D: Folder>(
+    linked: Linked<L>,
+    desk: Desk<D>,
+    prepared: Prepared,
+    date: PalmDate,
+    slot: &Marks,
+) -> Outcome<L, D>
+    requires { linked.abandoned ≡ false }
+    ensures { Closes L.talk L.since L.fault L.downs date slot.now prepared linked desk.folder
+        result }
+{
+    match end_all(linked, &prepared.planned, date, slot) {
+        Ok(ended) => Outcome {
+            link: ended.link,
+            folder: desk.into_folder(),
+            end: Ok(prepared.reports),
+        },
+        Err(Halted { link, cause }) => stopped(link, desk, Stop::Session(cause)),
+    }
+}
+
+// The desktop commits, and then the session is brought to its end.
+fn commit<L: Link, D: Folder>(
+    alloc: Global,
+    linked: Linked<L>,
+    desk: Desk<D>,
+    prepared: Prepared,
+    ids: &[Vec<RecordId>],
+    date: PalmDate,
+) -> Outcome<L, D>
+    requires { linked.abandoned ≡ false }
+    ensures { Carries L.talk L.since L.fault L.downs D.contents D.moments D.paths D.faults date
+        prepared (each_of ids.now) linked desk result }
+{
+    let slot = same_marks(desk.marks());
+    match commit_all(alloc, desk, &prepared.planned, ids, linked.user(), date) {
+        Ok(desk) => close(linked, desk, prepared, date, &slot),
+        Err((fault, folder)) => Outcome {
+            link: link_of(linked),
+            folder,
+            end: Err(Stop::from(fault)),
+        },
+    }
+}
+
+// The handheld gets what is planned, and then the desktop.
+fn write<L: Link, D: Folder>(
+    alloc: Global,
+    linked: Linked<L>,
+    desk: Desk<D>,
+    prepared: Prepared,
+    date: PalmDate,
+) -> Outcome<L, D>
+    requires { linked.abandoned ≡ false }
+    ensures { Writes L.talk L.since L.fault L.downs D.contents D.moments D.paths D.faults date
+        prepared linked desk result }
+{
+    let mut linked = linked;
+    match send_all(alloc, &mut linked, &prepared.planned) {
+        Ok(ids) => commit(alloc, linked, desk, prepared, &ids, date),
+        Err(cause) => stopped(link_of(linked), desk, Stop::Session(cause)),
+    }
+}
+
+// The slot of the handheld's user is picked, and the session goes on once both sides met.
+fn go_on<L: Link, D: Folder>(
+    alloc: Global,
+    met: Met<L>,
+    desk: Desk<D>,
+    users: &[u32],
+    wishes: &Wishes,
+) -> Outcome<L, D>
+    requires open { met.linked.abandoned ≡ false }
+    requires some { 1 ≤ length users.now }
+    requires room { length users.now ≤ 16 }
+    requires count { length users.now ≡ length desk.slots }
+    requires seated { IsSeated (slot_of users.now met.linked.user.user wishes.now.add_user) }
+    ensures { GoesOn L.talk L.since L.fault L.downs D.contents D.moments D.paths D.faults users.now
+        wishes.now met desk result }
+{
+    let Met { linked, heads } = met;
+    let mut linked = linked;
+    let mut desk = desk;
+    desk.pick(slot_for(users, linked.user().user, wishes.add_user));
+    match prepare(alloc, &mut linked, &desk, &heads, wishes) {
+        Ok(prepared) => write(alloc, linked, desk, prepared, wishes.date),
+        Err(stop) => stopped(link_of(linked), desk, stop),
+    }
+}
+
+// Both sides meet, where there is room for two messages.
+fn begin<L: Link>(alloc: Global, link: L, users: &[u32], add: bool) -> Result<Met<L>, Halted<L>>
+    requires begun { L.begun link ≡ false }
+    requires some { 1 ≤ length users.now }
+    requires room { length users.now ≤ 16 }
+    ensures { MeetsOrNot L.talk L.since L.fault L.downs users.now add link result }
+{
+    match Idle::new(alloc, link) {
+        Ok(idle) => meet(alloc, idle, users, add),
+        Err(halted) => Err(halted),
+    }
+}
+
+// A session from its beginning.
+fn run<L: Link, D: Folder>(alloc: Global, link: L, desk: Desk<D>, wishes: &Wishes) -> Outcome<L, D>
+    requires { L.begun link ≡ false }
+    ensures { Runs L.talk L.since L.fault L.downs D.contents D.moments D.paths D.faults wishes.now
+        link desk result }
+{
+    match desk.users(alloc) {
+        Ok(users) => match begin(alloc, link, &users, wishes.add_user) {
+            Ok(met) => go_on(alloc, met, desk, &users, wishes),
+            Err(Halted { link, cause }) => stopped(link, desk, Stop::Session(cause)),
+        },
+        Err(AllocError) => stopped(link, desk, Stop::Session(SessionFault::NoMemory)),
+    }
+}
+
+/// Runs a session of a handheld behind a link with a desktop, from the wake to the end: both sides meet, every database is read and
+/// planned, the limits are looked at, the handheld gets its news, the desktop commits, and the handheld's databases are purged.
+///
+/// The link and the desktop's folder come back however it ended.
+pub fn run_session<L: Link, D: Folder>(
+    alloc: Global,
+    link: L,
+    desk: Desk<D>,
+    wishes: &Wishes,
+) -> Outcome<L, D>
+    requires { L.begun link ≡ false }
+    ensures link { Leaves L.since L.fault L.downs link result.link }
+    ensures folder { LeavesFolder D.contents D.moments D.paths D.faults desk.folder result }
+{
+    run(alloc, link, desk, wishes)
+}
