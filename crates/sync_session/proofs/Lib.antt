@@ -15,6 +15,7 @@ pub mod MeetJoins
 pub mod MeetLaws
 pub mod NamesLaws
 pub mod NewsJoins
+pub mod OnceLaws
 pub mod PlanJoins
 pub mod PlannedLaws
 pub mod PlanningLaws
@@ -30,4 +31,6 @@ pub mod SeenCountLaws
 pub mod SessionJoins
 pub mod SpanLaws
 pub mod StretchLaws
+pub mod SwapLaws
 pub mod TakeLaws
+pub mod TakenLaws

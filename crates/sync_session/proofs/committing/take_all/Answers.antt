@@ -1,10 +1,11 @@
 -- The changes of one database after another.
-use Rattle.std.proofs.Common.{◌∙◌, sym, subst}
+use Rattle.std.proofs.Common.{◌∙◌, List, sym, subst}
 use Rattle.std.specs.List.{AllByRecursion}
 use Rattle.std.specs.Prelude.{option_to_list}
 use Rattle.desk_store.proofs.OwnLaws.{each-append}
 use Rattle.desk_store.specs.Changes.{IsDbChange}
 use Rattle.desk_store.specs.Views.{shelves_in}
+use Rattle.desk_store.specs.declared.change.DbChange.{DbChange}
 use Rattle.sync_session.proofs.TakeLaws.{changes_none, changes_step}
 use Rattle.sync_session.proofs.committing.take_all.Goals as goal
 
@@ -22,6 +23,6 @@ loop-index-preserved g c =
           c.index-ids-index.result c.deref.result.now c.loop-index.changes.items c.put_change.new.changes.items c.in_ok-change.change c.requires
           c.loop-index-test.true c.index-planned-index.is c.index-ids-index.is c.in_ok-put_change.ensures before.changes c.in_ok-change.ensures.change
           c.deref.ensures.value;
-      fit = subst (AllByRecursion IsDbChange) (sym c.in_ok-put_change.ensures)
+      fit = subst (AllByRecursion IsDbChange) (sym {A = List DbChange} c.in_ok-put_change.ensures)
           (each-append IsDbChange c.loop-index.changes.items (option_to_list c.in_ok-change.change) before.fit c.in_ok-change.ensures.fit);
     }
