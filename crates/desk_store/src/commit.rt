@@ -43,6 +43,9 @@ pub(crate) fn write_change<F: Folder>(
     ensures refused { OnErr result (StandsAs (F.contents folder.old) (F.contents folder.new)
         ⊎ StandsAs (option_map (put_all (changes.change_entries change place slots.items))
         (F.contents folder.old)) (F.contents folder.new)) }
+    ensures made { (folder.new ≡ folder.old) ⊎ IsDesk (option_map
+        (put_all (changes.change_entries change place slots.items)) (F.contents folder.old))
+        (with_commit change place slots.items) }
     ensures each_moment { EachMomentSince (StandsAs (option_map
         (put_all (changes.change_entries change place slots.items)) (F.contents folder.old)))
         (F.moments folder.old) (F.moments folder.new) }

@@ -139,6 +139,10 @@ impl<F: Folder> Desk<F> {
         ensures refused { OnErr result (StandsAs (F.contents self.folder) (F.contents (folder_in result))
             ⊎ StandsAs (option_map (put_all (change_entries change self.picked self.slots))
             (F.contents self.folder)) (F.contents (folder_in result))) }
+        // The folder is as it was, or with the files of the change it is that of a desktop with the change.
+        ensures made { (folder_in result ≡ self.folder) ⊎ IsDesk (option_map
+            (put_all (change_entries change self.picked self.slots)) (F.contents self.folder))
+            (with_commit change self.picked self.slots) }
         // From the first moment of the call on it stands for the whole change.
         ensures each_moment { EachMomentSince (StandsAs (option_map
             (put_all (change_entries change self.picked self.slots)) (F.contents self.folder)))

@@ -4,7 +4,8 @@ use Rattle.std.specs.Option.{option_map, option_or}
 use Rattle.hs_folders.specs.Moments.{EachMomentSince}
 use Rattle.pdb_values.specs.NamedDatabases.{database_of}
 use Rattle.desk_journal.specs.Overlays.{StandsAs, put_all}
-use Rattle.desk_store.specs.Changes.{change_entries, changed}
+use Rattle.desk_store.specs.Changes.{change_entries, changed, with_commit}
+use Rattle.desk_store.specs.Desks.{IsDesk}
 use Rattle.desk_store.specs.Shelves.{shelf_at, shelf_of}
 use Rattle.desk_store.specs.Views.{shelves_in}
 use Rattle.desk_store.specs.declared.role.Role.{Role}
@@ -28,3 +29,13 @@ returns-in-Err-clause-refused g c =
 
 pub returns-in-Err-clause-each_moment : goal.returns-in-Err-clause-each_moment
 returns-in-Err-clause-each_moment g c = seen (λ d. EachMomentSince (StandsAs (option_map (put_all (change_entries c.args.change d.picked d.slots)) (g.F.Folder.contents d.folder))) (g.F.Folder.moments d.folder) (g.F.Folder.moments c.write_change.new.folder)) _ _ c.self.view_is c.in-Err.ensures.each_moment
+
+pub returns-in-Ok-clause-made : goal.returns-in-Ok-clause-made
+returns-in-Ok-clause-made g c =
+    seen (λ d. (c.write_change.new.folder ≡ d.folder) ⊎ IsDesk (option_map (put_all (change_entries c.args.change d.picked d.slots)) (g.F.Folder.contents d.folder))
+    (with_commit c.args.change d.picked d.slots)) _ _ c.self.view_is c.in-Ok.ensures.made
+
+pub returns-in-Err-clause-made : goal.returns-in-Err-clause-made
+returns-in-Err-clause-made g c =
+    seen (λ d. (c.write_change.new.folder ≡ d.folder) ⊎ IsDesk (option_map (put_all (change_entries c.args.change d.picked d.slots)) (g.F.Folder.contents d.folder))
+    (with_commit c.args.change d.picked d.slots)) _ _ c.self.view_is c.in-Err.ensures.made
