@@ -100,10 +100,11 @@ capped_alike n = elim (cases_lt n (2 ^ 64 - 1)) [
   | inr most ↦ inr ((let e : min n (2 ^ 64 - 1) ≡ 2 ^ 64 - 1 = min-eq_right most in omega (arith, e)), (omega (arith, most)))
 ]
 
-pub over_first : (shelves : ShelvesValue) (planned : List Planned) (a b : ℕ)
-    → over_planned shelves a (min b (2 ^ 64 - 1)) planned ≡ over_planned shelves a b planned
+pub over_first : (shelves : ShelvesValue) (planned : List Planned) (a b n : ℕ) → n ≡ min b (2 ^ 64 - 1)
+    → over_planned shelves a n planned ≡ over_planned shelves a b planned
 unfolding Alike
-over_first shelves planned a b = over_alike shelves planned a _ a b (inl refl) (capped_alike b)
+over_first shelves planned a b n is =
+    ap (λ m. over_planned shelves a m planned) is ∙ over_alike shelves planned a _ a b (inl refl) (capped_alike b)
 
 -- so counts of databases may stop at the greatest number
 pub over_capped : (shelves : ShelvesValue) (planned : List Planned) (a b : ℕ)

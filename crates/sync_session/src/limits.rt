@@ -153,6 +153,20 @@ fn passes_limit<D: Folder>(
     Ok(is_over(&sizes))
 }
 
+// How many databases the desktop has, in all its slots.
+fn desktop_count<D: Folder>(desk: &Desk<D>) -> usize
+    ensures { result ≡ min (all_rows desk.now.slots) (2 ^ 64 - 1) }
+{
+    desk.all_len()
+}
+
+// Whether a planned database is not skipped.
+fn is_active(one: &Planned) -> bool
+    ensures { result ≡ is_none one.now.job.skip }
+{
+    one.job.skip.is_none()
+}
+
 /// The name of the first planned database that would pass a limit of a side, with those that come before it: the 201st of the handheld
 /// or of all slots of the desktop, or one of more than 65,535 records on the handheld, rows, base rows or entries of the archive. One
 /// that is skipped does not count. `listed` is how many databases the handheld listed.
@@ -166,9 +180,9 @@ pub fn first_over<D: Folder>(
         listed (all_rows desk.now.slots) planned.now) }
 {
     let mut handhelds = listed;
-    let mut desktops = desk.all_len();
+    let mut desktops = desktop_count(desk);
     for one in planned {
-        if one.job.skip.is_none() {
+        if is_active(one) {
             if passes_limit(alloc, desk, handhelds, desktops, one)? {
                 return Ok(Some(one.job.name.copy()));
             }

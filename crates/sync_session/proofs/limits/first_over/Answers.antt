@@ -2,22 +2,21 @@
 use Rattle.std.proofs.Common.{◌≡◌, ◌∙◌, ap, sym, arith, true, false, is_none, Some}
 use Rattle.desk_store.specs.Desks.{all_rows}
 use Rattle.desk_store.specs.Views.{shelves_in}
-use Rattle.sync_session.specs.PlannedLimits.{over_planned, sizes_planned}
+use Rattle.sync_session.specs.PlannedLimits.{sizes_planned}
 use Rattle.sync_session.specs.Sizes.{is_over}
 use Rattle.sync_session.proofs.LimitLaws.{over_end, over_first, over_next, over_now, over_past}
 use Rattle.sync_session.proofs.limits.first_over.Goals as goal
-use Rattle.sync_session.proofs.limits.first_over.Goals.{then-is_none+in_ok-passes_limit+else-branch, else-is_none}
+use Rattle.sync_session.proofs.limits.first_over.Goals.{then-is_active+in_ok-passes_limit+else-branch, else-is_active}
 
 pub loop-one-init : goal.loop-one-init
 loop-one-init g c =
-    ap (λ n. over_planned (shelves_in c.args.desk.now) c.args.listed n c.args.planned.now) c.all_len-desktops.ensures.count
-    ∙ over_first (shelves_in c.args.desk.now) c.args.planned.now c.args.listed (all_rows c.args.desk.now.slots)
+    over_first (shelves_in c.args.desk.now) c.args.planned.now c.args.listed (all_rows c.args.desk.now.slots) c.desktop_count-desktops.result
+    c.desktop_count-desktops.ensures
 
 pub returns-then-branch : goal.returns-then-branch
 returns-then-branch g c =
     let one = c.one-item.result in
-    let asked = c.is_none.ensures in let test = c.if-is_none.true in
-    let active : is_none one.job.skip ≡ true = grind (arith, asked, test) in
+    let active : is_none one.job.skip ≡ true = sym c.is_active.ensures ∙ c.if-is_active.true in
     let over : is_over (sizes_planned (shelves_in c.args.desk.now) c.loop-one.handhelds c.loop-one.desktops one) ≡ true
     = sym c.in_ok-passes_limit.ensures ∙ c.if-branch.true in
     ap Some c.copy.ensures ∙ sym (over_now (shelves_in c.args.desk.now) c.args.planned.now c.loop-one.one-index one c.loop-one.handhelds c.loop-one.desktops
@@ -27,19 +26,17 @@ pub loop-one-preserved : goal.loop-one-preserved
 loop-one-preserved g c =
     let one = c.one-item.result in
     let k = c.loop-one.one-index in
-    elim c.if-is_none.branch [
-      | then-is_none+in_ok-passes_limit+else-branch w ↦
-          let asked = c.is_none.ensures in let test = w.if-is_none.true in
-          let active : is_none one.job.skip ≡ true = grind (arith, asked, test) in
+    elim c.if-is_active.branch [
+      | then-is_active+in_ok-passes_limit+else-branch w ↦
+          let active : is_none one.job.skip ≡ true = sym c.is_active.ensures ∙ w.if-is_active.true in
           let under : is_over (sizes_planned (shelves_in c.args.desk.now) c.loop-one.handhelds c.loop-one.desktops one) ≡ false
           = sym w.in_ok-passes_limit.ensures ∙ w.if-branch.false in
-          over_next (shelves_in c.args.desk.now) c.args.planned.now k one c.loop-one.handhelds c.loop-one.desktops c.if-is_none.handhelds c.if-is_none.desktops
+          over_next (shelves_in c.args.desk.now) c.args.planned.now k one c.loop-one.handhelds c.loop-one.desktops c.if-is_active.handhelds c.if-is_active.desktops
           c.loop-one-test.true c.one-item.is active under (w.handhelds-is ∙ w.with_one-handhelds.ensures) (w.desktops-is ∙ w.with_one-desktops.ensures)
           ∙ c.loop-one.invariant
-      | else-is_none w ↦
-          let asked = c.is_none.ensures in let test = w.if-is_none.false in
-          let skip : is_none one.job.skip ≡ false = grind (arith, asked, test) in
-          over_past (shelves_in c.args.desk.now) c.args.planned.now k one c.loop-one.handhelds c.loop-one.desktops c.if-is_none.handhelds c.if-is_none.desktops
+      | else-is_active w ↦
+          let skip : is_none one.job.skip ≡ false = sym c.is_active.ensures ∙ w.if-is_active.false in
+          over_past (shelves_in c.args.desk.now) c.args.planned.now k one c.loop-one.handhelds c.loop-one.desktops c.if-is_active.handhelds c.if-is_active.desktops
           c.loop-one-test.true c.one-item.is skip w.handhelds-is w.desktops-is ∙ c.loop-one.invariant
     ]
 
