@@ -1,6 +1,7 @@
 -- What holds of a handheld after any beginning of a session up to the desktop's commit.
-use Rattle.std.proofs.Common.{◌≡◌, ◌⊎◌, inl, inr, ◌∙◌, ◌<◌, refl, ap, sym, subst, ℕ, false, List, [], ◌∷◌, ◌++◌, length, map, take, drop, append-nil, append_assoc}
+use Rattle.std.proofs.Common.{◌≡◌, ◌⊎◌, inl, inr, ◌∙◌, ◌<◌, refl, ap, sym, subst, ℕ, false, List, [], ◌∷◌, ◌++◌, length, map, take, drop, arith, append-nil, append_assoc}
 use Rattle.std.specs.Prelude.{Option, Some, None}
+use Rattle.std.proofs.lemmas.List.{length-append}
 use Rattle.std.specs.List.{flat_map}
 use Rattle.std.specs.Str.{bytes_eq}
 use Rattle.pdb_values.specs.Bounds.{most_databases}
@@ -28,6 +29,7 @@ use Rattle.session_fronts.proofs.OpenActs.{all_closed}
 use Rattle.session_fronts.proofs.PartActs.{HasSome, Respects, TaskPart, both_of, news_along, with_some}
 use Rattle.session_fronts.proofs.PhaseActs.{ShowAll, Stand, first_not, has_room, length_put, news-keep, stand-put, within}
 use Rattle.session_fronts.proofs.ReadyLaws.{have-names, ready-all, show-all, stand-all}
+use Rattle.session_fronts.proofs.RelabelLaws.{ids-length, news-count}
 use Rattle.session_fronts.proofs.TaskActs.{IsReady, news_do, with_news}
 
 -- how much of its news a database has, and the ids that these got
@@ -62,9 +64,19 @@ none_shared : (m : Meeting) (ts : List Task) (ready : AreReady m ts) (databases 
     → AreShared m ts ready (no_shares ts) databases
 none_shared m [] ready databases stand = tt
 none_shared m (t ∷ ts) ready databases stand = (
-  record { stands = inr (stand.0, refl); has = record { own = refl; free = tt } },
+  record { stands = inr (stand.0, refl); has = record { own = refl; free = tt; few = omega arith } },
   none_shared m ts ready.1 databases stand.1,
 )
+
+-- each database has all of its ids before a later one has any
+abbrev pub AreInTurn : Meeting → List Task → List Share → Type 0
+AreInTurn m [] ss = Unit {0}
+AreInTurn m (t ∷ ts) [] = Unit {0}
+AreInTurn m (t ∷ ts) (s ∷ ss) = ((length s.used ≡ add_count m t) ⊎ (all_used ss ≡ [])) × AreInTurn m ts ss
+
+none_in_turn : (m : Meeting) (ts : List Task) → AreInTurn m ts (no_shares ts)
+none_in_turn m [] = tt
+none_in_turn m (t ∷ ts) = (inr (none_used ts), none_in_turn m ts)
 
 -- so much of the news of all
 record PhasePart (m : Meeting) (ts : List Task) (ready : AreReady m ts) (databases : List DatabaseValue) (user : UserInfo) (ids : List ℕ) (is : List ℕ)
@@ -72,6 +84,7 @@ record PhasePart (m : Meeting) (ts : List Task) (ready : AreReady m ts) (databas
   shares : List Share
   shared : AreShared m ts ready shares x.databases
   all : is ≡ ids ++ all_used shares
+  in_turn : AreInTurn m ts shares
   others : (name : List ℕ) → NotNamed name ts → database_of name x.databases ≡ database_of name databases
   known : x.user ≡ user
 
@@ -96,14 +109,17 @@ first_part m t ts ready databases user ids unnamed stand is x part =
         none_shared m ts ready.1 x.databases (stand_others ts t.name databases x.databases unnamed stand part.others),
       );
       all = part.all ∙ ap (λ more. ids ++ more) (sym (append-nil part.used) ∙ ap (λ more. part.used ++ more) (sym (none_used ts)));
+      in_turn = (inr (none_used ts), none_in_turn m ts);
       others = λ name apart. part.others name apart.0;
       known = part.known;
     }
 
 later_part : (m : Meeting) (t : Task) (ts : List Task) (ready : AreReady m (t ∷ ts)) (databases now : List DatabaseValue) (user : UserInfo)
-    (ids then_ids : List ℕ) (between : Device) → between.databases ≡ now → NotNamed t.name ts → TaskPart m t ready.0.b databases user ids then_ids between
-    → (is : List ℕ) (x : Device) → PhasePart m ts ready.1 now user then_ids is x → PhasePart m (t ∷ ts) ready databases user ids is x
-later_part m t ts ready databases now user ids then_ids between same unnamed part is x rest =
+    (ids then_ids : List ℕ) (between : Device) → between.databases ≡ now → NotNamed t.name ts
+    → (part : TaskPart m t ready.0.b databases user ids then_ids between)
+    → length part.used ≡ add_count m t → (is : List ℕ) (x : Device) → PhasePart m ts ready.1 now user then_ids is x
+    → PhasePart m (t ∷ ts) ready databases user ids is x
+later_part m t ts ready databases now user ids then_ids between same unnamed part whole is x rest =
     let s : Share = record { count = part.count; used = part.used } in
     record {
       shares = s ∷ rest.shares;
@@ -116,9 +132,17 @@ later_part m t ts ready databases now user ids then_ids between same unnamed par
         rest.shared,
       );
       all = rest.all ∙ ap (λ front. front ++ all_used rest.shares) part.all ∙ append_assoc ids part.used (all_used rest.shares);
+      in_turn = (inl whole, rest.in_turn);
       others = λ name apart. rest.others name apart.1 ∙ sym (ap (database_of name) same) ∙ part.others name apart.0;
       known = rest.known;
     }
+
+same_length : (ids xs ys : List ℕ) → ids ++ xs ≡ ids ++ ys → length xs ≡ length ys
+same_length ids xs ys same =
+    let one = length-append ids xs in
+    let two = length-append ids ys in
+    let both = ap length same in
+    omega (arith, one, two, both)
 
 phase_along : (m : Meeting) (ts : List Task) (ready : AreReady m ts) (given : List ℕ) (handhelds desktops : ℕ) (databases : List DatabaseValue)
     (user : UserInfo) (ids : List ℕ) → HaveNames ts → ShowAll m ts → first_behind m handhelds desktops ts ≡ None → length databases ≡ handhelds
@@ -126,7 +150,7 @@ phase_along : (m : Meeting) (ts : List Task) (ready : AreReady m ts) (given : Li
     → Along (PhasePart m ts ready databases user ids) ids (all_news m ts given) (all_closed databases user)
 unfolding all_news
 phase_along m [] ready given handhelds desktops databases user ids names show none count rise stand =
-    record { shares = []; shared = tt; all = sym (append-nil ids); others = λ name apart. refl; known = refl }
+    record { shares = []; shared = tt; all = sym (append-nil ids); in_turn = tt; others = λ name apart. refl; known = refl }
 phase_along m (t ∷ ts) ready given handhelds desktops databases user ids names show none count rise stand =
     let is : IsReady m t = ready.0 in
     let n : ℕ = add_count m t in
@@ -151,9 +175,12 @@ phase_along m (t ∷ ts) ready given handhelds desktops databases user ids names
     ∙ ap (λ (ds : List DatabaseValue). all_closed ds user) (sym (put-is m (with_news m) t is own databases)) in
     let part : TaskPart m t is.b databases user ids (ids ++ ids_in first) (device_after first device) =
     along-last (TaskPart m t is.b databases user ids) ids first device one free in
+    let whole : length part.used ≡ add_count m t =
+    sym (same_length ids (ids_in first) part.used part.all) ∙ ids-length first ∙ news-count m t is own in
     subst (Along P (ids ++ ids_in first) second) (sym does)
     (along-map (PhasePart m ts ready.1 now user (ids ++ ids_in first)) P (ids ++ ids_in first) second (all_closed now user)
-    (later_part m t ts ready databases now user ids (ids ++ ids_in first) (device_after first device) (ap (λ (d : Device). d.databases) does) names.0 part)
+    (later_part m t ts ready databases now user ids (ids ++ ids_in first) (device_after first device)
+    (ap (λ (d : Device). d.databases) does) names.0 part whole)
     (phase_along m ts ready.1 later (with_one t.handheld handhelds) (with_one t.rows desktops) now user (ids ++ ids_in first) names.1 show.1 parts.1
     (length_put m (with_news m) (news-keep m) t is own databases stand.0 ∙ ap (with_one t.handheld) count)
     (rise-put m (with_news m) t is own databases rise)
@@ -166,6 +193,7 @@ pub record AmongPart (m : Meeting) (ready : AreReady m (active m)) (is : List �
   pub shares : List Share
   pub shared : AreShared m (active m) ready shares x.databases
   pub all : is ≡ all_used shares
+  pub in_turn : AreInTurn m (active m) shares
   pub others : (name : List ℕ) → NotNamed name (active m) → database_of name x.databases ≡ database_of name m.device.databases
   pub marked : (x.user ≡ begun_user m.device.user) ⊎ ((x.user ≡ m.device.user) × (x.databases ≡ m.device.databases))
 
@@ -174,6 +202,7 @@ respects-among m ready is d e holds part = record {
   shares = part.shares;
   shared = subst (AreShared m (active m) ready part.shares) (sym holds.databases) part.shared;
   all = part.all;
+  in_turn = part.in_turn;
   others = λ name apart. ap (database_of name) holds.databases ∙ part.others name apart;
   marked = marked part.marked;
 }
@@ -188,6 +217,7 @@ start_among m ready = record {
   shares = no_shares (active m);
   shared = none_shared m (active m) ready m.device.databases (stand-all m);
   all = sym (none_used (active m));
+  in_turn = none_in_turn m (active m);
   others = λ name apart. refl;
   marked = inr (refl, refl);
 }
@@ -195,7 +225,7 @@ start_among m ready = record {
 phase_among : (m : Meeting) (ready : AreReady m (active m)) (is : List ℕ) (x : Device)
     → PhasePart m (active m) ready m.device.databases (begun_user m.device.user) [] is x → AmongPart m ready is x
 phase_among m ready is x part =
-    record { shares = part.shares; shared = part.shared; all = part.all; others = part.others; marked = inl part.known }
+    record { shares = part.shares; shared = part.shared; all = part.all; in_turn = part.in_turn; others = part.others; marked = inl part.known }
 
 pub among-along : (m : Meeting) (given : List ℕ) (sound : IsSoundMeeting m) → first_over m ≡ None
     → Along (AmongPart m (ready-all m sound)) [] (before_commit m given) m.device

@@ -17,5 +17,6 @@ pub mod ReadyLaws
 pub mod RelabelLaws
 pub mod RunLaws
 pub mod SortedLaws
+pub mod StopLaws
 pub mod TaskActs
 pub mod WriteActs

@@ -1,5 +1,5 @@
 -- Where each database stands, by its name.
-use Rattle.std.proofs.Common.{◌≡◌, ◌⊎◌, inl, inr, ◌∙◌, refl, ap, sym, subst, ℕ, Bool, true, false, List, [], ◌∷◌, ◌++◌, length, map, filter, take, drop, if◌then◌else◌, arith, is_none}
+use Rattle.std.proofs.Common.{◌≡◌, ◌⊎◌, inl, inr, ◌∙◌, refl, ap, sym, subst, ℕ, Bool, true, false, List, [], ◌∷◌, ◌++◌, length, map, filter, take, drop, if◌then◌else◌, arith, is_none, zero, suc, append-nil, ◌≤◌}
 use Rattle.std.specs.Prelude.{Option, Some}
 use Rattle.std.specs.List.{AllByRecursion, flat_map}
 use Rattle.std.specs.Str.{bytes_eq}
@@ -27,12 +27,13 @@ use Rattle.session_laws.proofs.TaskLaws.{are-active, is-active}
 use Rattle.session_laws.proofs.WholeLaws.{chosen-is, shown-is}
 use Rattle.session_fronts.specs.Sound.{IsSoundMeeting}
 use Rattle.session_fronts.specs.Stops.{IsWritten, StandsAmongNews, StandsBehindCommit, StandsWith}
-use Rattle.session_fronts.proofs.AmongActs.{AmongPart, AreShared, IsShare, Share, all_used, no_share}
+use Rattle.session_fronts.proofs.AmongActs.{AmongPart, AreInTurn, AreShared, IsShare, Share, all_used, no_share}
 use Rattle.session_fronts.proofs.BehindActs.{AreCleared, BehindPart, news_records, with_cleared}
 use Rattle.session_fronts.proofs.EachLaws.{AreReady, HaveNames, turned}
 use Rattle.session_fronts.proofs.PartActs.{with_some}
 use Rattle.session_fronts.proofs.PhaseActs.{AreDealt, before_records}
 use Rattle.session_fronts.proofs.ReadyLaws.{IsIn, are_in, have-names, ready-all}
+use Rattle.session_fronts.proofs.RelabelLaws.{drop-none, take-none}
 use Rattle.session_fronts.proofs.TaskActs.{AreGiven, IsReady}
 
 -- ---- the names of a session
@@ -136,18 +137,84 @@ used_all m (t ∷ ts) ready (s ∷ ss) databases names shared =
       (used_apart t s ts ts ss names.0 ∙ used_all m ts ready.1 ss databases names.1 shared.1) k,
     ))
 
+flat_same : {A B : Type 0} (xs : List A) (f g : A → List B) → ((x : A) → f x ≡ g x) → flat_map f xs ≡ flat_map g xs
+flat_same [] f g same = refl
+flat_same {A} {B} (x ∷ xs) f g same = ap {A = List B × List B} (λ p. p.0 ++ p.1) (λ k. (same x k, flat_same xs f g same k))
+
+-- the ids of a name are those that are dealt out to it
+
+take_short : (n : ℕ) (xs : List ℕ) → length xs ≤ n → take n xs ≡ xs
+take_short n [] few = take-none n
+take_short zero (x ∷ xs) few = absurd (omega (arith, few))
+take_short (suc n) (x ∷ xs) few = ap (λ ys. x ∷ ys) (take_short n xs (omega (arith, few)))
+
+drop_short : (n : ℕ) (xs : List ℕ) → length xs ≤ n → drop n xs ≡ []
+drop_short n [] few = drop-none n
+drop_short zero (x ∷ xs) few = absurd (omega (arith, few))
+drop_short (suc n) (x ∷ xs) few = drop_short n xs (omega (arith, few))
+
+take_whole : (xs ys : List ℕ) → take (length xs) (xs ++ ys) ≡ xs
+take_whole [] ys = refl
+take_whole (x ∷ xs) ys = ap (λ zs. x ∷ zs) (take_whole xs ys)
+
+drop_whole : (xs ys : List ℕ) → drop (length xs) (xs ++ ys) ≡ ys
+drop_whole [] ys = refl
+drop_whole (x ∷ xs) ys = drop_whole xs ys
+
+-- the first ones are those of the first database
+first_dealt : (m : Meeting) (t : Task) (s : Share) (ss : List Share) → length s.used ≤ add_count m t
+    → (length s.used ≡ add_count m t) ⊎ (all_used ss ≡ [])
+    → (take (add_count m t) (s.used ++ all_used ss) ≡ s.used) × (drop (add_count m t) (s.used ++ all_used ss) ≡ all_used ss)
+first_dealt m t s ss few (inl full) = (
+  ap (λ n. take n (s.used ++ all_used ss)) (sym full) ∙ take_whole s.used (all_used ss),
+  ap (λ n. drop n (s.used ++ all_used ss)) (sym full) ∙ drop_whole s.used (all_used ss),
+)
+first_dealt m t s ss few (inr none) =
+    let same : s.used ++ all_used ss ≡ s.used = ap (λ zs. s.used ++ zs) none ∙ append-nil s.used in (
+      ap (take (add_count m t)) same ∙ take_short (add_count m t) s.used few,
+      ap (drop (add_count m t)) same ∙ drop_short (add_count m t) s.used few ∙ sym none,
+    )
+
+none_dealt : (m : Meeting) (ts : List Task) (name : List ℕ) → ids_dealt m ts [] name ≡ []
+none_dealt m [] name = refl
+none_dealt m (t ∷ ts) name = by (bytes_eq t.name name) (ap (λ is. ids_dealt m ts is name) (drop-none (add_count m t)) ∙ none_dealt m ts name)
+  where
+    by : (b : Bool) → ids_dealt m ts (drop (add_count m t) []) name ≡ []
+        → (if b then take (add_count m t) [] else ids_dealt m ts (drop (add_count m t) []) name) ≡ []
+    by true rest = take-none (add_count m t)
+    by false rest = rest
+
+used_dealt : (m : Meeting) (ts : List Task) (ready : AreReady m ts) (ss : List Share) (databases : List DatabaseValue) (name : List ℕ)
+    → AreShared m ts ready ss databases → AreInTurn m ts ss → ids_dealt m ts (all_used ss) name ≡ (share_at ts ss name).used
+used_dealt m [] ready ss databases name shared turn = refl
+used_dealt m (t ∷ ts) ready [] databases name shared turn = none_dealt m (t ∷ ts) name
+used_dealt m (t ∷ ts) ready (s ∷ ss) databases name shared turn =
+    let first = first_dealt m t s ss shared.0.has.few turn.0 in
+    ap {A = List ℕ × List ℕ} (λ p. if bytes_eq t.name name then p.0 else ids_dealt m ts p.1 name) (λ k. (first.0 k, first.1 k))
+    ∙ by (bytes_eq t.name name) (used_dealt m ts ready.1 ss databases name shared.1 turn.1)
+  where
+    by : (b : Bool) → ids_dealt m ts (all_used ss) name ≡ (share_at ts ss name).used
+        → (if b then s.used else ids_dealt m ts (all_used ss) name) ≡ (if b then s else share_at ts ss name).used
+    by true rest = refl
+    by false rest = rest
+
 pub stands-among : (m : Meeting) (sound : IsSoundMeeting m) (is : List ℕ) (x : Device) → AmongPart m (ready-all m sound) is x → StandsAmongNews m is x
 stands-among m sound is x part =
     let ready : AreReady m (active m) = ready-all m sound in
-    let share : (name : List ℕ) → HasShare m (task_of m name) (share_at (active m) part.shares name) (database_of name x.databases) =
-    λ name. named_share m (active m) ready part.shares x.databases name (are-active m) part.shared (part.others name) in
+    let count : List ℕ → ℕ = λ name. (share_at (active m) part.shares name).count in
+    let dealt : (name : List ℕ) → (share_at (active m) part.shares name).used ≡ ids_at m is name =
+    λ name. sym (ap (λ js. ids_dealt m (active m) js name) part.all ∙ used_dealt m (active m) ready part.shares x.databases name part.shared part.in_turn) in
+    let share : (name : List ℕ)
+    → HasShare m (task_of m name) (record { count = count name; used = ids_at m is name }) (database_of name x.databases) =
+    λ name. subst (λ js. HasShare m (task_of m name) (record { count = count name; used = js }) (database_of name x.databases)) (dealt name)
+    (named_share m (active m) ready part.shares x.databases name (are-active m) part.shared (part.others name)) in
     record {
-      count = λ name. (share_at (active m) part.shares name).count;
-      own = λ name. (share_at (active m) part.shares name).used;
+      count = count;
       each = λ name. (share name).stands;
       all = λ name. (share name).all;
       free = λ name. (share name).free;
-      dealt = used_all m (active m) ready part.shares x.databases (have-names m) part.shared ∙ sym part.all;
+      dealt = flat_same (active m) (λ (t : Task). ids_at m is t.name) (λ (t : Task). (share_at (active m) part.shares t.name).used) (λ t. sym (dealt t.name))
+          ∙ used_all m (active m) ready part.shares x.databases (have-names m) part.shared ∙ sym part.all;
       others = λ name none. part.others name (not-active m name none);
       begun = part.marked;
     }

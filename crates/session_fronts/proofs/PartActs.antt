@@ -25,7 +25,7 @@ use Rattle.desktop_session.specs.Tellings.{device_after}
 use Rattle.slow_mirror.specs.News.{as_new, puts}
 use Rattle.sync_session.specs.Choosing.{choice, seen_held}
 use Rattle.sync_session.specs.Heads.{made_head}
-use Rattle.sync_session.specs.News.{news_acts, news_by, opened_for, writes}
+use Rattle.sync_session.specs.News.{add_count, news_acts, news_by, opened_for, writes}
 use Rattle.sync_session.specs.News.{replaced as replacements}
 use Rattle.sync_session.specs.Reads.{opened}
 use Rattle.sync_session.specs.Tasks.{Meeting, Task}
@@ -129,7 +129,7 @@ adds_along o d databases user rs (g ∷ gs) (c ∷ cs) ids may each few = (
 
 -- ---- so many of the writes
 
-take-all : {A : Type 0} (xs : List A) → take (length xs) xs ≡ xs
+pub take-all : {A : Type 0} (xs : List A) → take (length xs) xs ≡ xs
 take-all [] = refl
 take-all (x ∷ xs) = ap (λ ys. x ∷ ys) (take-all xs)
 
@@ -151,6 +151,7 @@ given-behind (e ∷ es) ws = given-behind es ws
 pub record HasSome (m : Meeting) (t : Task) (rs : List Record) (count : ℕ) (used : List ℕ) : Type 0 where
   pub own : given_by (take count (giving (choice m t) (seen_held m t) used)) ≡ used
   pub free : GotFreeIds (choice m t) (seen_held m t) used rs
+  pub few : length used ≤ add_count m t
 
 abbrev pub with_some : Meeting → Task → ℕ → List ℕ → DatabaseValue → DatabaseValue
 with_some m t count used b = with_records (after (take count (giving (choice m t) (seen_held m t) used)) b.records) b
@@ -173,7 +174,7 @@ among_replaced m t b o databases user ids is x some =
       count = some.count;
       used = [];
       are = some.are ∙ ap (λ zs. holding o b databases user (after zs b.records)) (sym same);
-      has = record { own = ap given_by same ∙ given-replaces some.count (replacements m t); free = tt };
+      has = record { own = ap given_by same ∙ given-replaces some.count (replacements m t); free = tt; few = omega arith };
       all = some.same ∙ sym (append-nil ids);
     }
 
@@ -194,6 +195,7 @@ among_added m t b o databases user ids is x some =
       has = record {
         own = ap given_by whole ∙ given-behind es adds ∙ given-adding some.used (choice m t).adds some.few;
         free = some.free;
+        few = some.few;
       };
       all = some.all;
     }
@@ -262,7 +264,7 @@ start_part m t b databases user ids here = record {
   count = 0;
   used = [];
   stands = inr (here, refl);
-  has = record { own = refl; free = tt };
+  has = record { own = refl; free = tt; few = omega arith };
   all = sym (append-nil ids);
   others = λ name apart. refl;
   known = refl;

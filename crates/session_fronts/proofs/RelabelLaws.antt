@@ -1,5 +1,5 @@
 -- A session with other ids is the same but for the ids of its new records.
-use Rattle.std.proofs.Common.{◌≡◌, ◌∙◌, ◌+◌, refl, ap, sym, subst, ℕ, zero, suc, Bool, true, false, List, [], ◌∷◌, ◌++◌, length, map, take, drop, arith}
+use Rattle.std.proofs.Common.{◌≡◌, ◌∙◌, ◌+◌, refl, ap, sym, subst, ℕ, zero, suc, Bool, true, false, List, [], ◌∷◌, ◌++◌, length, map, take, drop, if◌then◌else◌, arith}
 use Rattle.std.specs.Prelude.{Option, Some, None, replicate, flat_map}
 use Rattle.std.specs.List.{AllByRecursion}
 use Rattle.pdb_values.specs.Contents.{ContentValue}
@@ -18,6 +18,7 @@ use Rattle.sync_session.specs.Skips.{active}
 use Rattle.sync_session.specs.Tasks.{Meeting, Task}
 use Rattle.sync_session.specs.Users.{begin_mark, end_mark}
 use Rattle.sync_session.proofs.QuietLaws.{quiet-before_writes}
+use Rattle.session_fronts.specs.Given.{ids_in}
 use Rattle.session_fronts.specs.Sound.{IsSoundMeeting}
 use Rattle.session_fronts.proofs.AlongLaws.{Quiet, form_asks, quiet-all}
 use Rattle.session_fronts.proofs.EachLaws.{AreReady}
@@ -157,15 +158,37 @@ news-labelled m t is ids = by t.handheld t.rows refl is.before
         (around-labelled ids n (making (made_head r.head)) (writes m t []) (writes m t ids) refl (writes-labelled m t is ids))
     by None None rows before = absurd (cc)
 
+-- as many ids as are asked for
+pub ids-length : (acts : List Act) → length (ids_in acts) ≡ asks_in acts
+ids-length [] = refl
+ids-length (act ∷ acts) = by (asks act) (ids-length acts)
+  where
+    by : (b : Bool) → length (ids_in acts) ≡ asks_in acts
+        → length ((if b then act.given ∷ [] else []) ++ ids_in acts) ≡ count_one b (asks_in acts)
+    by true rest = ap suc rest
+    by false rest = rest
+
+asks_same : (ids : List ℕ) (acts : List Act) → asks_in (relabel ids acts) ≡ asks_in acts
+asks_same ids [] = refl
+asks_same ids (act ∷ acts) = ap (count_one (asks (given_to (asks act) ids act))) (asks_same (ids_left (asks act) ids) acts) ∙ by (asks act)
+  where
+    by : (b : Bool) → count_one (asks (given_to b ids act)) (asks_in acts) ≡ count_one (asks act) (asks_in acts)
+    by true = refl
+    by false = refl
+
+pub news-count : (m : Meeting) (t : Task) → IsReady m t → (ids : List ℕ) → asks_in (news_acts m t ids) ≡ add_count m t
+news-count m t is ids =
+    let labelled = news-labelled m t is ids in ap asks_in labelled.same ∙ asks_same ids (news_acts m t []) ∙ labelled.count
+
 -- ---- all of a session
 
-take_none : (n : ℕ) → take {A = ℕ} n [] ≡ []
-take_none zero = refl
-take_none (suc n) = refl
+pub take-none : (n : ℕ) → take {A = ℕ} n [] ≡ []
+take-none zero = refl
+take-none (suc n) = refl
 
-drop_none : (n : ℕ) → drop {A = ℕ} n [] ≡ []
-drop_none zero = refl
-drop_none (suc n) = refl
+pub drop-none : (n : ℕ) → drop {A = ℕ} n [] ≡ []
+drop-none zero = refl
+drop-none (suc n) = refl
 
 all-labelled : (m : Meeting) (ts : List Task) → AreReady m ts → (ids : List ℕ) → all_news m ts ids ≡ relabel ids (all_news m ts [])
 unfolding all_news
@@ -176,7 +199,7 @@ all-labelled m (t ∷ ts) ready ids =
     let bare : List Act = news_acts m t [] in
     let rest : List Act = all_news m ts [] in
     let start : news_acts m t (take n []) ++ all_news m ts (drop n []) ≡ bare ++ rest =
-    ap {A = List ℕ × List ℕ} (λ p. news_acts m t p.0 ++ all_news m ts p.1) (λ k. (take_none n k, drop_none n k)) in
+    ap {A = List ℕ × List ℕ} (λ p. news_acts m t p.0 ++ all_news m ts p.1) (λ k. (take-none n k, drop-none n k)) in
     let own : news_acts m t (take n ids) ≡ relabel ids bare =
     one.same ∙ ap (λ k. relabel (take k ids) bare) (sym one.count) ∙ sym (relabel-few ids bare) in
     let later : all_news m ts (drop n ids) ≡ relabel (drop (asks_in bare) ids) rest =

@@ -1,3 +1,4 @@
+pub mod Again
 pub mod Given
 pub mod Sound
 pub mod Stops

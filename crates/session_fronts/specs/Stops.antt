@@ -38,15 +38,15 @@ abbrev pub HasBegun : Meeting → Device → Type 0
 HasBegun meeting device =
     (device.user ≡ begun_user meeting.device.user) ⊎ ((device.user ≡ meeting.device.user) × (device.databases ≡ meeting.device.databases))
 
--- Up to the desktop's commit: each database has so many of its replacements and adds, each add under an id that no record had at its turn;
--- these are all the ids that were given, in the order of the databases. What the session skips or hasn't is as before.
+-- Up to the desktop's commit: each database has so many of its replacements and adds, under the ids that are dealt out to it, of which no
+-- record had any at its turn, and none is left. What the session skips or hasn't is as before.
 pub record StandsAmongNews (meeting : Meeting) (given : List ℕ) (device : Device) : Type 0 where
   pub count : List ℕ → ℕ
-  pub own : List ℕ → List ℕ
-  pub each : (name : List ℕ) → StandsWith (task_of meeting name) (news_at meeting name (own name) (count name)) (database_of name device.databases)
-  pub all : (name : List ℕ) → given_by (news_at meeting name (own name) (count name)) ≡ own name
-  pub free : (name : List ℕ) → GotIds (action_at meeting name) (found_of meeting name) (own name)
-  pub dealt : flat_map (λ (task : Task). own task.name) (active meeting) ≡ given
+  pub each : (name : List ℕ)
+      → StandsWith (task_of meeting name) (news_at meeting name (ids_at meeting given name) (count name)) (database_of name device.databases)
+  pub all : (name : List ℕ) → given_by (news_at meeting name (ids_at meeting given name) (count name)) ≡ ids_at meeting given name
+  pub free : (name : List ℕ) → GotIds (action_at meeting name) (found_of meeting name) (ids_at meeting given name)
+  pub dealt : flat_map (λ (task : Task). ids_at meeting given task.name) (active meeting) ≡ given
   pub others : (name : List ℕ) → (IsActive meeting name → ⊥) → database_of name device.databases ≡ database_of name meeting.device.databases
   pub begun : HasBegun meeting device
 

@@ -9,6 +9,10 @@ ghost use Rattle.sync_session.specs.Limits.{first_over};
 ghost use Rattle.sync_session.specs.Merges.{merged_device};
 ghost use Rattle.sync_session.specs.Sessions.{session, writes_before_commit};
 ghost use Rattle.sync_session.specs.Tasks.{Meeting};
+ghost use Rattle.session_laws.specs.Meetings.{IsActive, action_at, found_of, holding_after, ids_at};
+ghost use Rattle.session_laws.specs.Renaming.{AreUnknown, SameEnds};
+ghost use Rattle.session_laws.specs.Repeats.{GotAllIds};
+ghost use Rattle.session_fronts.specs.Again.{IsFresh, RunsAgain};
 ghost use Rattle.session_fronts.specs.Given.{GetFreeIds, ids_in};
 ghost use Rattle.session_fronts.specs.Sound.{IsSoundMeeting};
 ghost use Rattle.session_fronts.specs.Stops.{StandsAmongNews, StandsBehindCommit};
@@ -51,4 +55,19 @@ pub fn fronts_stand()
     ensures commit { (meeting : Meeting) (writes : ℕ) (given : List ℕ) (device : Device)
         → IsSoundMeeting meeting → first_over meeting ≡ None → Front meeting writes given device
         → writes_before_commit meeting ≤ writes → StandsBehindCommit meeting given device }
+{}
+
+/// A session that is run again behind one that stopped, wherever that stopped, ends as the first would have
+/// ended, whichever ids that would have given to its new records; and it skips no database that the first
+/// didn't.
+pub fn a_stopped_session_is_run_again()
+    ensures { (meeting next : Meeting) (writes : ℕ) (given later new : List ℕ) (name : List ℕ)
+        → IsSoundMeeting meeting → first_over meeting ≡ None → RunsAgain meeting next writes given
+        → IsActive meeting name → IsFresh meeting next given later name
+        → let a = action_at meeting name in
+        let x = found_of meeting name in
+        GotAllIds a (found_of next name) (ids_at next later name)
+        → GotAllIds a x (ids_at meeting new name) → AreUnknown x (ids_at meeting new name)
+        → IsActive next name
+        × SameEnds x (holding_after next later name) (holding_after meeting new name) }
 {}

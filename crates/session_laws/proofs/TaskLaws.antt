@@ -198,3 +198,9 @@ in_names name (d ∷ databases) ns there = by (bytes_eq d.head.name name) refl t
 
 pub rows-name : (m : Meeting) (name : List ℕ) → is_some (task_of m name).rows ≡ true → list_any (λ other. bytes_eq other name) (names m) ≡ true
 rows-name m name there = counted_any name (names m) (in_names name (slot_of m).shelves.rows (with_names (names_of m.device.databases) []) there)
+
+pub device-name : (m : Meeting) (name : List ℕ) → is_some (task_of m name).handheld ≡ true → list_any (λ other. bytes_eq other name) (names m) ≡ true
+device-name m name there =
+    let here = in_names name m.device.databases [] there in
+    let more = with_names_more name (names_of (slot_of m).shelves.rows) (with_names (names_of m.device.databases) []) in
+    counted_any name (names m) (omega (arith, here, more))
