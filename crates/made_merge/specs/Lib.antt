@@ -1,0 +1,2 @@
+pub mod MadeMerges
+pub mod Numbers
