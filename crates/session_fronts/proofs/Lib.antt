@@ -19,4 +19,5 @@ pub mod RunLaws
 pub mod SortedLaws
 pub mod StopLaws
 pub mod TaskActs
+pub mod UnknownLaws
 pub mod WriteActs

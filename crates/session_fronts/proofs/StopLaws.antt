@@ -1,7 +1,7 @@
 -- A front is a stop, and the session that is run again ends as the one that stopped would have ended.
-use Rattle.std.proofs.Common.{◌≡◌, ◌⊎◌, inl, inr, ◌∙◌, ◌<◌, ◌≤◌, ◌||◌, ◌&&◌, ◌==◌, not, refl, ap, sym, subst, ℕ, zero, suc, Bool, true, false, List, [], ◌∷◌, ◌++◌, length, take, if◌then◌else◌, is_none, is_some}
+use Rattle.std.proofs.Common.{◌≡◌, ◌⊎◌, inl, inr, ◌∙◌, ◌<◌, ◌≤◌, ◌||◌, ◌&&◌, not, refl, ap, sym, subst, ℕ, zero, suc, Bool, true, false, List, [], ◌∷◌, ◌++◌, length, take, if◌then◌else◌, arith, is_none, is_some}
 use Rattle.std.specs.Prelude.{Option, Some, None}
-use Rattle.std.specs.List.{list_any}
+use Rattle.std.specs.List.{AllByRecursion, list_any}
 use Rattle.std.specs.Str.{bytes_eq}
 use Rattle.pdb_values.specs.Databases.{DatabaseValue}
 use Rattle.pdb_values.specs.NamedDatabases.{database_of}
@@ -9,11 +9,13 @@ use Rattle.pdb_values.specs.declared.head.DbHead.{DbHead}
 use Rattle.pdb_values.specs.declared.record.Record.{Record}
 use Rattle.pdb_values.specs.declared.user.UserInfo.{UserInfo}
 use Rattle.palm_device.specs.Soundness.{AreIds, ids_of}
-use Rattle.conduit_rules.specs.States.{base_at, based_under, first, no_base}
+use Rattle.conduit_rules.specs.Choices.{Choice}
+use Rattle.conduit_rules.specs.States.{base_at}
 use Rattle.conduit_rules.specs.Views.{IsHonest, fast_view, slow_view}
 use Rattle.conduit_rules.specs.declared.action.Action.{Action}
 use Rattle.conduit_rules.specs.declared.action.Action.TheVariants.{Sync, Handheld, Desktop}
 use Rattle.conduit_rules.specs.declared.view.Seen.{Seen}
+use Rattle.conduit_rules.proofs.ActionLaws.{handheld-is}
 use Rattle.conduit_merge.specs.Merging.{AreBounded, merged_base}
 use Rattle.conduit_merge.specs.Stops.{NoBase}
 use Rattle.conduit_merge.specs.Writes.{Write, after, clearing, giving, whole}
@@ -34,7 +36,8 @@ use Rattle.sync_session.specs.Tasks.{Meeting, Task, action_of_word, names, recor
 use Rattle.sync_session.specs.Users.{begun_user}
 use Rattle.session_laws.specs.Meetings.{AsksTheSame, Follows, IsActive, IsLikeFirst, LeftAmongNews, LeftAtEnd, LeftBehindCommit, LeftMerged, StandsLike, action_at, found_of, holding_after, ids_at}
 use Rattle.session_laws.specs.Renaming.{AreUnknown, SameEnds}
-use Rattle.session_laws.specs.Repeats.{Found, GotAllIds, GotIds, IsRead, MayStop, NoneUnderGone, Place, among_news, at_end, before_mark, behind_commit, chosen, given_by, ids_with, news_done, shown, sides}
+use Rattle.session_laws.specs.Repeats.{Found, GotAllIds, GotIds, IsRead, MayStop, NoneUnderGone, Place, among_news, at_end, before_mark, behind_commit, chosen, given_by, ids_with, left_at_end, left_behind_commit, news_done, shown, sides}
+use Rattle.session_laws.proofs.CommitLaws.{commit-adds, end-adds}
 use Rattle.session_laws.proofs.MeetingLaws.{among-news, at-the_end, behind-the_commit, reading-shows}
 use Rattle.session_laws.proofs.MergedLaws.{handheld-merged}
 use Rattle.session_laws.proofs.NewsLaws.{whole-is}
@@ -48,6 +51,7 @@ use Rattle.session_fronts.specs.Stops.{IsWritten, StandsAmongNews, StandsBehindC
 use Rattle.session_fronts.proofs.FrontLaws.{front-among, front-behind}
 use Rattle.session_fronts.proofs.PartActs.{take-all}
 use Rattle.session_fronts.proofs.ReadyLaws.{handheld-sound}
+use Rattle.session_fronts.proofs.UnknownLaws.{IsNewIn, all-new, news-back, news-new, none-back, none-front, unknown-both, unknown-of}
 
 -- ---- what the next meeting finds
 
@@ -93,29 +97,6 @@ left-behind meeting next given stands name is asks begun slot number = record {
 }
 
 -- ---- where a session may stop
-
-no_base_under : (counts : Bool) (i : ℕ) (o : Option Record) → is_some o ≡ false → based_under counts i o ≡ no_base
-no_base_under counts i None none = by (i == 0)
-  where
-    by : (b : Bool) → (if b then no_base else no_base) ≡ no_base
-    by true = refl
-    by false = refl
-no_base_under counts i (Some r) none = absurd (cc)
-
-or_none : (a b : Bool) → (a || b) ≡ false → b ≡ false
-or_none true b is = absurd (cc)
-or_none false b is = is
-
-unknown-base : (x : Found) (ids : List ℕ) → AreUnknown x ids → NoBase (base_at x.base true) ids
-unknown-base x [] un = tt
-unknown-base x (g ∷ ids) un = (
-  no_base_under true g (first g x.base) (or_none (is_some (first g x.records)) (is_some (first g x.base)) un.0),
-  unknown-base x ids un.1,
-)
-
-unknown-front : (x : Found) (xs ys : List ℕ) → AreUnknown x (xs ++ ys) → AreUnknown x xs
-unknown-front x [] ys un = tt
-unknown-front x (g ∷ xs) ys un = (un.0, unknown-front x xs ys un.1)
 
 unknown-back : (x : Found) (xs ys : List ℕ) → AreUnknown x (xs ++ ys) → AreUnknown x ys
 unknown-back x [] ys un = un
@@ -252,6 +233,8 @@ record IsStep (meeting next : Meeting) (name ids : List ℕ) : Type 0 where
   place : Place
   follows : Follows meeting next name place
   may : MayStop (action_at meeting name) (found_of meeting name) place
+  own : AllByRecursion (IsNewIn (found_of meeting name).records) ids
+  back : (later : List ℕ) → GotAllIds (action_at meeting name) (found_of next name) later → AllByRecursion (IsNewIn (found_of meeting name).records) later
   stay : (later : List ℕ) → AreUnknown (found_of meeting name) (ids ++ later)
       → AreUnknown (found_of meeting name) (ids_with (action_at meeting name) place later)
   active : IsActive next name
@@ -311,6 +294,11 @@ step-among meeting next given name stands is asks slot number read fresh gone = 
       place = among_news ids (stands.count name);
       follows = among-news meeting next (ids_at meeting given) stands.count name (left-among meeting next given stands asks begun slot number);
       may = may-among a x ids (stands.count name) read (stands.all name) (stands.free name) fresh gone;
+      own = news-new a x ids (stands.count name) (stands.free name) (stands.all name);
+      back = λ later got. news-back a x ids (stands.count name) later
+          (subst (λ (rs : List Record). AllByRecursion (IsNewIn rs) later)
+          (ap (λ (y : Found). y.records) (among-news meeting next (ids_at meeting given) stands.count name
+          (left-among meeting next given stands asks begun slot number)).finds) (all-new a (found_of next name) later got));
       stay = λ later un. ids-among a x ids later (stands.count name) un;
       active = later_active;
     }
@@ -318,6 +306,9 @@ step-among meeting next given name stands is asks slot number read fresh gone = 
       place = before_mark;
       follows = record { action = same-action meeting next name asks; finds = found-before meeting next name asks user databases slot };
       may = tt;
+      own = news-new a x ids (stands.count name) (stands.free name) (stands.all name);
+      back = λ later got. subst (λ (y : Found). AllByRecursion (IsNewIn y.records) later) (found-before meeting next name asks user databases slot)
+          (all-new a (found_of next name) later got);
       stay = λ later un. ids-before a x ids later un;
       active = later_active;
     }
@@ -346,6 +337,17 @@ honest-then meeting next given name read got left =
     (λ fast. subst (λ (p : List Record × List Record). IsHonest p.0 p.1) (λ k. (sym base k, sym same k))
     (honest-merged (chosen a x) (shown x) ids x.records differ read.bounded read.shows got))
 
+-- behind the commit there are no more adds
+adds-behind : (a : Action) (x : Found) (given : List ℕ) (n : ℕ) → IsRead x → GotIds a x given → (chosen a (left_behind_commit a x given n)).adds ≡ []
+adds-behind Sync x given n read got = commit-adds Sync x given n tt read got (read-commit Sync x given n read got)
+adds-behind Handheld x given n read got = ap (λ (c : Choice). c.adds) (handheld-is (sides (left_behind_commit Handheld x given n)))
+adds-behind Desktop x given n read got = commit-adds Desktop x given n tt read got (read-commit Desktop x given n read got)
+
+none-later : (a : Action) (y : Found) (later : List ℕ) (records : List Record) → (chosen a y).adds ≡ [] → GotAllIds a y later
+    → AllByRecursion (IsNewIn records) later
+none-later a y [] records none got = tt
+none-later a y (g ∷ later) records none got = absurd (let no : suc (length later) ≡ 0 = got.each ∙ ap length none in omega (arith, no))
+
 step-behind : (meeting next : Meeting) (given : List ℕ) (name : List ℕ) → StandsBehindCommit meeting given next.device → IsActive meeting name
     → AsksTheSame meeting next → slot_of next ≡ merged_slot meeting given → 0 < (slot_of meeting).marks.pc → IsRead (found_of meeting name)
     → IsStep meeting next name (ids_at meeting given name)
@@ -368,6 +370,11 @@ step-behind meeting next given name stands is asks slot number read = by stands.
       follows = behind-the_commit meeting next (ids_at meeting given) stands.count name
           (left-behind meeting next given stands name is asks begun slot number);
       may = stands.free name is;
+      own = all-new a x ids (stands.free name is);
+      back = λ later got. none-later a (found_of next name) later x.records
+          (ap (λ (y : Found). (chosen a y).adds) (behind-the_commit meeting next (ids_at meeting given) stands.count name
+          (left-behind meeting next given stands name is asks begun slot number)).finds
+          ∙ adds-behind a x ids (stands.count name) read (stands.free name is).got) got;
       stay = λ later un. ids-behind a x ids later (stands.count name) un;
       active = active-behind meeting next given stands name is asks slot;
     }
@@ -377,10 +384,15 @@ step-behind meeting next given name stands is asks slot number read = by stands.
         let seen : List Seen = view next (task_of next name) in
         let follows : Follows meeting next name (at_end ids seen (not (agrees next))) = at-the_end meeting next (ids_at meeting given) name left in
         let free : GotAllIds a x ids = stands.free name is in
+        let then_read : IsRead (left_at_end a x ids seen (not (agrees next))) =
+        subst IsRead follows.finds (honest-then meeting next given name read free.got left) in
         record {
           place = at_end ids seen (not (agrees next));
           follows = follows;
-          may = (free, subst IsRead follows.finds (honest-then meeting next given name read free.got left));
+          may = (free, then_read);
+          own = all-new a x ids free;
+          back = λ later got. none-later a (found_of next name) later x.records
+              (ap (λ (y : Found). (chosen a y).adds) follows.finds ∙ end-adds a x ids seen (not (agrees next)) read free.got then_read) got;
           stay = λ later un. ids-end a x ids later seen (not (agrees next)) un;
           active = active-again meeting next given name merged is;
         }
@@ -397,8 +409,7 @@ step-taken meeting next writes given later name sound none runs fresh is read = 
         → IsStep meeting next name (ids_at meeting given name)
     by (inl (slot, few)) =
         step-among meeting next given name (front-among meeting writes given next.device sound none runs.front few) is runs.asks slot runs.number read
-        (unknown-base (found_of meeting name) (ids_at meeting given name)
-        (unknown-front (found_of meeting name) (ids_at meeting given name) (ids_at next later name) fresh.unknown)) fresh.gone
+        (none-front (base_at (found_of meeting name).base true) (ids_at meeting given name) (ids_at next later name) fresh.fresh) fresh.gone
     by (inr (slot, most)) =
         step-behind meeting next given name (front-behind meeting writes given next.device sound none runs.front most) is runs.asks slot runs.number read
 
@@ -410,8 +421,14 @@ pub runs-again : (meeting next : Meeting) (writes : ℕ) (given later new : List
 runs-again meeting next writes given later new name sound none runs is fresh got new_got new_un =
     let own = handheld-sound meeting sound (task_of meeting name) refl in
     let read : IsRead (found_of meeting name) = reading-shows meeting (task_of meeting name) own.ids own.bounded fresh.honest in
-    let step = step-taken meeting next writes given later name sound none runs fresh is read in (
+    let step = step-taken meeting next writes given later name sound none runs fresh is read in
+    let x : Found = found_of meeting name in
+    let first : List ℕ = ids_at meeting given name in
+    let second : List ℕ = ids_at next later name in
+    let unknown : AreUnknown x (first ++ second) =
+    unknown-both x first second (unknown-of x first step.own (none-front (base_at x.base true) first second fresh.fresh))
+    (unknown-of x second (step.back second got) (none-back (base_at x.base true) first second fresh.fresh)) in (
       step.active,
       meetings-hold meeting name ((next, step.place) ∷ []) later new is step.active (step.follows, tt) read (step.may, tt) got
-          (step.stay (ids_at next later name) fresh.unknown) new_got new_un,
+          (step.stay second unknown) new_got new_un,
     )
