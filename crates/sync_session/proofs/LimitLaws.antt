@@ -27,7 +27,8 @@ from_place id (seen ∷ view) = by (nat_lt seen.id id) (from_place id view)
   where
     by : (b : Bool) → entries_from id view ≡ drop (position_or_len (is_from id) view) view
         → (if b then entries_from id view else seen ∷ view) ≡ drop (cond (not (not b)) (1 + position_or_len (is_from id) view) 0) (seen ∷ view)
-    by true later = later ∙ ap (λ n. drop n (seen ∷ view)) (let more : suc (position_or_len (is_from id) view) ≡ 1 + position_or_len (is_from id) view = omega arith in more)
+    by true later = later
+        ∙ ap (λ n. drop n (seen ∷ view)) (let more : suc (position_or_len (is_from id) view) ≡ 1 + position_or_len (is_from id) view = omega arith in more)
     by false later = refl
 
 pub from_found : (id : ℕ) (view : List Seen) (place : ℕ) → position (λ (seen : Seen). not (nat_lt seen.id id)) view ≡ Some place

@@ -100,7 +100,8 @@ view_of : (meeting : Meeting) (task : Task) → IsViewBy (records_of task.handhe
 unfolding view
 view_of meeting task = by (is_fast meeting task)
   where
-    by : (b : Bool) → IsViewBy (records_of task.handheld) (if b then fast_view (base_rows task) (records_of task.handheld) else slow_view (records_of task.handheld))
+    by : (b : Bool) → IsViewBy (records_of task.handheld) (if b then fast_view (base_rows task) (records_of task.handheld)
+        else slow_view (records_of task.handheld))
     by true = record { entry = fast_seen (base_rows task); keeps = fast_id (base_rows task); is = refl }
     by false = record { entry = slow_seen; keeps = λ r. refl; is = refl }
 

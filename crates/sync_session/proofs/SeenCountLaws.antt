@@ -58,7 +58,8 @@ counted g n [] ids bounded = ap (sum_by (λ (s : Seen). 1)) (each_below-none (λ
 counted g n (r ∷ records) ids bounded =
     let f : ℕ → Option Seen = λ i. option_map g (first i records) in
     let none : f r.id ≡ None = ap (option_map g) (first_none r.id records ids.1) in
-    ap (sum_by (λ (s : Seen). 1)) (each_below-same (λ i. option_to_list (option_map g (first i (r ∷ records)))) (λ i. option_to_list (put f r.id (Some (g r)) i)) n
+    ap (sum_by (λ (s : Seen). 1)) (each_below-same (λ i. option_to_list (option_map g (first i (r ∷ records))))
+    (λ i. option_to_list (put f r.id (Some (g r)) i)) n
     (λ i less. with_first g (r.id == i) (i == r.id) r (first i records) (turned r.id i)))
     ∙ sum-each_below_put (λ (s : Seen). 1) f r.id (g r) n none bounded.0
     ∙ (let rest = counted g n records ids.2 bounded.1 in omega (arith, rest))
@@ -150,7 +151,8 @@ unseen_by : (view ahead : List Seen) (rows : List (ℕ × ContentValue)) (low en
 unfolding unseen_count
 unseen_by view ahead [] low end last rising rows_rise same = refl
 unseen_by view ahead (row ∷ rows) low end last rising rows_rise same =
-    one_more (begins_with row.0 (entries_from row.0 ahead)) (first_seen row.0 view) row (filter (is_unseen view) rows) (unseen_count (entries_from row.0 ahead) rows)
+    one_more (begins_with row.0 (entries_from row.0 ahead)) (first_seen row.0 view) row (filter (is_unseen view) rows)
+    (unseen_count (entries_from row.0 ahead) rows)
     (begins row.0 ahead last rising ∙ ap is_some (same row.0 rows_rise.0))
     (unseen_by view (entries_from row.0 ahead) rows (suc row.0) end last (from_rises row.0 ahead last rising) rows_rise.1
     (λ j past. from_same j row.0 ahead (omega (arith, past)) ∙ same j (let first = rows_rise.0 in omega (arith, past, first))))

@@ -31,12 +31,14 @@ loop-one-preserved g c =
           let active : is_none one.job.skip ≡ true = sym c.is_active.ensures ∙ w.if-is_active.true in
           let under : is_over (sizes_planned (shelves_in c.args.desk.now) c.loop-one.handhelds c.loop-one.desktops one) ≡ false
           = sym w.in_ok-passes_limit.ensures ∙ w.if-branch.false in
-          over_next (shelves_in c.args.desk.now) c.args.planned.now k one c.loop-one.handhelds c.loop-one.desktops c.if-is_active.handhelds c.if-is_active.desktops
+          over_next (shelves_in c.args.desk.now) c.args.planned.now k one c.loop-one.handhelds c.loop-one.desktops c.if-is_active.handhelds
+          c.if-is_active.desktops
           c.loop-one-test.true c.one-item.is active under (w.handhelds-is ∙ w.with_one-handhelds.ensures) (w.desktops-is ∙ w.with_one-desktops.ensures)
           ∙ c.loop-one.invariant
       | else-is_active w ↦
           let skip : is_none one.job.skip ≡ false = sym c.is_active.ensures ∙ w.if-is_active.false in
-          over_past (shelves_in c.args.desk.now) c.args.planned.now k one c.loop-one.handhelds c.loop-one.desktops c.if-is_active.handhelds c.if-is_active.desktops
+          over_past (shelves_in c.args.desk.now) c.args.planned.now k one c.loop-one.handhelds c.loop-one.desktops c.if-is_active.handhelds
+          c.if-is_active.desktops
           c.loop-one-test.true c.one-item.is skip w.handhelds-is w.desktops-is ∙ c.loop-one.invariant
     ]
 

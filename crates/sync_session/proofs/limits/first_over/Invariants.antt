@@ -6,4 +6,5 @@ use Rattle.sync_session.proofs.limits.first_over.Given as goal
 
 abbrev pub invariant-loop-one : goal.invariant-loop-one
 invariant-loop-one g l =
-    over_planned (shelves_in l.desk) l.handhelds l.desktops (drop l.one-index l.planned) ≡ over_planned (shelves_in l.desk) l.listed (all_rows l.desk.slots) l.planned
+    over_planned (shelves_in l.desk) l.handhelds l.desktops (drop l.one-index l.planned)
+    ≡ over_planned (shelves_in l.desk) l.listed (all_rows l.desk.slots) l.planned

@@ -25,7 +25,8 @@ loop-row-preserved c =
           let begins : begins_with row.0 ahead ≡ true = grind (arith, told, test) in
           record {
             left = unseen_more true c.args.rows.now c.loop-row.row-index row c.loop-row.ahead.now ahead c.loop-row.count c.if-not-begins_with.count
-                (unseen_count c.args.view.now c.args.rows.now) c.loop-row-test.true c.row-item.is c.entries_from-ahead.ensures begins (omega (arith, same)) before.left;
+                (unseen_count c.args.view.now c.args.rows.now) c.loop-row-test.true c.row-item.is c.entries_from-ahead.ensures begins
+                (omega (arith, same)) before.left;
             few = omega (arith, same, few);
           }
     ]
