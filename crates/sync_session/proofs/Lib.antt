@@ -16,6 +16,7 @@ pub mod MeetLaws
 pub mod NamesLaws
 pub mod NewsJoins
 pub mod OnceLaws
+pub mod OutcomeLaws
 pub mod PlanJoins
 pub mod PlannedLaws
 pub mod PlanningLaws
@@ -26,6 +27,7 @@ pub mod ReadJoins
 pub mod ReadingLaws
 pub mod RestLaws
 pub mod RowLaws
+pub mod RunLaws
 pub mod SeatLaws
 pub mod SeenCountLaws
 pub mod SessionJoins

@@ -1,10 +1,15 @@
 // A session of both sides, from the greeting to the end.
-ghost use Rattle.std.specs.Prelude.{◌≡◌, ◌≤◌, false, length};
+ghost use Rattle.std.specs.Prelude.{◌≡◌, ◌≤◌, Some, false, length};
+ghost use Rattle.dlp_commands.specs.Talks.{Talk};
+ghost use Rattle.desk_store.specs.Shelves.{AreInOrder};
 ghost use Rattle.desk_store.specs.Views.{marks_in};
 ghost use Rattle.pdb_values.specs.Slots.{slot_for as slot_of};
 ghost use Rattle.sync_session.specs.Courses.{Carries, Closes, GoesOn, IsSeated, MeetsOrNot, Runs, Writes, stopped as left_by};
 ghost use Rattle.sync_session.specs.Leaving.{Leaves, LeavesFolder};
+ghost use Rattle.sync_session.specs.Outcomes.{SessionEnds, tellings};
+ghost use Rattle.sync_session.specs.Rests.{IsAtRest};
 ghost use Rattle.sync_session.specs.Takes.{each_of};
+ghost use Rattle.sync_session.specs.Tasks.{meeting_of};
 
 use crate::committing::commit_all;
 use crate::ending::end_all;
@@ -174,7 +179,8 @@ fn run<L: Link, D: Folder>(alloc: Global, link: L, desk: Desk<D>, wishes: &Wishe
 /// Runs a session of a handheld behind a link with a desktop, from the wake to the end: both sides meet, every database is read and
 /// planned, the limits are looked at, the handheld gets its news, the desktop commits, and the handheld's databases are purged.
 ///
-/// The link and the desktop's folder come back however it ended.
+/// The link and the desktop's folder come back however it ended. Over a link that tells its handheld the session ends with both sides
+/// merged, or it stops before the desktop's commit or behind it, and says why.
 pub fn run_session<L: Link, D: Folder>(
     alloc: Global,
     link: L,
@@ -184,6 +190,11 @@ pub fn run_session<L: Link, D: Folder>(
     requires { L.begun link ≡ false }
     ensures link { Leaves L.since L.fault L.downs link result.link }
     ensures folder { LeavesFolder D.contents D.moments D.paths D.faults desk.folder result }
+    // Over a link that tells a handheld on which nothing is open it is the session of both sides.
+    ensures ends { (told : Talk) → AreInOrder desk.slots → L.talk link ≡ Some told
+        → IsAtRest told.device → SessionEnds L.talk L.since L.fault L.downs
+        (meeting_of told.device desk.slots wishes.now) link result.link
+        (tellings D.contents D.moments desk.folder result.folder) result.end }
 {
     run(alloc, link, desk, wishes)
 }

@@ -15,6 +15,7 @@ returns-in-Ok g c =
             stands = made.desk;
             written = made.written;
             refused = made.refused;
+            made = made.made;
             each_moment = made.each_moment;
             cause = made.cause;
             same_paths = made.paths;
