@@ -1,0 +1,321 @@
+-- What files of a handheld say keeps the bounds of its types.
+use Rattle.std.proofs.Common.{◌≡◌, ◌∙◌, ◌≤◌, ◌<◌, ◌^◌, ◌==◌, ◌||◌, ◌&&◌, not, refl, ap, sym, subst, ℕ, suc, Bool, true, false, List, [], ◌∷◌, ◌++◌, length, map, nat_lt, if◌then◌else◌, arith, lit<}
+use Rattle.std.specs.Prelude.{Option, Some, None, slice_get}
+use Rattle.std.specs.List.{AllByRecursion, list_all, list_any}
+use Rattle.std.proofs.lemmas.Bool.Decides.{nat_tests}
+use Rattle.pdb_values.specs.Blocks.{block_length}
+use Rattle.pdb_values.specs.CivilTimes.{is_civil, seconds_of}
+use Rattle.pdb_values.specs.Databases.{DatabaseValue, IsShortResource}
+use Rattle.pdb_values.specs.PalmDates.{counted, is_no_date, on_wire}
+use Rattle.pdb_values.specs.Users.{password_of, user_name_of}
+use Rattle.pdb_values.specs.declared.civil.CivilTime.{CivilTime}
+use Rattle.pdb_values.specs.declared.record.Record.{Record}
+use Rattle.pdb_values.specs.declared.resource.Resource.{Resource}
+use Rattle.pdb_values.specs.declared.user.UserInfo.{UserInfo}
+use Rattle.pdb_values.proofs.NamedLaws.{All-AllByRecursion, database_of-at}
+use Rattle.pdb_files.specs.Blocks.{AreShort, block_list}
+use Rattle.pdb_files.specs.Entries.{record_data, resource_data}
+use Rattle.pdb_files.specs.Files.{FitsRecord, FitsResource, IsFileText, data_of, has_resources}
+use Rattle.palm_device.specs.Bounds.{IsBounded, IsBoundedDatabase, IsBoundedRecord, IsBoundedResource, IsBoundedUser}
+use Rattle.palm_device.specs.FreshIds.{fresh_ids, is_among, with_fresh_ids, with_ids}
+use Rattle.palm_device.specs.Handles.{no_handles}
+use Rattle.palm_device.specs.Soundness.{AreIds, IsDevice, ids_of}
+use Rattle.folder_files.specs.FileNames.{device_info_file}
+use Rattle.folder_files.specs.InfoFiles.{IsDeviceFile}
+use Rattle.folder_files.specs.Lines.{SaysDate}
+use Rattle.handheld_files.specs.Handhelds.{Files, IsUserOf, StandFor, no_user}
+use Rattle.handheld_files.specs.Openings.{AreKept}
+use Rattle.handheld_files.specs.Settled.{are_ids, are_settled, as_opened, idle}
+use Rattle.handheld_laws.proofs.FreshLaws.{fresh-have, with-each, with-length, with-none}
+
+-- ---- lists
+
+all-front : {A : Type 0} (P : A → Type 0) (xs ys : List A) → AllByRecursion P (xs ++ ys) → AllByRecursion P xs
+all-front P [] ys all = tt
+all-front P (x ∷ xs) ys all = (all.0, all-front P xs ys all.1)
+
+all-back : {A : Type 0} (P : A → Type 0) (xs ys : List A) → AllByRecursion P (xs ++ ys) → AllByRecursion P ys
+all-back P [] ys all = all
+all-back P (x ∷ xs) ys all = all-back P xs ys all.1
+
+all-places : {A : Type 0} (P : A → Type 0) (xs : List A) → ((k : ℕ) (x : A) → slice_get xs k ≡ Some x → P x) → AllByRecursion P xs
+all-places P [] each = tt
+all-places P (x ∷ xs) each = (each 0 x refl, all-places P xs (λ k y is. each (suc k) y is))
+
+map-length : {A B : Type 0} (f : A → B) (xs : List A) → length (map f xs) ≡ length xs
+map-length f [] = refl
+map-length f (x ∷ xs) = ap suc (map-length f xs)
+
+-- ---- the database of a file
+
+-- an entry within its bounds and its bytes
+record FitsAll (item : Record) : Type 0 where
+  fits : FitsRecord item
+  short : length item.content.bytes ≤ 65500
+
+records_fit : (items : List Record) → AllByRecursion FitsRecord items → AreShort (record_data items) → AllByRecursion FitsAll items
+records_fit [] fits short = tt
+records_fit (item ∷ items) fits short = (record { fits = fits.0; short = short.0 }, records_fit items fits.1 short.1)
+
+ids_have : (items : List Record) → AllByRecursion FitsAll items → AllByRecursion (λ (id : ℕ). id ≤ 16777215) (map (λ (item : Record). item.id) items)
+ids_have [] fits = tt
+ids_have (item ∷ items) fits = ((let l = fits.0.fits.id in omega (arith, l)), ids_have items fits.1)
+
+idle_bounded : (items : List Record) → AllByRecursion IsBoundedRecord items → AllByRecursion IsBoundedRecord (map idle items)
+idle_bounded [] all = tt
+idle_bounded (item ∷ items) all = (record { id = all.0.id; category = all.0.category; short = all.0.short }, idle_bounded items all.1)
+
+opened_bounded : (items : List Record) → length items ≤ 65535 → AllByRecursion FitsAll items
+    → AllByRecursion IsBoundedRecord (map idle (with_fresh_ids items))
+opened_bounded items few fits =
+    let ids : List ℕ = fresh_ids (map (λ (item : Record). item.id) items) in
+    idle_bounded (with_ids ids items)
+    (with-each FitsAll IsBoundedRecord ids items
+    (λ id item bound is. record { id = bound; category = (let l = is.fits.category in omega (arith, l)); short = is.short })
+    (λ item is. record { id = (let l = is.fits.id in omega (arith, l)); category = (let l = is.fits.category in omega (arith, l)); short = is.short })
+    (fresh-have (map (λ (item : Record). item.id) items) (let same = map-length (λ (item : Record). item.id) items in omega (arith, same, few))
+    (ids_have items fits)) fits)
+
+resources_bounded : (items : List Resource) → AllByRecursion FitsResource items → AreShort (resource_data items) → AllByRecursion IsBoundedResource items
+resources_bounded [] fits short = tt
+resources_bounded (item ∷ items) fits short =
+    (record { kind = fits.0.kind; id = fits.0.id; short = short.0 }, resources_bounded items fits.1 short.1)
+
+resources_short : (items : List Resource) → AllByRecursion IsBoundedResource items → AllByRecursion IsShortResource items
+resources_short [] all = tt
+resources_short (item ∷ items) all = (all.0.short, resources_short items all.1)
+
+block_short : (block : Option (List ℕ)) → AreShort (block_list block) → block_length block ≤ 65500
+block_short None short = omega arith
+block_short (Some bytes) short = short.0
+
+-- what a file says of its entries, of whichever sort they are
+record HasEntries (stored : DatabaseValue) : Type 0 where
+  records : AllByRecursion FitsAll stored.records
+  resources : AllByRecursion IsBoundedResource stored.resources
+  few_records : length stored.records ≤ 65535
+  few_resources : length stored.resources ≤ 65535
+
+entries_of : (stored : DatabaseValue) (bytes : List ℕ) → IsFileText stored bytes → HasEntries stored
+entries_of stored bytes text =
+    by (has_resources stored) refl
+    (subst (λ n. n < 2 ^ 16) refl text.count)
+    (all-back (λ (block : List ℕ). length block ≤ 65500) (block_list stored.sort) (data_of stored)
+    (all-back (λ (block : List ℕ). length block ≤ 65500) (block_list stored.app) (block_list stored.sort ++ data_of stored) text.short))
+  where
+    by : (b : Bool) → has_resources stored ≡ b → (if has_resources stored then length stored.resources else length stored.records) < 2 ^ 16
+        → AreShort (if has_resources stored then resource_data stored.resources else record_data stored.records) → HasEntries stored
+    by true is count short =
+        let none : stored.records ≡ [] = text.no_records is in
+        let few : length stored.resources < 2 ^ 16 = subst (λ b. (if b then length stored.resources else length stored.records) < 2 ^ 16) is count in
+        let of_resources : AreShort (resource_data stored.resources) =
+        subst (λ b. AreShort (if b then resource_data stored.resources else record_data stored.records)) is short in
+        record {
+          records = subst (AllByRecursion FitsAll) (sym none) tt;
+          resources = resources_bounded stored.resources text.resources of_resources;
+          few_records = (let zero_length = ap length none in omega (arith, zero_length));
+          few_resources = omega (arith, few);
+        }
+    by false is count short =
+        let none : stored.resources ≡ [] = text.no_resources is in
+        let few : length stored.records < 2 ^ 16 = subst (λ b. (if b then length stored.resources else length stored.records) < 2 ^ 16) is count in
+        let of_records : AreShort (record_data stored.records) =
+        subst (λ b. AreShort (if b then resource_data stored.resources else record_data stored.records)) is short in
+        record {
+          records = records_fit stored.records text.records of_records;
+          resources = subst (AllByRecursion IsBoundedResource) (sym none) tt;
+          few_records = omega (arith, few);
+          few_resources = (let zero_length = ap length none in omega (arith, zero_length));
+        }
+
+opened_database : (stored : DatabaseValue) (bytes : List ℕ) → IsFileText stored bytes → IsBoundedDatabase (as_opened stored)
+unfolding as_opened
+opened_database stored bytes text =
+    let entries = entries_of stored bytes text in
+    let short = text.short in
+    let ids : List ℕ = fresh_ids (map (λ (item : Record). item.id) stored.records) in
+    let shorter = with-length ids stored.records in
+    let same = map-length idle (with_ids ids stored.records) in
+    let few = entries.few_records in
+    record {
+      whole = record {
+        few_records = omega (arith, shorter, same, few);
+        few_resources = entries.few_resources;
+        no_records = λ is. ap (λ (items : List Record). map idle (with_fresh_ids items)) (text.no_records is)
+            ∙ ap (map idle) (with-none (fresh_ids []));
+        no_resources = text.no_resources;
+        short_app = block_short stored.app
+            (all-front (λ (block : List ℕ). length block ≤ 65500) (block_list stored.app) (block_list stored.sort ++ data_of stored) short);
+        short_sort = block_short stored.sort
+            (all-front (λ (block : List ℕ). length block ≤ 65500) (block_list stored.sort) (data_of stored)
+            (all-back (λ (block : List ℕ). length block ≤ 65500) (block_list stored.app) (block_list stored.sort ++ data_of stored) short));
+        short_resources = All-AllByRecursion IsShortResource stored.resources (resources_short stored.resources entries.resources);
+      };
+      head = record {
+        name = text.head.name;
+        attributes = text.head.attributes;
+        version = text.head.version;
+        created = text.head.created;
+        modified = text.head.modified;
+        backup = text.head.backup;
+        modnum = text.head.modnum;
+        seed = text.head.seed;
+        kind = text.head.kind;
+        creator = text.head.creator;
+      };
+      records = opened_bounded stored.records entries.few_records entries.records;
+      resources = entries.resources;
+    }
+
+pub opened-databases : (files : Files) (databases : List DatabaseValue) (user : UserInfo) → StandFor files databases user
+    → AllByRecursion IsBoundedDatabase databases
+opened-databases files databases user stand =
+    all-places IsBoundedDatabase databases (λ k database there.
+    let file = stand.each_database database.head.name database (database_of-at databases k database stand.order there) in
+    subst IsBoundedDatabase (sym file.is) (opened_database file.stored file.bytes file.text))
+
+-- ---- the user
+
+counted_few : (time : CivilTime) (seconds : ℕ) → counted time ≡ Some seconds → seconds < 2 ^ 32
+unfolding counted
+counted_few time seconds is = by (is_civil time) (nat_lt (seconds_of time) (2 ^ 32)) refl is
+  where
+    by : (a b : Bool) → nat_lt (seconds_of time) (2 ^ 32) ≡ b → (if a && b then Some (seconds_of time) else None) ≡ Some seconds → seconds < 2 ^ 32
+    by true true less same = let own : seconds_of time ≡ seconds = cc in subst (λ n. n < 2 ^ 32) own (grind (arith, nat_tests, less))
+    by true false less same = absurd (cc)
+    by false b less same = absurd (cc)
+
+date_few : (seconds : ℕ) (text : List ℕ) → SaysDate seconds text → seconds < 2 ^ 32
+date_few seconds text says = by (is_no_date (on_wire says.0)) says.2.read
+  where
+    by : (none : Bool) → (if none then Some 0 else counted (on_wire says.0)) ≡ Some seconds → seconds < 2 ^ 32
+    by true same = let own : 0 ≡ seconds = cc in subst (λ n. n < 2 ^ 32) own (lit< tt)
+    by false same = counted_few (on_wire says.0) seconds same
+
+name_fits : (name : List ℕ) → user_name_of name ≡ Some name → (length name ≤ 40) × (list_any (λ byte. byte == 0) name ≡ false)
+name_fits name is = by (nat_lt 40 (length name)) (list_any (λ byte. byte == 0) name) refl refl is
+  where
+    by : (a b : Bool) → nat_lt 40 (length name) ≡ a → list_any (λ byte. byte == 0) name ≡ b → (if a || b then None else Some name) ≡ Some name
+        → (length name ≤ 40) × (list_any (λ byte. byte == 0) name ≡ false)
+    by true b long zero_byte same = absurd (cc)
+    by false true long zero_byte same = absurd (cc)
+    by false false long zero_byte same = (grind (arith, nat_tests, long), zero_byte)
+
+password_fits : (password : List ℕ) → password_of password ≡ Some password → length password ≤ 40
+password_fits password is = by (nat_lt 40 (length password)) refl is
+  where
+    by : (a : Bool) → nat_lt 40 (length password) ≡ a → (if a then None else Some password) ≡ Some password → length password ≤ 40
+    by true long same = absurd (cc)
+    by false long same = grind (arith, nat_tests, long)
+
+file_user : (user : UserInfo) (bytes : List ℕ) → IsDeviceFile user bytes → IsBoundedUser user
+file_user user bytes (
+  t0,
+  r0,
+  e0,
+  s0,
+  (
+    t1,
+    r1,
+    e1,
+    number,
+    (
+      t2,
+      r2,
+      e2,
+      viewer,
+      (
+        t3,
+        r3,
+        e3,
+        pc,
+        (
+          t4,
+          r4,
+          e4,
+          good,
+          (
+            t5,
+            r5,
+            e5,
+            last,
+            (
+              t6,
+              r6,
+              e6,
+              name,
+              (t7, r7, e7, password, end),
+            ),
+          ),
+        ),
+      ),
+    ),
+  ),
+) =
+    record {
+      number = number.1;
+      viewer = viewer.1;
+      pc = pc.1;
+      good = date_few user.good t4 good;
+      last = date_few user.last t5 last;
+      short = (name_fits user.name name.2).0;
+      no_zero = (name_fits user.name name.2).1;
+      password = password_fits user.password password.2;
+    }
+
+none_bounded : IsBoundedUser no_user
+none_bounded = record {
+  number = lit< tt;
+  viewer = lit< tt;
+  pc = lit< tt;
+  good = lit< tt;
+  last = lit< tt;
+  short = omega arith;
+  no_zero = refl;
+  password = omega arith;
+}
+
+pub opened-user : (files : Files) (databases : List DatabaseValue) (user : UserInfo) → StandFor files databases user → IsBoundedUser user
+opened-user files databases user stand = by (files device_info_file) stand.owner
+  where
+    by : (o : Option (List ℕ)) → IsUserOf o user → IsBoundedUser user
+    by None is = subst IsBoundedUser (sym is) none_bounded
+    by (Some bytes) is = file_user user bytes is
+
+-- ---- the handheld
+
+pub opened-bounded : (files : Files) (databases : List DatabaseValue) (user : UserInfo) → StandFor files databases user
+    → IsBounded (record { databases = databases; user = user; handles = no_handles })
+opened-bounded files databases user stand = record {
+  databases = opened-databases files databases user stand;
+  user = opened-user files databases user stand;
+  handles = (tt, (tt, (tt, (tt, (tt, (tt, (tt, (tt, tt))))))));
+}
+
+both_parts : (a b : Bool) → (a && b) ≡ true → (a ≡ true) × (b ≡ true)
+both_parts true b is = (refl, is)
+both_parts false b is = absurd (cc)
+
+turned_false : (a : Bool) → not a ≡ true → a ≡ false
+turned_false true is = absurd (cc)
+turned_false false is = refl
+
+ids_are : (ids : List ℕ) → are_ids ids ≡ true → AreIds ids
+ids_are [] is = tt
+ids_are (id ∷ ids) is =
+    let first = both_parts (not (id == 0)) (not (is_among id ids) && are_ids ids) is in
+    let second = both_parts (not (is_among id ids)) (are_ids ids) first.1 in
+    let other : (id == 0) ≡ false = turned_false (id == 0) first.0 in
+    (grind (arith, nat_tests, other), turned_false (is_among id ids) second.0, ids_are ids second.1)
+
+settled_ids : (databases : List DatabaseValue) → AllByRecursion (λ (database : DatabaseValue). are_settled database.records ≡ true) databases
+    → AllByRecursion (λ (database : DatabaseValue). AreIds (ids_of database.records)) databases
+settled_ids [] all = tt
+settled_ids (database ∷ databases) all = (
+  ids_are (ids_of database.records) (both_parts (list_all (λ item. not item.busy) database.records) (are_ids (ids_of database.records)) all.0).1,
+  settled_ids databases all.1,
+)
+
+pub opened-device : (databases : List DatabaseValue) (user : UserInfo) → AreKept databases
+    → IsDevice (record { databases = databases; user = user; handles = no_handles })
+opened-device databases user kept = record { names = kept.order; few = kept.few; ids = settled_ids databases kept.settled; handles = refl }
