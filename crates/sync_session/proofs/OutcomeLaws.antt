@@ -150,6 +150,7 @@ closes_ends {L} {F} talk since fault downs contents moments since_more meeting g
     record {
       ended = record {
         given = given;
+        count = done.news.count;
         free = session_free meeting given done.news.free;
         does = reached.does;
         desk = done.desk;
@@ -167,6 +168,7 @@ closes_ends {L} {F} talk since fault downs contents moments since_more meeting g
       stopped = inr (record {
         given = given;
         between = between.link;
+        count = done.news.count;
         free = done.news.free;
         does = done.news.reached.does;
         stops = subst (λ rs. Stops talk since fault downs rs old between.link) (text-before_commit meeting given (replicate
@@ -215,6 +217,7 @@ refused_ends {L} {F} talk since fault downs contents moments paths faults itself
         | inr after ↦ inr (record {
           given = given;
           between = between;
+          count = news.count;
           free = news.free;
           does = news.reached.does;
           stops = stops;

@@ -1,5 +1,5 @@
 -- How a session over a link that tells its device ends, and what it leaves of both sides.
-use Rattle.std.specs.Prelude.{◌≡◌, ◌⊎◌, ℕ, List, map, replicate, slice_index, Option, None, Some, IfErr, IfOk, IfSome, IsSome, OnErr, Result}
+use Rattle.std.specs.Prelude.{◌≡◌, ◌⊎◌, ℕ, List, length, map, replicate, slice_index, Option, None, Some, IfErr, IfOk, IfSome, IsSome, OnErr, Result}
 use Rattle.std.specs.Global.{Vec}
 use Rattle.hs_folders.specs.FileMaps.{FileMap}
 use Rattle.hs_folders.specs.Moments.{EachMomentSince, Moments}
@@ -49,10 +49,11 @@ tellings contents moments before after =
 
 -- ---- a session that ended
 
--- All of the session's requests went out and were answered, and the new records got ids that were free at their turns. The folder is that
+-- All of the session's requests went out and were answered, and each new record got an id that was free at its turn. The folder is that
 -- of a desktop with the merge under these ids, without a journal, and what was done with each database is told in order.
 pub record IsEnded {L : Type 0} (talk : L → Option Talk) (meeting : Meeting) (old new : L) (folder : Tellings) (reports : List DbReport) : Type 0 where
   pub given : List ℕ
+  pub count : length given ≡ adds_of meeting
   pub free : GetFreeIds (session meeting given) meeting.device
   pub does : Does talk (session meeting given) old new
   pub desk : IsDesk folder.after (merged_slots meeting given)
@@ -78,6 +79,7 @@ pub record IsCommitted {L : Type 0} (talk : L → Option Talk) (since : L → L 
     (meeting : Meeting) (old new : L) (folder : Tellings) : Type 0 where
   pub given : List ℕ
   pub between : L
+  pub count : length given ≡ adds_of meeting
   pub free : GetFreeIds (before_commit meeting given) meeting.device
   pub does : Does talk (before_commit meeting given) old between
   pub stops : Stops talk since fault downs (requests_before_commit meeting) old between
