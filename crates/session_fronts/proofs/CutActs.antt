@@ -92,7 +92,7 @@ free_both : (xs ys : List Act) (device : Device) → GetFreeIds xs device → Ge
 free_both [] ys device first second = second
 free_both (x ∷ xs) ys device first second = (first.0, free_both xs ys (acted x device).1 first.1 second)
 
-ids-append : (xs ys : List Act) → ids_in (xs ++ ys) ≡ ids_in xs ++ ids_in ys
+pub ids-append : (xs ys : List Act) → ids_in (xs ++ ys) ≡ ids_in xs ++ ids_in ys
 ids-append [] ys = refl
 ids-append (x ∷ xs) ys = ap (λ is. id_in x ++ is) (ids-append xs ys) ∙ sym (append_assoc (id_in x) (ids_in xs) (ids_in ys))
 

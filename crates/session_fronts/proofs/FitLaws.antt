@@ -245,13 +245,19 @@ fit-before m sound =
       ),
     )
 
-pub fit-session : (m : Meeting) → IsSoundMeeting m → (given : List ℕ) → Fit (session m given)
-unfolding session before_commit after_commit
-fit-session m sound given =
-    let purging : List Act = flat_map (purge_acts m) (active m) in
-    fit-append (before_writes m ++ begin_mark m ∷ all_news m (active m) given) (purging ++ (end_mark m ∷ ending ∷ []))
-    (fit-append (before_writes m) (begin_mark m ∷ all_news m (active m) given) (fit-before m sound)
-    (fit-begin m sound, fit-all_news m (active m) (all_fit m sound) given))
-    (fit-append purging (end_mark m ∷ ending ∷ [])
+pub fit-commit : (m : Meeting) → IsSoundMeeting m → (given : List ℕ) → Fit (before_commit m given)
+unfolding before_commit
+fit-commit m sound given =
+    fit-append (before_writes m) (begin_mark m ∷ all_news m (active m) given) (fit-before m sound)
+    (fit-begin m sound, fit-all_news m (active m) (all_fit m sound) given)
+
+pub fit-after : (m : Meeting) → IsSoundMeeting m → Fit (after_commit m)
+unfolding after_commit
+fit-after m sound =
+    fit-append (flat_map (purge_acts m) (active m)) (end_mark m ∷ ending ∷ [])
     (all-flat_map (IsFit m) FitsOne (purge_acts m) (active m) (λ t fit. fit-purges m t fit.ready.named) (all_fit m sound))
-    (fit-end m sound, (end_fits, tt)))
+    (fit-end m sound, (end_fits, tt))
+
+pub fit-session : (m : Meeting) → IsSoundMeeting m → (given : List ℕ) → Fit (session m given)
+unfolding session
+fit-session m sound given = fit-append (before_commit m given) (after_commit m) (fit-commit m sound given) (fit-after m sound)

@@ -1,5 +1,5 @@
 -- A front is where acts of the session lead to, and what it is.
-use Rattle.std.proofs.Common.{◌≡◌, ◌∙◌, ◌≤◌, refl, ap, sym, subst, ℕ, zero, suc, Bool, true, false, List, [], ◌∷◌, ◌++◌, length, map, filter, take, if◌then◌else◌}
+use Rattle.std.proofs.Common.{◌≡◌, ◌∙◌, ◌≤◌, refl, ap, sym, subst, ℕ, zero, suc, Bool, true, false, List, [], ◌∷◌, ◌++◌, length, map, filter, take, if◌then◌else◌, append-nil}
 use Rattle.std.specs.Prelude.{None}
 use Rattle.std.specs.List.{AllByRecursion, flat_map}
 use Rattle.palm_device.specs.Devices.{Device}
@@ -10,21 +10,22 @@ use Rattle.desktop_session.specs.Tellings.{AreSayable, device_after, exchanges}
 use Rattle.desktop_session.proofs.TellLaws.{acts_ran}
 use Rattle.sync_session.specs.Fronts.{Front}
 use Rattle.sync_session.specs.Limits.{first_over}
-use Rattle.sync_session.specs.Sessions.{requests, session, writes_before_commit}
+use Rattle.sync_session.specs.Sessions.{adds_of, after_commit, before_commit, requests, session, writes_before_commit}
 use Rattle.sync_session.specs.Tasks.{Meeting}
 use Rattle.sync_session.proofs.IdsLaws.{text-session}
 use Rattle.session_fronts.specs.Given.{GetFreeIds, ids_in}
 use Rattle.session_fronts.specs.Sound.{IsSoundMeeting}
 use Rattle.session_fronts.specs.Stops.{StandsAmongNews, StandsBehindCommit}
-use Rattle.session_fronts.proofs.AlongLaws.{Holds}
-use Rattle.session_fronts.proofs.AmongActs.{AmongPart, respects-among}
+use Rattle.session_fronts.proofs.AlongLaws.{Holds, along-told, none-in}
+use Rattle.session_fronts.proofs.AmongActs.{AmongPart, among-along, respects-among}
 use Rattle.session_fronts.proofs.BehindActs.{respects-behind}
-use Rattle.session_fronts.proofs.CutActs.{IsCut, cut-acts, writes_in}
-use Rattle.session_fronts.proofs.FitLaws.{Fit, FitsOne, fit-session}
+use Rattle.session_fronts.proofs.CutActs.{IsCut, cut-acts, ids-append, writes_in}
+use Rattle.session_fronts.proofs.FitLaws.{Fit, FitsOne, fit-after, fit-commit, fit-session}
 use Rattle.session_fronts.proofs.NameLaws.{stands-among, stands-behind}
+use Rattle.session_fronts.proofs.PartActs.{take-all}
 use Rattle.session_fronts.proofs.ReadyLaws.{ready-all}
-use Rattle.session_fronts.proofs.RelabelLaws.{session-labelled}
-use Rattle.session_fronts.proofs.RunLaws.{RunsBy, answers, answers-count, asks, asks_in, count_one, exchanges-are, given-all, given_to, ids_left, relabel, relabel-take, runs-by, sayable-all}
+use Rattle.session_fronts.proofs.RelabelLaws.{NoAsk, before-count, before-labelled, none-after, session-labelled}
+use Rattle.session_fronts.proofs.RunLaws.{RunsBy, answers, answers-count, asks, asks_in, count_one, exchanges-are, given-all, given_to, ids_left, none-all-given, relabel, relabel-take, runs-by, sayable-all}
 
 -- ---- the requests of a beginning
 
@@ -78,7 +79,7 @@ acts-front m given n sound none free =
 
 -- ---- a front is where acts lead to
 
-ids_of_label : (ids : List ℕ) (acts : List Act) → length ids ≡ asks_in acts → ids_in (relabel ids acts) ≡ ids
+pub ids_of_label : (ids : List ℕ) (acts : List Act) → length ids ≡ asks_in acts → ids_in (relabel ids acts) ≡ ids
 ids_of_label [] [] count = refl
 ids_of_label (i ∷ ids) [] count = absurd (cc)
 ids_of_label ids (act ∷ acts) count = by (asks act) refl ids count (λ is same. ids_of_label is acts same)
@@ -161,3 +162,45 @@ front-behind m writes given device sound none front most =
     stands-behind m sound given (ids_in is.acts) (ids_in is.acts) device
     (respects-behind m given (ready-all m sound) (ids_in is.acts) (ids_in is.acts) (device_after is.acts m.device) device is.holds (is.cut.behind enough))
     (is.cut.dealt enough)
+
+-- ---- the ids that are told
+
+no-ids : (acts : List Act) → NoAsk acts → ids_in acts ≡ []
+no-ids [] none = refl
+no-ids (act ∷ acts) none = ap {A = List ℕ × List ℕ} (λ p. p.0 ++ p.1) (λ k. (none-in act none.0 k, no-ids acts none.1 k))
+
+pub commit-ids : (m : Meeting) (given : List ℕ) → IsSoundMeeting m → length given ≡ adds_of m → ids_in (before_commit m given) ≡ given
+commit-ids m given sound count =
+    ap ids_in (before-labelled m sound given) ∙ ids_of_label given (before_commit m []) (count ∙ sym (before-count m sound))
+
+pub session-ids : (m : Meeting) (given : List ℕ) → IsSoundMeeting m → length given ≡ adds_of m → ids_in (session m given) ≡ given
+unfolding session
+session-ids m given sound count =
+    ids-append (before_commit m given) (after_commit m)
+    ∙ ap {A = List ℕ × List ℕ} (λ p. p.0 ++ p.1) (λ k. (commit-ids m given sound count k, no-ids (after_commit m) (none-after m) k)) ∙ append-nil given
+
+pub commit-told : (m : Meeting) (given : List ℕ) → IsSoundMeeting m → first_over m ≡ None → GetFreeIds (before_commit m given) m.device
+    → flat_map (λ (e : Exchange). given_in e.request e.reply) (exchanges (before_commit m given) m.device) ≡ ids_in (before_commit m given)
+commit-told m given sound none free =
+    given-all (before_commit m given) m.device (fit-commit m sound given) sound.device free
+    (along-told (AmongPart m (ready-all m sound)) [] (before_commit m given) m.device (among-along m given sound none) free)
+
+pub first-told : (m : Meeting) (given : List ℕ) (n : ℕ) → IsSoundMeeting m → first_over m ≡ None → GetFreeIds (take n (session m given)) m.device
+    → flat_map (λ (e : Exchange). given_in e.request e.reply) (exchanges (take n (session m given)) m.device) ≡ ids_in (take n (session m given))
+first-told m given n sound none free =
+    given-all (take n (session m given)) m.device (first_fit m sound given n) sound.device free (cut-acts m sound given none n free).tells
+
+pub session-told : (m : Meeting) (given : List ℕ) → IsSoundMeeting m → first_over m ≡ None → GetFreeIds (session m given) m.device
+    → flat_map (λ (e : Exchange). given_in e.request e.reply) (exchanges (session m given) m.device) ≡ ids_in (session m given)
+session-told m given sound none free =
+    let whole : take (length (session m given)) (session m given) ≡ session m given = take-all (session m given) in
+    subst (λ (acts : List Act). flat_map (λ (e : Exchange). given_in e.request e.reply) (exchanges acts m.device) ≡ ids_in acts) whole
+    (first-told m given (length (session m given)) sound none (subst (λ (acts : List Act). GetFreeIds acts m.device) (sym whole) free))
+
+none-listed : (acts : List Act) → NoAsk acts → AllByRecursion (λ (act : Act). asks act ≡ false) acts
+none-listed [] none = tt
+none-listed (act ∷ acts) none = (none.0, none-listed acts none.1)
+
+pub after-none : (m : Meeting) → IsSoundMeeting m
+    → AllByRecursion (λ (request : List ℕ). (answer : List ℕ) → given_in request answer ≡ []) (map text (after_commit m))
+after-none m sound = none-all-given (after_commit m) (fit-after m sound) (none-listed (after_commit m) (none-after m))

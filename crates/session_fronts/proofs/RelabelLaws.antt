@@ -1,7 +1,8 @@
 -- A session with other ids is the same but for the ids of its new records.
 use Rattle.std.proofs.Common.{◌≡◌, ◌∙◌, ◌+◌, refl, ap, sym, subst, ℕ, zero, suc, Bool, true, false, List, [], ◌∷◌, ◌++◌, length, map, take, drop, if◌then◌else◌, arith}
-use Rattle.std.specs.Prelude.{Option, Some, None, replicate, flat_map}
+use Rattle.std.specs.Prelude.{Option, Some, None, replicate, flat_map, sum_by}
 use Rattle.std.specs.List.{AllByRecursion}
+use Rattle.std.proofs.lemmas.List.Sums.{sum_by-cons}
 use Rattle.pdb_values.specs.Contents.{ContentValue}
 use Rattle.pdb_values.specs.Databases.{DatabaseValue}
 use Rattle.conduit_rules.specs.Plans.{purged_ids}
@@ -13,7 +14,7 @@ use Rattle.sync_session.specs.Heads.{made_head}
 use Rattle.sync_session.specs.Merges.{handheld_before}
 use Rattle.sync_session.specs.News.{add_count, all_news, made, news_acts, news_by, opened_for, purge_acts, writes}
 use Rattle.sync_session.specs.News.{replaced as replacements}
-use Rattle.sync_session.specs.Sessions.{after_commit, before_commit, before_writes, session}
+use Rattle.sync_session.specs.Sessions.{adds_of, after_commit, before_commit, before_writes, session}
 use Rattle.sync_session.specs.Skips.{active}
 use Rattle.sync_session.specs.Tasks.{Meeting, Task}
 use Rattle.sync_session.specs.Users.{begin_mark, end_mark}
@@ -30,7 +31,7 @@ use Rattle.session_fronts.proofs.TaskActs.{IsReady}
 
 -- ---- lists
 
-abbrev NoAsk : List Act → Type 0
+abbrev pub NoAsk : List Act → Type 0
 NoAsk [] = Unit {0}
 NoAsk (act ∷ acts) = (asks act ≡ false) × NoAsk acts
 
@@ -43,7 +44,7 @@ none-same ids [] none = refl
 none-same ids (act ∷ acts) none =
     ap (λ b. given_to b ids act ∷ relabel (ids_left b ids) acts) none.0 ∙ ap (λ (zs : List Act). act ∷ zs) (none-same ids acts none.1)
 
-none-count : (acts : List Act) → NoAsk acts → asks_in acts ≡ 0
+pub none-count : (acts : List Act) → NoAsk acts → asks_in acts ≡ 0
 none-count [] none = refl
 none-count (act ∷ acts) none = ap (λ b. count_one b (asks_in acts)) none.0 ∙ none-count acts none.1
 
@@ -60,7 +61,7 @@ relabel-append ids (x ∷ xs) ys =
     (relabel-append (ids_left (asks x) ids) xs ys
     ∙ ap (λ is. relabel (ids_left (asks x) ids) xs ++ relabel is ys) (sym (drop_left (asks x) (asks_in xs) ids)))
 
-count-append : (xs ys : List Act) → asks_in (xs ++ ys) ≡ asks_in xs + asks_in ys
+pub count-append : (xs ys : List Act) → asks_in (xs ++ ys) ≡ asks_in xs + asks_in ys
 count-append [] ys = omega arith
 count-append (x ∷ xs) ys = ap (count_one (asks x)) (count-append xs ys) ∙ by (asks x)
   where
@@ -228,11 +229,11 @@ none-all : (m : Meeting) (ts : List Task) → NoAsk (flat_map (purge_acts m) ts)
 none-all m [] = tt
 none-all m (t ∷ ts) = none-append (purge_acts m t) (flat_map (purge_acts m) ts) (none-purges m t) (none-all m ts)
 
-none-after : (m : Meeting) → NoAsk (after_commit m)
+pub none-after : (m : Meeting) → NoAsk (after_commit m)
 unfolding after_commit
 none-after m = none-append (flat_map (purge_acts m) (active m)) (end_mark m ∷ ending ∷ []) (none-all m (active m)) (refl, (refl, tt))
 
-before-labelled : (m : Meeting) → IsSoundMeeting m → (ids : List ℕ) → before_commit m ids ≡ relabel ids (before_commit m [])
+pub before-labelled : (m : Meeting) → IsSoundMeeting m → (ids : List ℕ) → before_commit m ids ≡ relabel ids (before_commit m [])
 unfolding before_commit
 before-labelled m sound ids =
     let reading : List Act = before_writes m in
@@ -250,3 +251,29 @@ session-labelled m sound ids =
     ap (λ (zs : List Act). zs ++ last) (before-labelled m sound ids)
     ∙ ap (λ (zs : List Act). relabel ids bare ++ zs) (sym (none-same (drop (asks_in bare) ids) last (none-after m)))
     ∙ sym (relabel-append ids bare last)
+
+-- as many ids are asked for as there are adds
+
+all-count : (m : Meeting) (ts : List Task) → AreReady m ts → asks_in (all_news m ts []) ≡ sum_by (add_count m) ts
+unfolding all_news
+all-count m [] ready = refl
+all-count m (t ∷ ts) ready =
+    let bare : List Act = news_acts m t [] in
+    let rest : List Act = all_news m ts [] in
+    let start : news_acts m t (take (add_count m t) []) ++ all_news m ts (drop (add_count m t) []) ≡ bare ++ rest =
+    ap {A = List ℕ × List ℕ} (λ p. news_acts m t p.0 ++ all_news m ts p.1) (λ k. (take-none (add_count m t) k, drop-none (add_count m t) k)) in
+    let parts = count-append bare rest in
+    let one = (news-labelled m t ready.0 []).count in
+    let more = all-count m ts ready.1 in
+    let sum = sum_by-cons (add_count m) t ts in
+    ap asks_in start ∙ omega (arith, parts, one, more, sum)
+
+pub before-count : (m : Meeting) → IsSoundMeeting m → asks_in (before_commit m []) ≡ adds_of m
+unfolding before_commit adds_of
+before-count m sound =
+    let reading : List Act = before_writes m in
+    let none : NoAsk reading = none-quiet reading (quiet-all reading (quiet-before_writes m)) in
+    let parts = count-append reading (begin_mark m ∷ all_news m (active m) []) in
+    let zero_first = none-count reading none in
+    let news = all-count m (active m) (ready-all m sound) in
+    omega (arith, parts, zero_first, news)

@@ -1,7 +1,7 @@
 -- A run of a device by the requests of acts is that of the acts, with the ids that its new records got.
 use Rattle.std.proofs.Common.{◌≡◌, ◌∙◌, refl, ap, sym, subst, ℕ, zero, suc, Bool, true, false, List, [], ◌∷◌, ◌++◌, length, map, take, if◌then◌else◌, ◌==◌}
 use Rattle.std.specs.Prelude.{Option, Some, None, Result, Ok, IfSome}
-use Rattle.std.specs.List.{flat_map}
+use Rattle.std.specs.List.{AllByRecursion, flat_map}
 use Rattle.dlp_args.specs.Fields.{Fields}
 use Rattle.dlp_requests.specs.declared.fault.RequestFault.{RequestFault}
 use Rattle.dlp_requests.specs.Forms as form
@@ -202,6 +202,18 @@ given-all (act ∷ acts) device fit proper free tells =
       given_one (asks act) act device refl fit.0 proper free.0 tells.0 k,
       given-all acts (acted act device).1 fit.1 (acted_proper act device proper (record { request = fit.0; free = free.0 })) free.1 tells.1 k,
     ))
+
+-- what asks for no id gives none, whatever is replied
+none-given : (act : Act) (answer : List ℕ) → IsRequest act.asks → asks act ≡ false → given_in (text act) answer ≡ []
+unfolding given_in text
+none-given act answer fits none =
+    ap (λ (r : Result RequestValue RequestFault). if asks_id r then given_by (reply_at 0x21 answer) else []) (read_back act.asks fits)
+    ∙ ap (λ b. if b then given_by (reply_at 0x21 answer) else []) none
+
+pub none-all-given : (acts : List Act) → Fit acts → AllByRecursion (λ (act : Act). asks act ≡ false) acts
+    → AllByRecursion (λ (request : List ℕ). (answer : List ℕ) → given_in request answer ≡ []) (map text acts)
+none-all-given [] fit none = tt
+none-all-given (act ∷ acts) fit none = (λ answer. none-given act answer fit.0 none.0, none-all-given acts fit.1 none.1)
 
 pub sayable-all : (acts : List Act) (device : Device) → Fit acts → GetFreeIds acts device → AreSayable acts device
 sayable-all [] device fit free = tt

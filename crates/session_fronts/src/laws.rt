@@ -1,13 +1,16 @@
 //! What a session makes of a handheld. Each function here does nothing: its contract is the law.
-ghost use Rattle.std.specs.Prelude.{◌≡◌, ◌≤◌, ℕ, List, None, filter, length, map, take};
+ghost use Rattle.std.specs.Prelude.{◌≡◌, ◌≤◌, ℕ, List, [], None, filter, length, map, take};
+ghost use Rattle.std.specs.List.{AllByRecursion, flat_map};
 ghost use Rattle.palm_device.specs.Devices.{Device};
-ghost use Rattle.dlp_commands.specs.Changes.{changes};
+ghost use Rattle.dlp_commands.specs.Changes.{changes, given_in};
+ghost use Rattle.dlp_commands.specs.DeviceRuns.{Exchange};
 ghost use Rattle.desktop_session.specs.Acts.{Act, text};
-ghost use Rattle.desktop_session.specs.Tellings.{AreSayable, device_after};
+ghost use Rattle.desktop_session.specs.Tellings.{AreSayable, device_after, exchanges};
 ghost use Rattle.sync_session.specs.Fronts.{Front};
 ghost use Rattle.sync_session.specs.Limits.{first_over};
 ghost use Rattle.sync_session.specs.Merges.{merged_device};
-ghost use Rattle.sync_session.specs.Sessions.{session, writes_before_commit};
+ghost use Rattle.sync_session.specs.Sessions.{adds_of, after_commit, before_commit, session};
+ghost use Rattle.sync_session.specs.Sessions.{writes_before_commit};
 ghost use Rattle.sync_session.specs.Tasks.{Meeting};
 ghost use Rattle.session_laws.specs.Meetings.{IsActive, action_at, found_of, holding_after, ids_at};
 ghost use Rattle.session_laws.specs.Renaming.{AreUnknown, SameEnds};
@@ -44,6 +47,32 @@ pub fn acts_lead_to_fronts()
         GetFreeIds acts meeting.device
         → Front meeting (length (filter changes (map text acts))) (ids_in acts)
         (device_after acts meeting.device) }
+{}
+
+/// The ids that a session's new records get are those that its replies tell, in order, and as many as there
+/// are adds; behind the desktop's commit no request gives one, whatever is replied.
+pub fn given_ids_are_told()
+    ensures counted { (meeting : Meeting) (given : List ℕ) → IsSoundMeeting meeting
+        → length given ≡ adds_of meeting
+        → (ids_in (before_commit meeting given) ≡ given) × (ids_in (session meeting given) ≡ given) }
+    ensures commit { (meeting : Meeting) (given : List ℕ) → IsSoundMeeting meeting
+        → first_over meeting ≡ None → GetFreeIds (before_commit meeting given) meeting.device
+        → flat_map (λ (exchange : Exchange). given_in exchange.request exchange.reply)
+        (exchanges (before_commit meeting given) meeting.device)
+        ≡ ids_in (before_commit meeting given) }
+    ensures whole { (meeting : Meeting) (given : List ℕ) → IsSoundMeeting meeting
+        → first_over meeting ≡ None → GetFreeIds (session meeting given) meeting.device
+        → flat_map (λ (exchange : Exchange). given_in exchange.request exchange.reply)
+        (exchanges (session meeting given) meeting.device) ≡ ids_in (session meeting given) }
+    ensures beginning { (meeting : Meeting) (given : List ℕ) (n : ℕ) → IsSoundMeeting meeting
+        → first_over meeting ≡ None
+        → let acts = take n (session meeting given) in
+        GetFreeIds acts meeting.device
+        → flat_map (λ (exchange : Exchange). given_in exchange.request exchange.reply)
+        (exchanges acts meeting.device) ≡ ids_in acts }
+    ensures behind { (meeting : Meeting) → IsSoundMeeting meeting
+        → AllByRecursion (λ (request : List ℕ). (reply : List ℕ) → given_in request reply ≡ [])
+        (map text (after_commit meeting)) }
 {}
 
 /// A front with no more writes than stand before the desktop's commit is among the news of the databases,
