@@ -15,6 +15,7 @@ use Rattle.line_steps.specs.declared.half.Half.{Half}
 use Rattle.line_steps.specs.declared.half.Wire.{Wire}
 use Rattle.line_steps.specs.declared.hearing.Heard.{Heard}
 use Rattle.line_steps.specs.declared.hearing.Heard.TheVariants.{Nothing, Ack, Data}
+use Rattle.line_steps.specs.Advancing.{took_count}
 use Rattle.line_steps.specs.Carrying.{SameMessage, Carried, Reaches, StepTo, makes_whole}
 use Rattle.line_steps.specs.Running.{past_now, side_of, Holds, Moved, Read, Stays}
 use Rattle.line_steps.specs.Ticking.{SendsAgain}
@@ -98,6 +99,13 @@ skipped-recorded script wire x y x1 y1 x2 y2 apart x_moved y_read y_moved x_read
     let mid = still_apart x y x1 y1 x_mid y_mid apart in
     let later = still_apart x y x2 y2 (ap (λ (h : Half). h.end) x_read ∙ x_mid) (ap (λ (h : Half). h.end) y_moved ∙ y_mid) apart in
     recorded_turned script wire y2 x2 (apart_turned x2.end y2.end later) (second.recorded script (recorded_turned script wire x1 y1 mid (first.recorded script was)))
+
+-- and as much of both ends is taken
+pub skipped-took : (wire : Wire) (x y x1 y1 x2 y2 : Half) → Moved x x1 → Read y y1 → Moved y1 y2 → Read x1 x2 → KeepsAll wire x y x1 y1 → KeepsAll wire y1 x1 y2 x2 → (took_count wire x2 ≡ took_count wire x) × (took_count wire y2 ≡ took_count wire y)
+skipped-took wire x y x1 y1 x2 y2 x_moved y_read y_moved x_read first second = (
+  ap (λ (h : Half). took_count wire h) x_read ∙ first.took,
+  second.took ∙ ap (λ (h : Half). took_count wire h) y_read,
+)
 
 pub skipped-work : (wire : Wire) (x y x1 y1 x2 y2 : Half) → Skipped wire x y x1 y1 x2 y2 → work_left wire x2 y2 ≤ work_left wire x y
 skipped-work wire x y x1 y1 x2 y2 it = omega (arith, it.first, it.second, work_turned wire y2 x2, work_turned wire y1 x1)

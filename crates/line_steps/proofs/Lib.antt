@@ -1,4 +1,5 @@
 pub mod AddingLaws
+pub mod AdvancingLaws
 pub mod BeginningLaws
 pub mod BytesLaws
 pub mod CarryingLaws

@@ -37,7 +37,7 @@ length-marked n [] = refl
 length-marked zero (frame ∷ later) = refl
 length-marked (suc n) (frame ∷ later) = ap suc (length-marked n later)
 
-past_marked : (past : List Sent) (n : ℕ) (frames : List Frame) → past_behind past (map frame_value (marked n frames)) ≡ past_behind past (map frame_value frames)
+pub past_marked : (past : List Sent) (n : ℕ) (frames : List Frame) → past_behind past (map frame_value (marked n frames)) ≡ past_behind past (map frame_value frames)
 past_marked past n [] = refl
 past_marked past zero (frame ∷ later) = refl
 past_marked past (suc n) (frame ∷ later) = past_marked (add_frame (frame_value frame) past) n later

@@ -1,7 +1,7 @@
 -- Which frames came, by the cursors, over each step.
 use Rattle.std.proofs.Common.{◌≡◌, ℕ, zero, suc, ◌+◌, ◌≤◌, Bool, true, false, ◌&&◌, leb, List, [], ◌∷◌, ◌++◌, length, map, Some, refl, sym, ap, subst, ◌∙◌, arith, inl, inr}
 use Rattle.std.specs.Prelude.{slice_get, if◌then◌else◌}
-use Rattle.std.proofs.lemmas.Bool.{cases_Bool, both_ways}
+use Rattle.std.proofs.lemmas.Bool.{cases_Bool, both_ways, cond-false}
 use Rattle.std.proofs.lemmas.Option.{slice_get_within}
 use Rattle.std.proofs.lemmas.List.{map-append, length-map, length-append}
 use Rattle.line_script.specs.Rules.{RuleValue}
@@ -11,17 +11,20 @@ use Rattle.trace_text.specs.declared.frame.End.TheVariants.{Handheld, Desktop}
 use Rattle.trace_text.specs.declared.frame.Frame.{Frame}
 use Rattle.trace_text.specs.Fates.{FateValue, fate_value, arrives}
 use Rattle.trace_text.specs.Faults.{comes, data_comes}
-use Rattle.trace_text.specs.Past.{is_end}
+use Rattle.trace_text.specs.Parts.{Part}
+use Rattle.trace_text.specs.Past.{Sent, is_end}
 use Rattle.trace_text.specs.Talks.{Talk}
 use Rattle.trace_text.specs.TraceLines.{frame_value}
 use Rattle.line_laws.specs.Core.{Apart}
 use Rattle.line_laws.specs.Framing.{CameByCursor, PassesFrame}
+use Rattle.line_laws.specs.Hearing.{heard}
 use Rattle.line_laws.proofs.CameLaws.{same_end}
 use Rattle.line_laws.proofs.TalkLaws.{talking_passes}
 use Rattle.line_laws.proofs.FramedLaws.{came-push-one, OthersStay, came-same, same-leb, leb-above, leb-below, came-takes}
 use Rattle.line_steps.specs.declared.half.Half.{Half}
 use Rattle.line_steps.specs.declared.half.Wire.{Wire}
 use Rattle.line_steps.specs.Adding.{Added, AddsOne, AddsTwo, AllBy}
+use Rattle.line_steps.specs.Advancing.{took_count}
 use Rattle.line_steps.specs.Counting.{landed}
 use Rattle.line_steps.proofs.CountingLaws.{counted_moves}
 use Rattle.line_steps.specs.Marking.{marked}
@@ -189,12 +192,19 @@ talks_past talk wire x y frame holds here gone talks =
       y_heard = at_other x.end y.end (x.taken + 1) y.taken (past_now wire.frames.items) holds.fy (side_of y) holds.apart.there (y_heard_now talk wire x y holds talks);
     }
 
+took_past : (wire : Wire) (x y : Half) (frame : Frame) → Holds wire x y → slice_get wire.frames.items x.taken ≡ Some frame → (is_end x.end frame.from && arrives (fate_value frame.fate)) ≡ false → took_count wire (moved x) ≡ took_count wire x
+took_past wire x y frame holds here gone =
+    let sent = sent_of frame in
+    let away : data_comes x.end sent ≡ false = gone_data (is_end x.end frame.from) sent.is_data (comes sent.course) (ap (λ (b : Bool). is_end x.end frame.from && b) (course_comes (fate_value frame.fate)) ∙ gone) in
+    ap (λ (p : List Sent). length (heard x.end p)) (past_at wire.frames.items x.taken frame holds.go here) ∙ ap (λ (ps : List Part). length ps) (cond-false _ _ _ away)
+
 pub skip_keeps : (wire : Wire) (x0 y0 x y new : Half) (frame : Frame) → Holds wire x y → KeepsAll wire x0 y0 x y → slice_get wire.frames.items x.taken ≡ Some frame → (is_end x.end frame.from && arrives (fate_value frame.fate)) ≡ false → Read y new → new.reader.tally ≡ (if is_end x.end frame.from then landed (frame_value frame) y.reader.tally else y.reader.tally) → KeepsAll wire x0 y0 (moved x) new
 skip_keeps wire x0 y0 x y new frame holds keeps here gone read tally = record {
   talks = λ talk talks. subst (λ (h : Half). Talks talk wire (moved x) h) (sym read) (talks_past talk wire x y frame holds here gone (keeps.talks talk talks));
+  took = took_past wire x y frame holds here gone ∙ keeps.took;
   recorded = λ script was. recorded_past script wire x y new frame here gone (ap (λ (h : Half). h.end) read, ap (λ (h : Half). h.taken) read) (keeps.recorded script was);
   counted = λ was. counted_moves wire x y new frame here tally (ap (λ (h : Half). h.end) read, ap (λ (h : Half). h.taken) read) (keeps.counted was);
 }
 
 pub keeps_all : (wire : Wire) (x y : Half) → KeepsAll wire x y x y
-keeps_all wire x y = record { talks = λ talk talks. talks; recorded = λ script was. was; counted = λ was. was }
+keeps_all wire x y = record { talks = λ talk talks. talks; took = refl; recorded = λ script was. was; counted = λ was. was }

@@ -75,7 +75,7 @@ heard_same X past cx true side key bytes course inside newest was =
 
 -- ---- so the messages were taken, but for a rest of the last one
 
-length-spoken : (X : End) (past : List Sent) → length (spoken X past) ≡ length (said X past)
+pub length-spoken : (X : End) (past : List Sent) → length (spoken X past) ≡ length (said X past)
 length-spoken X past = sym (length-map (spoken X past) key_of_part) ∙ ap (λ (ks : List Key). length ks) (spoken_keys X past)
 
 -- what was said is more than all messages before the last one

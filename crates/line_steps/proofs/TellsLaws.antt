@@ -15,6 +15,9 @@ use Rattle.line_laws.specs.Hearing.{heard}
 use Rattle.line_laws.specs.Talking.{left, Speech}
 use Rattle.line_laws.proofs.FramingLaws.{IsByCursor, came_in-is}
 use Rattle.line_laws.proofs.UnsaidLaws.{unsaid-none}
+use Rattle.line_script.specs.Rules.{RuleValue}
+use Rattle.line_steps.specs.declared.half.Half.{Half}
+use Rattle.line_steps.specs.declared.half.Wire.{Wire}
 use Rattle.line_steps.specs.declared.harm.Stop.{Stop}
 use Rattle.line_steps.specs.declared.sending.Halt.{Halt}
 use Rattle.line_steps.specs.declared.sending.Halt.TheVariants.{NoMemory, Stopped, Down}
@@ -22,7 +25,7 @@ use Rattle.line_steps.specs.Halting.{is_aborted, EndsWith, HaltsBy}
 use Rattle.line_steps.specs.Promising.{TellsOf, HaltedTells, TurnTellsAll}
 use Rattle.line_steps.specs.Running.{past_now, side_of}
 use Rattle.line_steps.specs.Stories.{HeardOf, TookMessages, told_from}
-use Rattle.line_steps.specs.Telling.{cursor_of}
+use Rattle.line_steps.specs.Telling.{cursor_of, Recorded}
 use Rattle.line_steps.proofs.FrameLaws.{length-past}
 use Rattle.line_steps.proofs.ProperLaws.{whole_go, last_by}
 use Rattle.line_steps.proofs.TalkedLaws.{cursor_own, cursor_other, x_heard_as, y_heard_as}
@@ -46,6 +49,11 @@ is_told : (X : End) (cursor : End → ℕ) (frames : List Frame) (story : List T
     → IsStory X (map frame_value frames) story
 is_told X cursor frames story is inside told =
     subst (λ (ps : List Part). IsStoryOf (reverse ps) story) (sym (taken_heard X cursor (came_in (map frame_value frames)) (past_now frames) is inside)) told
+
+-- so do those of a line that halted
+pub halted_story : (halt : Halt) (script : List RuleValue) (wire : Wire) (x y : Half) (X : End) (story : List Told) → HaltsBy halt (cursor_of x y) wire.frames.items → Recorded script wire x y → cursor_of x y X ≤ length (past_now wire.frames.items)
+    → IsStoryOf (reverse (heard X (at (cursor_of x y X) (past_now wire.frames.items)))) story → IsStory X (map frame_value wire.frames.items) story
+halted_story halt script wire x y X story by recorded inside told = is_told X (cursor_of x y) wire.frames.items story (by_halt halt (cursor_of x y) wire.frames.items by recorded.came) inside told
 
 told_of : (X : End) (talk : Talk) (cursor : End → ℕ) (frames : List Frame) → IsByCursor cursor (came_in (map frame_value frames)) (past_now frames) → cursor X ≤ length (past_now frames) → TookMessages X talk (past_now frames) (cursor X)
     → TellsOf X (messages_of X talk) (map frame_value frames)

@@ -160,3 +160,35 @@ took_tells X talk past cx took = tells 0 (messages_of X talk) (reverse (heard X 
 pub all_told : (number : ℕ) (messages : List (List ℕ)) (front : List Part) → front ≡ session_parts number messages → IsStoryOf front (told_from number messages)
 all_told number [] front same = subst (λ (ps : List Part). IsStoryOf ps []) (sym same) empty_story
 all_told number (message ∷ later) front same = one_more number message (told_from (number + 1) later) front (session_parts (number + 1) later) same (all_told (number + 1) later (session_parts (number + 1) later) refl)
+
+-- ---- by how much was taken
+
+-- all pieces of all messages
+pub parts_total : (number : ℕ) (messages : List (List ℕ)) → length (session_parts number messages) ≡ pieces_before messages (length messages)
+parts_total number [] = omega arith
+parts_total number (message ∷ later) =
+    length-append (message_parts (session_id number) message) (session_parts (number + 1) later) ∙ omega (arith, parts_length (session_id number) message, parts_total (number + 1) later)
+
+told_parts-from : (number : ℕ) (messages : List (List ℕ)) → told_parts (told_from number messages) ≡ session_parts number messages
+told_parts-from number [] = refl
+told_parts-from number (message ∷ later) = ap (λ (ps : List Part). message_parts (session_id number) message ++ ps) (told_parts-from (number + 1) later)
+
+no_parts : (parts : List Part) → length parts ≡ 0 → parts ≡ []
+no_parts [] none = refl
+no_parts (part ∷ parts) none = absurd (omega (arith, none))
+
+pub took_whole : (X : End) (talk : Talk) (past : List Sent) (cx : ℕ) → TookMessages X talk past cx → pieces_before (messages_of X talk) (length (messages_of X talk)) ≤ length (heard X (at cx past)) → IsStoryOf (reverse (heard X (at cx past))) (told_from 0 (messages_of X talk))
+took_whole X talk past cx took whole =
+    let front = reverse (heard X (at cx past)) in
+    let sum = sym (length-append front took.rest) ∙ (ap (λ (ps : List Part). length ps) took.is ∙ parts_total 0 (messages_of X talk)) in
+    let none = no_parts took.rest (omega (arith, sum, whole, length-reverse (heard X (at cx past)))) in
+    all_told 0 (messages_of X talk) front (sym (append-nil front) ∙ (ap (λ (ps : List Part). front ++ ps) (sym none) ∙ took.is))
+
+pub took_but : (X : End) (talk : Talk) (past : List Sent) (cx : ℕ) → TookMessages X talk past cx → length (heard X (at cx past)) < pieces_before (messages_of X talk) (length (messages_of X talk))
+    → IsStoryOf (reverse (heard X (at cx past))) (told_from 0 (take (length (messages_of X talk) - 1) (messages_of X talk)))
+took_but X talk past cx took short = elim (took_tells X talk past cx took) [
+  | inl whole ↦ absurd (let all = ap (λ (ps : List Part). length ps) whole.is ∙ length-append (told_parts (told_from 0 (messages_of X talk))) whole.rest in
+      let total = ap (λ (ps : List Part). length ps) (told_parts-from 0 (messages_of X talk)) ∙ parts_total 0 (messages_of X talk) in
+      omega (arith, all, total, short, length-reverse (heard X (at cx past))))
+  | inr but ↦ but.1
+]

@@ -1,4 +1,5 @@
 pub mod Adding
+pub mod Advancing
 pub mod Carrying
 pub mod Counting
 pub mod Halting

@@ -14,6 +14,7 @@ use Rattle.line_laws.specs.Talking.{Talking, count_messages}
 use Rattle.line_steps.specs.declared.half.Half.{Half}
 use Rattle.line_steps.specs.declared.half.Wire.{Wire}
 use Rattle.line_steps.specs.Adding.{AllBy}
+use Rattle.line_steps.specs.Advancing.{took_count}
 use Rattle.line_steps.specs.Counting.{Counted}
 use Rattle.line_steps.specs.Running.{past_now, side_of}
 use Rattle.line_steps.specs.Stories.{HeardOf}
@@ -54,9 +55,10 @@ pub record Recorded (script : List RuleValue) (wire : Wire) (x y : Half) : Type 
   pub by : AllBy script 1 wire.frames.items
   pub came : CameByCursor 1 (cursor_of x y) (map frame_value wire.frames.items)
 
--- the frames tell what they told, though more of them are taken
+-- the frames tell what they told, though the cursors pass more of them
 pub record KeepsAll (wire : Wire) (x y later_x later_y : Half) : Type 0 where
   pub talks : KeepsTalk wire x y wire later_x later_y
+  pub took : took_count wire later_x ≡ took_count wire x
   pub recorded : (script : List RuleValue) → Recorded script wire x y → Recorded script wire later_x later_y
   pub counted : Counted wire x y → Counted wire later_x later_y
 

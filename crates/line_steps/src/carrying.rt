@@ -5,12 +5,14 @@ ghost use Rattle.padp_link.specs.Senders.{Waits};
 ghost use Rattle.line_laws.specs.Progress.{Blocked};
 ghost use Rattle.line_script.specs.Scripts.{fate_by};
 ghost use Rattle.trace_text.specs.Fates.{fate_value};
+ghost use Rattle.trace_text.specs.Talks.{Talk};
 ghost use Rattle.line_steps.specs.Adding.{AddsTwo};
+ghost use Rattle.line_steps.specs.Advancing.{Advances, FallsShort, StandsStill};
 ghost use Rattle.line_steps.specs.Carrying.{Carried, SameMessage, StepTo, IsNext, makes_whole};
 ghost use Rattle.line_steps.specs.Counting.{Counted};
 ghost use Rattle.line_steps.specs.Halting.{Halted};
 ghost use Rattle.line_steps.specs.Running.{Holds, AtHead, AllGo, SamePlace, past_now};
-ghost use Rattle.line_steps.specs.Telling.{KeepsTalk, Recorded};
+ghost use Rattle.line_steps.specs.Telling.{KeepsTalk, Recorded, Talks};
 ghost use Rattle.line_steps.specs.Turning.{Turn};
 ghost use Rattle.line_steps.specs.Underway.{Underway};
 
@@ -39,6 +41,9 @@ pub fn carry(wire: &mut Wire, x: &mut Half, y: &mut Half, script: &Script) -> Re
     ensures talks { OnOk result (KeepsTalk wire.old x.old y.old wire.new x.new y.new) }
     ensures halted { IfErr result
         (λ halt. Halted halt wire.old x.old y.old wire.new x.new y.new) }
+    ensures advances { Advances wire.old x.old y.old wire.new x.new y.new }
+    ensures short { IfErr result (λ halt. (talk : Talk) → Talks talk wire.old x.old y.old →
+        FallsShort halt talk wire.new x.new) }
 {
     loop {
         if step(wire, x, y, script)? {
@@ -80,6 +85,8 @@ fn step(wire: &mut Wire, x: &mut Half, y: &mut Half, script: &Script) -> Result<
     ensures halted { IfErr result
         (λ halt. Halted halt wire.old x.old y.old wire.new x.new y.new) }
     ensures step { IfOk result (λ whole. StepTo whole wire.old x.old y.old wire.new x.new y.new) }
+    ensures advances { Advances wire.old x.old y.old wire.new x.new y.new }
+    ensures still { IfErr result (λ halt. StandsStill halt wire.old x.old wire.new x.new) }
 {
     skip_to_head(wire, x, y);
     skip_to_head(wire, y, x);
@@ -98,6 +105,8 @@ fn deliver(wire: &mut Wire, x: &mut Half, y: &mut Half, script: &Script) -> Resu
     ensures halted { IfErr result
         (λ halt. Halted halt wire.old x.old y.old wire.new x.new y.new) }
     ensures step { IfOk result (λ whole. StepTo whole wire.old x.old y.old wire.new x.new y.new) }
+    ensures advances { Advances wire.old x.old y.old wire.new x.new y.new }
+    ensures still { IfErr result (λ halt. StandsStill halt wire.old x.old wire.new x.new) }
 {
     let number = wire.frames.len() as u64 + 1;
     let fate = fate_of(script, number)?;

@@ -8,6 +8,7 @@ ghost use Rattle.trace_text.specs.Talks.{Talk};
 ghost use Rattle.line_laws.specs.Talking.{say};
 ghost use Rattle.line_script.specs.Rules.{RuleValue};
 ghost use Rattle.line_script.specs.Scripts.{fate_by};
+ghost use Rattle.line_steps.specs.Advancing.{Advances, IsUp};
 ghost use Rattle.line_steps.specs.Counting.{Counted};
 ghost use Rattle.line_steps.specs.Halting.{HaltsBy, Spoke};
 ghost use Rattle.line_steps.specs.Running.{Holds};
@@ -50,6 +51,8 @@ pub fn start(
         fate_value fate ≡ fate_by script (length wire.old.frames.items + 1) →
         Recorded script wire.old x.old y.now → Recorded script wire.new x.new y.now }
     ensures counted { Counted wire.old x.old y.now → Counted wire.new x.new y.now }
+    ensures advances { Advances wire.old x.old y.now wire.new x.new y.now }
+    ensures up { IfErr result (λ halt. IsUp halt) }
 {
     x.sender.start(id, message.len() as u16);
     x.message = message;

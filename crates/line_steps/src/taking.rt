@@ -7,6 +7,7 @@ ghost use Rattle.trace_text.specs.Fates.{fate_value, arrives, ends_run};
 ghost use Rattle.trace_text.specs.Frames.{BearsFragment, fragment_in};
 ghost use Rattle.trace_text.specs.TraceLines.{frame_value};
 ghost use Rattle.line_steps.specs.Adding.{AddsOne};
+ghost use Rattle.line_steps.specs.Advancing.{IsUp};
 ghost use Rattle.line_steps.specs.Counting.{Lands, landed};
 ghost use Rattle.line_steps.specs.Halting.{Halted};
 ghost use Rattle.line_steps.specs.Hearing.{Hears};
@@ -40,6 +41,7 @@ pub fn take_next(wire: &mut Wire, x: &mut Half, y: &mut Half, fate: Fate) -> Res
         (marked x.old.taken wire.old.frames.items) wire.new.frames.items }
     ensures halted { IfErr result
         (λ halt. Halted halt wire.old x.old y.old wire.new x.new y.new) }
+    ensures up { IfErr result (λ halt. IsUp halt) }
     ensures less { OnOk result (work_left wire.new x.new y.new < work_left wire.old x.old y.old) }
 {
     mark(wire, x.taken);
@@ -60,6 +62,7 @@ fn take_marked(wire: &mut Wire, x: &mut Half, y: &mut Half, fate: Fate) -> Resul
     ensures adds { AddsOne (fate_value fate) wire.old.frames.items wire.new.frames.items }
     ensures halted { IfErr result
         (λ halt. Halted halt wire.old x.old y.old wire.new x.new y.new) }
+    ensures up { IfErr result (λ halt. IsUp halt) }
     ensures less { OnOk result (work_left wire.new x.new y.new < work_left wire.old x.old y.old) }
 {
     let heard = hear_frame(&wire.frames[x.taken], y);
@@ -106,6 +109,7 @@ fn take_ack(wire: &mut Wire, x: &mut Half, y: &mut Half, key: Key, fate: Fate) -
     ensures adds { AddsOne (fate_value fate) wire.old.frames.items wire.new.frames.items }
     ensures halted { IfErr result
         (λ halt. Halted halt wire.old x.old y.old wire.new x.new y.new) }
+    ensures up { IfErr result (λ halt. IsUp halt) }
     ensures less { OnOk result (work_left wire.new x.new y.new < work_left wire.old x.old y.old) }
     ensures moved { x.new ≡ record x.old { taken = x.old.taken + 1 } }
     ensures stays { Stays y.old y.new }
@@ -138,6 +142,7 @@ fn take_data(
     ensures adds { AddsOne (fate_value fate) wire.old.frames.items wire.new.frames.items }
     ensures halted { IfErr result
         (λ halt. Halted halt wire.old x.old y.old wire.new x.new y.new) }
+    ensures up { IfErr result (λ halt. IsUp halt) }
     ensures less { OnOk result (work_left wire.new x.new y.new < work_left wire.old x.old y.old) }
     ensures moved { x.new ≡ record x.old { taken = x.old.taken + 1 } }
     ensures stays { Stays y.old y.new }

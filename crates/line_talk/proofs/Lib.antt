@@ -2,3 +2,4 @@ pub mod AskLaws
 pub mod OverLaws
 pub mod MoreLaws
 pub mod EndLaws
+pub mod ToldLaws

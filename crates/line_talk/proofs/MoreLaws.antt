@@ -1,12 +1,9 @@
 -- A message that never went out changes nothing of what the frames tell by the rules.
-use Rattle.std.proofs.Common.{◌≡◌, ℕ, ◌+◌, ◌-◌, ◌≤◌, false, List, [], ◌∷◌, ◌++◌, length, reverse, sym, ap, subst, ◌∙◌, arith}
-use Rattle.std.proofs.lemmas.List.{append_assoc, length-append, length-map, length-reverse}
-use Rattle.std.proofs.lemmas.List.FromFn.{length-map-range_with_len}
+use Rattle.std.proofs.Common.{◌≡◌, ℕ, ◌-◌, ◌≤◌, false, List, ◌++◌, length, reverse, sym, ap, subst, ◌∙◌, arith}
+use Rattle.std.proofs.lemmas.List.{append_assoc, length-append, length-reverse}
 use Rattle.padp_link.specs.Neighbours.{session_id}
-use Rattle.padp_link.specs.Pieces.{piece_count, pieces, piece_of, fragment_of}
-use Rattle.padp_link.specs.declared.piece.Key.{Key}
 use Rattle.trace_text.specs.declared.frame.End.{End}
-use Rattle.trace_text.specs.Parts.{Part, key_of_part, spoken, message_parts, session_parts}
+use Rattle.trace_text.specs.Parts.{Part, spoken, message_parts}
 use Rattle.trace_text.specs.Past.{Sent, said, at}
 use Rattle.trace_text.specs.Proper.{SaysMessages}
 use Rattle.trace_text.specs.Talks.{Talk, messages_of, pieces_before}
@@ -15,7 +12,6 @@ use Rattle.line_laws.specs.Core.{Apart}
 use Rattle.line_laws.specs.Hearing.{heard}
 use Rattle.line_laws.specs.Talking.{count_messages, say}
 use Rattle.line_laws.proofs.MessageLaws.{count-say, longer-say}
-use Rattle.line_laws.proofs.PartLaws.{spoken_keys}
 use Rattle.line_laws.proofs.StoppedLaws.{speaks-more, speaks-beside}
 use Rattle.line_laws.proofs.UnsaidLaws.{parts-say}
 use Rattle.line_steps.specs.declared.half.Half.{Half}
@@ -26,28 +22,16 @@ use Rattle.line_steps.specs.Stories.{HeardOf, TookMessages}
 use Rattle.line_steps.specs.Telling.{Talks, cursor_of}
 use Rattle.line_steps.specs.Turning.{Turn}
 use Rattle.line_steps.proofs.HaltedLaws.{spoken_now}
-use Rattle.line_steps.proofs.StoryLaws.{took_beside}
+use Rattle.line_steps.proofs.StoryLaws.{length-spoken, took_beside}
+use Rattle.line_steps.proofs.TookLaws.{parts_total}
 use Rattle.line_steps.proofs.TalkedLaws.{cursor_own, x_heard_as}
 use Rattle.line_steps.proofs.TurnLaws.{settled_holds}
-
-parts-length : (id : ℕ) (message : List ℕ) → length (message_parts id message) ≡ piece_count (length message)
-parts-length id message =
-    length-map (pieces id (length message)) (λ piece. let it : Part = record { key = piece.key; bytes = (fragment_of message piece).bytes } in it) ∙ length-map-range_with_len (piece_of id (length message)) 0 (piece_count (length message))
-
--- all pieces of all messages
-all-parts : (number : ℕ) (messages : List (List ℕ)) → length (session_parts number messages) ≡ pieces_before messages (length messages)
-all-parts number [] = omega arith
-all-parts number (message ∷ later) =
-    length-append (message_parts (session_id number) message) (session_parts (number + 1) later) ∙ omega (arith, parts-length (session_id number) message, all-parts (number + 1) later)
-
-said-length : (X : End) (past : List Sent) → length (spoken X past) ≡ length (said X past)
-said-length X past = sym (length-map (spoken X past) key_of_part) ∙ ap (λ (ks : List Key). length ks) (spoken_keys X past)
 
 -- no more was said than there is
 said-few : (X : End) (talk : Talk) (past : List Sent) → SaysMessages X talk past → length (said X past) ≤ pieces_before (messages_of X talk) (count_messages X talk)
 said-few X talk past says =
-    let sum = sym (length-append (reverse (spoken X past)) says.rest) ∙ ap (λ (ps : List Part). length ps) says.is ∙ all-parts 0 (messages_of X talk) in
-    omega (arith, sum, length-reverse (spoken X past), said-length X past)
+    let sum = sym (length-append (reverse (spoken X past)) says.rest) ∙ ap (λ (ps : List Part). length ps) says.is ∙ parts_total 0 (messages_of X talk) in
+    omega (arith, sum, length-reverse (spoken X past), length-spoken X past)
 
 took-unsent : (X : End) (talk : Talk) (past : List Sent) (cx : ℕ) (message : List ℕ) → pieces_before (messages_of X talk) (count_messages X talk) ≤ length (heard X (at cx past)) → TookMessages X talk past cx → TookMessages X (say X message talk) past cx
 took-unsent X talk past cx message all was =
@@ -80,4 +64,4 @@ turn-unsent talk wire x y message turn talks =
     let was = x_heard_as talk wire x y false line.core.there.follows talks in
     let at_cursor : heard x.end (at (cursor_of x y x.end) past) ≡ spoken x.end past = subst (λ (n : ℕ). HeardOf x.end past n false (side_of x)) (sym (cursor_own x.end x.taken y.taken)) was in
     spoken-unsent x.end y.end talk (cursor_of x y) past message turn.settled.apart
-    (omega (arith, talks.talking.x_speech.begun, turn.idle, ap (λ (ps : List Part). length ps) at_cursor, said-length x.end past)) (spoken_now talk wire x y (settled_holds wire x y turn.settled) talks)
+    (omega (arith, talks.talking.x_speech.begun, turn.idle, ap (λ (ps : List Part). length ps) at_cursor, length-spoken x.end past)) (spoken_now talk wire x y (settled_holds wire x y turn.settled) talks)

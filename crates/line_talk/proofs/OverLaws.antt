@@ -1,6 +1,6 @@
 -- A message goes over: an end waits for it, and it may not be sent at all.
 use Rattle.std.specs.Prelude.{Result, Ok, Err, OnOk, IfErr}
-use Rattle.std.proofs.Common.{◌≡◌, ℕ, List, [], Some, sym, subst}
+use Rattle.std.proofs.Common.{◌≡◌, ℕ, List, [], Some, sym, ap, subst, arith}
 use Rattle.line_script.specs.Rules.{RuleValue}
 use Rattle.trace_text.specs.Talks.{Talk}
 use Rattle.line_steps.specs.declared.half.Half.{Half}
@@ -8,6 +8,7 @@ use Rattle.line_steps.specs.declared.half.Wire.{Wire}
 use Rattle.line_laws.specs.Talking.{count_messages}
 use Rattle.trace_text.specs.declared.frame.End.{End}
 use Rattle.trace_text.specs.declared.frame.End.TheVariants.{Handheld, Desktop}
+use Rattle.line_steps.specs.Advancing.{took_count}
 use Rattle.line_steps.specs.Counting.{Counted}
 use Rattle.line_steps.specs.Telling.{IsInTurn, IsNextTo, Recorded, Talks}
 use Rattle.line_steps.specs.Turning.{Turn}
@@ -33,7 +34,7 @@ expects-talks talk wire x y new id is talks = subst (λ (h : Half). Talks talk w
 
 -- memory ran out before it was sent
 pub over-unsent : (id : ℕ) (message : List ℕ) (wire : Wire) (x y : Half) → Turn wire x y → HaltedOver NoMemory id message wire x y wire x y
-over-unsent id message wire x y turn = record { by = turn.settled.go; talks = λ talk next talks. turn-unsent talk wire x y message turn talks }
+over-unsent id message wire x y turn = record { by = turn.settled.go; talks = λ talk next talks. turn-unsent talk wire x y message turn talks; other = omega arith; short = λ talk next talks. tt }
 
 -- what holds behind a call either way
 pub either_way : {T E A C : Type 0} {P : E → Type 0} (r : Result T E) → (A → C) → ((e : E) → P e → C) → OnOk r A → IfErr r P → C
@@ -42,3 +43,11 @@ either_way (Err e) f g a b = g e b
 
 pub expects-counted : (wire : Wire) (x y new : Half) (id : ℕ) → new ≡ expecting y id → Counted wire x y → Counted wire x new
 expects-counted wire x y new id is counted = subst (λ (h : Half). Counted wire x h) (sym is) (record { by_y = counted.by_y; by_x = counted.by_x })
+
+pub expects-took : (wire : Wire) (y new : Half) (id : ℕ) → new ≡ expecting y id → took_count wire new ≡ took_count wire y
+expects-took wire y new id is = ap (λ (h : Half). took_count wire h) is
+
+-- both that hold where a call failed
+pub both_err : {T E : Type 0} (r : Result T E) (P Q : E → Type 0) → IfErr r P → IfErr r Q → IfErr r (λ e. P e × Q e)
+both_err (Ok x) P Q p q = tt
+both_err (Err e) P Q p q = (p, q)

@@ -5,7 +5,7 @@ ghost use Rattle.padp_link.specs.Receivers.{whole_of};
 ghost use Rattle.trace_text.specs.declared.frame.End.TheVariants.{Handheld, Desktop};
 ghost use Rattle.trace_text.specs.Talks.{Talk};
 ghost use Rattle.line_laws.specs.Talking.{say};
-ghost use Rattle.line_talk.specs.Halting.{LineEnds};
+ghost use Rattle.line_talk.specs.Halting.{HaltsWithin, LineEnds};
 ghost use Rattle.line_talk.specs.Rests.{MayAnswer, MayAsk};
 ghost use Rattle.line_talk.specs.Telling.{HasSaid, LineCounts, LineRecords, LineTells};
 
@@ -33,6 +33,9 @@ pub fn ask(
         LineTells talk line.old → LineTells (say Desktop request.now talk) line.new) }
     ensures ends { IfErr result (λ halt. (talk : Talk) → HasSaid talk requests requests →
         LineTells talk line.old → LineEnds halt (say Desktop request.now talk) line.new) }
+    ensures within { IfErr result (λ halt. (talk : Talk) → HasSaid talk requests requests →
+        LineTells talk line.old → HaltsWithin Desktop halt (say Desktop request.now talk)
+        line.new) }
 {
     send_over(
         alloc,
@@ -64,6 +67,9 @@ pub fn answer(
         LineTells talk line.old → LineTells (say Handheld reply.now talk) line.new) }
     ensures ends { IfErr result (λ halt. (talk : Talk) → HasSaid talk requests (requests + 1) →
         LineTells talk line.old → LineEnds halt (say Handheld reply.now talk) line.new) }
+    ensures within { IfErr result (λ halt. (talk : Talk) → HasSaid talk requests (requests + 1) →
+        LineTells talk line.old → HaltsWithin Handheld halt (say Handheld reply.now talk)
+        line.new) }
 {
     send_over(
         alloc,

@@ -14,6 +14,7 @@ use Rattle.line_steps.specs.declared.harm.Stop.TheVariants as stop
 use Rattle.line_steps.specs.declared.line.Line.{Line}
 use Rattle.line_steps.specs.declared.sending.Halt.{Halt}
 use Rattle.line_steps.specs.declared.sending.Halt.TheVariants as halt
+use Rattle.line_steps.specs.Advancing.{IsUp}
 use Rattle.line_steps.specs.Counting.{counts}
 use Rattle.line_steps.specs.Halting.{EndsWith, HaltsBy}
 use Rattle.line_steps.specs.Telling.{cursors, cursor_of}
@@ -49,6 +50,15 @@ halt-by (OfLine (halt.Stopped stop.Aborted)) count cause is = subst (λ (o : Opt
 halt-by (OfLine (halt.Stopped stop.Undetected)) count cause is = subst (λ (o : Option Down). IsHaltOf o count (halt.Stopped stop.Undetected)) (sym is) (refl, refl)
 halt-by (OfLine (halt.Down end)) count cause is = down-is cause count end is
 halt-by Keeper count cause is = subst (λ (o : Option Down). IsHaltOf o count halt.NoMemory) (sym is) tt
+
+-- an end that has spent its tries is the cause
+pub up-cause : (cause : Option Down) (count : ℕ) (ended : Halt) → IsHaltOf cause count ended → IsUp ended → down_end cause ≡ None
+up-cause None count ended is up = refl
+up-cause (Some (down.LineDown end numbers)) count ended is up = absurd (subst IsUp is up)
+up-cause (Some (down.Unplugged number)) count ended is up = refl
+up-cause (Some (down.Aborted number)) count ended is up = refl
+up-cause (Some (down.Undetected number)) count ended is up = refl
+up-cause (Some down.Keeper) count ended is up = refl
 
 -- while the link answers there is none
 pub no-halt : (fault : Option LinkFault) (cause : Option Down) (count : ℕ) (ended : Halt) → IsCause fault cause → fault ≡ None → IsHaltOf cause count ended

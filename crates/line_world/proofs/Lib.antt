@@ -1,4 +1,5 @@
 pub mod LogLaws
+pub mod HeardLaws
 pub mod TalkLaws
 pub mod WentLaws
 pub mod WorldLaws

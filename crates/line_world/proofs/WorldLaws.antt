@@ -1,6 +1,8 @@
 -- What holds of each world, behind a greeting and behind a request.
 use Rattle.std.specs.Prelude.{IsErrOf, map}
-use Rattle.std.proofs.Common.{◌≡◌, ℕ, ◌+◌, Bool, true, false, List, [], ◌∷◌, length, Option, Some, None, Err, refl, sym, ap, subst, arith, inl, inr}
+use Rattle.std.proofs.Common.{◌≡◌, ◌⊎◌, ℕ, ◌+◌, ◌<◌, Bool, true, false, List, [], ◌∷◌, length, take, Option, Some, None, Err, refl, sym, ap, subst, arith, inl, inr}
+use Rattle.std.proofs.lemmas.Bool.{both_ways}
+use Rattle.std.proofs.lemmas.List.{length-take}
 use Rattle.hs_folders.specs.FileMaps.{FileMap}
 use Rattle.hs_folders.specs.Moments.{Moments}
 use Rattle.dlp_commands.specs.declared.link.LinkFault.{LinkFault}
@@ -18,7 +20,7 @@ use Rattle.trace_text.specs.Stories.{IsStory}
 use Rattle.line_steps.proofs.ProperLaws.{halted_is_proper}
 use Rattle.line_steps.proofs.RecordedLaws.{recorded_turned}
 use Rattle.line_steps.proofs.TalkedLaws.{talks_turned}
-use Rattle.line_steps.proofs.TellsLaws.{halted_tells, turn_tells_all}
+use Rattle.line_steps.proofs.TellsLaws.{halted_story, halted_tells, turn_tells_all}
 use Rattle.line_steps.proofs.TurnLaws.{apart_turned}
 use Rattle.line_steps.specs.declared.sending.Halt.{Halt}
 use Rattle.line_steps.specs.declared.sending.Halt.TheVariants.{NoMemory}
@@ -34,17 +36,19 @@ use Rattle.line_steps.specs.Telling.{cursor_of, no_talk}
 use Rattle.line_steps.specs.declared.line.Line.{Line}
 use Rattle.trace_text.specs.Talks.{Talk, messages_of}
 use Rattle.line_talk.proofs.EndLaws.{asks-ends, greets-ends}
+use Rattle.line_talk.proofs.ToldLaws.{cursor-inside, told-asks}
 use Rattle.line_talk.specs.Halting.{LineEnds}
 use Rattle.line_talk.specs.Rests.{MayGreet, MayAsk}
-use Rattle.line_talk.specs.Telling.{LineCounts, LineRecords, LineTells, bytes_of, greeted, init, wake}
+use Rattle.line_talk.specs.Telling.{LineCounts, LineRecords, LineTells, LineTold, bytes_of, greeted, init, wake}
 use Rattle.line_world.specs.declared.down.Down.{Down}
 use Rattle.line_world.specs.declared.stop.Break.{Break}
 use Rattle.line_world.specs.declared.stop.Break.TheVariants.{Line as OfLine}
-use Rattle.line_world.proofs.CauseLaws.{halt-by, no-halt, no-names}
+use Rattle.line_world.proofs.CauseLaws.{halt-by, no-halt, no-names, up-cause}
 use Rattle.line_world.specs.Causes.{IsCause, IsCauseOf, NamesLast, halt_of, link_fault}
 use Rattle.line_world.specs.Conversing.{Answers, Breaks}
 use Rattle.line_world.specs.Logs.{LogValue, no_log, said_in}
-use Rattle.line_world.specs.Worlds.{IsLog, IsAtRest, IsTold, IsWorld, TellAll, TellBoth}
+use Rattle.line_world.specs.Worlds.{IsHeard, IsLog, IsAtRest, IsTold, IsWorld, TellAll, TellBoth, TellDone}
+use Rattle.line_world.proofs.HeardLaws.{heard-rest}
 use Rattle.line_world.proofs.LogLaws.{length-later, replies-all, log-answered}
 use Rattle.line_world.proofs.WentLaws.{log-went}
 
@@ -97,6 +101,7 @@ world-new line script log sound is_sound quiet turn handheld desktop tells count
       };
       counted = counted;
       told = record { halt = NoMemory; ends = subst (λ (l : LogValue). LineEnds NoMemory (said_in l) line) (sym quiet) (greets-ends line greets tells); halt_is = tt; names = tt };
+      heard = λ first. absurd cc;
       is_log = subst (λ (l : LogValue). IsLog l 0) (sym quiet) (record { performed_is = refl; replied = omega arith; performed_few = omega arith; few = omega arith });
       running = λ none. record { is_sound = is_sound; all = ap (λ (l : LogValue). length l.issued) quiet; at_rest = (greets, refl, tells) };
       caused = refl;
@@ -116,6 +121,7 @@ world-greeted line new script log sound answered begun fault cause world none fi
       recorded = by;
       counted = counted;
       told = record { halt = NoMemory; ends = asks-ends (said_in log) new 0 asks says; halt_is = no-halt fault cause (length new.wire.frames.items) NoMemory world.caused none; names = no-names fault cause (map frame_value new.wire.frames.items) world.caused none };
+      heard = λ is. heard-rest NoMemory log answered new (replies-all log answered world.is_log running.all) (omega (arith, running.all, replies-all log answered world.is_log running.all)) (told-asks (said_in log) new 0 asks says);
       is_log = world.is_log;
       running = λ is. record { is_sound = running.is_sound; all = running.all; at_rest = (subst (λ (n : ℕ). MayAsk new n) (sym greets.none) asks, says) };
       caused = world.caused;
@@ -134,6 +140,7 @@ world-answered contents moments paths faults old later_server line new script lo
       recorded = by;
       counted = counted;
       told = record { halt = NoMemory; ends = asks-ends (said_in later) new (length log.issued + 1) answers.asks tells; halt_is = no-halt fault cause (length new.wire.frames.items) NoMemory world.caused none; names = no-names fault cause (map frame_value new.wire.frames.items) world.caused none };
+      heard = λ is. heard-rest NoMemory later n new (sym count) (omega (arith, count, asked, more, running.all)) (told-asks (said_in later) new (length log.issued + 1) answers.asks tells);
       is_log = subst (λ (k : ℕ). IsLog later k) (sym more) (subst (λ (l : LogValue). IsLog l (answered + 1)) (sym performs.log_is) (log-answered log answered request reply world.is_log running.all));
       running = λ is. record {
         is_sound = performs.sound;
@@ -145,11 +152,12 @@ world-answered contents moments paths faults old later_server line new script lo
 
 pub world-broke : {F : Type 0} (contents : F → Option FileMap) (moments : F → Moments) (paths : F → Option (List (List ℕ))) (faults : F → ℕ) (old later_server : ServerValue F) (line new : Line) (script : List RuleValue) (log later : LogValue) (answered : ℕ) (begun : Bool) (fault : Option LinkFault)
     (cause now : Option Down) (request : List ℕ) (ended : Break) → IsWorld line script log old.sound answered begun fault cause → fault ≡ None → LineRecords script new → LineCounts new → LineEnds (halt_of ended) (said_in later) new → IsCauseOf ended (length new.wire.frames.items) now → NamesLast now (map frame_value new.wire.frames.items) → Breaks contents moments paths faults old later_server log later request ended
-    → IsWorld new script later later_server.sound answered begun (Some (link_fault now)) now
-world-broke contents moments paths faults old later_server line new script log later answered begun fault cause now request ended world none by counted over is_cause names breaks = record {
+    → IsHeard (halt_of ended) later (length log.replies) new → IsWorld new script later later_server.sound answered begun (Some (link_fault now)) now
+world-broke contents moments paths faults old later_server line new script log later answered begun fault cause now request ended world none by counted over is_cause names breaks heard = record {
   recorded = by;
   counted = counted;
   told = record { halt = halt_of ended; ends = over; halt_is = halt-by ended (length new.wire.frames.items) now is_cause; names = names };
+  heard = λ first. subst (λ (n : ℕ). IsHeard (halt_of ended) later n new) (replies-all log answered world.is_log (world.running none).all) heard;
   is_log = log-went contents moments paths faults breaks.went old later_server log later answered request world.is_log (world.running none).all breaks.is;
   running = λ is. absurd cc;
   caused = caused-by now;
@@ -169,6 +177,7 @@ world-halted line new script log sound answered begun fault cause now halt world
         halt_is = halt-by (OfLine halt) (length new.wire.frames.items) now is_cause;
         names = names;
       };
+      heard = λ is. absurd (both_ways begun first is);
       is_log = world.is_log;
       running = λ is. absurd cc;
       caused = caused-by now;
@@ -207,4 +216,43 @@ world-all_told line script log sound answered begun fault cause world none first
     record {
       handheld_said = subst (λ (E : End). IsStory E frames (told_from 0 (messages_of E (said_in log)))) ends.handheld_is both.1;
       desktop_said = subst (λ (E : End). IsStory E frames (told_from 0 (messages_of E (said_in log)))) ends.desktop_is both.0;
+    }
+
+-- ---- what was dealt with
+
+-- what an end took whole the frames told it
+story-of : (line : Line) (script : List RuleValue) (log : LogValue) (cause : Option Down) (X : End) (messages : List (List ℕ)) → LineRecords script line → IsTold line log cause → LineTold X messages line → IsStory X (map frame_value line.wire.frames.items) (told_from 0 messages)
+story-of line script log cause X messages recorded told took =
+    halted_story told.halt script line.wire line.handheld line.desktop X (told_from 0 messages) told.ends.by recorded (cursor-inside told.halt (said_in log) line told.ends X) took
+
+-- the run stopped where something was not dealt with
+stopped-few : (line : Line) (script : List RuleValue) (log : LogValue) (sound : Bool) (answered : ℕ) (begun : Bool) (fault : Option LinkFault) (cause : Option Down) → IsWorld line script log sound answered begun fault cause
+    → (length log.replies < length log.issued) ⊎ (answered < length log.replies) → fault ≡ None → ⊥
+stopped-few line script log sound answered begun fault cause world (inl few) none = omega (arith, few, (world.running none).all, world.is_log.replied)
+stopped-few line script log sound answered begun fault cause world (inr few) none = omega (arith, few, (world.running none).all, world.is_log.performed_few)
+
+pub world-done : (line : Line) (script : List RuleValue) (log : LogValue) (sound : Bool) (answered : ℕ) (begun : Bool) (fault : Option LinkFault) (cause : Option Down) → IsWorld line script log sound answered begun fault cause → begun ≡ true
+    → TellDone log answered fault cause (map frame_value line.wire.frames.items)
+world-done line script log sound answered begun fault cause world first =
+    let heard = world.heard first in
+    let told = world.told in
+    let frames = map frame_value line.wire.frames.items in
+    let count = length-take (length log.replies) log.issued in
+    record {
+      requests = elim heard.requests [
+        | inl took ↦ inl (subst (λ (l : List (List ℕ)). IsStory Desktop frames (told_from 0 (bytes_of init ∷ l))) (sym world.is_log.performed_is) (story-of line script log cause Desktop (bytes_of init ∷ take (length log.replies) log.issued) world.recorded told took))
+        | inr more ↦ inr (
+          (stopped-few line script log sound answered begun fault cause world (inl more.0), up-cause cause (length line.wire.frames.items) told.halt told.halt_is more.1),
+          omega (arith, more.0, count, ap (λ (l : List (List ℕ)). length l) world.is_log.performed_is),
+          story-of line script log cause Desktop (bytes_of init ∷ log.issued) world.recorded told more.2,
+        )
+      ];
+      replies = elim heard.replies [
+        | inl took ↦ inl (story-of line script log cause Handheld (bytes_of wake ∷ take answered log.replies) world.recorded told took)
+        | inr more ↦ inr (
+          (stopped-few line script log sound answered begun fault cause world (inr more.0), up-cause cause (length line.wire.frames.items) told.halt told.halt_is more.1),
+          more.0,
+          story-of line script log cause Handheld (bytes_of wake ∷ log.replies) world.recorded told more.2,
+        )
+      ];
     }

@@ -1,5 +1,6 @@
 pub mod Logs
 pub mod Folders
+pub mod FileLaws
 pub mod Causes
 pub mod Serving
 pub mod Conversing

@@ -7,11 +7,15 @@ use Rattle.hs_folders.specs.Moments.{Moments, EachMomentSince, IsBeforeOrAfter}
 use Rattle.hs_folders.proofs.MomentLaws.{moments_go_on, moments_weaken, no_moment}
 use Rattle.palm_device.specs.Devices.{Device}
 use Rattle.handheld_files.specs.Openings.{Stands}
-use Rattle.handheld_server.specs.Servers.{ServerValue}
+use Rattle.std.specs.FinMap as finmap
+use Rattle.std.specs.Option.{option_map}
+use Rattle.handheld_server.specs.Keeping.{Touches, wrote_user}
+use Rattle.handheld_server.specs.Servers.{ServerValue, store_of}
 use Rattle.dlp_commands.specs.DeviceRuns.{Exchange, Ran}
 use Rattle.dlp_commands.specs.DeviceSteps.{DeviceStep}
 use Rattle.dlp_commands.specs.Changes.{given_in}
 use Rattle.dlp_commands.proofs.StepLaws.{given-append, ran_joined}
+use Rattle.line_world.specs.FileLaws.{files_joined, others_touched, touches_told}
 use Rattle.line_world.specs.Folders.{StoodAfterSome, ServedSince}
 use Rattle.line_world.specs.Worlds.{WorldValue, WorldSince}
 
@@ -20,6 +24,8 @@ use Rattle.line_world.specs.Worlds.{WorldValue, WorldSince}
 pub served-itself : {F : Type 0} (contents : F → Option FileMap) (moments : F → Moments) (paths : F → Option (List (List ℕ))) (faults : F → ℕ) (server : ServerValue F) → ServedSince contents moments paths faults server server []
 served-itself contents moments paths faults server = record {
   ran = refl;
+  files = (refl, refl);
+  others = λ name unread. refl;
   stands = λ held. held;
   moments_since = λ held. no_moment (StoodAfterSome server.device []) (moments server.folder) (moments server.folder) refl;
   same_paths = refl;
@@ -50,6 +56,8 @@ pub served-more : {F : Type 0} (contents : F → Option FileMap) (moments : F �
     → ServedSince contents moments paths faults a c (xs ++ ys)
 served-more contents moments paths faults a b c xs ys first second = record {
   ran = ran_joined a.device b.device c.device xs ys first.ran second.ran;
+  files = files_joined (contents a.folder) (contents b.folder) (contents c.folder) a.device b.device c.device xs ys first.files second.files;
+  others = λ name unread. second.others name unread ∙ first.others name unread;
   stands = λ held. second.stands (first.stands held);
   moments_since = λ held. moments_go_on (StoodAfterSome a.device (xs ++ ys)) (moments a.folder) (moments b.folder) (moments c.folder)
       (moments_weaken (StoodAfterSome a.device xs) (StoodAfterSome a.device (xs ++ ys)) (moments a.folder) (moments b.folder) (first.moments_since held) (λ told stood. more_after a.device xs ys told stood))
@@ -61,9 +69,11 @@ served-more contents moments paths faults a b c xs ys first second = record {
 -- it took one step, and its folder was changed once at most
 pub served-once : {F : Type 0} (contents : F → Option FileMap) (moments : F → Moments) (paths : F → Option (List (List ℕ))) (faults : F → ℕ) (old new : ServerValue F) (request reply : List ℕ) → DeviceStep old.device request reply new.device
     → (Stands (contents old.folder) old.device.databases old.device.user → Stands (contents new.folder) new.device.databases new.device.user) → EachMomentSince (IsBeforeOrAfter (contents old.folder) (contents new.folder)) (moments old.folder) (moments new.folder)
-    → paths new.folder ≡ paths old.folder → faults old.folder ≤ faults new.folder → ServedSince contents moments paths faults old new (record { request = request; reply = reply } ∷ [])
-served-once contents moments paths faults old new request reply step stands each same later = record {
+    → paths new.folder ≡ paths old.folder → faults old.folder ≤ faults new.folder → Touches contents (wrote_user request reply) (store_of old) (store_of new) → ServedSince contents moments paths faults old new (record { request = request; reply = reply } ∷ [])
+served-once contents moments paths faults old new request reply step stands each same later touches = record {
   ran = (new.device, step, refl);
+  files = (new.device, contents new.folder, step, touches_told contents (wrote_user request reply) old new touches, (refl, refl));
+  others = others_touched (wrote_user request reply) (contents old.folder) (contents new.folder) old.device new.device (touches_told contents (wrote_user request reply) old new touches);
   stands = stands;
   moments_since = λ held. moments_weaken (IsBeforeOrAfter (contents old.folder) (contents new.folder)) (StoodAfterSome old.device (record { request = request; reply = reply } ∷ [])) (moments old.folder) (moments new.folder) each (λ told is. elim is [
     | inl before ↦ record {
@@ -92,6 +102,8 @@ pub served-none : {F : Type 0} (contents : F → Option FileMap) (moments : F �
     → paths new.folder ≡ paths old.folder → faults old.folder ≤ faults new.folder → ServedSince contents moments paths faults old new []
 served-none contents moments paths faults old new device stays quiet same later = record {
   ran = device;
+  files = (stays, device);
+  others = λ name unread. ap (λ (t : Option FileMap). option_map (λ (held : FileMap). finmap.get held name) t) stays;
   stands = λ held. subst (λ (d : Device). Stands (contents new.folder) d.databases d.user) (sym device) (subst (λ (t : Option FileMap). Stands t old.device.databases old.device.user) (sym stays) held);
   moments_since = λ held. no_moment (StoodAfterSome old.device []) (moments old.folder) (moments new.folder) quiet;
   same_paths = same;

@@ -1,5 +1,5 @@
 -- What contracts see of a world, and what holds of it since an earlier time.
-use Rattle.std.specs.Prelude.{◌≡◌, ◌⊎◌, ℕ, ◌+◌, ◌≤◌, Bool, true, false, List, ◌++◌, length, map, take, slice_get, Option, Some, None}
+use Rattle.std.specs.Prelude.{◌≡◌, ◌⊎◌, ℕ, ◌+◌, ◌≤◌, ◌<◌, Bool, true, false, List, ◌∷◌, ◌++◌, length, map, take, slice_get, Option, Some, None}
 use Rattle.std.specs.List.{flat_map}
 use Rattle.hs_folders.specs.Causes.{Rose}
 use Rattle.hs_folders.specs.FileMaps.{FileMap}
@@ -16,16 +16,17 @@ use Rattle.trace_text.specs.Talks as talks
 use Rattle.trace_text.specs.TraceLines.{FrameValue, frame_value}
 use Rattle.line_steps.specs.declared.line.Line.{Line}
 use Rattle.line_steps.specs.declared.sending.Halt.{Halt}
+use Rattle.line_steps.specs.Advancing.{IsUp}
 use Rattle.line_steps.specs.Promising.{TellsOf}
 use Rattle.line_steps.specs.Stories.{told_from}
 use Rattle.line_steps.specs.Telling.{no_talk}
 use Rattle.line_world.specs.declared.down.Down.{Down}
 use Rattle.line_world.specs.declared.down.Down.TheVariants.{Keeper}
-use Rattle.line_world.specs.Causes.{IsCause, IsHaltOf, NamesLast}
+use Rattle.line_world.specs.Causes.{IsCause, IsHaltOf, NamesLast, down_end}
 use Rattle.line_world.specs.Folders.{ServedSince}
 use Rattle.line_talk.specs.Halting.{LineEnds}
 use Rattle.line_talk.specs.Rests.{MayGreet, MayAsk}
-use Rattle.line_talk.specs.Telling.{LineCounts, LineRecords, LineTells}
+use Rattle.line_talk.specs.Telling.{LineCounts, LineRecords, LineTells, LineTold, bytes_of, init, wake}
 use Rattle.line_world.specs.Logs.{LogValue, said_in}
 
 -- a world is the handheld's server, the script, what was said, how much of it was answered, the frames, whether it has begun, and why it is down
@@ -56,6 +57,20 @@ pub record TellBoth (talk : talks.Talk) (frames : List FrameValue) : Type 0 wher
 pub record TellAll (talk : talks.Talk) (frames : List FrameValue) : Type 0 where
   pub handheld_said : IsStory ends.Handheld frames (told_from 0 talk.handheld)
   pub desktop_said : IsStory ends.Desktop frames (told_from 0 talk.desktop)
+
+-- the run stopped, and not because an end had spent its tries
+abbrev pub StoppedUp : Option LinkFault → Option Down → Type 0
+StoppedUp fault cause = (fault ≡ None → ⊥) × (down_end cause ≡ None)
+
+-- Behind the greetings the frames told the handheld the requests that it performed, or one request more, and the desktop the replies that its calls answered, or
+-- one reply more: the one more only in a run that stopped before it was dealt with, and not because an end had spent its tries.
+pub record TellDone (log : LogValue) (answered : ℕ) (fault : Option LinkFault) (cause : Option Down) (frames : List FrameValue) : Type 0 where
+  pub requests :
+      IsStory ends.Desktop frames (told_from 0 (bytes_of init ∷ log.performed))
+      ⊎ (StoppedUp fault cause × (length log.performed < length log.issued) × IsStory ends.Desktop frames (told_from 0 (bytes_of init ∷ log.issued)))
+  pub replies :
+      IsStory ends.Handheld frames (told_from 0 (bytes_of wake ∷ take answered log.replies))
+      ⊎ (StoppedUp fault cause × (answered < length log.replies) × IsStory ends.Handheld frames (told_from 0 (bytes_of wake ∷ log.replies)))
 
 -- Since the first of the two more was sent, performed and replied: each request that was performed was one step of the device, in order. The script is the same.
 -- A folder that failed meanwhile had its count rise.
@@ -95,11 +110,21 @@ pub record IsTold (line : Line) (log : LogValue) (cause : Option Down) : Type 0 
   pub halt_is : IsHaltOf cause (length line.wire.frames.items) halt
   pub names : NamesLast cause (map frame_value line.wire.frames.items)
 
+-- so both ends took the messages behind the greetings, each so far as it was dealt with, or one more where no end has spent its tries
+pub record IsHeard (halt : Halt) (log : LogValue) (answered : ℕ) (line : Line) : Type 0 where
+  pub requests :
+      LineTold ends.Desktop (bytes_of init ∷ take (length log.replies) log.issued) line
+      ⊎ ((length log.replies < length log.issued) × IsUp halt × LineTold ends.Desktop (bytes_of init ∷ log.issued) line)
+  pub replies :
+      LineTold ends.Handheld (bytes_of wake ∷ take answered log.replies) line
+      ⊎ ((answered < length log.replies) × IsUp halt × LineTold ends.Handheld (bytes_of wake ∷ log.replies) line)
+
 -- what holds of each world
 pub record IsWorld (line : Line) (script : List RuleValue) (log : LogValue) (sound : Bool) (answered : ℕ) (begun : Bool) (fault : Option LinkFault) (cause : Option Down) : Type 0 where
   pub recorded : LineRecords script line
   pub counted : LineCounts line
   pub told : IsTold line log cause
+  pub heard : begun ≡ true → IsHeard told.halt log answered line
   pub is_log : IsLog log answered
   pub running : fault ≡ None → IsRunning line log sound answered begun
   pub caused : IsCause fault cause

@@ -7,6 +7,7 @@ ghost use Rattle.line_talk.specs.Telling.{LineCounts, LineRecords, LineTells};
 ghost use Rattle.line_world.specs.Causes.{halt_of};
 ghost use Rattle.line_world.specs.Conversing.{Answers, Breaks};
 ghost use Rattle.line_world.specs.Logs.{log_value, said_in};
+ghost use Rattle.line_world.specs.Worlds.{IsHeard};
 
 use crate::log::Log;
 use crate::serving::perform;
@@ -45,6 +46,9 @@ pub(crate) fn converse<F: Folder>(
         LineTells (said_in (log_value log.new)) line.new) }
     ensures ends { IfErr result (λ ended. LineTells (said_in (log_value log.old)) line.old →
         LineEnds (halt_of ended) (said_in (log_value log.new)) line.new) }
+    ensures heard { IfErr result (λ ended. LineTells (said_in (log_value log.old)) line.old →
+        IsHeard (halt_of ended) (log_value log.new) (length (log_value log.old).replies)
+        line.new) }
 {
     let requests = log.issued.len();
     log.issue(alloc, request)?;

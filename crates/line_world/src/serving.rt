@@ -3,6 +3,8 @@ ghost use Rattle.std.specs.Prelude.{◌≡◌, [], Some, IsSome, true, OnErr, On
 ghost use Rattle.hs_folders.specs.Moments.{OneChange};
 ghost use Rattle.handheld_files.specs.Openings.{Stands};
 ghost use Rattle.dlp_commands.specs.DeviceSteps.{DeviceStep};
+ghost use Rattle.handheld_server.specs.Keeping.{Touches, wrote_user};
+ghost use Rattle.handheld_server.specs.Servers.{store_of};
 ghost use Rattle.padp_link.specs.Receivers.{whole_of};
 ghost use Rattle.line_world.specs.Logs.{log_value};
 ghost use Rattle.line_world.specs.Serving.{Performs, Refuses};
@@ -54,6 +56,9 @@ fn serve_whole<F: Folder>(
     ensures stands { Stands (F.contents server.old.folder) server.old.device.databases
         server.old.device.user → OnOk result (Stands (F.contents server.new.folder)
         server.new.device.databases server.new.device.user) }
+    ensures files { OnOk result (Touches F.contents
+        (wrote_user (unwrap_or (whole_of receiver.now.pieces) []) reply.new)
+        (store_of server.old) (store_of server.new)) }
     ensures sound { OnOk result (server.new.sound ≡ true) }
     ensures device { OnErr result (server.new.device ≡ server.old.device) }
     ensures change { OneChange F.contents F.moments F.paths F.faults

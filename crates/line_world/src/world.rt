@@ -9,7 +9,7 @@ ghost use Rattle.trace_text.specs.Tallies.{IsFairUpTo};
 ghost use Rattle.line_world.specs.Causes.{BearsOut, IsCause, down_end};
 ghost use Rattle.line_world.specs.Counts.{CountsOf};
 ghost use Rattle.line_world.specs.Logs.{no_log, said_in, texts};
-ghost use Rattle.line_world.specs.Worlds.{IsLog, TellAll, TellBoth};
+ghost use Rattle.line_world.specs.Worlds.{IsLog, TellAll, TellBoth, TellDone};
 
 use crate::down::Down;
 use crate::log::{LineLog, Log};
@@ -137,6 +137,9 @@ impl<F: Folder> World<F> {
         ensures told { TellBoth (said_in self.log) (map frame_value result.0.frames.items) }
         ensures all_told { self.fault ≡ None → self.begun ≡ true →
             TellAll (said_in self.log) (map frame_value result.0.frames.items) }
+        // Behind the greetings that is what was performed and what was answered, or one message more where the run stopped at it.
+        ensures told_done { self.begun ≡ true → TellDone self.log self.answered self.fault
+            self.cause (map frame_value result.0.frames.items) }
         // Each reader counted what landed of the frames that were taken, which is, in sums, as many packets as came.
         ensures to_handheld { CountsOf Desktop result.0.to_handheld result.0.frames.items }
         ensures to_desktop { CountsOf Handheld result.0.to_desktop result.0.frames.items }

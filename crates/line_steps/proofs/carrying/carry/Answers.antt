@@ -1,4 +1,5 @@
 use Rattle.std.proofs.lemmas.Result.{err_from_is_err_and}
+use Rattle.line_steps.proofs.AdvancingLaws.{advances_more, falls_short}
 use Rattle.line_steps.proofs.HaltedLaws.{halted_behind}
 use Rattle.line_steps.proofs.CarryingLaws.{not_over, is_over, same_trans, underway-waits}
 use Rattle.line_steps.proofs.carrying.carry.Goals as goal
@@ -12,8 +13,16 @@ returns-then-branch-clause-carried c = is_over c.in_ok-step.field-0 c.step.new.w
 pub loop-preserved : goal.loop-preserved
 loop-preserved c =
     let step = c.in_ok-step.ensures.step in
-    let on = not_over c.in_ok-step.field-0 c.step.new.wire c.step.new.x c.step.new.y c.if-branch.false (step.underway c.loop.invariant.1) in
-    (step.holds, on, same_trans c.args.x.now c.loop.x c.step.new.x c.loop.invariant.2 step.x_same, same_trans c.args.y.now c.loop.y c.step.new.y c.loop.invariant.3 step.y_same, λ was. c.step.ensures.recorded (c.loop.invariant.4 was), λ talk talks. step.talks talk (c.loop.invariant.5 talk talks), λ was. c.step.ensures.counted (c.loop.invariant.6 was))
+    let on = not_over c.in_ok-step.field-0 c.step.new.wire c.step.new.x c.step.new.y c.if-branch.false (step.underway c.loop.invariant.1) in (
+      step.holds,
+      on,
+      same_trans c.args.x.now c.loop.x c.step.new.x c.loop.invariant.2 step.x_same,
+      same_trans c.args.y.now c.loop.y c.step.new.y c.loop.invariant.3 step.y_same,
+      λ was. c.step.ensures.recorded (c.loop.invariant.4 was),
+      λ talk talks. step.talks talk (c.loop.invariant.5 talk talks),
+      λ was. c.step.ensures.counted (c.loop.invariant.6 was),
+      advances_more c.args.wire.now c.args.x.now c.args.y.now c.loop.wire c.loop.x c.loop.y c.step.new.wire c.step.new.x c.step.new.y c.loop.invariant.7 c.step.ensures.advances,
+    )
 
 pub returns-in_err-step-clause-recorded : goal.returns-in_err-step-clause-recorded
 returns-in_err-step-clause-recorded c = λ was. c.step.ensures.recorded (c.loop.invariant.4 was)
@@ -34,3 +43,15 @@ returns-in_err-step-clause-counted c = λ was. c.step.ensures.counted (c.loop.in
 
 pub returns-then-branch-clause-counted : goal.returns-then-branch-clause-counted
 returns-then-branch-clause-counted c = λ was. c.step.ensures.counted (c.loop.invariant.6 was)
+
+pub returns-in_err-step-clause-advances : goal.returns-in_err-step-clause-advances
+returns-in_err-step-clause-advances c = advances_more c.args.wire.now c.args.x.now c.args.y.now c.loop.wire c.loop.x c.loop.y c.step.new.wire c.step.new.x c.step.new.y c.loop.invariant.7 c.step.ensures.advances
+
+pub returns-then-branch-clause-advances : goal.returns-then-branch-clause-advances
+returns-then-branch-clause-advances c = advances_more c.args.wire.now c.args.x.now c.args.y.now c.loop.wire c.loop.x c.loop.y c.step.new.wire c.step.new.x c.step.new.y c.loop.invariant.7 c.step.ensures.advances
+
+pub returns-in_err-step-clause-short : goal.returns-in_err-step-clause-short
+returns-in_err-step-clause-short c =
+    let p = err_from_is_err_and c.from_residual.result c.from_residual.ensures.1 in
+    let halt = c.in_err-step.field-0.0 in
+    rw (p.1, p.2) (λ talk talks. falls_short halt talk c.loop.wire c.loop.x c.loop.y c.step.new.wire c.step.new.x (c.loop.invariant.5 talk talks) c.loop.invariant.1 c.in_err-step.ensures.halted.x_end c.in_err-step.ensures.still)

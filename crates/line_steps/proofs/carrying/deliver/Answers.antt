@@ -1,3 +1,4 @@
+use Rattle.line_steps.proofs.AdvancingLaws.{advances_own, advances_refl, advances_turned, advances_two, always_where, stands_two, up_where}
 use Rattle.line_steps.proofs.CountingLaws.{counted_own, counted_other, counted_two}
 use Rattle.std.proofs.Common.{◌≡◌, ℕ, ◌+◌, length, ap, ◌∙◌, arith}
 use Rattle.trace_text.specs.Fates.{fate_value}
@@ -128,3 +129,74 @@ pub returns-in_ok-wait-in-Nothing-clause-counted : goal.returns-in_ok-wait-in-No
 returns-in_ok-wait-in-Nothing-clause-counted c =
     counted_two (fate_value c.in_ok-fate.fate) (fate_value c.in_ok-other-in-Nothing.other) c.args.wire.now c.wait.new.wire c.args.x.now c.args.y.now c.wait.new.x c.wait.new.y c.requires.holds
     c.wait.ensures.adds c.wait.ensures.x_place c.wait.ensures.y_place c.wait.ensures.x_reader c.wait.ensures.y_reader
+
+pub returns-in_err-fate-clause-advances : goal.returns-in_err-fate-clause-advances
+returns-in_err-fate-clause-advances c = advances_refl c.args.wire.now c.args.x.now c.args.y.now
+
+pub returns-in_err-other-in-Nothing-clause-advances : goal.returns-in_err-other-in-Nothing-clause-advances
+returns-in_err-other-in-Nothing-clause-advances c = advances_refl c.args.wire.now c.args.x.now c.args.y.now
+
+pub returns-in_err-heard-in-Own-clause-advances : goal.returns-in_err-heard-in-Own-clause-advances
+returns-in_err-heard-in-Own-clause-advances c =
+    let took = c.take_next.ensures in
+    advances_own (fate_value c.in_ok-fate.fate) c.args.wire.now c.take_next.new.wire c.args.x.now c.args.y.now c.take_next.new.x c.take_next.new.y c.requires.holds c.in-Own.ensures.0 took.adds took.moved took.stays
+
+pub returns-in_ok-heard-in-Own-clause-advances : goal.returns-in_ok-heard-in-Own-clause-advances
+returns-in_ok-heard-in-Own-clause-advances c =
+    let took = c.take_next.ensures in
+    advances_own (fate_value c.in_ok-fate.fate) c.args.wire.now c.take_next.new.wire c.args.x.now c.args.y.now c.take_next.new.x c.take_next.new.y c.requires.holds c.in-Own.ensures.0 took.adds took.moved took.stays
+
+pub returns-in_err-take_next-in-Other-clause-advances : goal.returns-in_err-take_next-in-Other-clause-advances
+returns-in_err-take_next-in-Other-clause-advances c =
+    let took = c.take_next-in-Other.ensures in
+    let wire = c.args.wire.now in
+    let later_y = c.take_next-in-Other.new.x in
+    let later_x = c.take_next-in-Other.new.y in
+    advances_turned wire c.args.y.now c.args.x.now c.take_next-in-Other.new.wire later_y later_x
+    (advances_own (fate_value c.in_ok-fate.fate) wire c.take_next-in-Other.new.wire c.args.y.now c.args.x.now later_y later_x (holds_turned wire c.args.x.now c.args.y.now c.requires.holds) c.in-Other.ensures took.adds took.moved took.stays)
+
+pub returns-in_ok-take_next-in-Other-clause-advances : goal.returns-in_ok-take_next-in-Other-clause-advances
+returns-in_ok-take_next-in-Other-clause-advances c =
+    let took = c.take_next-in-Other.ensures in
+    let wire = c.args.wire.now in
+    let later_y = c.take_next-in-Other.new.x in
+    let later_x = c.take_next-in-Other.new.y in
+    advances_turned wire c.args.y.now c.args.x.now c.take_next-in-Other.new.wire later_y later_x
+    (advances_own (fate_value c.in_ok-fate.fate) wire c.take_next-in-Other.new.wire c.args.y.now c.args.x.now later_y later_x (holds_turned wire c.args.x.now c.args.y.now c.requires.holds) c.in-Other.ensures took.adds took.moved took.stays)
+
+pub returns-in_err-wait-in-Nothing-clause-advances : goal.returns-in_err-wait-in-Nothing-clause-advances
+returns-in_err-wait-in-Nothing-clause-advances c =
+    let waited = c.wait.ensures in
+    advances_two (fate_value c.in_ok-fate.fate) (fate_value c.in_ok-other-in-Nothing.other) c.args.wire.now c.wait.new.wire c.args.x.now c.args.y.now c.wait.new.x c.wait.new.y c.requires.holds waited.adds waited.x_place waited.y_place
+
+pub returns-in_ok-wait-in-Nothing-clause-advances : goal.returns-in_ok-wait-in-Nothing-clause-advances
+returns-in_ok-wait-in-Nothing-clause-advances c =
+    let waited = c.wait.ensures in
+    advances_two (fate_value c.in_ok-fate.fate) (fate_value c.in_ok-other-in-Nothing.other) c.args.wire.now c.wait.new.wire c.args.x.now c.args.y.now c.wait.new.x c.wait.new.y c.requires.holds waited.adds waited.x_place waited.y_place
+
+pub returns-in_err-fate-clause-still : goal.returns-in_err-fate-clause-still
+returns-in_err-fate-clause-still c =
+    let p = err_from_is_err_and c.from_residual.result c.from_residual.ensures.1 in
+    rw (p.1, p.2) tt
+
+pub returns-in_err-other-in-Nothing-clause-still : goal.returns-in_err-other-in-Nothing-clause-still
+returns-in_err-other-in-Nothing-clause-still c =
+    let p = err_from_is_err_and c.from_residual-in_err-other-in-Nothing.result c.from_residual-in_err-other-in-Nothing.ensures.1 in
+    rw (p.1, p.2) tt
+
+pub returns-in_err-heard-in-Own-clause-still : goal.returns-in_err-heard-in-Own-clause-still
+returns-in_err-heard-in-Own-clause-still c =
+    let p = err_from_is_err_and c.from_residual-in_err-heard-in-Own.result c.from_residual-in_err-heard-in-Own.ensures.1 in
+    rw (p.1, p.2) (up_where c.in_err-heard-in-Own.field-0.0 _ c.in_err-heard-in-Own.ensures.up)
+
+pub returns-in_err-take_next-in-Other-clause-still : goal.returns-in_err-take_next-in-Other-clause-still
+returns-in_err-take_next-in-Other-clause-still c =
+    let p = err_from_is_err_and c.from_residual-in_err-take_next-in-Other.result c.from_residual-in_err-take_next-in-Other.ensures.1 in
+    rw (p.1, p.2) (up_where c.in_err-take_next-in-Other.field-0.0 _ c.in_err-take_next-in-Other.ensures.up)
+
+pub returns-in_err-wait-in-Nothing-clause-still : goal.returns-in_err-wait-in-Nothing-clause-still
+returns-in_err-wait-in-Nothing-clause-still c =
+    let p = err_from_is_err_and c.from_residual-in_err-wait-in-Nothing.result c.from_residual-in_err-wait-in-Nothing.ensures.1 in
+    let waited = c.wait.ensures in
+    rw (p.1, p.2) (always_where c.in_err-wait-in-Nothing.field-0.0 _
+    (stands_two (fate_value c.in_ok-fate.fate) (fate_value c.in_ok-other-in-Nothing.other) c.args.wire.now c.wait.new.wire c.args.x.now c.args.y.now c.wait.new.x c.requires.holds waited.adds waited.x_place))

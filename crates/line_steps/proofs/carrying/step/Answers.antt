@@ -1,9 +1,11 @@
 use Rattle.line_steps.proofs.CountingLaws.{counted_turned}
-use Rattle.std.proofs.Common.{ap, ◌∙◌}
+use Rattle.std.proofs.Common.{ap, ◌∙◌, arith}
 use Rattle.std.proofs.lemmas.Result.{IfOk-weaker}
 use Rattle.line_steps.specs.declared.half.Half.{Half}
+use Rattle.line_steps.specs.Advancing.{StandsStill}
 use Rattle.line_steps.specs.Carrying.{StepTo}
-use Rattle.line_steps.proofs.CarryingLaws.{Skipped, skipped-steps, skipped-waits, skipped-talks, skipped-recorded}
+use Rattle.line_steps.proofs.AdvancingLaws.{advances_from, where_weaker}
+use Rattle.line_steps.proofs.CarryingLaws.{Skipped, skipped-steps, skipped-waits, skipped-talks, skipped-took, skipped-recorded}
 use Rattle.line_steps.proofs.StartingLaws.{waits_now}
 use Rattle.line_steps.specs.Halting.{Halted}
 use Rattle.line_steps.proofs.HaltedLaws.{halted_behind}
@@ -45,3 +47,18 @@ returns-clause-halted c =
 
 pub returns-clause-counted : goal.returns-clause-counted
 returns-clause-counted c = λ was. c.deliver.ensures.counted (counted_turned c.args.wire.now c.skip_to_head-2.new.x c.skip_to_head-2.new.y (c.skip_to_head-2.ensures.keeps.counted (counted_turned c.args.wire.now c.skip_to_head.new.x c.skip_to_head.new.y (c.skip_to_head.ensures.keeps.counted was))))
+
+pub returns-clause-advances : goal.returns-clause-advances
+returns-clause-advances c =
+    let first = c.skip_to_head.ensures in
+    let second = c.skip_to_head-2.ensures in
+    let took = skipped-took c.args.wire.now c.args.x.now c.args.y.now c.skip_to_head.new.x c.skip_to_head.new.y c.skip_to_head-2.new.y c.skip_to_head-2.new.x first.moved first.read second.moved second.read first.keeps second.keeps in
+    advances_from c.args.wire.now c.args.x.now c.args.y.now c.skip_to_head-2.new.y c.skip_to_head-2.new.x c.deliver.new.wire c.deliver.new.x c.deliver.new.y took c.deliver.ensures.advances
+
+pub returns-clause-still : goal.returns-clause-still
+returns-clause-still c =
+    let first = c.skip_to_head.ensures in
+    let second = c.skip_to_head-2.ensures in
+    let took = skipped-took c.args.wire.now c.args.x.now c.args.y.now c.skip_to_head.new.x c.skip_to_head.new.y c.skip_to_head-2.new.y c.skip_to_head-2.new.x first.moved first.read second.moved second.read first.keeps second.keeps in
+    err_weaker c.deliver.result (λ halt. StandsStill halt c.args.wire.now c.skip_to_head-2.new.y c.deliver.new.wire c.deliver.new.x) (λ halt. StandsStill halt c.args.wire.now c.args.x.now c.deliver.new.wire c.deliver.new.x)
+    (λ halt still. where_weaker halt _ _ (λ few. omega (arith, few, took.0)) still) c.deliver.ensures.still

@@ -1,3 +1,5 @@
+use Rattle.line_steps.specs.Advancing.{IsUp}
+use Rattle.line_steps.proofs.AdvancingLaws.{advances_two, halts_up}
 use Rattle.line_steps.proofs.CountingLaws.{counted_two}
 use Rattle.std.proofs.Common.{◌≡◌, None, length, arith, refl, sym, subst, inl}
 use Rattle.std.proofs.lemmas.Result.{on_ok_weaker}
@@ -83,3 +85,17 @@ returns-clause-counted c =
     let half = record c.args.x.now { sender = c.start.new.self; message = c.args.message } in
     counted_two (fate_value c.args.fate) (fate_value c.args.fate) c.args.wire.now c.send_piece.new.wire c.args.x.now c.args.y.now half c.args.y.now (settled_holds c.args.wire.now c.args.x.now c.args.y.now c.requires.turn.settled)
     (inl (adds_of c.send_piece.result c.args.wire.now.frames.items c.send_piece.new.wire.frames.items c.args.x.now.end c.start.new.self.id (part_now (side_of half)) (fate_value c.args.fate) c.send_piece.ensures.ok c.send_piece.ensures.halt)) (refl, refl) (refl, refl) refl refl
+
+pub returns-clause-advances : goal.returns-clause-advances
+returns-clause-advances c =
+    let half = record c.args.x.now { sender = c.start.new.self; message = c.args.message } in
+    advances_two (fate_value c.args.fate) (fate_value c.args.fate) c.args.wire.now c.send_piece.new.wire c.args.x.now c.args.y.now half c.args.y.now (settled_holds c.args.wire.now c.args.x.now c.args.y.now c.requires.turn.settled)
+    (inl (adds_of c.send_piece.result c.args.wire.now.frames.items c.send_piece.new.wire.frames.items c.args.x.now.end c.start.new.self.id (part_now (side_of half)) (fate_value c.args.fate) c.send_piece.ensures.ok c.send_piece.ensures.halt)) (refl, refl) (refl, refl)
+
+pub returns-clause-up : goal.returns-clause-up
+returns-clause-up c =
+    let half = record c.args.x.now { sender = c.start.new.self; message = c.args.message } in
+    let old = c.args.wire.now.frames.items in
+    let new = c.send_piece.new.wire.frames.items in
+    err_weaker c.send_piece.result (λ halt. Halts old half.end half.sender.id (part_now (side_of half)) (fate_value c.args.fate) halt new) IsUp
+    (λ halt it. halts_up old new half.end half.sender.id (part_now (side_of half)) (fate_value c.args.fate) halt it) c.send_piece.ensures.halt

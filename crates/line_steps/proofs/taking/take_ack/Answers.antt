@@ -13,6 +13,8 @@ use Rattle.line_steps.proofs.HoldsLaws.{moved}
 use Rattle.line_steps.specs.Underway.{StillUnderway}
 use Rattle.line_steps.specs.Working.{work_left}
 use Rattle.line_steps.specs.declared.hearing.Heard.TheVariants as heard_as
+use Rattle.line_steps.specs.Advancing.{IsUp}
+use Rattle.line_steps.proofs.AdvancingLaws.{halts_up}
 use Rattle.line_steps.proofs.AddingLaws.{adds_of}
 use Rattle.line_steps.proofs.HaltedLaws.{halted_ack}
 use Rattle.line_steps.proofs.HaltingLaws.{err_weaker}
@@ -110,3 +112,10 @@ returns-clause-halted c =
     err_weaker c.send_piece.result (λ halt. Halts wire.frames.items y.end c.on_ack.new.self.id (part_now (side_of half)) (fate_value c.args.fate) halt new.frames.items) (λ halt. Halted halt wire x y new (moved x) half)
     (λ halt it. subst (λ (s : SenderValue). Halted halt wire x y new (moved x) (record y { sender = s })) (sym next) (halted_ack wire new x y c.args.key (fate_value c.args.fate) halt c.requires.holds c.requires.next (c.on_ack.ensures.taken.0 c.if-not-on_ack.false) more
     (subst (λ (s : SenderValue). Halts wire.frames.items y.end s.id (part_now (side_of (record y { sender = s }))) (fate_value c.args.fate) halt new.frames.items) next it))) c.send_piece.ensures.halt
+
+pub returns-clause-up : goal.returns-clause-up
+returns-clause-up c =
+    let old = c.args.wire.now.frames.items in
+    let new = c.send_piece.new.wire.frames.items in
+    let part = part_now (side_of (record c.args.y.now { sender = c.on_ack.new.self })) in
+    err_weaker c.send_piece.result (λ halt. Halts old c.args.y.now.end c.on_ack.new.self.id part (fate_value c.args.fate) halt new) IsUp (λ halt it. halts_up old new c.args.y.now.end c.on_ack.new.self.id part (fate_value c.args.fate) halt it) c.send_piece.ensures.halt

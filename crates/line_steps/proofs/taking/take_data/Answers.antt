@@ -5,6 +5,8 @@ use Rattle.line_steps.specs.declared.half.Half.{Half}
 use Rattle.line_steps.specs.Sending.{Halts, Sends, ack_fragment}
 use Rattle.line_steps.proofs.DataLaws.{never_dropped, answers_wait, ack_fits, took_data, is_new_data, same_sender, idle_sender}
 use Rattle.line_steps.proofs.WorkLaws.{took_data-less}
+use Rattle.line_steps.specs.Advancing.{IsUp}
+use Rattle.line_steps.proofs.AdvancingLaws.{halts_up}
 use Rattle.line_steps.proofs.HaltedLaws.{halted_data}
 use Rattle.line_steps.proofs.HaltingLaws.{err_weaker}
 use Rattle.line_steps.proofs.UnderwayLaws.{took_data-underway}
@@ -106,3 +108,6 @@ returns-clause-halted c =
           (idle_sender taken y.sender w.stop_waiting.new.sender w.in-Accepted.is w.stop_waiting.ensures.rest w.stop_waiting.ensures.idle)
           (subst (λ (h : Half). Halts wire.frames.items h.end key.id (ack_fragment key) (fate_value c.args.fate) halt new.frames.items) w.y-is it))) c.send_ack.ensures.halt
     ]
+
+pub returns-clause-up : goal.returns-clause-up
+returns-clause-up c = err_weaker c.send_ack.result _ IsUp (λ halt it. halts_up _ _ _ _ _ _ halt it) c.send_ack.ensures.halt

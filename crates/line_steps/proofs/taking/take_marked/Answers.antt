@@ -137,3 +137,13 @@ returns-in-Nothing-clause-lands c =
     let half = c.hear_frame-heard.new.half in
     let lands = heard_lands c.args.x.now.end c.args.wire.now n c.index.result.now c.args.y.now half c.requires.next here c.hear_frame-heard.ensures.tally in
     lands
+
+pub returns-in_err-take_ack-in-Ack-clause-up : goal.returns-in_err-take_ack-in-Ack-clause-up
+returns-in_err-take_ack-in-Ack-clause-up c =
+    let p = err_from_is_err_and c.from_residual.result c.from_residual.ensures.1 in
+    rw (p.1, p.2) c.in_err-take_ack-in-Ack.ensures.up
+
+pub returns-in_err-take_data-in-Data-clause-up : goal.returns-in_err-take_data-in-Data-clause-up
+returns-in_err-take_data-in-Data-clause-up c =
+    let p = err_from_is_err_and c.from_residual-in_err-take_data-in-Data.result c.from_residual-in_err-take_data-in-Data.ensures.1 in
+    rw (p.1, p.2) c.in_err-take_data-in-Data.ensures.up

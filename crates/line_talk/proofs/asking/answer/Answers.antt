@@ -1,8 +1,10 @@
-use Rattle.std.proofs.Common.{subst, ◌∙◌}
+use Rattle.std.proofs.Common.{ap, subst, ◌∙◌, arith}
 use Rattle.std.proofs.lemmas.Result.{IfErr-weaker, on_ok_weaker}
 use Rattle.trace_text.specs.declared.frame.End.{End}
 use Rattle.line_laws.specs.Talking.{say}
+use Rattle.line_steps.specs.Advancing.{FallsShort, piece_total}
 use Rattle.line_steps.specs.Halting.{Spoke}
+use Rattle.line_steps.proofs.AdvancingLaws.{turn_took}
 use Rattle.line_steps.specs.Telling.{Talks}
 use Rattle.line_talk.proofs.AskLaws.{answers-next}
 use Rattle.line_talk.proofs.asking.answer.Goals as goal
@@ -23,4 +25,15 @@ returns-clause-ends c =
       by = halted.by;
       spoke = subst (λ (X : End). Spoke (say X c.args.reply.now talk) c.send_over.new.wire c.send_over.new.x c.send_over.new.y) ends.handheld_is
           (halted.talks talk (answers-next line c.args.requests c.transaction.result talk c.requires.answers c.transaction.ensures said) before);
+    }) done.halted
+
+pub returns-clause-within : goal.returns-clause-within
+returns-clause-within c =
+    let line = c.args.line.now in
+    let done = c.send_over.ensures in
+    let ends = c.requires.answers.ends in
+    IfErr-weaker c.send_over.result _ _ (λ halt halted talk said before. record {
+      others = omega (arith, halted.other, (turn_took talk line.wire line.handheld line.desktop c.requires.answers.turn before).1, ap (λ (X : End). piece_total X talk) ends.desktop_is);
+      short = subst (λ (X : End). FallsShort halt (say X c.args.reply.now talk) c.send_over.new.wire c.send_over.new.x) ends.handheld_is
+          (halted.short talk (answers-next line c.args.requests c.transaction.result talk c.requires.answers c.transaction.ensures said) before);
     }) done.halted

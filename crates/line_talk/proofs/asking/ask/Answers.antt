@@ -1,10 +1,12 @@
-use Rattle.std.proofs.Common.{subst, ◌∙◌}
+use Rattle.std.proofs.Common.{ap, subst, ◌∙◌, arith}
 use Rattle.std.proofs.lemmas.Result.{IfErr-weaker}
 use Rattle.trace_text.specs.declared.frame.End.{End}
 use Rattle.line_laws.specs.Core.{Apart}
 use Rattle.line_laws.specs.Talking.{say}
+use Rattle.line_steps.specs.Advancing.{FallsShort, piece_total}
 use Rattle.line_steps.specs.Halting.{Spoke}
 use Rattle.line_steps.specs.Telling.{Talks}
+use Rattle.line_steps.proofs.AdvancingLaws.{turn_took}
 use Rattle.line_steps.proofs.RecordedLaws.{recorded_turned}
 use Rattle.line_steps.proofs.TalkedLaws.{talks_turned}
 use Rattle.line_steps.proofs.TurnLaws.{apart_turned}
@@ -52,3 +54,17 @@ pub returns-clause-counted : goal.returns-clause-counted
 returns-clause-counted c counted =
     let line = c.args.line.now in
     counted_turned c.send_over.new.wire c.send_over.new.x c.send_over.new.y (c.send_over.ensures.counted (counted_turned line.wire line.handheld line.desktop counted))
+
+pub returns-clause-within : goal.returns-clause-within
+returns-clause-within c =
+    let line = c.args.line.now in
+    let done = c.send_over.ensures in
+    let ends = c.requires.asks.ends in
+    let turn = c.requires.asks.turn in
+    IfErr-weaker c.send_over.result _ _ (λ halt halted talk said before.
+    let talks = talks_turned talk line.wire line.handheld line.desktop (apart_turned _ _ turn.settled.apart) before in
+    record {
+      others = omega (arith, halted.other, (turn_took talk line.wire line.desktop line.handheld turn talks).1, ap (λ (X : End). piece_total X talk) ends.handheld_is);
+      short = subst (λ (X : End). FallsShort halt (say X c.args.request.now talk) c.send_over.new.wire c.send_over.new.x) ends.desktop_is
+          (halted.short talk (asks-next line c.args.requests c.transaction.result talk c.requires.asks c.transaction.ensures said) talks);
+    }) done.halted

@@ -4,9 +4,11 @@ use Rattle.std.proofs.lemmas.Result.{IfErr-weaker, err_from_is_err_and, on_ok_we
 use Rattle.line_laws.specs.Talking.{say}
 use Rattle.line_script.specs.Scripts.{fate_by}
 use Rattle.line_steps.specs.declared.half.Half.{Half}
+use Rattle.line_steps.specs.Advancing.{FallsShort}
+use Rattle.line_steps.proofs.AdvancingLaws.{up_where}
 use Rattle.line_steps.specs.Halting.{Spoke}
 use Rattle.line_steps.specs.Telling.{Talks}
-use Rattle.line_talk.proofs.OverLaws.{either_way, expects-counted, expects-recorded, expects-next, expects-talks, over-unsent}
+use Rattle.line_talk.proofs.OverLaws.{both_err, either_way, expects-counted, expects-recorded, expects-next, expects-talks, expects-took, over-unsent}
 use Rattle.line_talk.proofs.over.send_over.Goals as goal
 
 both_ok : {T E A B C : Type 0} (r : Result T E) → (A → B → C) → OnOk r A → OnOk r B → OnOk r C
@@ -83,16 +85,22 @@ returns-in_err-start-clause-halted c =
       by = c.in_err-start.ensures.halted;
       talks = λ talk next talks. subst (λ (m : List ℕ). Spoke (say c.args.x.now.end m talk) c.start.new.wire c.start.new.x c.expect.new.half) c.in_ok-text.ensures.items
           (c.in_err-start.ensures.spoke talk (expects-next talk c.args.x.now c.args.y.now c.expect.new.half c.args.id c.args.id c.expect.ensures.receiver next) (expects-talks talk c.args.wire.now c.args.x.now c.args.y.now c.expect.new.half c.args.id c.expect.ensures.receiver talks));
+      other = omega (arith, c.start.ensures.advances.other, expects-took c.args.wire.now c.args.y.now c.expect.new.half c.args.id c.expect.ensures.receiver);
+      short = λ talk next talks. up_where c.in_err-start.field-0.0 _ c.in_err-start.ensures.up;
     })
 
 pub returns-clause-halted : goal.returns-clause-halted
 returns-clause-halted c =
-    IfErr-weaker c.carry.result _ _ (λ halt halted. record {
+    IfErr-weaker c.carry.result _ _ (λ halt both. let halted = both.0 in record {
       by = halted.by;
       talks = λ talk next talks. subst (λ (m : List ℕ). Spoke (say c.args.x.now.end m talk) c.carry.new.wire c.carry.new.x c.carry.new.y) c.in_ok-text.ensures.items
           (halted.talks (say c.args.x.now.end c.in_ok-text.text.items talk)
           (c.in_ok-start.ensures.talks talk (expects-next talk c.args.x.now c.args.y.now c.expect.new.half c.args.id c.args.id c.expect.ensures.receiver next) (expects-talks talk c.args.wire.now c.args.x.now c.args.y.now c.expect.new.half c.args.id c.expect.ensures.receiver talks)));
-    }) c.carry.ensures.halted
+      other = omega (arith, c.start.ensures.advances.other, c.carry.ensures.advances.other, expects-took c.args.wire.now c.args.y.now c.expect.new.half c.args.id c.expect.ensures.receiver);
+      short = λ talk next talks. subst (λ (m : List ℕ). FallsShort halt (say c.args.x.now.end m talk) c.carry.new.wire c.carry.new.x) c.in_ok-text.ensures.items
+          (both.1 (say c.args.x.now.end c.in_ok-text.text.items talk)
+          (c.in_ok-start.ensures.talks talk (expects-next talk c.args.x.now c.args.y.now c.expect.new.half c.args.id c.args.id c.expect.ensures.receiver next) (expects-talks talk c.args.wire.now c.args.x.now c.args.y.now c.expect.new.half c.args.id c.expect.ensures.receiver talks)));
+    }) (both_err c.carry.result _ _ c.carry.ensures.halted c.carry.ensures.short)
 
 pub returns-clause-own_id : goal.returns-clause-own_id
 returns-clause-own_id c = on_ok_weaker c.carry.result (λ same. same.id_is ∙ c.start.ensures.id) c.carry.ensures.x_same

@@ -1,15 +1,19 @@
 use Rattle.std.specs.Prelude.{IfSome}
-use Rattle.std.proofs.Common.{◌≡◌, ℕ, ◌+◌, ◌≤◌, List, [], ◌∷◌, ◌++◌, length, Option, sym, ap, subst, ◌∙◌, arith}
+use Rattle.std.proofs.Common.{◌≡◌, ℕ, ◌+◌, ◌≤◌, List, [], ◌∷◌, ◌++◌, length, Option, refl, sym, ap, subst, ◌∙◌, arith}
 use Rattle.std.proofs.lemmas.List.{length-map}
 use Rattle.std.proofs.lemmas.Result.{err_from_is_err_and}
 use Rattle.dlp_args.specs.Messages.{MessageTextValue}
 use Rattle.line_steps.specs.declared.sending.Halt.{Halt}
+use Rattle.line_steps.specs.declared.sending.Halt.TheVariants.{NoMemory}
 use Rattle.line_talk.specs.Halting.{LineEnds}
 use Rattle.line_talk.specs.Rests.{MayAsk}
 use Rattle.line_talk.specs.Telling.{HasSaid, LineTells}
 use Rattle.line_world.specs.Conversing.{Sent, Served}
 use Rattle.line_world.specs.Logs.{LogValue, log_value, said_in, with_issued, with_performed}
 use Rattle.line_world.specs.Serving.{Performs}
+use Rattle.line_talk.proofs.ToldLaws.{told-answers, told-asks}
+use Rattle.line_world.specs.Worlds.{IsHeard}
+use Rattle.line_world.proofs.HeardLaws.{heard-answered, heard-asked, heard-refused, heard-rest}
 use Rattle.line_world.proofs.LogLaws.{length-more}
 use Rattle.line_world.proofs.OverLaws.{answered-over, answers-over, asked-over, asks-over}
 use Rattle.line_world.proofs.conversing.converse.Goals as goal
@@ -117,3 +121,48 @@ returns-clause-tells g c before =
     let told = subst (λ (m : List ℕ). LineTells (said_in (with_performed (with_issued log request) request m)) c.answer.new.line) c.bytes-2.ensures.bytes (c.in_ok-answer.ensures.tells (said_in (with_issued log request)) then asked) in
     let log_is = c.in_ok-perform.ensures.performs.log_is ∙ ap (λ (l : LogValue). with_performed l request reply) c.in_ok-issue.ensures.kept in
     subst (λ (l : LogValue). LineTells (said_in l) c.answer.new.line) (sym log_is) told
+
+pub returns-in_err-issue-clause-heard : goal.returns-in_err-issue-clause-heard
+returns-in_err-issue-clause-heard g c =
+    let p = err_from_is_err_and c.from_residual.result c.from_residual.ensures.1 in
+    let log = log_value c.args.log.now in
+    rw (p.1, p.2) (λ before. subst (λ (l : LogValue). IsHeard NoMemory l (length log.replies) c.args.line.now) (sym c.in_err-issue.ensures.stays)
+    (heard-rest NoMemory log (length log.replies) c.args.line.now refl (sym c.requires.answered) (told-asks (said_in log) c.args.line.now (length log.issued) c.requires.asks before)))
+
+pub returns-in_err-ask-clause-heard : goal.returns-in_err-ask-clause-heard
+returns-in_err-ask-clause-heard g c =
+    let p = err_from_is_err_and c.from_residual-in_err-ask.result c.from_residual-in_err-ask.ensures.1 in
+    let log = log_value c.args.log.now in
+    let request = c.args.request.now in
+    let requests : c.len-requests.result ≡ length log.issued = omega (arith, c.len-requests.ensures, length-map c.args.log.now.issued.items (λ (t : MessageTextValue). t.bytes)) in
+    let said : HasSaid (said_in log) c.len-requests.result c.len-requests.result = record { handheld_said = omega (arith, requests, c.requires.answered); desktop_said = omega (arith, requests) } in
+    let failed = c.in_err-ask.ensures in
+    rw (p.1, p.2) (λ before. heard-asked log (log_value c.issue.new.self) c.ask.new.line request c.bytes.result.now c.in_ok-issue.ensures.kept c.bytes.ensures.bytes c.requires.answered (failed.ends (said_in log) said before) (failed.within (said_in log) said before))
+
+pub returns-in_err-perform-clause-heard : goal.returns-in_err-perform-clause-heard
+returns-in_err-perform-clause-heard g c =
+    let p = err_from_is_err_and c.from_residual-in_err-perform.result c.from_residual-in_err-perform.ensures.1 in
+    let log = log_value c.args.log.now in
+    let request = c.args.request.now in
+    let requests : c.len-requests.result ≡ length log.issued = omega (arith, c.len-requests.ensures, length-map c.args.log.now.issued.items (λ (t : MessageTextValue). t.bytes)) in
+    let said : HasSaid (said_in log) c.len-requests.result c.len-requests.result = record { handheld_said = omega (arith, requests, c.requires.answered); desktop_said = omega (arith, requests) } in
+    let refuses = c.in_err-perform.ensures.refuses in
+    rw (p.1, p.2) (λ before. subst (λ (h : Halt). IsHeard h (log_value c.perform.new.log) (length log.replies) c.ask.new.line) (sym refuses.at_rest)
+    (heard-refused log (log_value c.perform.new.log) c.ask.new.line request (refuses.log_is ∙ c.in_ok-issue.ensures.kept) c.requires.answered
+    (told-answers (said_in (with_issued log request)) c.ask.new.line c.len-requests.result c.in_ok-ask.ensures.answers (subst (λ (m : List ℕ). LineTells (said_in (with_issued log m)) c.ask.new.line) c.bytes.ensures.bytes (c.in_ok-ask.ensures.tells (said_in log) said before)))))
+
+pub returns-in_err-answer-clause-heard : goal.returns-in_err-answer-clause-heard
+returns-in_err-answer-clause-heard g c =
+    let p = err_from_is_err_and c.from_residual-in_err-answer.result c.from_residual-in_err-answer.ensures.1 in
+    let log = log_value c.args.log.now in
+    let request = c.args.request.now in
+    let requests : c.len-requests.result ≡ length log.issued = omega (arith, c.len-requests.ensures, length-map c.args.log.now.issued.items (λ (t : MessageTextValue). t.bytes)) in
+    let said : HasSaid (said_in log) c.len-requests.result c.len-requests.result = record { handheld_said = omega (arith, requests, c.requires.answered); desktop_said = omega (arith, requests) } in
+    let reply = c.perform.new.reply in
+    let more : length (log.issued ++ request ∷ []) ≡ length log.issued + 1 = length-more log.issued request in
+    let then : HasSaid (said_in (with_issued log request)) c.len-requests.result (c.len-requests.result + 1) = record { handheld_said = omega (arith, requests, c.requires.answered); desktop_said = omega (arith, more, requests) } in
+    let log_is = c.in_ok-perform.ensures.performs.log_is ∙ ap (λ (l : LogValue). with_performed l request reply) c.in_ok-issue.ensures.kept in
+    let failed = c.in_err-answer.ensures in
+    rw (p.1, p.2) (λ before. (let tells = subst (λ (m : List ℕ). LineTells (said_in (with_issued log m)) c.ask.new.line) c.bytes.ensures.bytes (c.in_ok-ask.ensures.tells (said_in log) said before) in
+    heard-answered log (log_value c.perform.new.log) c.answer.new.line request reply c.bytes-2.result.now log_is c.bytes-2.ensures.bytes c.requires.answered
+    (failed.ends (said_in (with_issued log request)) then tells) (failed.within (said_in (with_issued log request)) then tells)))

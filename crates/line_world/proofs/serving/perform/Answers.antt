@@ -2,6 +2,8 @@ use Rattle.std.specs.Prelude.{unwrap_or}
 use Rattle.std.proofs.Common.{◌≡◌, ℕ, List, [], Option, ap, subst, ◌∙◌}
 use Rattle.dlp_args.specs.Messages.{MessageTextValue}
 use Rattle.dlp_commands.specs.DeviceSteps.{DeviceStep}
+use Rattle.handheld_server.specs.Keeping.{Touches, wrote_user}
+use Rattle.handheld_server.specs.Servers.{store_of}
 use Rattle.line_world.specs.Logs.{LogValue, log_value, with_performed}
 use Rattle.line_world.specs.SinceLaws.{served-once}
 use Rattle.line_world.proofs.serving.perform.Goals as goal
@@ -16,7 +18,8 @@ returns-clause-performs g c =
     record {
       sound = served.sound;
       since = served-once g.F.Folder.contents g.F.Folder.moments g.F.Folder.paths g.F.Folder.faults c.args.server.now c.serve_whole.new.server request reply
-          (subst (λ (o : Option (List ℕ)). DeviceStep c.args.server.now.device (unwrap_or o []) reply c.serve_whole.new.server.device) c.requires.whole served.step) served.stands served.change.each_moment served.change.same_paths served.change.cause.later;
+          (subst (λ (o : Option (List ℕ)). DeviceStep c.args.server.now.device (unwrap_or o []) reply c.serve_whole.new.server.device) c.requires.whole served.step) served.stands served.change.each_moment served.change.same_paths served.change.cause.later
+          (subst (λ (o : Option (List ℕ)). Touches g.F.Folder.contents (wrote_user (unwrap_or o []) reply) (store_of c.args.server.now) (store_of c.serve_whole.new.server)) c.requires.whole served.files);
       log_is = c.keep.ensures ∙ ap (λ (l : LogValue). with_performed l c.in_ok-asked.asked.bytes c.trim.new.self.bytes) c.make_room.ensures.stays
           ∙ ap (λ (b : List ℕ). with_performed (log_value c.args.log.now) b c.trim.new.self.bytes) asked ∙ ap (λ (b : List ℕ). with_performed (log_value c.args.log.now) request b) answered;
     }

@@ -41,7 +41,8 @@ invariant_of-self-in-Err g c =
     (world-broke g.F.Folder.contents g.F.Folder.moments g.F.Folder.paths g.F.Folder.faults w.server c.converse.new.server w.line c.converse.new.line w.script (log_value w.log) (log_value later) w.answered w.begun w.fault w.cause c.cause_of-cause.result c.args.request.now c.in-Err.ended
     c.self.invariant c.in_default.is (c.converse.ensures.recorded c.self.invariant.recorded) (c.converse.ensures.counted c.self.invariant.counted) (c.in-Err.ensures.ends (tells-of w.begun w.line (log_value w.log) w.answered first running.at_rest))
     (subst (λ (fs : List Frame). IsCauseOf c.in-Err.ended (length fs) c.cause_of-cause.result) c.deref.ensures.value c.cause_of-cause.ensures.is)
-    (subst (λ (fs : List Frame). NamesLast c.cause_of-cause.result (map frame_value fs)) c.deref.ensures.value c.cause_of-cause.ensures.names) c.in-Err.ensures.breaks)
+    (subst (λ (fs : List Frame). NamesLast c.cause_of-cause.result (map frame_value fs)) c.deref.ensures.value c.cause_of-cause.ensures.names) c.in-Err.ensures.breaks
+    (c.in-Err.ensures.heard (tells-of w.begun w.line (log_value w.log) w.answered first running.at_rest)))
 
 pub returns-in-Ok-clause-answered : goal.returns-in-Ok-clause-answered
 returns-in-Ok-clause-answered g c =

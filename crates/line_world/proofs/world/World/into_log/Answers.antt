@@ -4,11 +4,11 @@ use Rattle.trace_text.specs.Proper.{IsProper}
 use Rattle.trace_text.specs.TraceLines.{frame_value}
 use Rattle.line_world.specs.Counts.{CountsOf}
 use Rattle.line_world.specs.Logs.{log_value, said_in}
-use Rattle.line_world.specs.Worlds.{IsLog, TellAll, TellBoth, WorldValue}
+use Rattle.line_world.specs.Worlds.{IsLog, TellAll, TellBoth, TellDone, WorldValue}
 use Rattle.slp_frames.specs.Readers.{TallyValue}
 use Rattle.trace_text.specs.declared.frame.End.TheVariants.{Handheld, Desktop}
 use Rattle.line_world.proofs.CauseLaws.{counts-desktop, counts-handheld}
-use Rattle.line_world.proofs.WorldLaws.{world-all_told, world-proper, world-told}
+use Rattle.line_world.proofs.WorldLaws.{world-all_told, world-done, world-proper, world-told}
 use Rattle.line_world.proofs.world.World.into_log.Goals as goal
 
 pub returns-clause-log : goal.returns-clause-log
@@ -41,3 +41,9 @@ pub returns-clause-to_desktop : goal.returns-clause-to_desktop
 returns-clause-to_desktop g c =
     let w = c.self.inside in
     subst (λ (t : TallyValue). CountsOf Handheld t w.line.wire.frames.items) (sym c.tally-2.ensures) (counts-handheld w.script w.line c.self.invariant.told.ends.ends c.self.invariant.recorded c.self.invariant.counted)
+
+pub returns-clause-told_done : goal.returns-clause-told_done
+returns-clause-told_done g c =
+    let w = c.self.inside in
+    subst (λ (v : WorldValue g.row.F.Denot). v.begun ≡ true → TellDone v.log v.answered v.fault v.cause (map frame_value w.line.wire.frames.items)) c.self.view_is
+    (λ first. world-done w.line w.script (log_value w.log) w.server.sound w.answered w.begun w.fault w.cause c.self.invariant first)
