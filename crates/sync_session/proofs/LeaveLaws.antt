@@ -1,7 +1,8 @@
 -- What a session leaves of its link and of the desktop's folder, by how it went.
 use Rattle.std.proofs.Common.{◌≡◌, ap, refl, subst, sym, inl, inr, ℕ, Bool, List, [], ◌∷◌, ◌++◌, length, map, arith}
-use Rattle.std.specs.Prelude.{Option, IsErrOf, Ok, Err, Result}
+use Rattle.std.specs.Prelude.{Option, None, Some, IsErrOf, Ok, Err, Result}
 use Rattle.std.specs.Global.{Vec}
+use Rattle.std.specs.List.{AllByRecursion, flat_map}
 use Rattle.std.specs.Option.{option_map}
 use Rattle.hs_folders.specs.FileMaps.{FileMap}
 use Rattle.hs_folders.specs.Moments.{Moments}
@@ -13,8 +14,13 @@ use Rattle.desk_journal.specs.Entries.{EntryValue}
 use Rattle.desk_journal.specs.Overlays.{StandsAs, overlay, put_all}
 use Rattle.folder_files.specs.Slots.{users_of}
 use Rattle.pdb_values.specs.declared.head.DbHead.{DbHead}
+use Rattle.desk_store.specs.Changes.{archive_entries, db_entries, slots_entry}
 use Rattle.desk_store.specs.Desks.{all_rows}
-use Rattle.desk_store.specs.Shelves.{SlotValue, marks_of}
+use Rattle.desk_store.specs.declared.change.DbChange.{DbChange}
+use Rattle.desk_store.specs.declared.role.Role.TheVariants.{Archive, Base, Rows}
+use Rattle.pdb_values.specs.Databases.{DatabaseValue}
+use Rattle.pdb_values.specs.declared.user.UserInfo.{UserInfo}
+use Rattle.desk_store.specs.Shelves.{SlotValue, marks_of, slot_at}
 use Rattle.desk_store.specs.Views.{DeskValue, marks_in, shelves_in}
 use Rattle.desk_store.specs.declared.fault.CommitFault.{CommitFault}
 use Rattle.desk_store.specs.declared.fault.CommitFault.TheVariants as commit
@@ -31,14 +37,14 @@ use Rattle.desktop_session.specs.declared.fault.SessionFault.{SessionFault}
 use Rattle.sync_session.specs.Commits.{Commits}
 use Rattle.sync_session.specs.Courses.{AfterCommit, AfterMeeting, AfterNews, AfterPreparing, AfterReading, MeetsOrNot, Prepares}
 use Rattle.sync_session.specs.Courses.{ReadsAll, Runs, closed, jobs_met, last_acts, picked_for, stopped}
-use Rattle.sync_session.specs.Leaving.{Leaves, LeavesFolder}
+use Rattle.sync_session.specs.Leaving.{IsSlotsFile, Leaves, LeavesFolder}
 use Rattle.sync_session.specs.Meets.{meeting_acts}
 use Rattle.sync_session.specs.Phases.{gained, news_under, purges_under}
 use Rattle.sync_session.specs.PlannedLimits.{over_planned}
 use Rattle.sync_session.specs.PlannedReports.{reports_planned}
 use Rattle.sync_session.specs.Readings.{reads_under}
 use Rattle.sync_session.specs.Stretches.{SpansBehind, each_acts}
-use Rattle.sync_session.specs.Takes.{each_of, taken_entries, taken_slots}
+use Rattle.sync_session.specs.Takes.{changes_of, each_of, taken_entries, taken_slots}
 use Rattle.sync_session.specs.Users.{begun_user}
 use Rattle.sync_session.specs.Stopping.{Judges, stop_of}
 use Rattle.sync_session.specs.declared.meeting.Met.{Met}
@@ -49,6 +55,7 @@ use Rattle.sync_session.specs.declared.report.DbReport.{DbReport}
 use Rattle.sync_session.specs.declared.stop.Stop.{Stop}
 use Rattle.sync_session.specs.declared.stop.Stop.TheVariants as stop
 use Rattle.sync_session.specs.declared.wishes.Wishes.{Wishes}
+use Rattle.sync_session.proofs.RestLaws.{all-append, all-flat_map}
 
 -- ---- the folder
 
@@ -64,6 +71,8 @@ folder_stays : {L F : Type 0} (contents : F → Option FileMap) (moments : F →
     (link : L) (folder : F) (cause : Stop) → (cause ≡ stop.DeskFault → ⊥) → LeavesFolder contents moments paths faults folder (stopped link folder cause)
 folder_stays contents moments paths faults link folder cause other = record {
   entries = [];
+  place = 0;
+  files = tt;
   written = tt;
   stands = inl refl;
   each_moment = no_moment (StandsAs (option_map (put_all []) (contents folder))) (moments folder) (moments folder) refl;
@@ -81,11 +90,15 @@ cause_refused commit.DeskFault is = refl
 cause_refused commit.NoMemory is = absurd cc
 
 folder_refused : {L F : Type 0} (contents : F → Option FileMap) (moments : F → Moments) (paths : F → Option (List (List ℕ))) (faults : F → ℕ)
-    (taken : List SlotValue) (entries : List EntryValue) (desk : DeskValue F) (link : L) (refusal : CommitFault × F)
-    → Commits contents moments paths faults taken entries desk (Err refusal) → LeavesFolder contents moments paths faults desk.folder
+    (taken : List SlotValue) (entries : List EntryValue) (place : ℕ) (desk : DeskValue F) (link : L) (refusal : CommitFault × F)
+    → AllByRecursion (λ (entry : EntryValue). IsSlotsFile place entry.name) entries
+    → Commits contents moments paths faults taken entries desk (Err refusal)
+    → LeavesFolder contents moments paths faults desk.folder
     (stopped link refusal.1 (stop_of refusal.0))
-folder_refused contents moments paths faults taken entries desk link refusal commits = record {
+folder_refused contents moments paths faults taken entries place desk link refusal files commits = record {
   entries = entries;
+  place = place;
+  files = files;
   written = tt;
   stands = commits.refused;
   each_moment = commits.each_moment;
@@ -99,19 +112,24 @@ folder_refused contents moments paths faults taken entries desk link refusal com
 
 -- it was done, and then the session was to be ended
 folder_closed : {L F : Type 0} (contents : F → Option FileMap) (moments : F → Moments) (paths : F → Option (List (List ℕ))) (faults : F → ℕ)
-    (taken : List SlotValue) (entries : List EntryValue) (desk after : DeskValue F) (reports : Vec DbReport) (answer : Result (Ended L) (Halted L))
+    (taken : List SlotValue) (entries : List EntryValue) (place : ℕ) (desk after : DeskValue F) (reports : Vec DbReport)
+    (answer : Result (Ended L) (Halted L)) → AllByRecursion (λ (entry : EntryValue). IsSlotsFile place entry.name) entries
     → Commits contents moments paths faults taken entries desk (Ok after) → LeavesFolder contents moments paths faults desk.folder
     (closed after.folder reports answer)
-folder_closed contents moments paths faults taken entries desk after reports (Ok ended) commits = record {
+folder_closed contents moments paths faults taken entries place desk after reports (Ok ended) files commits = record {
   entries = entries;
+  place = place;
+  files = files;
   written = commits.written;
   stands = inr (ap (option_map overlay) commits.written);
   each_moment = commits.each_moment;
   cause = record { later = commits.cause.later; rose = λ is. absurd cc; still = λ none. commits.cause.still (λ is. is) };
   same_paths = commits.same_paths;
 }
-folder_closed contents moments paths faults taken entries desk after reports (Err halted) commits = record {
+folder_closed contents moments paths faults taken entries place desk after reports (Err halted) files commits = record {
   entries = entries;
+  place = place;
+  files = files;
   written = tt;
   stands = inr (ap (option_map overlay) commits.written);
   each_moment = commits.each_moment;
@@ -166,16 +184,38 @@ both_stopped talk since fault downs contents moments paths faults requests old n
     subst (LeavesBoth talk since fault downs contents moments paths faults old folder) (sym is)
     (record { link = record { requests = requests; stops = stops }; desk = folder_stays contents moments paths faults new folder cause other })
 
+-- ---- the files of a commit
+
+archive_files : (place : ℕ) (archive : Option DatabaseValue)
+    → AllByRecursion (λ (entry : EntryValue). IsSlotsFile place entry.name) (archive_entries place archive)
+archive_files place None = tt
+archive_files place (Some archive) = (inr (record { role = Archive; name = archive.head.name; is = refl }), tt)
+
+change_files : (place : ℕ) (change : DbChange) → AllByRecursion (λ (entry : EntryValue). IsSlotsFile place entry.name) (db_entries place change)
+change_files place change = (
+  inr (record { role = Rows; name = change.rows.head.name; is = refl }),
+  (inr (record { role = Base; name = change.base.head.name; is = refl }), archive_files place change.archive),
+)
+
+taken_files : (date : ℕ) (user : UserInfo) (planned : List Planned) (ids : List (List ℕ)) (place : ℕ) (slots : List SlotValue)
+    → AllByRecursion (λ (entry : EntryValue). IsSlotsFile place entry.name) (taken_entries date user planned ids place slots)
+unfolding taken_entries
+taken_files date user planned ids place slots =
+    let changes : List DbChange = changes_of date (slot_at slots place).shelves planned ids in
+    let marks : List Marks = marks_of (taken_slots date user planned ids place slots) in
+    all-append (λ (entry : EntryValue). IsSlotsFile place entry.name) (flat_map (db_entries place) changes) (slots_entry marks ∷ [])
+    (all-flat_map (λ (entry : EntryValue). IsSlotsFile place entry.name) (db_entries place) changes (change_files place)) (inl refl, tt)
+
 -- ---- call by call
 
 after_commit : {L F : Type 0} (talk : L → Option Talk) (since : L → L → Type 0) (fault : L → Option LinkFault) (downs : L → ℕ)
     (contents : F → Option FileMap) (moments : F → Moments) (paths : F → Option (List (List ℕ))) (faults : F → ℕ) (itself : (a : L) → since a a) (date : ℕ)
-    (slot : Marks) (prepared : Prepared) (taken : List SlotValue) (entries : List EntryValue) (old : SessionValue L)
+    (slot : Marks) (prepared : Prepared) (taken : List SlotValue) (entries : List EntryValue) (place : ℕ) (old : SessionValue L)
     (desk : DeskValue F) (answer : Result (DeskValue F) (CommitFault × F)) (left : Outcome L F)
-    → Commits contents moments paths faults taken entries desk answer
+    → AllByRecursion (λ (entry : EntryValue). IsSlotsFile place entry.name) entries → Commits contents moments paths faults taken entries desk answer
     → AfterCommit talk since fault downs date slot prepared old answer left
     → LeavesBoth talk since fault downs contents moments paths faults old.link desk.folder left
-after_commit talk since fault downs contents moments paths faults itself date slot prepared taken entries old desk (Ok after) left commits goes =
+after_commit talk since fault downs contents moments paths faults itself date slot prepared taken entries place old desk (Ok after) left files commits goes =
     subst (LeavesBoth talk since fault downs contents moments paths faults old.link desk.folder) (sym goes.is)
     (record {
       link = record {
@@ -184,13 +224,13 @@ after_commit talk since fault downs contents moments paths faults itself date sl
             prepared.planned.items goes.ends.stretches ++ last_acts date old.user slot)) old.link)
             (sym (closed_link after.folder prepared.reports goes.answer)) goes.ends.stops;
       };
-      desk = folder_closed contents moments paths faults taken entries desk after prepared.reports goes.answer commits;
+      desk = folder_closed contents moments paths faults taken entries place desk after prepared.reports goes.answer files commits;
     })
-after_commit talk since fault downs contents moments paths faults itself date slot prepared taken entries old desk (Err refusal) left commits goes =
+after_commit talk since fault downs contents moments paths faults itself date slot prepared taken entries place old desk (Err refusal) left files commits goes =
     subst (LeavesBoth talk since fault downs contents moments paths faults old.link desk.folder) (sym goes)
     (record {
       link = record { requests = []; stops = stops_none talk since fault downs [] old.link old.link refl (itself old.link) (fell_none fault downs old.link) };
-      desk = folder_refused contents moments paths faults taken entries desk old.link refusal commits;
+      desk = folder_refused contents moments paths faults taken entries place desk old.link refusal files commits;
     })
 
 after_news : {L F : Type 0} (talk : L → Option Talk) (since : L → L → Type 0) (fault : L → Option LinkFault) (downs : L → ℕ)
@@ -209,7 +249,8 @@ after_news talk since fault downs contents moments paths faults itself since_mor
     old.link now.link desk.folder left sends.stops sends.does
     (after_commit talk since fault downs contents moments paths faults itself date (marks_in desk) prepared
     (taken_slots date now.user prepared.planned.items (each_of ids.items) desk.picked desk.slots)
-    (taken_entries date now.user prepared.planned.items (each_of ids.items) desk.picked desk.slots) now desk goes.answer left goes.commits goes.goes)
+    (taken_entries date now.user prepared.planned.items (each_of ids.items) desk.picked desk.slots) desk.picked now desk goes.answer left
+    (taken_files date now.user prepared.planned.items (each_of ids.items) desk.picked desk.slots) goes.commits goes.goes)
 after_news talk since fault downs contents moments paths faults itself since_more date prepared old now desk (Err cause) left sends goes =
     both_stopped talk since fault downs contents moments paths faults
     (map text (marking (begun_user old.user) 0x40 ∷ each_acts news_under (saying (marking (begun_user old.user) 0x40 ∷ []) (talk old.link))
@@ -251,7 +292,8 @@ after_preparing talk since fault downs contents moments paths faults itself sinc
     (each_acts (reads_under (shelves_in desk)) (talk old.link) (jobs_met heads wishes desk old.user) prepares.reads.reads.stretches)
     old.link now.link desk.folder left prepares.reads.reads.stops
     (read_whole talk since fault downs heads wishes desk old now prepares.reading prepared prepares.reads prepares.goes)
-    (after_news talk since fault downs contents moments paths faults itself since_more wishes.date prepared now goes.now desk goes.answer left goes.sends goes.goes)
+    (after_news talk since fault downs contents moments paths faults itself since_more wishes.date prepared now goes.now desk goes.answer left
+    goes.sends goes.goes)
 after_preparing talk since fault downs contents moments paths faults itself since_more heads wishes desk old now (Err cause) left prepares goes =
     both_stopped talk since fault downs contents moments paths faults
     (map text (each_acts (reads_under (shelves_in desk)) (talk old.link) (jobs_met heads wishes desk old.user) prepares.reads.reads.stretches))

@@ -1,5 +1,6 @@
 -- What a session leaves of its link and of the desktop's folder, over any link.
 use Rattle.std.specs.Prelude.{◌≡◌, ◌⊎◌, ℕ, List, Option, OnOk, Some, IsErrOf}
+use Rattle.std.specs.List.{AllByRecursion}
 use Rattle.std.specs.Option.{option_map}
 use Rattle.hs_folders.specs.Causes.{HasCause}
 use Rattle.hs_folders.specs.FileMaps.{FileMap}
@@ -7,16 +8,31 @@ use Rattle.hs_folders.specs.Moments.{EachMomentSince, Moments}
 use Rattle.dlp_commands.specs.declared.link.LinkFault.{LinkFault}
 use Rattle.dlp_commands.specs.declared.link.LinkFault.TheVariants.{Down}
 use Rattle.dlp_commands.specs.Links.{WentDown}
+use Rattle.folder_files.specs.FileNames.{desktop_info_file}
 use Rattle.desk_journal.specs.Entries.{EntryValue}
 use Rattle.desk_journal.specs.Overlays.{StandsAs, put_all}
+use Rattle.desk_store.specs.DeskFiles.{slot_file}
+use Rattle.desk_store.specs.declared.role.Role.{Role}
 use Rattle.sync_session.specs.declared.outcome.Outcome.{Outcome}
 use Rattle.sync_session.specs.declared.stop.Stop.TheVariants as stop
 
--- With these files put over the others the folder has what an ended session leaves. One that stopped left it standing for what it stood for,
--- or for that. At each moment since it stood for that. Its failure is told exactly where its count rose.
+-- the file of a database in the slot at a place
+pub record IsDatabaseFile (place : ℕ) (file : List ℕ) : Type 0 where
+  pub role : Role
+  pub name : List ℕ
+  pub is : file ≡ slot_file place role name
+
+-- the information file, or one of a database in that slot
+abbrev pub IsSlotsFile : ℕ → List ℕ → Type 0
+IsSlotsFile place file = (file ≡ desktop_info_file) ⊎ IsDatabaseFile place file
+
+-- With these files put over the others, all of one slot or the information file, the folder has what an ended session leaves. One that
+-- stopped left it standing for what it stood for, or for that. At each moment since it stood for that. Its failure is told exactly where its count rose.
 pub record LeavesFolder {L F : Type 0} (contents : F → Option FileMap) (moments : F → Moments) (paths : F → Option (List (List ℕ))) (faults : F → ℕ)
     (folder : F) (left : Outcome L F) : Type 0 where
   pub entries : List EntryValue
+  pub place : ℕ
+  pub files : AllByRecursion (λ (entry : EntryValue). IsSlotsFile place entry.name) entries
   pub written : OnOk left.end (contents left.folder ≡ option_map (put_all entries) (contents folder))
   pub stands : StandsAs (contents folder) (contents left.folder) ⊎ StandsAs (option_map (put_all entries) (contents folder)) (contents left.folder)
   pub each_moment : EachMomentSince (StandsAs (option_map (put_all entries) (contents folder))) (moments folder) (moments left.folder)
