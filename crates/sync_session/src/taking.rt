@@ -50,11 +50,16 @@ fn planned_change(
         ≡ takes.planned_change plan.now given.now old.now rows.now) }
     ensures fit { IfOk result IsDbChange }
 {
+    let kept = planned_rows(alloc, plan, given)?;
+    let known = planned_base(alloc, plan, given)?;
     let entries = merged_archive(alloc, old, &plan.archive)?;
+    let base = beside(alloc, rows, known)?;
+    let archive = archive_with(alloc, rows, entries)?;
+    let rows = refilled(alloc, rows, kept)?;
     Ok(DbChange {
-        rows: refilled(alloc, rows, planned_rows(alloc, plan, given)?)?,
-        base: beside(alloc, rows, planned_base(alloc, plan, given)?)?,
-        archive: archive_with(alloc, rows, entries)?,
+        rows,
+        base,
+        archive,
     })
 }
 

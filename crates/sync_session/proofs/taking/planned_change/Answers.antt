@@ -4,6 +4,5 @@ use Rattle.sync_session.proofs.taking.planned_change.Goals as goal
 
 pub returns-clause-fit : goal.returns-clause-fit
 returns-clause-fit c =
-    change_fit c.args.rows.now c.in_ok-refilled.field-0 c.in_ok-beside.field-0 c.in_ok-archive_with.field-0 c.in_ok-planned_rows.field-0.items
-    c.in_ok-planned_base.field-0.items c.in_ok-entries.entries.items c.requires.records c.in_ok-refilled.ensures c.in_ok-beside.ensures
-    c.in_ok-archive_with.ensures
+    change_fit c.args.rows.now c.in_ok-rows.rows c.in_ok-base.base c.in_ok-archive.archive c.in_ok-kept.kept.items c.in_ok-known.known.items
+    c.in_ok-entries.entries.items c.requires.records c.in_ok-rows.ensures c.in_ok-base.ensures c.in_ok-archive.ensures
