@@ -1,5 +1,5 @@
 //! Says one request again and again over a line to a server, and prints how many frames that took. The words are how often, and
-//! `lost` where the line loses each twentieth frame.
+//! `lost` where the line loses a frame in twenty: requests, replies, and acknowledgements of both.
 #![tactic(auto)]
 
 ghost use Rattle.std.specs.Prelude.{◌≡◌, true, false};
@@ -53,11 +53,13 @@ fn frames_of(alloc: Global, times: u16, losing: bool) -> Result<usize, AllocErro
     Ok(world.frames().len())
 }
 
-// A script that loses each twentieth frame.
+// A script that loses a frame in twenty. An exchange takes four frames, so the number goes on by one or two now and then,
+// that each of the four is lost in turn.
 fn losing_script(alloc: Global, times: u16) -> Result<Script, AllocError> {
     let mut text = String::new(alloc);
     for number in 0..u32::from(times) {
-        write!(text, "{} lost\n", 20 * (number + 1))?;
+        let turn = number + 1;
+        write!(text, "{} lost\n", 20 * turn + turn % 3)?;
     }
     match read_script(alloc, text.as_bytes()) {
         Ok(script) => Ok(script),
