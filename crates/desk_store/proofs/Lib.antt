@@ -9,5 +9,6 @@ pub mod FileLaws
 pub mod ChangedLaws
 pub mod JournalLaws
 pub mod BearLaws
+pub mod BoundLaws
 pub mod CommitLaws
 pub mod CountLaws

@@ -8,6 +8,7 @@ ghost use Rattle.pdb_values.specs.NamedDatabases.{NamesRise, database_of};
 ghost use Rattle.folder_files.specs.Slots.{AreSlots, users_of as users_in};
 ghost use Rattle.desk_journal.specs.Overlays.{StandsAs, finished, put_all};
 ghost use Rattle.desk_store.specs.declared.role.Role.{Role};
+ghost use Rattle.desk_store.specs.Bounds.{AreBounded};
 ghost use Rattle.desk_store.specs.Changes.{IsDeskChange, MayBear, change_entries, changed, with_commit};
 ghost use Rattle.desk_store.specs.Desks.{IsDesk, IsJudged, IsPickable, IsReadable, Shows, all_rows, place_of};
 ghost use Rattle.desk_store.specs.Finds.{rows_count};
@@ -64,6 +65,8 @@ impl<F: Folder> Desk<F> {
             (F.contents folder)) }
         ensures desk { IfOk result (λ desk. IsDesk (F.contents desk.folder) desk.slots) }
         ensures picked { IfOk result (λ desk. desk.picked ≡ 0) }
+        // Whatever the folder tells, each slot has marks, rows, base rows and archives within the bounds of their types.
+        ensures sound { IfOk result (λ desk. AreBounded desk.slots) }
 
         // Which answer comes.
         ensures readable { IfOk result (λ desk. IfSome (F.contents desk.folder) IsReadable) }

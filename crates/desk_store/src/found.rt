@@ -1,9 +1,11 @@
 // What was found in the files of a folder.
 ghost use Rattle.std.specs.Prelude.{◌≡◌, IfErr, OnOk, length};
+ghost use Rattle.desk_store.specs.Bounds.{KeepsBounds};
 ghost use Rattle.desk_store.specs.DeskFiles.{file_in};
 ghost use Rattle.desk_store.specs.Finds.{Adds, Refuses, with_database_at};
 ghost use Rattle.desk_store.specs.Shelves.{if_bad};
 
+use crate::bounds::see_database;
 use crate::fault::DeskOpenFault;
 use crate::file::DeskFile;
 use crate::file_fault::DeskFileFault;
@@ -24,6 +26,7 @@ pub(crate) fn add_file(
         slots.old.items slots.new.items) }
     ensures refused { IfErr result
         (Refuses name.now (if_bad (file_in (length slots.old.items) name.now bytes.now))) }
+    ensures bounded { OnOk result (KeepsBounds slots.old.items slots.new.items) }
 {
     let file = match read_desk_file(alloc, slots.len(), name, bytes) {
         Ok(file) => file,
@@ -37,10 +40,25 @@ pub(crate) fn add_file(
         Err(DeskFileFault::NoMemory) => return Err(DeskOpenFault::NoMemory),
     };
     match file {
-        DeskFile::Database(slot, role, database) => put_at(slots, slot, role, database)?,
+        DeskFile::Database(slot, role, database) => put_bounded(slots, slot, role, database)?,
         DeskFile::Other => {}
     }
     Ok(())
+}
+
+// Puts a database into the slot at this place, where it is there. A database is within bounds.
+fn put_bounded(
+    slots: &mut Vec<DeskSlot>,
+    place: usize,
+    role: Role,
+    database: Database,
+) -> Result<(), AllocError>
+    ensures put { OnOk result (slots.new.items
+        ≡ with_database_at place role database slots.old.items) }
+    ensures bounded { OnOk result (KeepsBounds slots.old.items slots.new.items) }
+{
+    see_database(&database);
+    put_at(slots, place, role, database)
 }
 
 // Puts a database into the slot at this place, where it is there.

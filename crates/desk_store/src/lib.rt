@@ -12,6 +12,7 @@
 #![tactic(auto)]
 
 mod bearing;
+mod bounds;
 mod change;
 mod commit;
 mod desk;

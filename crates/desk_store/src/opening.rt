@@ -8,13 +8,14 @@ ghost use Rattle.folder_files.specs.FileNames.{has_ending};
 ghost use Rattle.folder_files.specs.InfoFiles.{desktop_in};
 ghost use Rattle.folder_files.specs.Slots.{AreSlots};
 ghost use Rattle.desk_journal.specs.Overlays.{HasNoJournal, StandsAs, finished};
+ghost use Rattle.desk_store.specs.Bounds.{AreBounded};
 ghost use Rattle.desk_store.specs.Desks.{IsDesk, IsJudged, IsReadable, Shows};
 ghost use Rattle.desk_store.specs.Finds.{FindsAll, rows_count};
 ghost use Rattle.desk_store.specs.Shelves.{AreInOrder, first_slots as untouched, marks_of, slots_in, slots_or_first};
 
 use crate::fault::DeskOpenFault;
 use crate::reading::read_files;
-use crate::slot::{DeskSlot, empty_slots, unclaimed_marks};
+use crate::slot::{DeskSlot, empty_slots, see_all_marks, unclaimed_marks};
 use desk_journal::finish_journal;
 use folder_files::{DESKTOP_INFO, InfoFault, read_desktop_info};
 use hs_folders::{Folder, FolderFault};
@@ -32,6 +33,7 @@ pub(crate) fn open_files<F: Folder>(
     ensures finished { IfOk result (λ slots. F.contents folder.new ≡ option_map finished
         (F.contents folder.old)) }
     ensures desk { IfOk result (λ slots. IsDesk (F.contents folder.new) slots.items) }
+    ensures sound { IfOk result (λ slots. AreBounded slots.items) }
     ensures readable { IfOk result (λ slots. IfSome (F.contents folder.new) IsReadable) }
     ensures shown { IfErr result (λ fault. IfSome (F.contents folder.old)
         (λ held. Shows (finished held) fault)) }
@@ -60,12 +62,14 @@ fn read_slots<F: Folder>(alloc: Global, folder: &mut F) -> Result<Vec<DeskSlot>,
         (λ held. FindsAll held [] slots.items)) }
     ensures formed { IfOk result (λ slots. AreSlots (marks_of slots.items)) }
     ensures ordered { IfOk result (λ slots. AreInOrder slots.items) }
+    ensures bounded { IfOk result (λ slots. AreBounded slots.items) }
     ensures unjudged { IfErr result (λ fault. ¬ IsJudged fault) }
     ensures cause { HasCause (F.faults folder.old) (F.faults folder.new)
         (IsErrOf result DeskOpenFault.DeskFault) }
     ensures read { OnlyRead F.contents F.moments F.paths F.faults folder.old folder.new }
 {
     let marks = read_marks(alloc, folder)?;
+    see_all_marks(&marks);
     let slots = empty_slots(alloc, marks)?;
     Ok(slots)
 }

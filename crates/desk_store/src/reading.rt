@@ -3,6 +3,7 @@ ghost use Rattle.std.specs.Prelude.{◌≡◌, ◌≤◌, ◌<◌, [], IfErr, If
 ghost use Rattle.folder_files.specs.Slots.{AreSlots};
 ghost use Rattle.hs_folders.specs.Causes.{HasCause};
 ghost use Rattle.hs_folders.specs.Moments.{OnlyRead};
+ghost use Rattle.desk_store.specs.Bounds.{KeepsBounds};
 ghost use Rattle.desk_store.specs.Shelves.{bad_at, file_at, marks_of, slots_in};
 ghost use Rattle.desk_store.specs.Finds.{AddsAny, FindsAll, KeepsForm, RefusesAmong, RefusesAt, first_bad};
 
@@ -24,6 +25,7 @@ pub(crate) fn read_files<F: Folder>(
     ensures found { IfOk result (λ found. IfSome (F.contents folder.old)
         (λ held. FindsAll held (map string_bytes names.now) found.items)) }
     ensures form { IfOk result (λ found. KeepsForm slots.items found.items) }
+    ensures bounded { IfOk result (λ found. KeepsBounds slots.items found.items) }
     ensures refused { IfErr result (λ fault. IfSome (F.contents folder.old) (λ held.
         RefusesAmong (first_bad held (length (slots_in held)) (map string_bytes names.now)) fault)) }
     ensures cause { HasCause (F.faults folder.old) (F.faults folder.new)
@@ -50,6 +52,7 @@ fn read_file<F: Folder>(
     ensures added { OnOk result (IfSome (F.contents folder.old) (λ held. AddsAny
         (file_at held (length slots.old.items) name.now) slots.old.items slots.new.items)) }
     ensures form { OnOk result (KeepsForm slots.old.items slots.new.items) }
+    ensures bounded { OnOk result (KeepsBounds slots.old.items slots.new.items) }
     ensures refused { IfErr result (λ fault. IfSome (F.contents folder.old)
         (λ held. RefusesAt name.now (bad_at held (length slots.old.items) name.now) fault)) }
     ensures cause { HasCause (F.faults folder.old) (F.faults folder.new)

@@ -2,8 +2,11 @@
 ghost use Rattle.std.specs.Prelude.{◌≡◌, [], IfOk, length, map, slice_get, vec_len};
 ghost use Rattle.std.specs.Option.{option_copied, option_map};
 ghost use Rattle.folder_files.specs.Slots.{users_of as users_in};
+ghost use Rattle.std.specs.List.{AllByRecursion};
+ghost use Rattle.desk_store.specs.Bounds.{AreBoundedMarks};
 ghost use Rattle.desk_store.specs.Shelves.{empty_slot, marks_of as marks_in, new_slot};
 
+use crate::bounds::see_marks;
 use crate::shelves::Shelves;
 use pdb_values::{DbName, Marks, PalmDate, UserName};
 use std::alloc::{AllocError, Global};
@@ -63,6 +66,15 @@ pub(crate) fn unclaimed_marks(pc: u32) -> Marks
         user: 0,
         last: PalmDate::of_seconds(0),
         name: UserName::new(&[]).unwrap(),
+    }
+}
+
+// What is known of users is within bounds.
+pub(crate) fn see_all_marks(slots: &[Marks])
+    ensures { AllByRecursion AreBoundedMarks slots.now }
+{
+    for marks in slots {
+        see_marks(marks);
     }
 }
 

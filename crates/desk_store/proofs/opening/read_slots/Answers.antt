@@ -1,7 +1,9 @@
 -- No slot has a database yet.
 use Rattle.std.proofs.Common.{◌∙◌, ap, sym, subst}
 use Rattle.folder_files.specs.Slots.{AreSlots}
+use Rattle.desk_store.specs.Bounds.{AreBounded}
 use Rattle.desk_store.specs.Shelves.{AreInOrder, marks_of}
+use Rattle.desk_store.proofs.BoundLaws.{bounded_empties}
 use Rattle.desk_store.proofs.FindLaws.{marks_of-empty}
 use Rattle.desk_store.proofs.OpenLaws.{told_empty}
 use Rattle.desk_store.proofs.SlotListLaws.{empty_in_order}
@@ -15,3 +17,7 @@ returns-clause-formed g c = subst AreSlots (sym (ap marks_of c.in_ok-slots.ensur
 
 pub returns-clause-ordered : goal.returns-clause-ordered
 returns-clause-ordered g c = subst AreInOrder (sym c.in_ok-slots.ensures) (empty_in_order c.in_ok-marks.marks.items)
+
+pub returns-clause-bounded : goal.returns-clause-bounded
+returns-clause-bounded g c =
+    subst AreBounded (sym c.in_ok-slots.ensures) (bounded_empties c.in_ok-marks.marks.items (rw c.deref.ensures.value at c.see_all_marks.ensures))

@@ -12,6 +12,7 @@ pub loop-name-init : goal.loop-name-init
 loop-name-init g c = record {
   found = c.requires.start;
   form = same_form c.args.slots.items;
+  bounded = λ each. each;
   read = record { same_contents = refl; same_moments = refl; same_paths = refl; later = omega arith };
   count = refl;
 }
@@ -29,6 +30,7 @@ loop-name-preserved g c =
       found = subst (λ (files : List (List ℕ)). FindsTold before files c.read_file.new.slots.items) (sym (map_more string_bytes c.args.names.now place item c.loop-name-test.true c.name-item.is))
           (told_more before (take place names) (string_bytes item) c.loop-name.found.items c.read_file.new.slots.items few was.found adds);
       form = form_on c.args.slots.items c.loop-name.found.items c.read_file.new.slots.items was.form c.in-Ok.ensures.form;
+      bounded = λ each. c.in-Ok.ensures.bounded (was.bounded each);
       read = record {
         same_contents = c.read_file.ensures.read.same_contents ∙ was.read.same_contents;
         same_moments = c.read_file.ensures.read.same_moments ∙ was.read.same_moments;
