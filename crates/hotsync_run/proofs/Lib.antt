@@ -1,9 +1,8 @@
 pub mod CallLaws
-pub mod ExactLaws
-pub mod IdLaws
+pub mod LineLaws
 pub mod LookLaws
-pub mod NameLaws
 pub mod PrintedLaws
-pub mod ReadyLaws
-pub mod RefusalLaws
-pub mod RowLaws
+pub mod RunLaws
+pub mod TalkLaws
+pub mod TraceLaws
+pub mod WriteLaws

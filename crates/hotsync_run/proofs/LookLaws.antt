@@ -12,7 +12,7 @@ use Rattle.hotsync_run.specs.Told.{SinkTold, SourceTold}
 use Rattle.run_words.specs.declared.command.Look.{Look}
 use Rattle.hotsync_run.specs.declared.status.FileSide.TheVariants.{Source}
 use Rattle.hotsync_run.specs.declared.status.Status.{Status}
-use Rattle.hotsync_run.specs.declared.status.Status.TheVariants.{Done, Usage, BadFile, HandheldFolder, DesktopFolder, SourceRead, TooLong, OutWrite, NoMemory, NotYet}
+use Rattle.hotsync_run.specs.declared.status.Status.TheVariants.{Done, Usage, BadScript, TooLong, BadFile, TooMany, HandheldFolder, DesktopFolder, SourceRead, TraceWrite, OutWrite, NoMemory, LineDown, Unplugged, Aborted, Undetected, OtherUser, TooManyUsers, Limit, NotYet}
 
 -- a database's file breaks no rule
 readable_not_broken : (bytes : List ℕ) (kind : BadKind) (place : ℕ) → IsReadable bytes → IsBroken bytes kind place → ⊥
@@ -40,6 +40,16 @@ look_too_long file bytes SourceRead Failed shows failed long none = absurd (none
 look_too_long file bytes TooLong Failed shows failed long none = inl refl
 look_too_long file bytes OutWrite Failed shows failed long none = let short = shows.short in absurd (omega arith)
 look_too_long file bytes NoMemory Failed shows failed long none = inr refl
+look_too_long file bytes (BadScript _) Failed shows failed long none = absurd shows
+look_too_long file bytes (TooMany _) Failed shows failed long none = absurd shows
+look_too_long file bytes TraceWrite Failed shows failed long none = absurd shows
+look_too_long file bytes (LineDown _) Failed shows failed long none = absurd shows
+look_too_long file bytes (Unplugged _) Failed shows failed long none = absurd shows
+look_too_long file bytes (Aborted _) Failed shows failed long none = absurd shows
+look_too_long file bytes (Undetected _) Failed shows failed long none = absurd shows
+look_too_long file bytes (OtherUser _ _) Failed shows failed long none = absurd shows
+look_too_long file bytes TooManyUsers Failed shows failed long none = absurd shows
+look_too_long file bytes (Limit _) Failed shows failed long none = absurd shows
 look_too_long file bytes NotYet Failed shows failed long none = absurd shows
 
 look_bad_file : (file bytes : List ℕ) (status : Status) (Failed : Type 0) → SourceShows file status bytes → (status ≡ SourceRead → Failed) → (kind : BadKind) (place : ℕ) → IsBroken bytes kind place → ¬ Failed → IsBadStatus Source file kind place status
@@ -54,6 +64,16 @@ look_bad_file file bytes SourceRead Failed shows failed kind place broken none =
 look_bad_file file bytes TooLong Failed shows failed kind place broken none = let short = broken.short in absurd (omega arith)
 look_bad_file file bytes OutWrite Failed shows failed kind place broken none = readable_not_broken bytes kind place shows broken
 look_bad_file file bytes NoMemory Failed shows failed kind place broken none = tt
+look_bad_file file bytes (BadScript _) Failed shows failed kind place broken none = shows
+look_bad_file file bytes (TooMany _) Failed shows failed kind place broken none = shows
+look_bad_file file bytes TraceWrite Failed shows failed kind place broken none = shows
+look_bad_file file bytes (LineDown _) Failed shows failed kind place broken none = shows
+look_bad_file file bytes (Unplugged _) Failed shows failed kind place broken none = shows
+look_bad_file file bytes (Aborted _) Failed shows failed kind place broken none = shows
+look_bad_file file bytes (Undetected _) Failed shows failed kind place broken none = shows
+look_bad_file file bytes (OtherUser _ _) Failed shows failed kind place broken none = shows
+look_bad_file file bytes TooManyUsers Failed shows failed kind place broken none = shows
+look_bad_file file bytes (Limit _) Failed shows failed kind place broken none = shows
 look_bad_file file bytes NotYet Failed shows failed kind place broken none = shows
 
 look_complete : (file bytes : List ℕ) (status : Status) (Failed Out : Type 0) → SourceShows file status bytes → (status ≡ SourceRead → Failed) → (status ≡ OutWrite → Out) → IsReadable bytes → ¬ Failed → ¬ Out → (status ≡ Done) ⊎ (status ≡ NoMemory)
@@ -66,6 +86,16 @@ look_complete file bytes SourceRead Failed Out shows failed out readable none fr
 look_complete file bytes TooLong Failed Out shows failed out readable none free = let short = readable.short in absurd (omega arith)
 look_complete file bytes OutWrite Failed Out shows failed out readable none free = absurd (free (out refl))
 look_complete file bytes NoMemory Failed Out shows failed out readable none free = inr refl
+look_complete file bytes (BadScript _) Failed Out shows failed out readable none free = absurd shows
+look_complete file bytes (TooMany _) Failed Out shows failed out readable none free = absurd shows
+look_complete file bytes TraceWrite Failed Out shows failed out readable none free = absurd shows
+look_complete file bytes (LineDown _) Failed Out shows failed out readable none free = absurd shows
+look_complete file bytes (Unplugged _) Failed Out shows failed out readable none free = absurd shows
+look_complete file bytes (Aborted _) Failed Out shows failed out readable none free = absurd shows
+look_complete file bytes (Undetected _) Failed Out shows failed out readable none free = absurd shows
+look_complete file bytes (OtherUser _ _) Failed Out shows failed out readable none free = absurd shows
+look_complete file bytes TooManyUsers Failed Out shows failed out readable none free = absurd shows
+look_complete file bytes (Limit _) Failed Out shows failed out readable none free = absurd shows
 look_complete file bytes NotYet Failed Out shows failed out readable none free = absurd shows
 
 some_weaken : (P Q : List ℕ → Type 0) (left : Option (List ℕ)) → ((bytes : List ℕ) → P bytes → Q bytes) → IfSome left P → IfSome left Q

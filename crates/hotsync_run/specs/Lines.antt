@@ -2,17 +2,24 @@
 use Rattle.std.specs.Prelude.{ℕ, Bool, if◌then◌else◌, List, [], ◌∷◌, ◌++◌, codes, string_bytes}
 use Rattle.std.specs.List.{flat_map}
 use Rattle.std.specs.Fmt.{decimal}
+use Rattle.std.specs.Int.{to_be_bytes, w32}
 use Rattle.std.specs.declared.alloc.Global.{Global}
+use Rattle.hex.specs.Hex.{encode_lower}
 use Rattle.pdb_values.specs.Stems.{stem_of}
 use Rattle.pdb_files.specs.BadKinds.{word_of}
 use Rattle.pdb_files.specs.declared.bad_kind.BadKind.{BadKind}
 use Rattle.hotsync_run.specs.declared.status.FileSide.{FileSide}
 use Rattle.hotsync_run.specs.declared.status.FileSide.TheVariants.{Handheld, Desktop, Source}
 use Rattle.hotsync_run.specs.declared.status.Status.{Status}
-use Rattle.hotsync_run.specs.declared.status.Status.TheVariants.{Done, Usage, BadFile, HandheldFolder, DesktopFolder, SourceRead, TooLong, OutWrite, NoMemory, NotYet}
-use Rattle.hotsync_run.specs.declared.report.Did.{Did}
-use Rattle.hotsync_run.specs.declared.report.Did.TheVariants.{Synced}
-use Rattle.hotsync_run.specs.declared.report.DbReport.{DbReport}
+use Rattle.hotsync_run.specs.declared.status.Status.TheVariants.{Done, Usage, BadScript, TooLong, BadFile, TooMany, HandheldFolder, DesktopFolder, SourceRead, TraceWrite, OutWrite, NoMemory, LineDown, Unplugged, Aborted, Undetected, OtherUser, TooManyUsers, Limit, NotYet}
+use Rattle.sync_session.specs.declared.report.Counts.{Counts}
+use Rattle.sync_session.specs.declared.report.DbReport.{DbReport}
+use Rattle.sync_session.specs.declared.report.Did.{Did}
+use Rattle.sync_session.specs.declared.report.Did.TheVariants.{Synced, Skipped}
+use Rattle.sync_session.specs.declared.skip.Skip.{Skip}
+use Rattle.sync_session.specs.declared.skip.Skip.TheVariants as skip
+use Rattle.trace_text.specs.declared.frame.End.{End}
+use Rattle.trace_text.specs.declared.frame.End.TheVariants as end
 
 -- the byte that ends a line
 abbrev pub line_feed : List ℕ
@@ -39,17 +46,48 @@ unfoldable pub bad_file_line : FileSide → List ℕ → BadKind → ℕ → Lis
 bad_file_line side name kind place =
     codes "bad file " ++ side_word side ++ codes " " ++ name ++ codes " " ++ word_of kind ++ (codes " " ++ (decimal place ++ line_feed))
 
+-- the word of an end of the line
+abbrev pub end_word : End → List ℕ
+end_word end.Handheld = codes "handheld"
+end_word end.Desktop = codes "desktop"
+
+-- a user in eight digits of lower-case hexadecimal
+abbrev pub user_text : ℕ → List ℕ
+user_text user = encode_lower (to_be_bytes w32 user)
+
+-- a line of words and a number
+unfoldable pub number_line : List ℕ → ℕ → List ℕ
+number_line words number = words ++ (decimal number ++ line_feed)
+
+-- a line of words and another word
+unfoldable pub word_line : List ℕ → List ℕ → List ℕ
+word_line words word = words ++ word ++ line_feed
+
+-- `other user HANDHELD DESKTOP`
+unfoldable pub users_line : ℕ → ℕ → List ℕ
+users_line handheld desktop = codes "other user " ++ user_text handheld ++ codes " " ++ user_text desktop ++ line_feed
+
 -- the line of each refusal; a sink that failed gets none
 abbrev pub refusal_line : Status → List ℕ
 refusal_line Done = ended_line
 refusal_line Usage = usage_line
+refusal_line (BadScript line) = number_line (codes "bad script line ") line
+refusal_line TooLong = codes "source too long" ++ line_feed
 refusal_line (BadFile side name kind place) = bad_file_line side (string_bytes {Z = Global} name) kind place
+refusal_line (TooMany end) = word_line (codes "too many databases ") (end_word end)
 refusal_line HandheldFolder = codes "handheld folder failed" ++ line_feed
 refusal_line DesktopFolder = codes "desktop folder failed" ++ line_feed
 refusal_line SourceRead = codes "source read failed" ++ line_feed
-refusal_line TooLong = codes "source too long" ++ line_feed
+refusal_line TraceWrite = codes "trace write failed" ++ line_feed
 refusal_line OutWrite = []
 refusal_line NoMemory = no_memory_line
+refusal_line (LineDown end) = word_line (codes "line down ") (end_word end)
+refusal_line (Unplugged number) = number_line (codes "unplugged ") number
+refusal_line (Aborted number) = number_line (codes "aborted ") number
+refusal_line (Undetected number) = number_line (codes "undetected ") number
+refusal_line (OtherUser handheld desktop) = users_line handheld desktop
+refusal_line TooManyUsers = codes "too many users" ++ line_feed
+refusal_line (Limit name) = word_line (codes "limit ") (stem_of name)
 refusal_line NotYet = codes "not yet" ++ line_feed
 
 -- how the handheld's database was read
@@ -60,12 +98,30 @@ mode_word fast = if fast then codes " fast" else codes " slow"
 abbrev pub count_text : List ℕ → ℕ → List ℕ
 count_text word count = word ++ decimal count
 
--- `NAME MODE read R replaced P added A purged D archived V rows N`
+-- why a database was left alone
+abbrev pub skip_word : Skip → List ℕ
+skip_word skip.Nothing = codes "nothing"
+skip_word skip.Resource = codes "resource"
+skip_word skip.ReadOnly = codes "read-only"
+skip_word skip.Stream = codes "stream"
+skip_word skip.Differs = codes "differs"
+skip_word skip.Missing = codes "missing"
+
+-- ` MODE read R replaced P added A purged D archived V rows N`
+unfoldable pub counts_text : Counts → List ℕ
+counts_text counts =
+    mode_word counts.fast
+    ++ count_text (codes " read ") counts.read ++ count_text (codes " replaced ") counts.replaced ++ count_text (codes " added ") counts.added
+    ++ count_text (codes " purged ") counts.purged ++ count_text (codes " archived ") counts.archived ++ count_text (codes " rows ") counts.rows
+
+-- this, or ` skipped REASON`
+abbrev pub did_text : Did → List ℕ
+did_text (Synced counts) = counts_text counts
+did_text (Skipped reason) = codes " skipped " ++ skip_word reason
+
+-- what was done with the database of a name, behind its stem
 unfoldable pub database_line : List ℕ → Did → List ℕ
-database_line name (Synced fast read replaced added purged archived rows) =
-    stem_of name ++ mode_word fast
-    ++ count_text (codes " read ") read ++ count_text (codes " replaced ") replaced ++ count_text (codes " added ") added
-    ++ count_text (codes " purged ") purged ++ count_text (codes " archived ") archived ++ count_text (codes " rows ") rows ++ line_feed
+database_line name did = stem_of name ++ did_text did ++ line_feed
 
 -- the line of what was done with one database
 abbrev pub line_of_report : DbReport → List ℕ

@@ -13,7 +13,7 @@ use Rattle.hotsync_run.specs.Printed.{IsPrinted}
 use Rattle.hotsync_run.specs.Told.{SinkTold, SourceTold}
 use Rattle.hotsync_run.specs.declared.status.FileSide.TheVariants.{Source}
 use Rattle.hotsync_run.specs.declared.status.Status.{Status}
-use Rattle.hotsync_run.specs.declared.status.Status.TheVariants.{Done, Usage, BadFile, HandheldFolder, DesktopFolder, SourceRead, TooLong, OutWrite, NoMemory, NotYet}
+use Rattle.hotsync_run.specs.declared.status.Status.TheVariants.{Done, BadFile, SourceRead, TooLong, OutWrite, NoMemory}
 use Rattle.run_words.specs.declared.command.Look.{Look}
 use Rattle.run_words.specs.declared.command.Look.TheVariants.{Check, Show}
 
@@ -46,28 +46,20 @@ pub record IsBroken (bytes : List ℕ) (kind : BadKind) (place : ℕ) : Type 0 w
 -- what the source's bytes show of the cause of each status
 abbrev pub SourceShows : List ℕ → Status → List ℕ → Type 0
 SourceShows file Done bytes = IsReadable bytes
-SourceShows file Usage bytes = ⊥
 SourceShows file (BadFile side name kind place) bytes = (side ≡ Source) × (string_bytes {Z = Global} name ≡ file) × IsBroken bytes kind place
-SourceShows file HandheldFolder bytes = ⊥
-SourceShows file DesktopFolder bytes = ⊥
 SourceShows file SourceRead bytes = ⊤
 SourceShows file TooLong bytes = source_limit < length bytes
 SourceShows file OutWrite bytes = IsReadable bytes
 SourceShows file NoMemory bytes = ⊤
-SourceShows file NotYet bytes = ⊥
+SourceShows file _ bytes = ⊥
 
 -- one of those that a look gives cause for
 abbrev pub IsLookRefusal : Status → Type 0
-IsLookRefusal Done = ⊥
-IsLookRefusal Usage = ⊥
 IsLookRefusal (BadFile _ _ _ _) = ⊤
-IsLookRefusal HandheldFolder = ⊥
-IsLookRefusal DesktopFolder = ⊥
 IsLookRefusal SourceRead = ⊤
 IsLookRefusal TooLong = ⊤
-IsLookRefusal OutWrite = ⊥
 IsLookRefusal NoMemory = ⊤
-IsLookRefusal NotYet = ⊥
+IsLookRefusal _ = ⊥
 
 -- one of those that a source gives cause for
 abbrev pub IsSourceRefusal : Status → Type 0

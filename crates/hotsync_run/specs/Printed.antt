@@ -51,6 +51,10 @@ IsRefusal OutWrite = ⊥
 IsRefusal NoMemory = ⊥
 IsRefusal _ = ⊤
 
+-- the status once its lines were to be printed: it stands, unless memory ran out or what was done could not be said
+abbrev pub IsPrintedStatus : Status → Status → Type 0
+IsPrintedStatus status printed = (printed ≡ status) ⊎ (printed ≡ NoMemory) ⊎ ((status ≡ Done) × (printed ≡ OutWrite))
+
 -- Standard output took exactly the lines of the status, or a first part of them where it failed. It was not opened.
 pub record IsPrinted (IsText : List ℕ → Type 0) (out out_after : SinkTold) (status : Status) : Type 0 where
   pub done : status ≡ Done → TookText IsText out.taken out_after.taken

@@ -1,82 +1,88 @@
--- Which refusals each part of a run answers.
-use Rattle.std.specs.Prelude.{◌⊎◌, ⊤, IfSome, Option}
+-- Why a run is refused before its session, by what was judged first.
+use Rattle.std.specs.Prelude.{◌≡◌, ◌⊎◌, ⊤, ℕ, List, Option, Some, IfSome}
 use Rattle.hs_folders.specs.FileMaps.{FileMap}
-use Rattle.hotsync_run.specs.DesktopFiles.{HasDesktopFile}
-use Rattle.hotsync_run.specs.HandheldFiles.{HandheldShows, IsCarriedIn}
 use Rattle.pdb_values.specs.Databases.{DatabaseValue}
+use Rattle.pdb_values.specs.declared.user.UserInfo.{UserInfo}
+use Rattle.handheld_files.specs.Openings as handheld
+use Rattle.handheld_files.specs.declared.fault.OpenFault.{OpenFault}
+use Rattle.handheld_files.specs.declared.fault.OpenFault.TheVariants as opening
+use Rattle.desk_journal.specs.Overlays.{finished}
+use Rattle.desk_store.specs.Desks as desktop
+use Rattle.desk_store.specs.declared.fault.DeskOpenFault.{DeskOpenFault}
+use Rattle.desk_store.specs.declared.fault.DeskOpenFault.TheVariants as desk_opening
+use Rattle.run_words.specs.Runs.{Run}
+use Rattle.trace_text.specs.declared.frame.End.TheVariants as end
+use Rattle.hotsync_run.specs.Scripts.{HasScript, ScriptRefuses}
+use Rattle.hotsync_run.specs.Told.{CallTold}
+use Rattle.hotsync_run.specs.declared.status.FileSide.TheVariants as side
 use Rattle.hotsync_run.specs.declared.status.Status.{Status}
-use Rattle.hotsync_run.specs.declared.status.Status.TheVariants.{Done, Usage, BadFile, HandheldFolder, DesktopFolder, SourceRead, TooLong, OutWrite, NoMemory, NotYet}
+use Rattle.hotsync_run.specs.declared.status.Status.TheVariants.{BadScript, TooLong, BadFile, TooMany, HandheldFolder, DesktopFolder, SourceRead, TraceWrite, NoMemory}
 
--- one of those that the handheld's folder gives cause for
-abbrev pub IsHandheldRefusal : Status → Type 0
-IsHandheldRefusal Done = ⊥
-IsHandheldRefusal Usage = ⊥
-IsHandheldRefusal (BadFile _ _ _ _) = ⊤
-IsHandheldRefusal HandheldFolder = ⊤
-IsHandheldRefusal DesktopFolder = ⊥
-IsHandheldRefusal SourceRead = ⊥
-IsHandheldRefusal TooLong = ⊥
-IsHandheldRefusal OutWrite = ⊥
-IsHandheldRefusal NoMemory = ⊤
-IsHandheldRefusal NotYet = ⊤
+-- what a refusal to open the handheld's folder makes of a run
+abbrev pub handheld_status : OpenFault → Status
+handheld_status opening.Keeper = HandheldFolder
+handheld_status opening.TooMany = TooMany end.Handheld
+handheld_status (opening.BadFile name kind place) = BadFile side.Handheld name kind place
+handheld_status opening.NoMemory = NoMemory
 
--- one that blames the handheld, whose folder is opened, listed and judged before the desktop is touched
+-- what a refusal to open the desktop's folder makes of a run
+abbrev pub desktop_status : DeskOpenFault → Status
+desktop_status desk_opening.DeskFault = DesktopFolder
+desktop_status desk_opening.TooMany = TooMany end.Desktop
+desktop_status (desk_opening.BadFile name kind place) = BadFile side.Desktop name kind place
+desktop_status desk_opening.NoMemory = NoMemory
+
+-- the handheld's folder shows why it was not opened
+pub record HandheldRefuses (held : Option FileMap) (refusal : Status) : Type 0 where
+  pub fault : OpenFault
+  pub is : refusal ≡ handheld_status fault
+  pub shown : IfSome held (handheld.Shows fault)
+
+-- the handheld's folder stands for databases and a user
+pub record HasHandheld (held : Option FileMap) : Type 0 where
+  pub databases : List DatabaseValue
+  pub user : UserInfo
+  pub holds : IfSome held (λ files. handheld.HoldsAll files databases user)
+
+-- the desktop's folder, its journal finished, shows why it was not opened
+pub record DesktopRefuses (kept : Option FileMap) (refusal : Status) : Type 0 where
+  pub fault : DeskOpenFault
+  pub is : refusal ≡ desktop_status fault
+  pub shown : IfSome kept (λ files. desktop.Shows (finished files) fault)
+
+-- the desktop's folder, its journal finished, stands for a desktop
+abbrev pub HasDesktop : Option FileMap → Type 0
+HasDesktop kept = IfSome kept (λ files. desktop.IsReadable (finished files))
+
+-- one of those that opening a trace gives cause for
+abbrev pub IsTraceRefusal : Status → Type 0
+IsTraceRefusal refusal = (refusal ≡ TraceWrite) ⊎ (refusal ≡ NoMemory)
+
+-- the words name a trace, and it was not opened
+pub record TraceRefuses (path : Option (List ℕ)) (refusal : Status) : Type 0 where
+  pub name : List ℕ
+  pub named : path ≡ Some name
+  pub is : IsTraceRefusal refusal
+
+-- The script is judged first, then the handheld's folder, then the desktop's, and last the trace is opened. Each is judged where all
+-- that comes before it is good.
+abbrev pub IsRefused : Run → CallTold → Status → Type 0
+IsRefused run before refusal =
+    ScriptRefuses run.script before.source.left refusal
+    ⊎ (HasScript run.script before.source.left × (HandheldRefuses before.palm.contents refusal
+    ⊎ (HasHandheld before.palm.contents × (DesktopRefuses before.desk.contents refusal
+    ⊎ (HasDesktop before.desk.contents × TraceRefuses run.trace refusal)))))
+
+-- one that blames the script, which is judged before a folder is touched
+abbrev pub BlamesScript : Status → Type 0
+BlamesScript TooLong = ⊤
+BlamesScript (BadScript _) = ⊤
+BlamesScript SourceRead = ⊤
+BlamesScript _ = ⊥
+
+-- one that blames the handheld, whose folder is opened and judged before the desktop's is touched
 abbrev pub BlamesHandheld : Status → Type 0
-BlamesHandheld (BadFile _ _ _ _) = ⊤
+BlamesHandheld (BadFile side.Handheld _ _ _) = ⊤
+BlamesHandheld (TooMany end.Handheld) = ⊤
 BlamesHandheld HandheldFolder = ⊤
 BlamesHandheld _ = ⊥
-
--- one of those that the desktop's folder gives cause for
-abbrev pub IsDesktopRefusal : Status → Type 0
-IsDesktopRefusal Done = ⊥
-IsDesktopRefusal Usage = ⊥
-IsDesktopRefusal (BadFile _ _ _ _) = ⊥
-IsDesktopRefusal HandheldFolder = ⊥
-IsDesktopRefusal DesktopFolder = ⊤
-IsDesktopRefusal SourceRead = ⊥
-IsDesktopRefusal TooLong = ⊥
-IsDesktopRefusal OutWrite = ⊥
-IsDesktopRefusal NoMemory = ⊤
-IsDesktopRefusal NotYet = ⊤
-
--- one of those that a run gives cause for once its words are read
-abbrev pub IsRunRefusal : Status → Type 0
-IsRunRefusal Done = ⊥
-IsRunRefusal Usage = ⊥
-IsRunRefusal (BadFile _ _ _ _) = ⊤
-IsRunRefusal HandheldFolder = ⊤
-IsRunRefusal DesktopFolder = ⊤
-IsRunRefusal SourceRead = ⊥
-IsRunRefusal TooLong = ⊥
-IsRunRefusal OutWrite = ⊥
-IsRunRefusal NoMemory = ⊤
-IsRunRefusal NotYet = ⊤
-
--- the handheld's one database is carried
-pub record HasCarried (held : FileMap) : Type 0 where
-  pub database : DatabaseValue
-  pub carried : IsCarriedIn held database
-
--- the handheld's one database is carried, and the desktop is not empty, where it tells what it holds
-pub record IsOccupied (held : FileMap) (desktop : Option FileMap) : Type 0 where
-  pub database : DatabaseValue
-  pub carried : IsCarriedIn held database
-  pub occupied : IfSome desktop HasDesktopFile
-
--- what the first path does not carry yet, on the handheld or else on the desktop
-abbrev pub IsMore : FileMap → Option FileMap → Type 0
-IsMore held desktop = HandheldShows NotYet held ⊎ IsOccupied held desktop
-
--- what the two folders show of the cause of each refusal, where they tell what they hold: the desktop is blamed once the
--- handheld's one database was read and is carried
-abbrev pub RunShows : Option FileMap → Option FileMap → Status → Type 0
-RunShows handheld desktop Done = ⊥
-RunShows handheld desktop Usage = ⊥
-RunShows handheld desktop (BadFile side file kind place) = IfSome handheld (HandheldShows (BadFile side file kind place))
-RunShows handheld desktop HandheldFolder = ⊤
-RunShows handheld desktop DesktopFolder = IfSome handheld HasCarried
-RunShows handheld desktop SourceRead = ⊥
-RunShows handheld desktop TooLong = ⊥
-RunShows handheld desktop OutWrite = ⊥
-RunShows handheld desktop NoMemory = ⊤
-RunShows handheld desktop NotYet = IfSome handheld (λ held. IsMore held desktop)

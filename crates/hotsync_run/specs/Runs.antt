@@ -1,84 +1,107 @@
--- What holds of every run: the folders and standard output before it, and all of them after it.
-use Rattle.std.specs.Prelude.{◌≡◌, ◌⊎◌, ⊤, ℕ, List, [], Option, Some, IfSome}
+-- What holds of every run: all objects before it, and all of them after it.
+use Rattle.std.specs.Prelude.{◌≡◌, ◌⊎◌, List, IfSome}
+use Rattle.std.specs.Option.{option_map}
 use Rattle.hs_folders.specs.Causes.{Rose}
-use Rattle.hs_folders.specs.FileMaps.{FileMap}
-use Rattle.hs_folders.specs.Moments.{EachMomentSince, IsBeforeOrAfter}
-use Rattle.pdb_values.specs.Databases.{DatabaseValue}
-use Rattle.pdb_files.specs.declared.bad_kind.BadKind.{BadKind}
-use Rattle.hotsync_run.specs.BadFiles.{IsBadStatus}
-use Rattle.hotsync_run.specs.Copies.{IsCopied}
-use Rattle.hotsync_run.specs.DesktopFiles.{IsEmptyDesktop}
-use Rattle.hotsync_run.specs.HandheldFiles.{FirstFails, IsCarriedIn, IsDatabaseFile}
-use Rattle.hotsync_run.specs.Lines.{done_lines}
-use Rattle.hotsync_run.specs.Opening.{Opens, OpensAtMost}
-use Rattle.hotsync_run.specs.Printed.{IsPrinted, IsRefusal}
-use Rattle.hotsync_run.specs.Refusals.{IsMore, RunShows}
-use Rattle.hotsync_run.specs.Told.{FolderTold, SinkTold}
+use Rattle.hs_folders.specs.Moments.{EachMomentSince}
+use Rattle.palm_device.specs.Devices.{Device}
+use Rattle.palm_device.specs.Handles.{no_handles}
+use Rattle.trace_text.specs.TraceLines.{trace_text}
+use Rattle.line_script.specs.Rules.{RuleValue}
+use Rattle.handheld_files.specs.Openings.{HoldsAll}
+use Rattle.desk_journal.specs.Entries.{EntryValue}
+use Rattle.desk_journal.specs.Overlays.{StandsAs, finished, put_all}
+use Rattle.desk_store.specs.Desks.{IsDesk}
+use Rattle.desk_store.specs.Shelves.{SlotValue}
 use Rattle.run_words.specs.Runs.{Run}
-use Rattle.hotsync_run.specs.declared.report.DbReport.{DbReport}
-use Rattle.hotsync_run.specs.declared.status.FileSide.TheVariants.{Handheld}
+use Rattle.hotsync_run.specs.Causes.{ByEnd, HasBegun}
+use Rattle.hotsync_run.specs.LineRuns.{frames_in}
+use Rattle.hotsync_run.specs.Lines.{done_lines}
+use Rattle.hotsync_run.specs.Opening.{Opens, OpensAtMost, OpensGiven, OpensGivenAtMost}
+use Rattle.hotsync_run.specs.Printed.{IsPrinted}
+use Rattle.hotsync_run.specs.Refusals.{IsRefused}
+use Rattle.hotsync_run.specs.Reports.{IsNotStarted}
+use Rattle.hotsync_run.specs.Scripts.{IsScripted}
+use Rattle.hotsync_run.specs.Talks.{Talked}
+use Rattle.hotsync_run.specs.Told.{CallTold, FolderTold, SinkTold}
+use Rattle.hotsync_run.specs.Traces.{IsTraced}
+use Rattle.hotsync_run.specs.declared.report.Report.{Report}
+use Rattle.hotsync_run.specs.declared.report.SessionEnd.{SessionEnd}
+use Rattle.hotsync_run.specs.declared.report.SessionEnd.TheVariants.{Ended}
 use Rattle.hotsync_run.specs.declared.status.Status.{Status}
-use Rattle.hotsync_run.specs.declared.status.Status.TheVariants.{Done, HandheldFolder, DesktopFolder, OutWrite, NoMemory, NotYet}
+use Rattle.hotsync_run.specs.declared.status.Status.TheVariants.{HandheldFolder, DesktopFolder, SourceRead, TraceWrite, NoMemory}
 
--- what the folders show of the cause of each status
-abbrev pub Shows : Option FileMap → Option FileMap → Status → Type 0
-Shows handheld desktop Done = ⊤
-Shows handheld desktop OutWrite = ⊤
-Shows handheld desktop refusal = RunShows handheld desktop refusal
+-- ---- a run that sent nothing
 
--- everything is there that a run needs: one database that is carried, and an empty desktop
-pub record IsReady (handheld desktop : Option FileMap) : Type 0 where
-  pub held : FileMap
-  pub on_handheld : handheld ≡ Some held
-  pub database : DatabaseValue
-  pub carried : IsCarriedIn held database
-  pub kept : FileMap
-  pub on_desktop : desktop ≡ Some kept
-  pub empty : IsEmptyDesktop kept
+-- the handheld's folder was only read
+pub record StaysAsItWas (before after : FolderTold) : Type 0 where
+  pub contents : after.contents ≡ before.contents
+  pub moments : after.moments ≡ before.moments
 
--- the handheld's one file fails this test first
-pub record HasBadFile (handheld : Option FileMap) (name : List ℕ) (kind : BadKind) (place : ℕ) : Type 0 where
-  pub held : FileMap
-  pub on_handheld : handheld ≡ Some held
-  pub bytes : List ℕ
-  pub file : IsDatabaseFile held name bytes
-  pub fails : FirstFails name bytes kind place
+-- the desktop's folder stands for what it stood for, at each moment; a journal that was left may have been finished
+pub record StandsAsItDid (before after : FolderTold) : Type 0 where
+  pub stands : StandsAs before.contents after.contents
+  pub each_moment : EachMomentSince (StandsAs before.contents) before.moments after.moments
 
--- the folders hold what the first path does not carry yet
-pub record HoldsMore (handheld desktop : Option FileMap) : Type 0 where
-  pub held : FileMap
-  pub on_handheld : handheld ≡ Some held
-  pub kept : FileMap
-  pub on_desktop : desktop ≡ Some kept
-  pub more : IsMore held (Some kept)
+-- Memory ran out, or what is judged before a session refuses the run. Both sides stand for what they stood for, and the trace took nothing.
+pub record SentNothing (run : Run) (before after : CallTold) (status : Status) (report : Report) : Type 0 where
+  pub judged : (status ≡ NoMemory) ⊎ IsRefused run before status
+  pub report_is : IsNotStarted report
+  pub handheld : StaysAsItWas before.palm after.palm
+  pub desktop : StandsAsItDid before.desk after.desk
+  pub trace : after.trace.taken ≡ before.trace.taken
 
--- What is known of a run. A clause on what an object holds speaks where that object tells it.
-pub record IsRun (run : Run) (palm palm_after desk desk_after : FolderTold) (out out_after : SinkTold) (status : Status) (databases : List DbReport) : Type 0 where
-  -- Each status shows its cause: in the files, or in a count that rose.
-  pub shown : Shows palm.contents desk.contents status
-  pub handheld_failed : status ≡ HandheldFolder → Rose palm.faults palm_after.faults
-  pub desktop_failed : status ≡ DesktopFolder → Rose desk.faults desk_after.faults
-  -- A run that was done left the rows of the handheld's database on the desktop, also where that could not be said.
-  pub done : status ≡ Done → IfSome palm.contents (λ held. IsCopied held run.date desk.contents desk_after.contents databases)
-  pub done_unsaid : status ≡ OutWrite → IfSome palm.contents (λ held. IsCopied held run.date desk.contents desk_after.contents databases)
-  pub nothing_reported : IsRefusal status → databases ≡ []
-  -- The handheld is as it was; the desktop too after a refusal, and else as it was or with the rows.
-  pub handheld_stays : palm_after.contents ≡ palm.contents
-  pub handheld_moments : palm_after.moments ≡ palm.moments
-  pub desktop_stays : IsRefusal status → desk_after.contents ≡ desk.contents
-  pub desktop_after : (desk_after.contents ≡ desk.contents) ⊎ IfSome palm.contents (λ held. IsCopied held run.date desk.contents desk_after.contents databases)
-  pub each_moment : EachMomentSince (IsBeforeOrAfter desk.contents desk_after.contents) desk.moments desk_after.moments
-  -- Each folder was opened at the path that the words give it, or not at all.
-  pub handheld_path : OpensAtMost run.handheld palm.paths palm_after.paths
-  pub handheld_opened : status ≡ Done → Opens run.handheld palm.paths palm_after.paths
-  pub desktop_path : OpensAtMost run.desktop desk.paths desk_after.paths
-  pub desktop_opened : status ≡ Done → Opens run.desktop desk.paths desk_after.paths
-  -- Standard output took the lines of the databases and `ended`, or the line of a refusal.
-  pub printed : IsPrinted (λ text. text ≡ done_lines databases) out out_after status
-  -- Where no object fails, what is there decides: the bad file, what is not carried, or a run that is done.
-  pub bad_file : (name : List ℕ) (kind : BadKind) (place : ℕ) → HasBadFile palm.contents name kind place
-      → ¬ Rose palm.faults palm_after.faults → ¬ Rose desk.faults desk_after.faults → ¬ Rose out.faults out_after.faults → IsBadStatus Handheld name kind place status
-  pub not_yet : HoldsMore palm.contents desk.contents
-      → ¬ Rose palm.faults palm_after.faults → ¬ Rose desk.faults desk_after.faults → ¬ Rose out.faults out_after.faults → (status ≡ NotYet) ⊎ (status ≡ NoMemory)
-  pub complete : IsReady palm.contents desk.contents
-      → ¬ Rose palm.faults palm_after.faults → ¬ Rose desk.faults desk_after.faults → ¬ Rose out.faults out_after.faults → (status ≡ Done) ⊎ (status ≡ NoMemory)
+-- ---- a run with a session
+
+-- The desktop's folder, its journal finished, and then changed once at most: an ended session has put some files over the others. One that stopped
+-- left it standing for what it stood for at first, or for that, as it did at each moment.
+pub record DesktopRan (before after : FolderTold) (end : SessionEnd) : Type 0 where
+  pub entries : List EntryValue
+  pub written : end ≡ Ended → after.contents ≡ option_map (put_all entries) (option_map finished before.contents)
+  pub stands : StandsAs before.contents after.contents ⊎ StandsAs (option_map (put_all entries) (option_map finished before.contents)) after.contents
+  pub each_moment : EachMomentSince (λ told. StandsAs before.contents told ⊎ StandsAs (option_map (put_all entries) (option_map finished before.contents)) told)
+      before.moments after.moments
+
+-- Both sides before it, as far as the folders tell them: the handheld's databases and user, without an open database, and the desktop's slots once a
+-- journal that was left is finished; the script; and all that is known of the session between them.
+pub record SessionRan (run : Run) (before after : CallTold) (status : Status) (report : Report) : Type 0 where
+  pub rules : List RuleValue
+  pub scripted : IsScripted run.script before.source.left rules
+  pub device : Device
+  pub handheld : IfSome before.palm.contents (λ held. HoldsAll held device.databases device.user)
+  pub closed : device.handles ≡ no_handles
+  pub slots : List SlotValue
+  pub desktop : IsDesk (option_map finished before.desk.contents) slots
+  pub changed : DesktopRan before.desk after.desk report.end
+  pub talked : Talked run rules device before.palm after.palm status report
+  pub traced : IsTraced run.trace (trace_text (frames_in report)) before.trace after.trace status
+
+-- ---- every run
+
+-- a status that blames an object shows that object's count rise
+pub record BlamesByCount (before after : CallTold) (status : Status) : Type 0 where
+  pub source : status ≡ SourceRead → Rose before.source.faults after.source.faults
+  pub handheld : status ≡ HandheldFolder → Rose before.palm.faults after.palm.faults
+  pub desktop : status ≡ DesktopFolder → Rose before.desk.faults after.desk.faults
+  pub trace : status ≡ TraceWrite → Rose before.trace.faults after.trace.faults
+
+-- Each object was opened at the path that the words give it, or not at all, and where a session began it was.
+pub record OpensNamed (run : Run) (before after : CallTold) (end : SessionEnd) : Type 0 where
+  pub handheld : OpensAtMost run.handheld before.palm.paths after.palm.paths
+  pub desktop : OpensAtMost run.desktop before.desk.paths after.desk.paths
+  pub script : OpensGivenAtMost run.script before.source.paths after.source.paths
+  pub trace : OpensGivenAtMost run.trace before.trace.paths after.trace.paths
+  pub handheld_opened : HasBegun end → Opens run.handheld before.palm.paths after.palm.paths
+  pub desktop_opened : HasBegun end → Opens run.desktop before.desk.paths after.desk.paths
+  pub script_opened : HasBegun end → OpensGiven run.script before.source.paths after.source.paths
+  pub trace_opened : HasBegun end → OpensGiven run.trace before.trace.paths after.trace.paths
+
+-- What is known of a run before its lines are printed. A clause on what an object holds speaks where that object tells it.
+pub record HasRun (run : Run) (before after : CallTold) (status : Status) (report : Report) : Type 0 where
+  pub shown : ByEnd report.end (SentNothing run before after status report) (SessionRan run before after status report)
+  pub blames : BlamesByCount before after status
+  pub opened : OpensNamed run before after report.end
+
+-- What is known of a run: this, and that standard output took exactly the lines of its status.
+pub record IsRun (run : Run) (before after : CallTold) (out out_after : SinkTold) (status : Status) (report : Report) : Type 0 where
+  pub ran : HasRun run before after status report
+  pub printed : IsPrinted (λ text. text ≡ done_lines report.databases.items) out out_after status

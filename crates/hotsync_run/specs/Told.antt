@@ -22,6 +22,13 @@ pub record SourceTold : Type 0 where
   pub paths : Option (List (List ℕ))
   pub faults : ℕ
 
+-- what the objects of a call tell before it, or after it, beside standard output
+pub record CallTold : Type 0 where
+  pub palm : FolderTold
+  pub desk : FolderTold
+  pub source : SourceTold
+  pub trace : SinkTold
+
 -- what these tell of a folder, by the members of its trait
 abbrev pub folder_told : {F : Type 0} → (F → Option FileMap) → (F → Moments) → (F → Option (List (List ℕ))) → (F → ℕ) → F → FolderTold
 folder_told contents moments paths faults folder = record { contents = contents folder; moments = moments folder; paths = paths folder; faults = faults folder }

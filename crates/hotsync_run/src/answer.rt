@@ -1,8 +1,10 @@
 // What a call hands back.
 ghost use Rattle.std.specs.Prelude.{◌≡◌};
+ghost use Rattle.hotsync_run.specs.Reports.{IsNotStarted};
 
-use crate::report::{DbReport, Report, SessionEnd};
+use crate::report::Report;
 use crate::status::Status;
+use std::alloc::Global;
 
 /// The status, the report and both folders, which come back with every status.
 #[derive(Drop)]
@@ -15,19 +17,15 @@ pub struct Answer<H, D> {
 
 impl<H, D> Answer<H, D> {
     /// The answer of a call that sent nothing over a line.
-    pub fn new(status: Status, databases: Vec<DbReport>, device: H, desk: D) -> Answer<H, D>
+    pub fn not_started(alloc: Global, status: Status, device: H, desk: D) -> Answer<H, D>
         ensures status { result.status ≡ status }
-        ensures databases { result.report.databases ≡ databases }
-        ensures end { result.report.end ≡ SessionEnd.NotStarted }
+        ensures report { IsNotStarted result.report }
         ensures device { result.device ≡ device }
         ensures desk { result.desk ≡ desk }
     {
         Answer {
             status,
-            report: Report {
-                end: SessionEnd::NotStarted,
-                databases,
-            },
+            report: Report::not_started(alloc),
             device,
             desk,
         }

@@ -1,7 +1,8 @@
 // The top call.
 ghost use Rattle.std.specs.Prelude.{◌≡◌, map, string_bytes};
-ghost use Rattle.hotsync_run.specs.Calls.{IsCall, IsLookAt, IsSync};
-ghost use Rattle.hotsync_run.specs.Refusals.{BlamesHandheld};
+ghost use Rattle.hotsync_run.specs.Calls.{IsCall, IsSync, ReadsSource, WritesTrace};
+ghost use Rattle.hotsync_run.specs.Refusals.{BlamesHandheld, BlamesScript};
+ghost use Rattle.hotsync_run.specs.Reports.{IsNotStarted};
 ghost use Rattle.hotsync_run.specs.Told.{folder_told, sink_told, source_told};
 ghost use Rattle.run_words.specs.Commands.{task_of};
 
@@ -10,7 +11,7 @@ use crate::look::look_at;
 use crate::packets::print_packets;
 use crate::printing::print_refusal;
 use crate::report::SessionEnd;
-use crate::run::run_asked;
+use crate::run::run_folders;
 use crate::status::Status;
 use hs_folders::{Folder, Sink, Source};
 use run_clap::{Command, WordsFault, read_command};
@@ -33,49 +34,55 @@ pub fn hotsync<H: Folder, D: Folder, S: Source, T: Sink, O: Sink>(
           palm = folder_told H.contents H.moments H.paths H.faults device;
           desk = folder_told D.contents D.moments D.paths D.faults desk;
           source = source_told S.left S.paths S.faults source.old;
-          out = sink_told O.taken O.paths O.faults out.old;
+          trace = sink_told T.taken T.paths T.faults trace.old;
         })
         (record {
           palm = folder_told H.contents H.moments H.paths H.faults result.device;
           desk = folder_told D.contents D.moments D.paths D.faults result.desk;
           source = source_told S.left S.paths S.faults source.new;
-          out = sink_told O.taken O.paths O.faults out.new;
+          trace = sink_told T.taken T.paths T.faults trace.new;
         })
-        result.status result.report.databases.items }
+        (sink_told O.taken O.paths O.faults out.old)
+        (sink_told O.taken O.paths O.faults out.new)
+        result.status result.report }
 
-    // The handheld is judged first: a status that blames it leaves the desktop untouched.
-    ensures handheld_first { BlamesHandheld result.status → result.desk ≡ desk }
+    // Nothing goes over a line but in a run.
+    ensures report { ¬ IsSync (task_of (map string_bytes words.now)) → IsNotStarted result.report }
 
-    // Nothing goes over a line yet.
-    ensures end { result.report.end ≡ SessionEnd.NotStarted }
+    // What is judged later is not touched: the folders where the script is blamed, the desktop's where the handheld's is.
+    ensures script_first { IsSync (task_of (map string_bytes words.now))
+        → BlamesScript result.status → (result.device ≡ device) × (result.desk ≡ desk) }
+    ensures handheld_first { result.report.end ≡ SessionEnd.NotStarted
+        → BlamesHandheld result.status → result.desk ≡ desk }
 
     // What the words don't name is not touched.
     ensures device { ¬ IsSync (task_of (map string_bytes words.now)) → result.device ≡ device }
     ensures desk { ¬ IsSync (task_of (map string_bytes words.now)) → result.desk ≡ desk }
-    ensures source { ¬ IsLookAt (task_of (map string_bytes words.now)) → source.new ≡ source.old }
-    ensures trace { trace.new ≡ trace.old }
+    ensures source { ¬ ReadsSource (task_of (map string_bytes words.now)) → source.new
+        ≡ source.old }
+    ensures trace { ¬ WritesTrace (task_of (map string_bytes words.now)) → trace.new ≡ trace.old }
 {
     match read_command(alloc, words) {
-        Ok(Command::Run(run)) => run_asked(alloc, &run, device, desk, out),
+        Ok(Command::Run(run)) => run_folders(alloc, &run, device, desk, source, trace, out),
         Ok(Command::Look(look)) => {
             let status = look_at(alloc, look, source, out);
-            Answer::new(status, Vec::new(alloc), device, desk)
+            Answer::not_started(alloc, status, device, desk)
         }
         Ok(Command::Packet(packet)) => {
             let status = print_packets(alloc, packet.hex, out);
-            Answer::new(status, Vec::new(alloc), device, desk)
+            Answer::not_started(alloc, status, device, desk)
         }
         Ok(Command::Make(_)) => {
             let status = print_refusal(alloc, Status::NotYet, out);
-            Answer::new(status, Vec::new(alloc), device, desk)
+            Answer::not_started(alloc, status, device, desk)
         }
         Err(WordsFault::Usage) => {
             let status = print_refusal(alloc, Status::Usage, out);
-            Answer::new(status, Vec::new(alloc), device, desk)
+            Answer::not_started(alloc, status, device, desk)
         }
         Err(WordsFault::NoMemory) => {
             let status = print_refusal(alloc, Status::NoMemory, out);
-            Answer::new(status, Vec::new(alloc), device, desk)
+            Answer::not_started(alloc, status, device, desk)
         }
     }
 }

@@ -1,28 +1,33 @@
 //! A synchronisation as one call: the words of a command line, a handheld's folder, a desktop's
 //! folder and the streams beside them go in; the status, a report and both folders come out.
 //!
-//! What a run does today is the first path: the live records of the one database on the handheld
-//! come to an empty desktop. Beside it, a database file is counted or shown, and so are the packets
-//! in captured bytes.
+//! A run judges the line's script, the handheld's folder and the desktop's, in this order, and opens the
+//! trace. Then both sides have a whole session over a line that does with each frame what the script says.
+//! Beside it, a database file is counted or shown, and so are the packets in captured bytes.
 #![tactic(auto)]
 
 mod answer;
 mod bad_file;
 mod command;
-mod desktop;
-mod handheld;
+mod left;
 mod look;
 mod packets;
 mod printing;
 mod program;
 mod report;
-mod rows;
+mod reporting;
 mod run;
+mod script;
+mod sides;
 mod source;
 mod status;
+mod talk;
+mod tracing;
+mod wishes;
 
 pub use answer::Answer;
 pub use command::hotsync;
 pub use program::{Ended, run_on_system, run_program};
-pub use report::{DbReport, Did, Report, SessionEnd};
+pub use report::{Report, SessionEnd};
 pub use status::{FileSide, Status};
+pub use sync_session::{Counts, DbReport, Did, Skip};

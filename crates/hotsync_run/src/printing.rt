@@ -1,15 +1,17 @@
 // The lines that a call prints, and the status that stands once they are printed.
 ghost use Rattle.std.specs.Prelude.{◌≡◌, ◌≢◌, ◌⊎◌, ◌≤◌, ◌++◌, IfOk, OnOk, string_bytes};
-ghost use Rattle.hotsync_run.specs.Lines.{bad_file_line as line_of_bad_file, count_text, database_line as line_of_database, done_lines as lines_of_done, mode_word as word_of_mode, no_memory_line, refusal_line as line_of_refusal};
-ghost use Rattle.hotsync_run.specs.Printed.{IsPrinted, IsRefusal};
+ghost use Rattle.hotsync_run.specs.Lines.{bad_file_line as line_of_bad_file, count_text, counts_text as text_of_counts, database_line as line_of_database, did_text as text_of_did, done_lines as lines_of_done, end_word as word_of_end, mode_word as word_of_mode, no_memory_line, number_line as line_of_number, refusal_line as line_of_refusal, skip_word, users_line as line_of_users, word_line as line_of_word};
+ghost use Rattle.hotsync_run.specs.Printed.{IsPrinted, IsPrintedStatus, IsRefusal};
 ghost use Rattle.hs_folders.specs.Appends.{AppendsPrefix};
 
-use crate::report::{DbReport, Did};
 use crate::status::{FileSide, Status};
 use hs_folders::{Sink, SinkFault};
 use pdb_files::BadKind;
+use pdb_values::DbName;
 use std::alloc::{AllocError, Global};
 use std::fmt::Write;
+use sync_session::{Counts, DbReport, Did, Skip};
+use trace_text::End;
 
 /// How the program is called.
 const USAGE: &str =
@@ -17,9 +19,29 @@ const USAGE: &str =
 
 const NO_MEMORY: &[u8] = b"no memory\n";
 
-/// Prints a line each database and then `ended`. A failing sink makes the status `OutWrite`.
+/// Prints the lines of a status: those of the databases and `ended`, or that of a refusal.
+pub fn print_status<O: Sink>(
+    alloc: Global,
+    status: Status,
+    databases: &[DbReport],
+    out: &mut O,
+) -> Status
+    requires { status ≢ Status.OutWrite }
+    ensures status { IsPrintedStatus status result }
+    ensures printed { IsPrinted (λ text. text ≡ lines_of_done databases.now)
+        (record { taken = O.taken out.old; paths = O.paths out.old; faults = O.faults out.old })
+        (record { taken = O.taken out.new; paths = O.paths out.new; faults = O.faults out.new }) result }
+    ensures count { O.faults out.old ≤ O.faults out.new }
+{
+    match status {
+        Status::Done => print_done(alloc, databases, out),
+        refusal => print_refusal(alloc, refusal, out),
+    }
+}
+
+// Prints a line each database and then `ended`. A failing sink makes the status `OutWrite`.
 #[tactic(auto, using(crate::proofs::PrintedLaws::memory_printed))]
-pub fn print_done<O: Sink>(alloc: Global, databases: &[DbReport], out: &mut O) -> Status
+fn print_done<O: Sink>(alloc: Global, databases: &[DbReport], out: &mut O) -> Status
     ensures status { (result ≡ Status.Done) ⊎ (result ≡ Status.OutWrite) ⊎
         (result ≡ Status.NoMemory) }
     ensures printed { IsPrinted (λ text. text ≡ lines_of_done databases.now)
@@ -117,25 +139,59 @@ fn database_line(alloc: Global, report: &DbReport) -> Result<String, AllocError>
     ensures { IfOk result (λ line. string_bytes line
         ≡ line_of_database report.now.name report.now.did) }
 {
-    let Did::Synced {
-        fast,
-        read,
-        replaced,
-        added,
-        purged,
-        archived,
-        rows,
-    } = report.did;
     let mut line = report.name.file_stem(alloc)?;
-    line.push_str(mode_word(fast))?;
-    push_count(&mut line, " read ", read)?;
-    push_count(&mut line, " replaced ", replaced)?;
-    push_count(&mut line, " added ", added)?;
-    push_count(&mut line, " purged ", purged)?;
-    push_count(&mut line, " archived ", archived)?;
-    push_count(&mut line, " rows ", rows)?;
+    let did = did_text(alloc, report.did)?;
+    line.push_str(did.as_str())?;
     line.push_str("\n")?;
     Ok(line)
+}
+
+// What was done with one database.
+fn did_text(alloc: Global, did: Did) -> Result<String, AllocError>
+    ensures { IfOk result (λ text. string_bytes text ≡ text_of_did did) }
+{
+    match did {
+        Did::Synced(counts) => counts_text(alloc, counts),
+        Did::Skipped(reason) => skip_text(alloc, reason),
+    }
+}
+
+// How a database was synchronised.
+#[tactic(auto, unfolding(crate::specs::Lines::counts_text))]
+fn counts_text(alloc: Global, counts: Counts) -> Result<String, AllocError>
+    ensures { IfOk result (λ text. string_bytes text ≡ text_of_counts counts) }
+{
+    let mut text = String::from_str(alloc, mode_word(counts.fast))?;
+    push_count(&mut text, " read ", counts.read)?;
+    push_count(&mut text, " replaced ", counts.replaced)?;
+    push_count(&mut text, " added ", counts.added)?;
+    push_count(&mut text, " purged ", counts.purged)?;
+    push_count(&mut text, " archived ", counts.archived)?;
+    push_count(&mut text, " rows ", counts.rows)?;
+    Ok(text)
+}
+
+// Why a database was left alone.
+fn skip_text(alloc: Global, reason: Skip) -> Result<String, AllocError>
+    ensures { IfOk result (λ text. string_bytes text ≡ text_of_did (Did.Skipped reason)) }
+{
+    let mut text = String::from_str(alloc, " skipped ")?;
+    text.push_str(word_of_skip(reason))?;
+    Ok(text)
+}
+
+// The word that stands for the reason.
+fn word_of_skip(reason: Skip) -> &'static str
+    ensures { result.now ≡ skip_word reason }
+{
+    match reason {
+        Skip::Nothing => "nothing",
+        Skip::Resource => "resource",
+        Skip::ReadOnly => "read-only",
+        Skip::Stream => "stream",
+        Skip::Differs => "differs",
+        Skip::Missing => "missing",
+    }
 }
 
 // How the handheld's database was read.
@@ -162,20 +218,84 @@ fn refusal_line(alloc: Global, refusal: &Status) -> Result<String, AllocError>
     match refusal {
         Status::Done => String::from_str(alloc, "ended\n"),
         Status::Usage => String::from_str(alloc, USAGE),
+        Status::BadScript(line) => number_line(alloc, "bad script line ", u64::from(*line)),
+        Status::TooLong => String::from_str(alloc, "source too long\n"),
         Status::BadFile {
             side,
             name,
             kind,
             place,
         } => bad_file_line(alloc, *side, name.as_str(), *kind, *place),
+        Status::TooMany(end) => word_line(alloc, "too many databases ", end_word(*end)),
         Status::HandheldFolder => String::from_str(alloc, "handheld folder failed\n"),
         Status::DesktopFolder => String::from_str(alloc, "desktop folder failed\n"),
         Status::SourceRead => String::from_str(alloc, "source read failed\n"),
-        Status::TooLong => String::from_str(alloc, "source too long\n"),
+        Status::TraceWrite => String::from_str(alloc, "trace write failed\n"),
         Status::OutWrite => Ok(String::new(alloc)),
         Status::NoMemory => String::from_str(alloc, "no memory\n"),
+        Status::LineDown(end) => word_line(alloc, "line down ", end_word(*end)),
+        Status::Unplugged(number) => number_line(alloc, "unplugged ", *number),
+        Status::Aborted(number) => number_line(alloc, "aborted ", *number),
+        Status::Undetected(number) => number_line(alloc, "undetected ", *number),
+        Status::OtherUser { handheld, desktop } => users_line(alloc, *handheld, *desktop),
+        Status::TooManyUsers => String::from_str(alloc, "too many users\n"),
+        Status::Limit(name) => limit_line(alloc, name),
         Status::NotYet => String::from_str(alloc, "not yet\n"),
     }
+}
+
+// The word of an end of the line.
+fn end_word(end: End) -> &'static str
+    ensures { result.now ≡ word_of_end end }
+{
+    match end {
+        End::Handheld => "handheld",
+        End::Desktop => "desktop",
+    }
+}
+
+// A line of words and a number.
+#[tactic(auto, unfolding(crate::specs::Lines::number_line))]
+fn number_line(alloc: Global, words: &str, number: u64) -> Result<String, AllocError>
+    ensures { IfOk result (λ line. string_bytes line ≡ line_of_number words.now number) }
+{
+    let mut line = String::from_str(alloc, words)?;
+    write!(line, "{number}\n")?;
+    Ok(line)
+}
+
+// A line of words and another word.
+#[tactic(auto, unfolding(crate::specs::Lines::word_line))]
+fn word_line(alloc: Global, words: &str, word: &str) -> Result<String, AllocError>
+    ensures { IfOk result (λ line. string_bytes line ≡ line_of_word words.now word.now) }
+{
+    let mut line = String::from_str(alloc, words)?;
+    line.push_str(word)?;
+    line.push_str("\n")?;
+    Ok(line)
+}
+
+// The line of two users.
+#[tactic(auto, unfolding(crate::specs::Lines::users_line))]
+fn users_line(alloc: Global, handheld: u32, desktop: u32) -> Result<String, AllocError>
+    ensures { IfOk result (λ line. string_bytes line ≡ line_of_users handheld desktop) }
+{
+    let one = hex::encode(alloc, handheld.to_be_bytes())?;
+    let two = hex::encode(alloc, desktop.to_be_bytes())?;
+    let mut line = String::from_str(alloc, "other user ")?;
+    line.push_str(one.as_str())?;
+    line.push_str(" ")?;
+    line.push_str(two.as_str())?;
+    line.push_str("\n")?;
+    Ok(line)
+}
+
+// The line of a database that would pass a limit.
+fn limit_line(alloc: Global, name: &DbName) -> Result<String, AllocError>
+    ensures { IfOk result (λ line. string_bytes line ≡ line_of_refusal (Status.Limit name.now)) }
+{
+    let stem = name.file_stem(alloc)?;
+    word_line(alloc, "limit ", stem.as_str())
 }
 
 #[tactic(auto, unfolding(crate::specs::Lines::bad_file_line))]

@@ -38,15 +38,17 @@ pub fn run_program<H: Folder, D: Folder, S: Source, T: Sink, O: Sink>(
           palm = folder_told H.contents H.moments H.paths H.faults device;
           desk = folder_told D.contents D.moments D.paths D.faults desk;
           source = source_told S.left S.paths S.faults source.old;
-          out = sink_told O.taken O.paths O.faults out.old;
+          trace = sink_told T.taken T.paths T.faults trace.old;
         })
         (record {
           palm = folder_told H.contents H.moments H.paths H.faults result.answer.device;
           desk = folder_told D.contents D.moments D.paths D.faults result.answer.desk;
           source = source_told S.left S.paths S.faults source.new;
-          out = sink_told O.taken O.paths O.faults out.new;
+          trace = sink_told T.taken T.paths T.faults trace.new;
         })
-        result.answer.status result.answer.report.databases.items }
+        (sink_told O.taken O.paths O.faults out.old)
+        (sink_told O.taken O.paths O.faults out.new)
+        result.answer.status result.answer.report }
 {
     let words = args.get(1..).unwrap_or(&[]);
     let answer = hotsync(alloc, words, device, desk, source, trace, out);

@@ -1,9 +1,14 @@
 // How a call ended.
 ghost use Rattle.std.specs.Prelude.{◌≡◌};
+ghost use Rattle.hotsync_run.specs.Refusals.{desktop_status, handheld_status};
 ghost use Rattle.hotsync_run.specs.declared.status.Status.TheVariants as status;
 
+use desk_store::DeskOpenFault;
+use handheld_store::OpenFault;
 use pdb_files::BadKind;
+use pdb_values::DbName;
 use std::alloc::AllocError;
+use trace_text::End;
 
 /// Where a bad file lies.
 #[derive(Clone, Copy, Debug, PartialEq, Eq)]
@@ -20,6 +25,10 @@ pub enum Status {
     Done,
     /// The words ask for nothing that this program does.
     Usage,
+    /// The first line of the script that is out of its form, from 1 on.
+    BadScript(u32),
+    /// The source has more than 67,108,864 bytes, or the script more than 100,000 lines.
+    TooLong,
     /// A file breaks the rules of its format: its name, its first failing test, and the place of
     /// that in the file, or the number of the block.
     BadFile {
@@ -28,19 +37,38 @@ pub enum Status {
         kind: BadKind,
         place: u64,
     },
+    /// A side has more than 200 databases.
+    TooMany(End),
     /// The handheld's folder failed.
     HandheldFolder,
     /// The desktop's folder failed.
     DesktopFolder,
     /// The source failed.
     SourceRead,
-    /// The source has more than 67,108,864 bytes.
-    TooLong,
+    /// The trace failed.
+    TraceWrite,
     /// Standard output failed.
     OutWrite,
     /// Memory ran out.
     NoMemory,
-    /// The first path does not carry this case yet.
+    /// A fragment of this end was sent ten times and never answered.
+    LineDown(End),
+    /// The line was unplugged where the frame of this number was to be sent.
+    Unplugged(u64),
+    /// The session was aborted in place of the frame of this number.
+    Aborted(u64),
+    /// The frame of this number, as the line would have damaged it, holds a packet.
+    Undetected(u64),
+    /// The handheld's user and that of the desktop are not the same.
+    OtherUser {
+        handheld: u32,
+        desktop: u32,
+    },
+    /// The desktop has no room for one more user.
+    TooManyUsers,
+    /// The session would make more of this database than a side can hold.
+    Limit(DbName),
+    /// The program does not do this yet.
     NotYet,
 }
 
@@ -49,6 +77,44 @@ impl From<AllocError> for Status {
 
     fn from(_: AllocError) -> Self {
         Status::NoMemory
+    }
+}
+
+/// What it makes of a run that the handheld's folder was not opened.
+impl From<OpenFault> for Status {
+    ghost from_gives = { λ fault outcome. outcome ≡ handheld_status fault };
+
+    fn from(fault: OpenFault) -> Self {
+        match fault {
+            OpenFault::Keeper => Status::HandheldFolder,
+            OpenFault::TooMany => Status::TooMany(End::Handheld),
+            OpenFault::BadFile { name, kind, place } => Status::BadFile {
+                side: FileSide::Handheld,
+                name,
+                kind,
+                place,
+            },
+            OpenFault::NoMemory => Status::NoMemory,
+        }
+    }
+}
+
+/// What it makes of a run that the desktop's folder was not opened.
+impl From<DeskOpenFault> for Status {
+    ghost from_gives = { λ fault outcome. outcome ≡ desktop_status fault };
+
+    fn from(fault: DeskOpenFault) -> Self {
+        match fault {
+            DeskOpenFault::DeskFault => Status::DesktopFolder,
+            DeskOpenFault::TooMany => Status::TooMany(End::Desktop),
+            DeskOpenFault::BadFile { name, kind, place } => Status::BadFile {
+                side: FileSide::Desktop,
+                name,
+                kind,
+                place,
+            },
+            DeskOpenFault::NoMemory => Status::NoMemory,
+        }
     }
 }
 
@@ -77,12 +143,19 @@ impl Status {
         match self {
             Status::Done => 0,
             Status::Usage => 2,
-            Status::BadFile { .. } | Status::TooLong => 3,
+            Status::BadScript(_) | Status::TooLong | Status::BadFile { .. } | Status::TooMany(_) =>
+                3,
             Status::HandheldFolder
             | Status::DesktopFolder
             | Status::SourceRead
+            | Status::TraceWrite
             | Status::OutWrite => 4,
             Status::NoMemory => 5,
+            Status::LineDown(_)
+            | Status::Unplugged(_)
+            | Status::Aborted(_)
+            | Status::Undetected(_) => 6,
+            Status::OtherUser { .. } | Status::TooManyUsers | Status::Limit(_) => 7,
             Status::NotYet => 8,
         }
     }

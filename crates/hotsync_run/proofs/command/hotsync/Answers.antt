@@ -1,17 +1,16 @@
-use Rattle.std.proofs.Common.{refl}
 use Rattle.std.specs.Prelude.{map, string_bytes}
 use Rattle.run_words.specs.Commands.{task_of}
-use Rattle.hotsync_run.specs.Calls.{CallTold}
-use Rattle.hotsync_run.specs.Told.{folder_told, sink_told, source_told}
+use Rattle.hotsync_run.specs.Told.{CallTold, SinkTold, folder_told, sink_told, source_told}
 use Rattle.hotsync_run.proofs.CallLaws.{only_memory, unread_call}
 use Rattle.hotsync_run.proofs.command.hotsync.Goals as goal
 
 pub returns-in-Err-NoMemory-clause-run : goal.returns-in-Err-NoMemory-clause-run
 returns-in-Err-NoMemory-clause-run g c =
+    let before : CallTold = record { palm = folder_told g.H.Folder.contents g.H.Folder.moments g.H.Folder.paths g.H.Folder.faults c.args.device; desk = folder_told g.D.Folder.contents g.D.Folder.moments g.D.Folder.paths g.D.Folder.faults c.args.desk; source = source_told g.S.Source.left g.S.Source.paths g.S.Source.faults c.args.source.now; trace = sink_told g.T.Sink.taken g.T.Sink.paths g.T.Sink.faults c.args.trace.now } in
+    let out : SinkTold = sink_told g.O.Sink.taken g.O.Sink.paths g.O.Sink.faults c.args.out.now in
+    let out_after : SinkTold = sink_told g.O.Sink.taken g.O.Sink.paths g.O.Sink.faults c.print_refusal-status-in-Err-NoMemory.new.out in
     let said = c.print_refusal-status-in-Err-NoMemory in
-    let end = c.new-in-Err-NoMemory-2.ensures in
-    let before : CallTold = record { palm = folder_told g.H.Folder.contents g.H.Folder.moments g.H.Folder.paths g.H.Folder.faults c.args.device; desk = folder_told g.D.Folder.contents g.D.Folder.moments g.D.Folder.paths g.D.Folder.faults c.args.desk; source = source_told g.S.Source.left g.S.Source.paths g.S.Source.faults c.args.source.now; out = sink_told g.O.Sink.taken g.O.Sink.paths g.O.Sink.faults c.args.out.now } in
-    let after : CallTold = record { palm = folder_told g.H.Folder.contents g.H.Folder.moments g.H.Folder.paths g.H.Folder.faults c.args.device; desk = folder_told g.D.Folder.contents g.D.Folder.moments g.D.Folder.paths g.D.Folder.faults c.args.desk; source = source_told g.S.Source.left g.S.Source.paths g.S.Source.faults c.args.source.now; out = sink_told g.O.Sink.taken g.O.Sink.paths g.O.Sink.faults said.new.out } in
+    let end = c.not_started-in-Err-NoMemory in
     let memory = only_memory said.result said.ensures.status in
-    rw (end.status, end.device, end.desk, end.databases, c.new-in-Err-NoMemory.ensures.items, memory)
-    (unread_call (task_of (map string_bytes c.args.words.now)) before after refl refl refl (rw memory at said.ensures.printed))
+    rw (end.ensures.status, end.ensures.device, end.ensures.desk, memory)
+    (unread_call (task_of (map string_bytes c.args.words.now)) before out out_after end.result.report end.ensures.report (rw memory at said.ensures.printed))

@@ -1,0 +1,98 @@
+-- What is known of a session over a line once it is over.
+use Rattle.std.specs.Prelude.{◌≡◌, ◌⊎◌, List, [], length, Option, Some, Result, Ok, Err}
+use Rattle.std.specs.Global.{Vec}
+use Rattle.std.specs.Option.{option_map}
+use Rattle.hs_folders.specs.Causes.{Rose}
+use Rattle.hs_folders.specs.Moments.{EachMomentSince}
+use Rattle.palm_device.specs.Devices.{Device}
+use Rattle.trace_text.specs.Tallies.{IsFairUpTo}
+use Rattle.trace_text.specs.declared.frame.End.{End}
+use Rattle.line_script.specs.Rules.{RuleValue}
+use Rattle.line_script.specs.Scripts.{fate_by}
+use Rattle.line_world.specs.Causes.{BearsOut}
+use Rattle.line_world.specs.declared.down.Down.{Down}
+use Rattle.line_world.specs.declared.down.Down.TheVariants as down
+use Rattle.run_words.specs.Runs.{Run}
+use Rattle.sync_session.specs.declared.report.DbReport.{DbReport}
+use Rattle.sync_session.specs.declared.stop.Stop.{Stop}
+use Rattle.sync_session.specs.declared.wishes.Wishes.{Wishes}
+use Rattle.desk_journal.specs.Entries.{EntryValue}
+use Rattle.desk_journal.specs.Overlays.{StandsAs, put_all}
+use Rattle.desk_store.specs.Shelves.{SlotValue}
+use Rattle.hotsync_run.specs.Causes.{ByEnd, EndsAs, IsLineDown, IsUnsaid, cause_in, numbers_by, stop_status}
+use Rattle.hotsync_run.specs.LineRuns.{LineRan, frames_in}
+use Rattle.hotsync_run.specs.Reports.{IsNotStarted}
+use Rattle.hotsync_run.specs.Told.{FolderTold}
+use Rattle.hotsync_run.specs.Wishes.{AsksFor}
+use Rattle.hotsync_run.specs.declared.left.Left.{Left}
+use Rattle.hotsync_run.specs.declared.report.Report.{Report}
+use Rattle.hotsync_run.specs.declared.report.SessionEnd.{SessionEnd}
+use Rattle.hotsync_run.specs.declared.report.SessionEnd.TheVariants.{Ended, Stopped}
+use Rattle.hotsync_run.specs.declared.status.Status.{Status}
+use Rattle.hotsync_run.specs.declared.status.Status.TheVariants.{Done, HandheldFolder, DesktopFolder, NoMemory}
+
+-- ---- how it ended
+
+abbrev pub left_status : Option Down → Result (Vec DbReport) Stop → Status
+left_status cause (Ok reports) = Done
+left_status cause (Err stop) = stop_status cause stop
+
+abbrev pub left_end : Result (Vec DbReport) Stop → SessionEnd
+left_end (Ok reports) = Ended
+left_end (Err stop) = Stopped
+
+-- what was done with each database, where it ended
+abbrev pub left_databases : Result (Vec DbReport) Stop → List DbReport
+left_databases (Ok reports) = reports.items
+left_databases (Err stop) = []
+
+-- how a session ended that answered this, over a line that is down for this cause, if it is
+pub record IsLeft (answer : Result (Vec DbReport) Stop) (cause : Option Down) (left : Left) : Type 0 where
+  pub status : (left.status ≡ left_status cause answer) ⊎ (left.status ≡ NoMemory)
+  pub end : left.end ≡ left_end answer
+  pub databases : left.databases.items ≡ left_databases answer
+  pub faulted : left.faulted.items ≡ numbers_by left.status cause
+
+-- ---- what is known of it
+
+-- The desktop's folder, changed once at most: with some files put over the others it has what an ended session leaves, and stands for that at each
+-- moment since. A session that stopped left it standing for what it stood for, or for that.
+pub record ChangedOnce (desk desk_after : FolderTold) (end : SessionEnd) : Type 0 where
+  pub entries : List EntryValue
+  pub written : end ≡ Ended → desk_after.contents ≡ option_map (put_all entries) desk.contents
+  pub stands : StandsAs desk.contents desk_after.contents ⊎ StandsAs (option_map (put_all entries) desk.contents) desk_after.contents
+  pub each_moment : EachMomentSince (StandsAs (option_map (put_all entries) desk.contents)) desk.moments desk_after.moments
+
+-- no frame is named, or these are the last ten that the line did harm, and it went down for them
+abbrev pub NamesFaults : Report → Type 0
+NamesFaults report =
+    (report.faulted.items ≡ []) ⊎ ((end : End) × BearsOut (Some (down.LineDown end report.faulted.items)) (frames_in report))
+
+-- A session that began: what the words ask of it, what went over the line, and its cause where it stopped. Where the script is fair up to the
+-- last frame no line goes down. Databases are told where it ended.
+pub record Talked (run : Run) (rules : List RuleValue) (device : Device) (palm palm_after : FolderTold) (status : Status) (report : Report) : Type 0 where
+  pub wishes : Wishes
+  pub asked : AsksFor run wishes
+  pub line : LineRan rules device palm palm_after report
+  pub ends : EndsAs status report.end
+  pub caused : BearsOut (cause_in status report.faulted.items) (frames_in report)
+  pub fair : IsFairUpTo (length (frames_in report)) (fate_by rules) → ¬ IsLineDown status
+  pub faulted : NamesFaults report
+  pub stopped : report.end ≡ Stopped → report.databases.items ≡ []
+
+-- memory ran out before anything was sent, and both folders are as they were
+pub record KeptSilent (palm palm_after desk desk_after : FolderTold) (status : Status) (report : Report) : Type 0 where
+  pub memory : status ≡ NoMemory
+  pub report_is : IsNotStarted report
+  pub handheld : palm_after ≡ palm
+  pub desktop : desk_after ≡ desk
+
+-- What is known of a session before its trace and its lines are written. A folder that is blamed had its count rise.
+pub record IsTalk (run : Run) (rules : List RuleValue) (device : Device) (slots : List SlotValue) (palm palm_after desk desk_after : FolderTold) (status : Status) (report : Report) : Type 0 where
+  pub shown : ByEnd report.end (KeptSilent palm palm_after desk desk_after status report) (Talked run rules device palm palm_after status report)
+  pub changed : ChangedOnce desk desk_after report.end
+  pub unsaid : IsUnsaid status
+  pub handheld_failed : status ≡ HandheldFolder → Rose palm.faults palm_after.faults
+  pub desktop_failed : status ≡ DesktopFolder → Rose desk.faults desk_after.faults
+  pub handheld_paths : palm_after.paths ≡ palm.paths
+  pub desktop_paths : desk_after.paths ≡ desk.paths

@@ -1,0 +1,113 @@
+// Both sides of a run, opened.
+ghost use Rattle.std.specs.Prelude.{◌≡◌, ◌⊎◌, ◌≤◌, IfErr, IfOk, IfSome, OnErr, OnOk, true};
+ghost use Rattle.std.specs.Option.{option_map};
+ghost use Rattle.hs_folders.specs.Causes.{Rose};
+ghost use Rattle.hs_folders.specs.Moments.{EachMomentSince};
+ghost use Rattle.handheld_files.specs.Openings.{HoldsAll};
+ghost use Rattle.desk_journal.specs.Overlays.{StandsAs, finished};
+ghost use Rattle.desk_store.specs.Desks.{IsDesk};
+ghost use Rattle.desk_store.specs.Views.{folder_in as desk_in};
+ghost use Rattle.hotsync_run.specs.Opening.{Opens, OpensAtMost};
+ghost use Rattle.hotsync_run.specs.Refusals.{DesktopRefuses, HandheldRefuses, HasDesktop};
+ghost use Rattle.hotsync_run.specs.Views.{device_in};
+
+use crate::status::Status;
+use desk_store::Desk;
+use handheld_store::Store;
+use hs_folders::{Folder, FolderFault};
+use std::alloc::Global;
+
+/// Opens the handheld's folder at this path, and reads all that it holds. A refusal hands it back.
+pub fn open_handheld<H: Folder>(
+    alloc: Global,
+    device: H,
+    path: &str,
+) -> Result<Store<H>, (Status, H)>
+    ensures held { IfOk result (λ store. IfSome (H.contents device) (λ files.
+        HoldsAll files store.databases store.user)) }
+    ensures sound { IfOk result (λ store. store.sound ≡ true) }
+    ensures refused { IfErr result (λ refused. HandheldRefuses (H.contents device) refused.0) }
+    ensures failed { IfErr result (λ refused. refused.0 ≡ Status.HandheldFolder
+        → Rose (H.faults device) (H.faults refused.1)) }
+
+    ensures contents { H.contents (device_in result) ≡ H.contents device }
+    ensures moments { H.moments (device_in result) ≡ H.moments device }
+    ensures later { H.faults device ≤ H.faults (device_in result) }
+    ensures opened { OnOk result (Opens path.now (H.paths device) (H.paths (device_in result))) }
+    ensures path { OpensAtMost path.now (H.paths device) (H.paths (device_in result)) }
+{
+    let mut device = device;
+    match device.open(path) {
+        Ok(()) => open_store(alloc, device),
+        Err(FolderFault::Failed) => Err((Status::HandheldFolder, device)),
+        Err(FolderFault::Missing | FolderFault::NoMemory) => Err((Status::NoMemory, device)),
+    }
+}
+
+// Reads all that the handheld's folder holds.
+fn open_store<H: Folder>(alloc: Global, device: H) -> Result<Store<H>, (Status, H)>
+    ensures held { IfOk result (λ store. IfSome (H.contents device) (λ files.
+        HoldsAll files store.databases store.user)) }
+    ensures sound { IfOk result (λ store. store.sound ≡ true) }
+    ensures refused { IfErr result (λ refused. HandheldRefuses (H.contents device) refused.0) }
+    ensures failed { IfErr result (λ refused. refused.0 ≡ Status.HandheldFolder
+        → Rose (H.faults device) (H.faults refused.1)) }
+
+    ensures contents { H.contents (device_in result) ≡ H.contents device }
+    ensures moments { H.moments (device_in result) ≡ H.moments device }
+    ensures later { H.faults device ≤ H.faults (device_in result) }
+    ensures paths { H.paths (device_in result) ≡ H.paths device }
+{
+    match Store::open_folder(alloc, device) {
+        Ok(store) => Ok(store),
+        Err((fault, device)) => Err((Status::from(fault), device)),
+    }
+}
+
+/// Opens the desktop's folder at this path: finishes a journal that was left, and reads all that it
+/// holds. A refusal hands it back.
+pub fn open_desktop<D: Folder>(alloc: Global, desk: D, path: &str) -> Result<Desk<D>, (Status, D)>
+    ensures desktop { OnOk result (HasDesktop (D.contents desk)) }
+    ensures finished { IfOk result (λ opened. D.contents opened.folder
+        ≡ option_map finished (D.contents desk)) }
+    ensures slots { IfOk result (λ opened. IsDesk (option_map finished (D.contents desk)) opened.slots) }
+    ensures refused { IfErr result (λ refused. DesktopRefuses (D.contents desk) refused.0) }
+    ensures failed { IfErr result (λ refused. refused.0 ≡ Status.DesktopFolder
+        → Rose (D.faults desk) (D.faults refused.1)) }
+
+    ensures stands { StandsAs (D.contents desk) (D.contents (desk_in result)) }
+    ensures each_moment { EachMomentSince (StandsAs (D.contents desk)) (D.moments desk)
+        (D.moments (desk_in result)) }
+    ensures later { D.faults desk ≤ D.faults (desk_in result) }
+    ensures opened { OnOk result (Opens path.now (D.paths desk) (D.paths (desk_in result))) }
+    ensures path { OpensAtMost path.now (D.paths desk) (D.paths (desk_in result)) }
+{
+    let mut desk = desk;
+    match desk.open(path) {
+        Ok(()) => open_desk(alloc, desk),
+        Err(FolderFault::Failed) => Err((Status::DesktopFolder, desk)),
+        Err(FolderFault::Missing | FolderFault::NoMemory) => Err((Status::NoMemory, desk)),
+    }
+}
+
+// Finishes a journal that was left in the desktop's folder, and reads all that it holds.
+fn open_desk<D: Folder>(alloc: Global, desk: D) -> Result<Desk<D>, (Status, D)>
+    ensures desktop { OnOk result (HasDesktop (D.contents desk)) }
+    ensures finished { IfOk result (λ opened. D.contents opened.folder
+        ≡ option_map finished (D.contents desk)) }
+    ensures slots { IfOk result (λ opened. IsDesk (option_map finished (D.contents desk)) opened.slots) }
+    ensures refused { IfErr result (λ refused. DesktopRefuses (D.contents desk) refused.0) }
+    ensures failed { IfErr result (λ refused. refused.0 ≡ Status.DesktopFolder
+        → Rose (D.faults desk) (D.faults refused.1)) }
+
+    ensures stands { StandsAs (D.contents desk) (D.contents (desk_in result)) }
+    ensures each_moment { EachMomentSince (StandsAs (D.contents desk)) (D.moments desk)
+        (D.moments (desk_in result)) }
+    ensures later { D.faults desk ≤ D.faults (desk_in result) }
+    ensures paths { D.paths (desk_in result) ≡ D.paths desk }
+{
+    match Desk::open(alloc, desk) {
+        Ok(desk) => Ok(desk),
+        Err((fault, desk)) => Err((Status::from(fault), desk)),
+    }
+}

@@ -1,0 +1,100 @@
+// The session between both sides.
+ghost use Rattle.std.specs.Prelude.{◌≡◌, [], None, false, true};
+ghost use Rattle.handheld_files.specs.Openings.{Stands};
+ghost use Rattle.line_world.specs.Logs.{no_log};
+ghost use Rattle.palm_device.specs.Handles.{no_handles};
+ghost use Rattle.run_words.specs.Views.{run_view};
+ghost use Rattle.hotsync_run.specs.Talks.{IsTalk};
+ghost use Rattle.hotsync_run.specs.Told.{folder_told};
+ghost use Rattle.hotsync_run.specs.Wishes.{AsksFor};
+
+use crate::answer::Answer;
+use crate::left::{Left, left_of};
+use crate::reporting::report_of;
+use crate::status::Status;
+use crate::wishes::wishes_of;
+use desk_store::Desk;
+use handheld_server::Server;
+use handheld_store::Store;
+use hs_folders::Folder;
+use line_script::Script;
+use line_world::World;
+use run_clap::RunWords;
+use std::alloc::{AllocError, Global};
+use sync_session::{Outcome, Wishes, run_session};
+
+/// The session over a line that does with each frame what the script says.
+pub fn talk<H: Folder, D: Folder>(
+    alloc: Global,
+    words: &RunWords<'_>,
+    store: Store<H>,
+    desk: Desk<D>,
+    script: Script,
+) -> Answer<H, D>
+    requires sound { store.sound ≡ true }
+    requires stands { Stands (H.contents store.folder) store.databases store.user }
+    ensures { IsTalk (run_view words.now) script
+        (record { databases = store.databases; user = store.user; handles = no_handles }) desk.slots
+        (folder_told H.contents H.moments H.paths H.faults store.folder)
+        (folder_told H.contents H.moments H.paths H.faults result.device)
+        (folder_told D.contents D.moments D.paths D.faults desk.folder)
+        (folder_told D.contents D.moments D.paths D.faults result.desk)
+        result.status result.report }
+{
+    let Ok(wishes) = wishes_of(alloc, words) else {
+        return Answer::not_started(
+            alloc,
+            Status::NoMemory,
+            store.into_folder(),
+            desk.into_folder(),
+        );
+    };
+    match World::new(alloc, Server::new(store), script) {
+        Ok(world) => speak(alloc, words, &wishes, world, desk),
+        Err((AllocError, server)) => Answer::not_started(
+            alloc,
+            Status::NoMemory,
+            server.into_folder(),
+            desk.into_folder(),
+        ),
+    }
+}
+
+// The session over a line over which nothing was sent.
+fn speak<H: Folder, D: Folder>(
+    alloc: Global,
+    words: &RunWords<'_>,
+    wishes: &Wishes,
+    world: World<H>,
+    desk: Desk<D>,
+) -> Answer<H, D>
+    requires asked { AsksFor (run_view words.now) wishes.now }
+    requires stands { Stands (H.contents world.server.folder) world.server.device.databases
+        world.server.device.user }
+    requires silent { world.log ≡ no_log }
+    requires begun { world.begun ≡ false }
+    requires cause { world.cause ≡ None }
+    ensures { IsTalk (run_view words.now) world.script world.server.device desk.slots
+        (folder_told H.contents H.moments H.paths H.faults world.server.folder)
+        (folder_told H.contents H.moments H.paths H.faults result.device)
+        (folder_told D.contents D.moments D.paths D.faults desk.folder)
+        (folder_told D.contents D.moments D.paths D.faults result.desk)
+        result.status result.report }
+{
+    let outcome = run_session(alloc, world, desk, wishes);
+    let Outcome { link, folder, end } = outcome;
+    let left = left_of(alloc, end, link.cause());
+    let Left {
+        status,
+        end,
+        databases,
+        faulted,
+    } = left;
+    let (report, device) = report_of(link, end, databases, faulted);
+    Answer {
+        status,
+        report,
+        device,
+        desk: folder,
+    }
+}
