@@ -1,6 +1,8 @@
 // The objects that a call is given, and what the lines do with them.
+use crate::number_of;
+use crate::shown::{files_text, report_text, trace_lines};
 use hotsync_run::{Answer, Ended, run_program};
-use hs_folders::{Folder, FolderFault, MemFolder, MemSink, MemSource};
+use hs_folders::{MemFolder, MemSink, MemSource};
 use std::alloc::{AllocError, Global};
 use std::{io, mem};
 
@@ -11,7 +13,9 @@ pub struct Bench {
     palm: MemFolder,
     desk: MemFolder,
     source: Vec<u8>,
+    trace: Vec<u8>,
     failing_source: Vec<u32>,
+    failing_trace: Vec<u32>,
     failing_out: Vec<u32>,
 }
 
@@ -20,10 +24,12 @@ impl Bench {
         Bench {
             alloc,
             bytes: Vec::new(alloc),
-            palm: MemFolder::new(alloc),
-            desk: MemFolder::new(alloc),
+            palm: recording_folder(alloc),
+            desk: recording_folder(alloc),
             source: Vec::new(alloc),
+            trace: Vec::new(alloc),
             failing_source: Vec::new(alloc),
+            failing_trace: Vec::new(alloc),
             failing_out: Vec::new(alloc),
         }
     }
@@ -39,25 +45,58 @@ impl Bench {
             "call" => return self.call(rest),
             "names" => return self.shown(false),
             "files" => return self.shown(true),
+            "trace" => return Ok(trace_lines(self.alloc, &self.trace, rest)?),
+            "moments" => return Ok(self.moments()?),
+            _ => self.prepare(word, rest)?,
+        }
+        Ok(String::new(self.alloc))
+    }
+
+    // Makes ready what a call is given.
+    fn prepare(&mut self, word: &str, rest: &str) -> io::Result<()> {
+        match word {
             "zeros" => self.bytes = vec![in self.alloc; 0; number_of(rest)]?,
-            "hex" => self.bytes = bytes_of(self.alloc, rest),
+            "feeds" => self.bytes = vec![in self.alloc; b'\n'; number_of(rest)]?,
+            "hex" => self.bytes = hex::decode(self.alloc, rest).unwrap_or(Vec::new(self.alloc)),
+            "lines" => {
+                let text = rest.replace(self.alloc, ", ", "\n")?;
+                self.bytes = Vec::from_slice(self.alloc, text.as_bytes())?;
+                self.bytes.push(b'\n')?;
+            }
             "set" => self.set(rest),
             "palm" => self.palm.put(rest, &self.bytes)?,
             "desk" => self.desk.put(rest, &self.bytes)?,
             "source" => self.source = self.bytes.clone()?,
+            "many" => self.many(rest)?,
             "fail" => self.fail(rest)?,
-            _ => return Ok(format!(in self.alloc; "no such line: {line}\n")?),
+            "at" => self.at(rest)?,
+            _ => return Err(io::Error::from(io::ErrorKind::InvalidInput)),
         }
-        Ok(String::new(self.alloc))
+        Ok(())
     }
 
     fn set(&mut self, rest: &str) {
         let (place, hex) = rest.split_once(' ').unwrap_or((rest, ""));
         let place = number_of(place);
-        let bytes = bytes_of(self.alloc, hex);
+        let bytes = hex::decode(self.alloc, hex).unwrap_or(Vec::new(self.alloc));
         for (at, byte) in self.bytes.iter_mut().skip(place).zip(bytes.iter()) {
             *at = *byte;
         }
+    }
+
+    // So many files of databases, none of which has a byte.
+    fn many(&mut self, rest: &str) -> Result<(), AllocError> {
+        let (side, count) = rest.split_once(' ').unwrap_or((rest, ""));
+        for place in 0..number_of(count) {
+            let number = 1000 + place % 1000;
+            let name = format!(in self.alloc; "N{number}.pdb")?;
+            if side == "palm" {
+                self.palm.put(name.as_str(), b"")?;
+            } else {
+                self.desk.put(name.as_str(), b"")?;
+            }
+        }
+        Ok(())
     }
 
     fn fail(&mut self, rest: &str) -> Result<(), AllocError> {
@@ -68,9 +107,27 @@ impl Bench {
             "palm" => self.palm.fail_calls(calls),
             "desk" => self.desk.fail_calls(calls),
             "source" => self.failing_source = calls,
+            "trace" => self.failing_trace = calls,
             _ => self.failing_out = calls,
         }
         Ok(())
+    }
+
+    // Takes a folder as it was after so many changes.
+    fn at(&mut self, rest: &str) -> Result<(), AllocError> {
+        let (side, moment) = rest.split_once(' ').unwrap_or((rest, ""));
+        let moment = number_of(moment) as u64;
+        if side == "palm" {
+            self.palm = copy_at(self.alloc, &self.palm, moment)?;
+        } else {
+            self.desk = copy_at(self.alloc, &self.desk, moment)?;
+        }
+        Ok(())
+    }
+
+    fn moments(&self) -> Result<String, AllocError> {
+        let (palm, desk) = (self.palm.moments(), self.desk.moments());
+        format!(in self.alloc; "palm {palm}, desk {desk}\n")
     }
 
     fn call(&mut self, rest: &str) -> io::Result<String> {
@@ -84,54 +141,45 @@ impl Bench {
         let mut source = MemSource::new(alloc, self.source.clone()?);
         source.fail_calls(self.failing_source.clone()?);
         let mut trace = MemSink::new(alloc);
+        trace.fail_calls(self.failing_trace.clone()?);
         let mut out = MemSink::new(alloc);
         out.fail_calls(self.failing_out.clone()?);
         let ended = run_program(alloc, &args, palm, desk, &mut source, &mut trace, &mut out);
         let Ended { code, answer } = ended;
-        let Answer { device, desk, .. } = answer;
+        let Answer {
+            device,
+            desk,
+            report,
+            ..
+        } = answer;
         self.palm = device;
         self.desk = desk;
+        self.palm.fail_calls(Vec::new(alloc));
+        self.desk.fail_calls(Vec::new(alloc));
+        self.trace = Vec::from_slice(alloc, trace.bytes())?;
         let printed = String::from_utf8_lossy(alloc, out.bytes())?;
-        Ok(format!(in alloc; "status {code}\n{printed}")?)
+        let did = report_text(alloc, &report)?;
+        Ok(format!(in alloc; "status {code}\n{printed}{did}")?)
     }
 
-    // The files of both folders: their names, and their bytes where these are asked for.
+    // The files of both folders.
     fn shown(&mut self, whole: bool) -> io::Result<String> {
-        let mut shown = String::new(self.alloc);
-        show_files(self.alloc, "palm", &mut self.palm, whole, &mut shown)?;
-        show_files(self.alloc, "desk", &mut self.desk, whole, &mut shown)?;
+        let mut shown = files_text(self.alloc, "palm", &mut self.palm, whole)?;
+        let desk = files_text(self.alloc, "desk", &mut self.desk, whole)?;
+        shown.push_str(desk.as_str())?;
         Ok(shown)
     }
 }
 
-fn show_files(
-    alloc: Global,
-    side: &str,
-    folder: &mut MemFolder,
-    whole: bool,
-    shown: &mut String,
-) -> io::Result<()> {
-    for name in folder.list(alloc).map_err(failed)? {
-        let line = if whole {
-            let bytes = folder.read(alloc, name.as_str()).map_err(failed)?;
-            let hex = hex::encode(alloc, bytes.as_slice())?;
-            format!(in alloc; "{side} {name} {hex}\n")?
-        } else {
-            format!(in alloc; "{side} {name}\n")?
-        };
-        shown.push_str(line.as_str())?;
-    }
-    Ok(())
+// An empty folder that records its moments.
+fn recording_folder(alloc: Global) -> MemFolder {
+    let mut folder = MemFolder::new(alloc);
+    folder.keep_moments();
+    folder
 }
 
-fn failed(_: FolderFault) -> io::Error {
-    io::Error::from(io::ErrorKind::Other)
-}
-
-fn number_of(word: &str) -> usize {
-    word.parse().unwrap_or(0)
-}
-
-fn bytes_of(alloc: Global, hex: &str) -> Vec<u8> {
-    hex::decode(alloc, hex).unwrap_or(Vec::new(alloc))
+// The folder as it was after so many changes; an empty one where there were fewer.
+fn copy_at(alloc: Global, folder: &MemFolder, moment: u64) -> Result<MemFolder, AllocError> {
+    let copy = folder.copy_at(alloc, moment)?;
+    Ok(copy.unwrap_or(MemFolder::new(alloc)))
 }

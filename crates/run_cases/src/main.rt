@@ -1,12 +1,21 @@
 //! Calls of `hotsync` over folders, a source and standard output in memory, as the lines of standard input ask for them.
 //!
-//! `case TEXT` begins anew. `zeros N` and `hex H` give bytes, `set PLACE H` changes some of them; `palm NAME` and `desk NAME`
-//! make them a file of a folder, `source` what is left in the source. `fail palm N` makes the folder's Nth call fail, and
-//! `desk`, `source` and `out` likewise. `call WORDS` calls with these words, one space between two of them, and prints
-//! the exit status and what was printed; `names` and `files` print what the folders then hold.
+//! - `case TEXT` begins anew, and is printed.
+//! - `zeros N`, `feeds N`, `hex H` and `lines A, B` give bytes: zeros, line feeds, those of the hexadecimal, or a line for each
+//!   text. `set PLACE H` changes some of them.
+//! - `palm NAME` and `desk NAME` make the bytes a file of a folder, `source` what is left in the source. `many palm N` gives the
+//!   folder N files `N1000.pdb`, `N1001.pdb` and so on without a byte.
+//! - `fail palm N` makes the folder's Nth call fail, up to the end of the next call, and `desk` likewise. `fail source N` does it
+//!   for each call, and `trace` and `out` likewise.
+//! - `call WORDS` calls with these words, one space between two of them, and prints the exit status, what was printed and what
+//!   the session did: the number of its requests, writes and frames, the bytes and the packets that the reader of each end took,
+//!   the ids that new records got, and the frames that were harmed where the line is down.
+//! - `names` and `files` print what the folders then hold, `trace` the trace, or its lines of the numbers behind it.
+//! - `moments` prints how often each folder changed, and `at palm N` takes it as it was after N changes.
 #![tactic(auto)]
 
 mod bench;
+mod shown;
 
 use bench::Bench;
 use std::io;
@@ -20,4 +29,9 @@ fn main(rt: HostRuntime) -> io::Result<()> {
         print!(rt; "{said}")?;
     }
     Ok(())
+}
+
+// The number of a word.
+fn number_of(word: &str) -> usize {
+    word.parse().unwrap_or(0)
 }

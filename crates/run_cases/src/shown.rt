@@ -1,0 +1,105 @@
+// Texts of what a call did.
+use crate::number_of;
+use hotsync_run::{Report, SessionEnd};
+use hs_folders::{Folder, FolderFault, MemFolder};
+use std::alloc::{AllocError, Global};
+use std::io;
+
+/// The files of a folder: their names, and their bytes where these are asked for.
+pub fn files_text(
+    alloc: Global,
+    side: &str,
+    folder: &mut MemFolder,
+    whole: bool,
+) -> io::Result<String> {
+    let mut shown = String::new(alloc);
+    for name in folder.list(alloc).map_err(failed)? {
+        let line = if whole {
+            let bytes = folder.read(alloc, name.as_str()).map_err(failed)?;
+            let hex = hex::encode(alloc, bytes.as_slice())?;
+            format!(in alloc; "{side} {name} {hex}\n")?
+        } else {
+            format!(in alloc; "{side} {name}\n")?
+        };
+        shown.push_str(line.as_str())?;
+    }
+    Ok(shown)
+}
+
+fn failed(_: FolderFault) -> io::Error {
+    io::Error::from(io::ErrorKind::Other)
+}
+
+/// The lines of a trace: all of them, or those of these numbers.
+pub fn trace_lines(alloc: Global, trace: &[u8], numbers: &str) -> Result<String, AllocError> {
+    let text = String::from_utf8_lossy(alloc, trace)?;
+    if numbers.is_empty() {
+        return Ok(text);
+    }
+    let lines: Vec<&str> = text.lines().collect(alloc)?;
+    let mut shown = String::new(alloc);
+    for number in numbers.split(' ') {
+        let place = number_of(number).wrapping_sub(1);
+        shown.push_str(lines.get(place).copied().unwrap_or("no such frame"))?;
+        shown.push('\n')?;
+    }
+    Ok(shown)
+}
+
+/// What a session did, in numbers. Nothing where none began.
+pub fn report_text(alloc: Global, report: &Report) -> Result<String, AllocError> {
+    let mut text = match report.end {
+        SessionEnd::NotStarted => return Ok(String::new(alloc)),
+        SessionEnd::Ended => String::from_str(alloc, "ended")?,
+        SessionEnd::Stopped => String::from_str(alloc, "stopped")?,
+    };
+    let counts = format!(in alloc;
+        ", issued {}, performed {}, replies {}, writes {}, frames {}",
+        report.issued.len(),
+        report.performed.len(),
+        report.replies.len(),
+        report.writes,
+        report.frames.len()
+    )?;
+    text.push_str(counts.as_str())?;
+    if let Some(tally) = report.to_handheld {
+        let taken = format!(in alloc; ", to handheld {} {}", tally.bytes(), tally.packets())?;
+        text.push_str(taken.as_str())?;
+    }
+    if let Some(tally) = report.to_desktop {
+        let taken = format!(in alloc; ", to desktop {} {}", tally.bytes(), tally.packets())?;
+        text.push_str(taken.as_str())?;
+    }
+    text.push('\n')?;
+    push_ids(alloc, &mut text, report)?;
+    push_faulted(alloc, &mut text, report)?;
+    Ok(text)
+}
+
+// A line of the ids that new records got, where there are some.
+fn push_ids(alloc: Global, text: &mut String, report: &Report) -> Result<(), AllocError> {
+    if report.given.is_empty() {
+        return Ok(());
+    }
+    text.push_str("given")?;
+    for id in report.given.iter() {
+        let number = format!(in alloc; " {}", id.number())?;
+        text.push_str(number.as_str())?;
+    }
+    text.push('\n')?;
+    Ok(())
+}
+
+// A line of the frames that were harmed, where there are some.
+fn push_faulted(alloc: Global, text: &mut String, report: &Report) -> Result<(), AllocError> {
+    if report.faulted.is_empty() {
+        return Ok(());
+    }
+    text.push_str("faulted")?;
+    for frame in report.faulted.iter() {
+        let number = format!(in alloc; " {frame}")?;
+        text.push_str(number.as_str())?;
+    }
+    text.push('\n')?;
+    Ok(())
+}
