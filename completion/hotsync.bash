@@ -1,0 +1,24 @@
+# Completion of hotsync's words for bash: source it, or put it into ~/.local/share/bash-completion/completions/hotsync.
+_hotsync() {
+    local word=${COMP_WORDS[COMP_CWD]}
+    COMPREPLY=()
+    if [ "$COMP_CWD" -eq 1 ]; then
+        COMPREPLY=($(compgen -W 'run check show packet make' -- "$word"))
+        return
+    fi
+    case ${COMP_WORDS[1]} in
+    run)
+        case $word in
+        -*)
+            COMPREPLY=($(compgen -W '--date= --script= --trace= --slow --actions= --add-user' -- "$word"))
+            if [ "${#COMPREPLY[@]}" -eq 1 ] && [ "${COMPREPLY[0]%=}" != "${COMPREPLY[0]}" ]; then
+                compopt -o nospace
+            fi
+            ;;
+        *) COMPREPLY=($(compgen -d -- "$word")) ;;
+        esac
+        ;;
+    check | show) COMPREPLY=($(compgen -f -- "$word")) ;;
+    esac
+}
+complete -o filenames -F _hotsync hotsync
