@@ -1,4 +1,7 @@
 pub mod CallLaws
+pub mod EndLaws
+pub mod FrontLaws
+pub mod LeftLaws
 pub mod LineLaws
 pub mod LookLaws
 pub mod PrintedLaws

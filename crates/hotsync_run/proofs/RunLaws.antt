@@ -1,6 +1,6 @@
 -- What is known of a run at each of its ends.
 use Rattle.std.proofs.Common.{◌≡◌, ◌≢◌, ◌⊎◌, ◌∙◌, ◌+◌, ◌-◌, ◌^◌, ◌≤◌, ℕ, List, ◌++◌, inl, inr, refl, sym, subst, ap, arith}
-use Rattle.std.specs.Prelude.{IfSome, Option, min}
+use Rattle.std.specs.Prelude.{IfSome, IsSome, Option, min}
 use Rattle.std.specs.Option.{option_map}
 use Rattle.hs_folders.specs.Appends.{AppendsPrefix}
 use Rattle.hs_folders.specs.Causes.{Rose}
@@ -21,7 +21,11 @@ use Rattle.desk_store.specs.Shelves.{SlotValue}
 use Rattle.desk_store.specs.declared.fault.DeskOpenFault.{DeskOpenFault}
 use Rattle.desk_store.specs.declared.fault.DeskOpenFault.TheVariants as desk_opening
 use Rattle.run_words.specs.Runs.{Run}
+use Rattle.sync_session.specs.Merges.{merged_slots}
+use Rattle.sync_session.specs.Outcomes.{StandsForSlots}
+use Rattle.sync_session.specs.Tasks.{Meeting, meeting_of}
 use Rattle.hotsync_run.specs.Causes.{ByEnd, HasBegun}
+use Rattle.hotsync_run.specs.Ends.{SessionLeft}
 use Rattle.hotsync_run.specs.LineRuns.{LineRan, exchanges_in, frames_in}
 use Rattle.hotsync_run.specs.Opening.{Opens, OpensAtMost, OpensGiven, OpensGivenAtMost}
 use Rattle.hotsync_run.specs.Printed.{IsPrintedStatus}
@@ -233,17 +237,38 @@ line_from rules device first before after report same line = record {
   to_desktop = line.to_desktop;
 }
 
-talked_from : (run : Run) (rules : List RuleValue) (device : Device) (first before after : FolderTold) (status : Status) (report : Report) → before.moments ≡ first.moments → Talked run rules device before after status report
-    → Talked run rules device first after status report
-talked_from run rules device first before after status report same talked = record {
+-- what a session left, told from before a journal was finished on
+left_from : (meeting : Meeting) (palm_after first before after : FolderTold) (report : Report) → StandsAsItDid first before → SessionLeft meeting palm_after before after report → SessionLeft meeting palm_after first after report
+left_from meeting palm_after first before after report stood left =
+    let Merged : Option FileMap → Type 0 = StandsForSlots (merged_slots meeting left.given) in
+    record {
+      issued = left.issued;
+      over = left.over;
+      ended = left.ended;
+      stopped = λ is. elim (left.stopped is) [
+        | inl b ↦ inl (record { stands = b.stands ∙ stood.stands; writes = b.writes })
+        | inr b ↦ inr b
+      ];
+      given = left.given;
+      moments = moments_go_on (λ told. StandsAs first.contents told ⊎ Merged told) first.moments before.moments after.moments
+          (moments_weaken (StandsAs first.contents) (λ told. StandsAs first.contents told ⊎ Merged told) first.moments before.moments stood.each_moment (λ told stands. inl stands))
+          (moments_weaken (λ told. StandsAs before.contents told ⊎ Merged told) (λ told. StandsAs first.contents told ⊎ Merged told) before.moments after.moments left.moments
+          (λ told is. elim is [ inl stands ↦ inl (stands ∙ stood.stands) | inr done ↦ inr done ]));
+    }
+
+talked_from : (run : Run) (rules : List RuleValue) (device : Device) (slots : List SlotValue) (first before after desk_first desk_before desk_after : FolderTold) (status : Status) (report : Report) → StaysAsItWas first before → StandsAsItDid desk_first desk_before
+    → Talked run rules device slots before after desk_before desk_after status report → Talked run rules device slots first after desk_first desk_after status report
+talked_from run rules device slots first before after desk_first desk_before desk_after status report stays stood talked = record {
   wishes = talked.wishes;
   asked = talked.asked;
-  line = line_from rules device first before after report same talked.line;
+  line = line_from rules device first before after report stays.moments talked.line;
   ends = talked.ends;
   caused = talked.caused;
   fair = talked.fair;
   faulted = talked.faulted;
   stopped = talked.stopped;
+  left = λ told. left_from (meeting_of device slots talked.wishes) after desk_first desk_before desk_after report stood (talked.left (subst (λ (t : Option FileMap). IsSome t) (sym stays.contents) told));
+  shows = λ told. talked.shows (subst (λ (t : Option FileMap). IsSome t) (sym stays.contents) told);
 }
 
 traced_from : (path : Option (List ℕ)) (text : List ℕ) (first before after : SinkTold) (status : Status) → before.taken ≡ first.taken → first.faults ≤ before.faults → IsTraced path text before after status → IsTraced path text first after status
@@ -302,7 +327,7 @@ silent_run run before after palm desk trace rules device slots status report ope
 
 session_run : (run : Run) (before after : CallTold) (palm desk : FolderTold) (trace : SinkTold) (rules : List RuleValue) (device : Device) (slots : List SlotValue) (status : Status) (report : Report)
     → AreOpened run before after.source palm desk trace rules device slots → ChangedOnce desk after.desk report.end
-    → TalkedTrace run rules device palm after.palm trace after.trace status report → SessionRan run before after status report
+    → TalkedTrace run rules device slots palm after.palm desk after.desk trace after.trace status report → SessionRan run before after status report
 session_run run before after palm desk trace rules device slots status report opened changed talked = record {
   rules = rules;
   scripted = opened.scripted;
@@ -312,7 +337,7 @@ session_run run before after palm desk trace rules device slots status report op
   slots = slots;
   desktop = opened.slots_are;
   changed = desktop_ran before.desk desk after.desk report.end opened.finished_is opened.stands changed;
-  talked = talked_from run rules device before.palm palm after.palm status report opened.stays.moments talked.talked;
+  talked = talked_from run rules device slots before.palm palm after.palm before.desk desk after.desk status report opened.stays opened.stands talked.talked;
   traced = traced_from run.trace (trace_text (frames_in report)) before.trace trace after.trace status opened.trace_taken opened.trace_later talked.traced_is;
 }
 
@@ -320,7 +345,7 @@ session_run run before after palm desk trace rules device slots status report op
 pub by_session : (run : Run) (before after : CallTold) (palm desk : FolderTold) (trace : SinkTold) (rules : List RuleValue) (device : Device) (slots : List SlotValue) (status : Status) (report : Report)
     → AreOpened run before after.source palm desk trace rules device slots → IsTracedTalk run rules device slots palm after.palm desk after.desk trace after.trace status report → HasRun run before after status report
 by_session run before after palm desk trace rules device slots status report opened talk = record {
-  shown = by_end_then report.end {A = SilentTrace palm after.palm desk after.desk trace after.trace status report} {B = TalkedTrace run rules device palm after.palm trace after.trace status report}
+  shown = by_end_then report.end {A = SilentTrace palm after.palm desk after.desk trace after.trace status report} {B = TalkedTrace run rules device slots palm after.palm desk after.desk trace after.trace status report}
       {C = SentNothing run before after status report} {D = SessionRan run before after status report}
       (silent_run run before after palm desk trace rules device slots status report opened) (session_run run before after palm desk trace rules device slots status report opened talk.changed) talk.shown;
   blames = record {
@@ -351,7 +376,7 @@ sent_memory run before after status report sent =
     record { judged = inl refl; report_is = sent.report_is; handheld = sent.handheld; desktop = sent.desktop; trace = sent.trace }
 
 ran_as : (run : Run) (before after : CallTold) (status other : Status) (report : Report) (ran : SessionRan run before after status report)
-    → Talked run ran.rules ran.device before.palm after.palm other report → (other ≢ NoMemory → status ≢ NoMemory) → SessionRan run before after other report
+    → Talked run ran.rules ran.device ran.slots before.palm after.palm before.desk after.desk other report → (other ≢ NoMemory → status ≢ NoMemory) → SessionRan run before after other report
 ran_as run before after status other report ran talked served = record {
   rules = ran.rules;
   scripted = ran.scripted;
@@ -370,7 +395,7 @@ run_memory : (run : Run) (before after : CallTold) (status : Status) (report : R
 run_memory run before after status report has = record {
   shown = by_end_then report.end {A = SentNothing run before after status report} {B = SessionRan run before after status report} {C = SentNothing run before after NoMemory report} {D = SessionRan run before after NoMemory report}
       (sent_memory run before after status report)
-      (λ ran. ran_as run before after status NoMemory report ran (talked_memory run ran.rules ran.device before.palm after.palm status report ran.talked) (λ served. absurd (served refl)))
+      (λ ran. ran_as run before after status NoMemory report ran (talked_memory run ran.rules ran.device ran.slots before.palm after.palm before.desk after.desk status report ran.talked) (λ served. absurd (served refl)))
       has.shown;
   blames = record { source = λ e. cc; handheld = λ e. cc; desktop = λ e. cc; trace = λ e. cc };
   opened = has.opened;
@@ -391,7 +416,7 @@ run_unsaid : (run : Run) (before after : CallTold) (status : Status) (report : R
 run_unsaid run before after status report done has = record {
   shown = by_end_then report.end {A = SentNothing run before after status report} {B = SessionRan run before after status report} {C = SentNothing run before after OutWrite report} {D = SessionRan run before after OutWrite report}
       (λ sent. absurd (sent_not_done run before status sent.judged done))
-      (λ ran. ran_as run before after status OutWrite report ran (talked_unsaid run ran.rules ran.device before.palm after.palm status report done ran.talked) (λ served e. cc))
+      (λ ran. ran_as run before after status OutWrite report ran (talked_unsaid run ran.rules ran.device ran.slots before.palm after.palm before.desk after.desk status report done ran.talked) (λ served e. cc))
       has.shown;
   blames = record { source = λ e. cc; handheld = λ e. cc; desktop = λ e. cc; trace = λ e. cc };
   opened = has.opened;

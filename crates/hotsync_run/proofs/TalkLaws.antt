@@ -1,6 +1,6 @@
 -- What a session's status says, by how it ended.
 use Rattle.std.proofs.Common.{◌≡◌, ◌⊎◌, ◌∙◌, ap, inl, inr, refl, sym, subst, ℕ, List, [], length}
-use Rattle.std.specs.Prelude.{Option, None, Some, Result, Ok, Err, IsErrOf, OnOk}
+use Rattle.std.specs.Prelude.{IsSome, Option, None, Some, Result, Ok, Err, IsErrOf, OnOk}
 use Rattle.std.specs.Global.{Vec}
 use Rattle.std.specs.Option.{option_map}
 use Rattle.hs_folders.specs.FileMaps.{FileMap}
@@ -26,15 +26,19 @@ use Rattle.line_world.specs.declared.down.Down.TheVariants as down
 use Rattle.sync_session.specs.Leaving.{LeavesFolder}
 use Rattle.sync_session.specs.declared.outcome.Outcome.{Outcome}
 use Rattle.sync_session.specs.declared.report.DbReport.{DbReport}
+use Rattle.sync_session.specs.Tasks.{meeting_of}
 use Rattle.sync_session.specs.declared.wishes.Wishes.{Wishes}
+use Rattle.session_fronts.specs.Sound.{IsSoundMeeting}
+use Rattle.dlp_commands.specs.declared.link.LinkFault.{LinkFault}
 use Rattle.sync_session.specs.declared.stop.Stop.{Stop}
 use Rattle.sync_session.specs.declared.stop.Stop.TheVariants as stop
 use Rattle.hotsync_run.specs.Causes.{ByEnd, EndsAs, IsLineDown, IsUnsaid, cause_in, down_status, fault_status, numbers_by, stop_status}
 use Rattle.hotsync_run.specs.LineRuns.{TellsWorld, frames_in}
 use Rattle.hotsync_run.specs.Reports.{IsNotStarted}
-use Rattle.hotsync_run.specs.Talks.{ChangedOnce, IsLeft, IsTalk, KeptSilent, Talked, left_end}
+use Rattle.hotsync_run.specs.Talks.{ChangedOnce, IsLeft, IsTalk, KeptSilent, Talked, left_databases, left_end}
 use Rattle.hotsync_run.specs.Told.{FolderTold, folder_told}
 use Rattle.hotsync_run.specs.Wishes.{AsksFor}
+use Rattle.hotsync_run.proofs.LeftLaws.{EndsOver, Tells, session_left, status_shows}
 use Rattle.hotsync_run.proofs.LineLaws.{line_ran}
 use Rattle.hotsync_run.specs.declared.left.Left.{Left}
 use Rattle.hotsync_run.specs.declared.report.Report.{Report}
@@ -163,15 +167,18 @@ desk_changed contents moments paths faults folder outcome end is leaves = record
 
 -- what is known of a session over a world that was fresh, by all that its calls answered
 pub spoke : {F D : Type 0} (contents : F → Option FileMap) (moments : F → Moments) (paths : F → Option (List (List ℕ))) (faults : F → ℕ)
-    (desk_contents : D → Option FileMap) (desk_moments : D → Moments) (desk_paths : D → Option (List (List ℕ))) (desk_faults : D → ℕ)
+    (desk_contents : D → Option FileMap) (desk_moments : D → Moments) (desk_paths : D → Option (List (List ℕ))) (desk_faults : D → ℕ) (fault : WorldValue F → Option LinkFault) (downs : WorldValue F → ℕ)
     (run : Run) (wishes : Wishes) (slots : List SlotValue) (old : WorldValue F) (folder : D) (outcome : Outcome (WorldValue F) D) (cause : Option Down) (left : Left) (report : Report)
     → AsksFor run wishes → Stands (contents old.server.folder) old.server.device.databases old.server.device.user → old.log ≡ no_log → old.cause ≡ None
     → WorldSince contents moments paths faults old outcome.link → LeavesFolder desk_contents desk_moments desk_paths desk_faults folder outcome
     → cause ≡ outcome.link.cause → BearsOut outcome.link.cause outcome.link.frames → (IsFairUpTo (length outcome.link.frames) (fate_by outcome.link.script) → down_end outcome.link.cause ≡ None)
+    → (IsSome (contents old.server.folder) → IsSoundMeeting (meeting_of old.server.device slots wishes))
+    → (IsSome (contents old.server.folder) → EndsOver contents moments paths faults fault downs (meeting_of old.server.device slots wishes) old outcome.link
+    (folder_told desk_contents desk_moments desk_paths desk_faults folder) (folder_told desk_contents desk_moments desk_paths desk_faults outcome.folder) outcome.end)
     → IsLeft outcome.end cause left → TellsWorld outcome.link report → report.end ≡ left.end → report.databases.items ≡ left.databases.items → report.faulted.items ≡ left.faulted.items
     → IsTalk run old.script old.server.device slots (folder_told contents moments paths faults old.server.folder) (folder_told contents moments paths faults outcome.link.server.folder)
     (folder_told desk_contents desk_moments desk_paths desk_faults folder) (folder_told desk_contents desk_moments desk_paths desk_faults outcome.folder) left.status report
-spoke contents moments paths faults desk_contents desk_moments desk_paths desk_faults run wishes slots old folder outcome cause left report asked stands silent calm since leaves cause_is borne fair is tells end_is databases_are faulted_are =
+spoke contents moments paths faults desk_contents desk_moments desk_paths desk_faults fault downs run wishes slots old folder outcome cause left report asked stands silent calm since leaves cause_is borne fair sound ends is tells end_is databases_are faulted_are =
     let new = outcome.link in
     let borne_out : BearsOut cause new.frames = subst (λ (c : Option Down). BearsOut c new.frames) (sym cause_is) borne in
     let shown = shown_left outcome.end cause left new.frames is borne_out in
@@ -180,19 +187,25 @@ spoke contents moments paths faults desk_contents desk_moments desk_paths desk_f
     let palm_after : FolderTold = folder_told contents moments paths faults new.server.folder in
     let desk : FolderTold = folder_told desk_contents desk_moments desk_paths desk_faults folder in
     let desk_after : FolderTold = folder_told desk_contents desk_moments desk_paths desk_faults outcome.folder in
-    let talked : Talked run old.script old.server.device palm palm_after left.status report = record {
+    let line = line_ran contents moments paths faults old new report silent stands since tells in
+    let sides : Tells old new palm_after report =
+    record { silent = silent; is_log = tells.log; said = tells.said; given = line.given; writes = tells.writes; stands = since.served.stands stands } in
+    let databases : report.databases.items ≡ left_databases outcome.end = databases_are ∙ is.databases in
+    let talked : Talked run old.script old.server.device slots palm palm_after desk desk_after left.status report = record {
       wishes = wishes;
       asked = asked;
-      line = line_ran contents moments paths faults old new report silent stands since tells;
+      line = line;
       ends = subst (λ (e : SessionEnd). EndsAs left.status e) (sym end_is) shown.ends;
       caused = subst (λ (n : List ℕ). BearsOut (cause_in left.status n) (frames_in report)) (sym faulted_are) (subst (λ (f : List FrameValue). BearsOut (cause_in left.status left.faulted.items) f) (sym tells.frames) shown.caused);
       fair = λ calm_script fallen. shown.up (ap (λ (c : Option Down). down_end c) cause_is ∙ fair (subst (λ (f : List FrameValue). IsFairUpTo (length f) (fate_by new.script)) tells.frames
           (subst (λ (rules : List RuleValue). IsFairUpTo (length (frames_in report)) (fate_by rules)) (sym since.same_script) calm_script))) fallen;
       faulted = faults_moved report.faulted.items left.faulted.items (frames_in report) new.frames faulted_are tells.frames shown.faulted;
       stopped = λ e. databases_are ∙ left_none outcome.end cause left is (sym end_is ∙ e);
+      left = λ told. session_left contents moments paths faults fault downs (meeting_of old.server.device slots wishes) old new palm_after desk desk_after report outcome.end (sound told) refl sides end databases (ends told);
+      shows = λ told. status_shows contents moments paths faults fault downs (meeting_of old.server.device slots wishes) old new palm_after desk desk_after report outcome.end cause left.status sides is.status (ends told);
     } in
     record {
-      shown = by_left outcome.end report.end (KeptSilent palm palm_after desk desk_after left.status report) (Talked run old.script old.server.device palm palm_after left.status report) end talked;
+      shown = by_left outcome.end report.end (KeptSilent palm palm_after desk desk_after left.status report) (Talked run old.script old.server.device slots palm palm_after desk desk_after left.status report) end talked;
       changed = desk_changed desk_contents desk_moments desk_paths desk_faults folder outcome report.end end leaves;
       unsaid = shown.unsaid;
       handheld_failed = λ e. elim (since.keeper (sym cause_is ∙ shown.keeper e)) [ inl before ↦ absurd (none_is_some (sym calm ∙ before)) | inr rose ↦ rose ];
@@ -208,7 +221,7 @@ spoke contents moments paths faults desk_contents desk_moments desk_paths desk_f
 pub kept_silent : (run : Run) (rules : List RuleValue) (device : Device) (slots : List SlotValue) (palm palm_after desk desk_after : FolderTold) (status : Status) (report : Report)
     → status ≡ NoMemory → IsNotStarted report → palm_after ≡ palm → desk_after ≡ desk → IsTalk run rules device slots palm palm_after desk desk_after status report
 kept_silent run rules device slots palm palm_after desk desk_after status report memory is palm_same desk_same = record {
-  shown = subst (λ (e : SessionEnd). ByEnd e (KeptSilent palm palm_after desk desk_after status report) (Talked run rules device palm palm_after status report)) (sym is.end)
+  shown = subst (λ (e : SessionEnd). ByEnd e (KeptSilent palm palm_after desk desk_after status report) (Talked run rules device slots palm palm_after desk desk_after status report)) (sym is.end)
       (record { memory = memory; report_is = is; handheld = palm_same; desktop = desk_same });
   changed = subst (λ (d : FolderTold). ChangedOnce desk d report.end) (sym desk_same) (record {
     entries = [];

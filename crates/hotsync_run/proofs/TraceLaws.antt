@@ -8,7 +8,9 @@ use Rattle.line_script.specs.Rules.{RuleValue}
 use Rattle.line_world.specs.Causes.{BearsOut}
 use Rattle.desk_store.specs.Shelves.{SlotValue}
 use Rattle.run_words.specs.Runs.{Run}
+use Rattle.sync_session.specs.Tasks.{meeting_of}
 use Rattle.hotsync_run.specs.Causes.{ByEnd, EndsAs, IsLineDown, IsTracedStatus, IsUnsaid, cause_in}
+use Rattle.hotsync_run.specs.Ends.{StatusShows}
 use Rattle.hotsync_run.specs.LineRuns.{frames_in}
 use Rattle.hotsync_run.specs.Refusals.{BlamesHandheld, BlamesScript}
 use Rattle.hotsync_run.specs.Talks.{IsTalk, KeptSilent, Talked}
@@ -33,9 +35,9 @@ by_end_both Ended not began is = began is
 by_end_both Stopped not began is = began is
 
 -- what is known of a session under another status
-talked_as : (run : Run) (rules : List RuleValue) (device : Device) (palm palm_after : FolderTold) (status other : Status) (report : Report) → Talked run rules device palm palm_after status report
-    → EndsAs other report.end → BearsOut (cause_in other report.faulted.items) (frames_in report) → (IsLineDown other → ⊥) → Talked run rules device palm palm_after other report
-talked_as run rules device palm palm_after status other report talked ends caused up = record {
+talked_as : (run : Run) (rules : List RuleValue) (device : Device) (slots : List SlotValue) (palm palm_after desk desk_after : FolderTold) (status other : Status) (report : Report) → (talked : Talked run rules device slots palm palm_after desk desk_after status report)
+    → EndsAs other report.end → BearsOut (cause_in other report.faulted.items) (frames_in report) → (IsLineDown other → ⊥) → StatusShows (meeting_of device slots talked.wishes) report other → Talked run rules device slots palm palm_after desk desk_after other report
+talked_as run rules device slots palm palm_after desk desk_after status other report talked ends caused up shows = record {
   wishes = talked.wishes;
   asked = talked.asked;
   line = talked.line;
@@ -44,32 +46,34 @@ talked_as run rules device palm palm_after status other report talked ends cause
   fair = λ fair. up;
   faulted = talked.faulted;
   stopped = talked.stopped;
+  left = talked.left;
+  shows = λ told. shows;
 }
 
-pub talked_memory : (run : Run) (rules : List RuleValue) (device : Device) (palm palm_after : FolderTold) (status : Status) (report : Report) → Talked run rules device palm palm_after status report
-    → Talked run rules device palm palm_after NoMemory report
-talked_memory run rules device palm palm_after status report talked = talked_as run rules device palm palm_after status NoMemory report talked tt tt (λ is. is)
+pub talked_memory : (run : Run) (rules : List RuleValue) (device : Device) (slots : List SlotValue) (palm palm_after desk desk_after : FolderTold) (status : Status) (report : Report) → Talked run rules device slots palm palm_after desk desk_after status report
+    → Talked run rules device slots palm palm_after desk desk_after NoMemory report
+talked_memory run rules device slots palm palm_after desk desk_after status report talked = talked_as run rules device slots palm palm_after desk desk_after status NoMemory report talked tt tt (λ is. is) tt
 
-talked_done : (run : Run) (rules : List RuleValue) (device : Device) (palm palm_after : FolderTold) (status : Status) (report : Report) → status ≡ Done → Talked run rules device palm palm_after status report → report.end ≡ Ended
-talked_done run rules device palm palm_after status report done talked = subst (λ (s : Status). EndsAs s report.end) done talked.ends
+talked_done : (run : Run) (rules : List RuleValue) (device : Device) (slots : List SlotValue) (palm palm_after desk desk_after : FolderTold) (status : Status) (report : Report) → status ≡ Done → Talked run rules device slots palm palm_after desk desk_after status report → report.end ≡ Ended
+talked_done run rules device slots palm palm_after desk desk_after status report done talked = subst (λ (s : Status). EndsAs s report.end) done talked.ends
 
-pub talked_untold : (run : Run) (rules : List RuleValue) (device : Device) (palm palm_after : FolderTold) (status : Status) (report : Report) → status ≡ Done → Talked run rules device palm palm_after status report
-    → Talked run rules device palm palm_after TraceWrite report
-talked_untold run rules device palm palm_after status report done talked =
-    talked_as run rules device palm palm_after status TraceWrite report talked (talked_done run rules device palm palm_after status report done talked) tt (λ is. is)
+pub talked_untold : (run : Run) (rules : List RuleValue) (device : Device) (slots : List SlotValue) (palm palm_after desk desk_after : FolderTold) (status : Status) (report : Report) → status ≡ Done → Talked run rules device slots palm palm_after desk desk_after status report
+    → Talked run rules device slots palm palm_after desk desk_after TraceWrite report
+talked_untold run rules device slots palm palm_after desk desk_after status report done talked =
+    talked_as run rules device slots palm palm_after desk desk_after status TraceWrite report talked (talked_done run rules device slots palm palm_after desk desk_after status report done talked) tt (λ is. is) tt
 
-pub talked_unsaid : (run : Run) (rules : List RuleValue) (device : Device) (palm palm_after : FolderTold) (status : Status) (report : Report) → status ≡ Done → Talked run rules device palm palm_after status report
-    → Talked run rules device palm palm_after OutWrite report
-talked_unsaid run rules device palm palm_after status report done talked =
-    talked_as run rules device palm palm_after status OutWrite report talked (talked_done run rules device palm palm_after status report done talked) tt (λ is. is)
+pub talked_unsaid : (run : Run) (rules : List RuleValue) (device : Device) (slots : List SlotValue) (palm palm_after desk desk_after : FolderTold) (status : Status) (report : Report) → status ≡ Done → Talked run rules device slots palm palm_after desk desk_after status report
+    → Talked run rules device slots palm palm_after desk desk_after OutWrite report
+talked_unsaid run rules device slots palm palm_after desk desk_after status report done talked =
+    talked_as run rules device slots palm palm_after desk desk_after status OutWrite report talked (talked_done run rules device slots palm palm_after desk desk_after status report done talked) tt (λ is. is) tt
 
-talked_traced : (run : Run) (rules : List RuleValue) (device : Device) (palm palm_after : FolderTold) (status traced : Status) (report : Report) → IsTracedStatus status traced → Talked run rules device palm palm_after status report
-    → Talked run rules device palm palm_after traced report
-talked_traced run rules device palm palm_after status traced report (inl same) talked = subst (λ (s : Status). Talked run rules device palm palm_after s report) (sym same) talked
-talked_traced run rules device palm palm_after status traced report (inr (inl memory)) talked =
-    subst (λ (s : Status). Talked run rules device palm palm_after s report) (sym memory) (talked_memory run rules device palm palm_after status report talked)
-talked_traced run rules device palm palm_after status traced report (inr (inr untold)) talked =
-    subst (λ (s : Status). Talked run rules device palm palm_after s report) (sym untold.1) (talked_untold run rules device palm palm_after status report untold.0 talked)
+talked_traced : (run : Run) (rules : List RuleValue) (device : Device) (slots : List SlotValue) (palm palm_after desk desk_after : FolderTold) (status traced : Status) (report : Report) → IsTracedStatus status traced → Talked run rules device slots palm palm_after desk desk_after status report
+    → Talked run rules device slots palm palm_after desk desk_after traced report
+talked_traced run rules device slots palm palm_after desk desk_after status traced report (inl same) talked = subst (λ (s : Status). Talked run rules device slots palm palm_after desk desk_after s report) (sym same) talked
+talked_traced run rules device slots palm palm_after desk desk_after status traced report (inr (inl memory)) talked =
+    subst (λ (s : Status). Talked run rules device slots palm palm_after desk desk_after s report) (sym memory) (talked_memory run rules device slots palm palm_after desk desk_after status report talked)
+talked_traced run rules device slots palm palm_after desk desk_after status traced report (inr (inr untold)) talked =
+    subst (λ (s : Status). Talked run rules device slots palm palm_after desk desk_after s report) (sym untold.1) (talked_untold run rules device slots palm palm_after desk desk_after status report untold.0 talked)
 
 memory_traced : (status traced : Status) → IsTracedStatus status traced → status ≡ NoMemory → traced ≡ NoMemory
 memory_traced status traced (inl same) memory = same ∙ memory
@@ -101,13 +105,13 @@ pub talk_traced : (run : Run) (rules : List RuleValue) (device : Device) (slots 
     → (report.frames.items ≡ [] → trace_after.taken ≡ trace.taken) → IsTracedTalk run rules device slots palm palm_after desk desk_after trace trace_after traced report
 talk_traced run rules device slots palm palm_after desk desk_after trace trace_after status traced report talk traces silent = record {
   shown = by_end_then report.end
-      {A = KeptSilent palm palm_after desk desk_after status report} {B = Talked run rules device palm palm_after status report}
-      {C = SilentTrace palm palm_after desk desk_after trace trace_after traced report} {D = TalkedTrace run rules device palm palm_after trace trace_after traced report}
+      {A = KeptSilent palm palm_after desk desk_after status report} {B = Talked run rules device slots palm palm_after desk desk_after status report}
+      {C = SilentTrace palm palm_after desk desk_after trace trace_after traced report} {D = TalkedTrace run rules device slots palm palm_after desk desk_after trace trace_after traced report}
       (λ kept. record {
         silent = record { memory = memory_traced status traced traces.stands.status_is kept.memory; report_is = kept.report_is; handheld = kept.handheld; desktop = kept.desktop };
         trace_taken = silent kept.report_is.frames;
       })
-      (λ talked. record { talked = talked_traced run rules device palm palm_after status traced report traces.stands.status_is talked; traced_is = traces.traced_is })
+      (λ talked. record { talked = talked_traced run rules device slots palm palm_after desk desk_after status traced report traces.stands.status_is talked; traced_is = traces.traced_is })
       talk.shown;
   changed = talk.changed;
   unprinted = unprinted_traced status traced talk.unsaid traces.stands.status_is;
@@ -135,12 +139,12 @@ memory_not_handheld status is blames = subst BlamesHandheld is blames
 pub talk_not_script : (run : Run) (rules : List RuleValue) (device : Device) (slots : List SlotValue) (palm palm_after desk desk_after : FolderTold) (trace trace_after : SinkTold) (status : Status) (report : Report)
     → IsTracedTalk run rules device slots palm palm_after desk desk_after trace trace_after status report → BlamesScript status → ⊥
 talk_not_script run rules device slots palm palm_after desk desk_after trace trace_after status report talk blames =
-    by_end_both report.end {A = SilentTrace palm palm_after desk desk_after trace trace_after status report} {B = TalkedTrace run rules device palm palm_after trace trace_after status report} {C = ⊥}
+    by_end_both report.end {A = SilentTrace palm palm_after desk desk_after trace trace_after status report} {B = TalkedTrace run rules device slots palm palm_after desk desk_after trace trace_after status report} {C = ⊥}
     (λ silent. memory_not_script status silent.silent.memory blames) (λ talked. ends_not_script status report.end talked.talked.ends blames) talk.shown
 
 pub talk_not_handheld : (run : Run) (rules : List RuleValue) (device : Device) (slots : List SlotValue) (palm palm_after desk desk_after : FolderTold) (trace trace_after : SinkTold) (status : Status) (report : Report)
     → IsTracedTalk run rules device slots palm palm_after desk desk_after trace trace_after status report → report.end ≡ NotStarted → BlamesHandheld status → ⊥
 talk_not_handheld run rules device slots palm palm_after desk desk_after trace trace_after status report talk is blames =
     let silent : SilentTrace palm palm_after desk desk_after trace trace_after status report =
-    subst (λ (e : SessionEnd). ByEnd e (SilentTrace palm palm_after desk desk_after trace trace_after status report) (TalkedTrace run rules device palm palm_after trace trace_after status report)) is talk.shown in
+    subst (λ (e : SessionEnd). ByEnd e (SilentTrace palm palm_after desk desk_after trace trace_after status report) (TalkedTrace run rules device slots palm palm_after desk desk_after trace trace_after status report)) is talk.shown in
     memory_not_handheld status silent.silent.memory blames

@@ -2,6 +2,7 @@ pub mod BadFiles
 pub mod Calls
 pub mod Causes
 pub mod Codes
+pub mod Ends
 pub mod LineRuns
 pub mod Lines
 pub mod Looks

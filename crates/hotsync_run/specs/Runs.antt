@@ -72,7 +72,7 @@ pub record SessionRan (run : Run) (before after : CallTold) (status : Status) (r
   pub slots : List SlotValue
   pub desktop : IsDesk (option_map finished before.desk.contents) slots
   pub changed : DesktopRan before.desk after.desk report.end
-  pub talked : Talked run rules device before.palm after.palm status report
+  pub talked : Talked run rules device slots before.palm after.palm before.desk after.desk status report
   pub traced : IsTraced run.trace (trace_text (frames_in report)) before.trace after.trace status
 
 -- ---- every run

@@ -1,5 +1,5 @@
 -- What is known of a session over a line once it is over.
-use Rattle.std.specs.Prelude.{◌≡◌, ◌⊎◌, List, [], length, Option, Some, Result, Ok, Err}
+use Rattle.std.specs.Prelude.{◌≡◌, ◌⊎◌, List, [], length, Option, Some, Result, Ok, Err, IsSome}
 use Rattle.std.specs.Global.{Vec}
 use Rattle.std.specs.Option.{option_map}
 use Rattle.hs_folders.specs.Causes.{Rose}
@@ -13,6 +13,7 @@ use Rattle.line_world.specs.Causes.{BearsOut}
 use Rattle.line_world.specs.declared.down.Down.{Down}
 use Rattle.line_world.specs.declared.down.Down.TheVariants as down
 use Rattle.run_words.specs.Runs.{Run}
+use Rattle.sync_session.specs.Tasks.{meeting_of}
 use Rattle.sync_session.specs.declared.report.DbReport.{DbReport}
 use Rattle.sync_session.specs.declared.stop.Stop.{Stop}
 use Rattle.sync_session.specs.declared.wishes.Wishes.{Wishes}
@@ -20,6 +21,7 @@ use Rattle.desk_journal.specs.Entries.{EntryValue}
 use Rattle.desk_journal.specs.Overlays.{StandsAs, put_all}
 use Rattle.desk_store.specs.Shelves.{SlotValue}
 use Rattle.hotsync_run.specs.Causes.{ByEnd, EndsAs, IsLineDown, IsUnsaid, cause_in, numbers_by, stop_status}
+use Rattle.hotsync_run.specs.Ends.{SessionLeft, StatusShows}
 use Rattle.hotsync_run.specs.LineRuns.{LineRan, frames_in}
 use Rattle.hotsync_run.specs.Reports.{IsNotStarted}
 use Rattle.hotsync_run.specs.Told.{FolderTold}
@@ -69,8 +71,8 @@ NamesFaults report =
     (report.faulted.items ≡ []) ⊎ ((end : End) × BearsOut (Some (down.LineDown end report.faulted.items)) (frames_in report))
 
 -- A session that began: what the words ask of it, what went over the line, and its cause where it stopped. Where the script is fair up to the
--- last frame no line goes down. Databases are told where it ended.
-pub record Talked (run : Run) (rules : List RuleValue) (device : Device) (palm palm_after : FolderTold) (status : Status) (report : Report) : Type 0 where
+-- last frame no line goes down. Databases are told where it ended. Where the folder told what the handheld held, that is the session of both sides.
+pub record Talked (run : Run) (rules : List RuleValue) (device : Device) (slots : List SlotValue) (palm palm_after desk desk_after : FolderTold) (status : Status) (report : Report) : Type 0 where
   pub wishes : Wishes
   pub asked : AsksFor run wishes
   pub line : LineRan rules device palm palm_after report
@@ -79,6 +81,8 @@ pub record Talked (run : Run) (rules : List RuleValue) (device : Device) (palm p
   pub fair : IsFairUpTo (length (frames_in report)) (fate_by rules) → ¬ IsLineDown status
   pub faulted : NamesFaults report
   pub stopped : report.end ≡ Stopped → report.databases.items ≡ []
+  pub left : IsSome palm.contents → SessionLeft (meeting_of device slots wishes) palm_after desk desk_after report
+  pub shows : IsSome palm.contents → StatusShows (meeting_of device slots wishes) report status
 
 -- memory ran out before anything was sent, and both folders are as they were
 pub record KeptSilent (palm palm_after desk desk_after : FolderTold) (status : Status) (report : Report) : Type 0 where
@@ -89,7 +93,7 @@ pub record KeptSilent (palm palm_after desk desk_after : FolderTold) (status : S
 
 -- What is known of a session before its trace and its lines are written. A folder that is blamed had its count rise.
 pub record IsTalk (run : Run) (rules : List RuleValue) (device : Device) (slots : List SlotValue) (palm palm_after desk desk_after : FolderTold) (status : Status) (report : Report) : Type 0 where
-  pub shown : ByEnd report.end (KeptSilent palm palm_after desk desk_after status report) (Talked run rules device palm palm_after status report)
+  pub shown : ByEnd report.end (KeptSilent palm palm_after desk desk_after status report) (Talked run rules device slots palm palm_after desk desk_after status report)
   pub changed : ChangedOnce desk desk_after report.end
   pub unsaid : IsUnsaid status
   pub handheld_failed : status ≡ HandheldFolder → Rose palm.faults palm_after.faults

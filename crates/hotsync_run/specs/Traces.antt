@@ -45,15 +45,15 @@ pub record SilentTrace (palm palm_after desk desk_after : FolderTold) (trace tra
   pub trace_taken : trace_after.taken ≡ trace.taken
 
 -- a session that began, and its trace
-pub record TalkedTrace (run : Run) (rules : List RuleValue) (device : Device) (palm palm_after : FolderTold) (trace trace_after : SinkTold) (status : Status) (report : Report) : Type 0 where
-  pub talked : Talked run rules device palm palm_after status report
+pub record TalkedTrace (run : Run) (rules : List RuleValue) (device : Device) (slots : List SlotValue) (palm palm_after desk desk_after : FolderTold) (trace trace_after : SinkTold) (status : Status) (report : Report) : Type 0 where
+  pub talked : Talked run rules device slots palm palm_after desk desk_after status report
   pub traced_is : IsTraced run.trace (trace_text (frames_in report)) trace trace_after status
 
 -- What is known of a session before its lines are printed. An object that is blamed had its count rise.
 pub record IsTracedTalk (run : Run) (rules : List RuleValue) (device : Device) (slots : List SlotValue) (palm palm_after desk desk_after : FolderTold)
     (trace trace_after : SinkTold) (status : Status) (report : Report) : Type 0 where
   pub shown : ByEnd report.end (SilentTrace palm palm_after desk desk_after trace trace_after status report)
-      (TalkedTrace run rules device palm palm_after trace trace_after status report)
+      (TalkedTrace run rules device slots palm palm_after desk desk_after trace trace_after status report)
   pub changed : ChangedOnce desk desk_after report.end
   pub unprinted : status ≢ OutWrite
   pub handheld_failed : status ≡ HandheldFolder → Rose palm.faults palm_after.faults

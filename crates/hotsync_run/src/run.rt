@@ -1,6 +1,8 @@
 // A run: what comes before its session, the session, and what it prints.
 ghost use Rattle.std.specs.Prelude.{◌≡◌, ◌≢◌, None, true};
-ghost use Rattle.handheld_files.specs.Openings.{Stands};
+ghost use Rattle.desk_store.specs.Bounds.{AreBounded};
+ghost use Rattle.desk_store.specs.Shelves.{AreInOrder};
+ghost use Rattle.handheld_files.specs.Openings.{AreKept, Stands};
 ghost use Rattle.palm_device.specs.Handles.{no_handles};
 ghost use Rattle.hotsync_run.specs.Refusals.{BlamesHandheld, BlamesScript};
 ghost use Rattle.hotsync_run.specs.Runs.{HasRun, IsRun};
@@ -136,6 +138,9 @@ fn traced_talk<H: Folder, D: Folder, T: Sink>(
 ) -> Answer<H, D>
     requires sound { store.sound ≡ true }
     requires stands { Stands (H.contents store.folder) store.databases store.user }
+    requires kept { AreKept store.databases }
+    requires ordered { AreInOrder desk.slots }
+    requires bounded { AreBounded desk.slots }
     ensures talk { IsTracedTalk (run_view words.now) script
         (record { databases = store.databases; user = store.user; handles = no_handles }) desk.slots
         (folder_told H.contents H.moments H.paths H.faults store.folder)

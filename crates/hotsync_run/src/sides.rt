@@ -3,8 +3,9 @@ ghost use Rattle.std.specs.Prelude.{◌≡◌, ◌⊎◌, ◌≤◌, IfErr, IfOk
 ghost use Rattle.std.specs.Option.{option_map};
 ghost use Rattle.hs_folders.specs.Causes.{Rose};
 ghost use Rattle.hs_folders.specs.Moments.{EachMomentSince};
-ghost use Rattle.handheld_files.specs.Openings.{HoldsAll};
+ghost use Rattle.handheld_files.specs.Openings.{AreKept, HoldsAll};
 ghost use Rattle.desk_journal.specs.Overlays.{StandsAs, finished};
+ghost use Rattle.desk_store.specs.Bounds.{AreBounded};
 ghost use Rattle.desk_store.specs.Desks.{IsDesk};
 ghost use Rattle.desk_store.specs.Views.{folder_in as desk_in};
 ghost use Rattle.hotsync_run.specs.Opening.{Opens, OpensAtMost};
@@ -25,6 +26,7 @@ pub fn open_handheld<H: Folder>(
 ) -> Result<Store<H>, (Status, H)>
     ensures held { IfOk result (λ store. IfSome (H.contents device) (λ files.
         HoldsAll files store.databases store.user)) }
+    ensures kept { IfOk result (λ store. AreKept store.databases) }
     ensures sound { IfOk result (λ store. store.sound ≡ true) }
     ensures refused { IfErr result (λ refused. HandheldRefuses (H.contents device) refused.0) }
     ensures failed { IfErr result (λ refused. refused.0 ≡ Status.HandheldFolder
@@ -48,6 +50,7 @@ pub fn open_handheld<H: Folder>(
 fn open_store<H: Folder>(alloc: Global, device: H) -> Result<Store<H>, (Status, H)>
     ensures held { IfOk result (λ store. IfSome (H.contents device) (λ files.
         HoldsAll files store.databases store.user)) }
+    ensures kept { IfOk result (λ store. AreKept store.databases) }
     ensures sound { IfOk result (λ store. store.sound ≡ true) }
     ensures refused { IfErr result (λ refused. HandheldRefuses (H.contents device) refused.0) }
     ensures failed { IfErr result (λ refused. refused.0 ≡ Status.HandheldFolder
@@ -71,6 +74,7 @@ pub fn open_desktop<D: Folder>(alloc: Global, desk: D, path: &str) -> Result<Des
     ensures finished { IfOk result (λ opened. D.contents opened.folder
         ≡ option_map finished (D.contents desk)) }
     ensures slots { IfOk result (λ opened. IsDesk (option_map finished (D.contents desk)) opened.slots) }
+    ensures bounded { IfOk result (λ opened. AreBounded opened.slots) }
     ensures refused { IfErr result (λ refused. DesktopRefuses (D.contents desk) refused.0) }
     ensures failed { IfErr result (λ refused. refused.0 ≡ Status.DesktopFolder
         → Rose (D.faults desk) (D.faults refused.1)) }
@@ -96,6 +100,7 @@ fn open_desk<D: Folder>(alloc: Global, desk: D) -> Result<Desk<D>, (Status, D)>
     ensures finished { IfOk result (λ opened. D.contents opened.folder
         ≡ option_map finished (D.contents desk)) }
     ensures slots { IfOk result (λ opened. IsDesk (option_map finished (D.contents desk)) opened.slots) }
+    ensures bounded { IfOk result (λ opened. AreBounded opened.slots) }
     ensures refused { IfErr result (λ refused. DesktopRefuses (D.contents desk) refused.0) }
     ensures failed { IfErr result (λ refused. refused.0 ≡ Status.DesktopFolder
         → Rose (D.faults desk) (D.faults refused.1)) }

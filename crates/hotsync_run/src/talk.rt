@@ -1,6 +1,8 @@
 // The session between both sides.
-ghost use Rattle.std.specs.Prelude.{◌≡◌, [], None, false, true};
-ghost use Rattle.handheld_files.specs.Openings.{Stands};
+ghost use Rattle.std.specs.Prelude.{◌≡◌, ◌<◌, ◌^◌, None, false, true};
+ghost use Rattle.desk_store.specs.Bounds.{AreBounded};
+ghost use Rattle.desk_store.specs.Shelves.{AreInOrder};
+ghost use Rattle.handheld_files.specs.Openings.{AreKept, Stands};
 ghost use Rattle.line_world.specs.Logs.{no_log};
 ghost use Rattle.palm_device.specs.Handles.{no_handles};
 ghost use Rattle.run_words.specs.Views.{run_view};
@@ -33,6 +35,9 @@ pub fn talk<H: Folder, D: Folder>(
 ) -> Answer<H, D>
     requires sound { store.sound ≡ true }
     requires stands { Stands (H.contents store.folder) store.databases store.user }
+    requires kept { AreKept store.databases }
+    requires ordered { AreInOrder desk.slots }
+    requires bounded { AreBounded desk.slots }
     ensures { IsTalk (run_view words.now) script
         (record { databases = store.databases; user = store.user; handles = no_handles }) desk.slots
         (folder_told H.contents H.moments H.paths H.faults store.folder)
@@ -71,6 +76,11 @@ fn speak<H: Folder, D: Folder>(
     requires asked { AsksFor (run_view words.now) wishes.now }
     requires stands { Stands (H.contents world.server.folder) world.server.device.databases
         world.server.device.user }
+    requires kept { AreKept world.server.device.databases }
+    requires closed { world.server.device.handles ≡ no_handles }
+    requires ordered { AreInOrder desk.slots }
+    requires bounded { AreBounded desk.slots }
+    requires date { wishes.now.date < 2 ^ 32 }
     requires silent { world.log ≡ no_log }
     requires begun { world.begun ≡ false }
     requires cause { world.cause ≡ None }

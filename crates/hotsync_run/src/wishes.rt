@@ -1,5 +1,5 @@
 // What the words of a run ask of its session.
-ghost use Rattle.std.specs.Prelude.{◌≡◌, IfOk, option_copied};
+ghost use Rattle.std.specs.Prelude.{◌≡◌, ◌<◌, ◌^◌, IfOk, option_copied};
 ghost use Rattle.hotsync_run.specs.Wishes.{AsksFor, actions_by};
 ghost use Rattle.run_words.specs.Views.{run_view};
 
@@ -10,8 +10,10 @@ use sync_session::Wishes;
 
 /// What these words ask of a session.
 pub fn wishes_of(alloc: Global, words: &RunWords<'_>) -> Result<Wishes, AllocError>
-    ensures { IfOk result (AsksFor (run_view words.now)) }
+    ensures asked { IfOk result (AsksFor (run_view words.now)) }
+    ensures date { IfOk result (λ wishes. wishes.date < 2 ^ 32) }
 {
+    let _seconds = words.date.seconds();
     let actions = actions_of(alloc, words.actions)?;
     Ok(Wishes {
         date: words.date,

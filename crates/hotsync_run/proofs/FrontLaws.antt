@@ -1,0 +1,87 @@
+-- What a world's talk tells of its requests, and where the handheld of a report stands.
+use Rattle.std.proofs.Common.{◌≡◌, ◌∙◌, ◌+◌, ◌≤◌, ap, refl, sym, subst, arith, ℕ, zero, suc, List, [], ◌∷◌, ◌++◌, length, take}
+use Rattle.std.specs.Prelude.{Option, Some, None, filter, map, slice_get}
+use Rattle.std.specs.List.{flat_map}
+use Rattle.std.specs.Option.{option_to_list}
+use Rattle.std.proofs.lemmas.List.{length-take, take-append-le}
+use Rattle.dlp_commands.specs.Changes.{changes, given_in}
+use Rattle.dlp_commands.specs.DeviceRuns.{DeviceRun, Exchange, exchanged}
+use Rattle.dlp_commands.specs.Talks.{issued}
+use Rattle.desktop_session.specs.Says.{Begins, IsPrefix, grown, sent}
+use Rattle.line_script.specs.Rules.{RuleValue}
+use Rattle.line_world.specs.Logs.{LogValue, no_log}
+use Rattle.line_world.specs.Worlds.{IsLog, WorldValue, world_talk}
+use Rattle.sync_session.specs.Fronts.{Front}
+use Rattle.sync_session.specs.Sessions.{requests}
+use Rattle.sync_session.specs.Tasks.{Meeting}
+use Rattle.hotsync_run.specs.LineRuns.{LineRan, log_in, write_count}
+use Rattle.hotsync_run.specs.Told.{FolderTold}
+use Rattle.hotsync_run.specs.declared.report.Report.{Report}
+
+-- ---- a world's talk
+
+exchanged-requests : (xs ys : List (List ℕ)) → length xs ≤ length ys → map (λ (exchange : Exchange). exchange.request) (exchanged xs ys) ≡ xs
+exchanged-requests [] ys few = refl
+exchanged-requests (x ∷ xs) [] few = absurd (omega (arith, few))
+exchanged-requests (x ∷ xs) (y ∷ ys) few = ap (λ (l : List (List ℕ)). x ∷ l) (exchanged-requests xs ys (omega (arith, few)))
+
+pub take-none : (n : ℕ) → ◌≡◌ {A = List (List ℕ)} (take n []) []
+take-none zero = refl
+take-none (suc n) = refl
+
+take-last : (xs : List (List ℕ)) (n : ℕ) → length xs ≤ n + 1 → take n xs ++ option_to_list (slice_get xs n) ≡ xs
+take-last [] n few = ap (λ (l : List (List ℕ)). l ++ []) (take-none n)
+take-last (x ∷ []) zero few = refl
+take-last (x ∷ y ∷ xs) zero few = absurd (omega (arith, few))
+take-last (x ∷ xs) (suc n) few = ap (λ (l : List (List ℕ)). x ∷ l) (take-last xs n (omega (arith, few)))
+
+-- it tells all that was issued
+pub world_issued : {F : Type 0} (world : WorldValue F) → IsLog world.log world.answered → issued (world_talk world) ≡ world.log.issued
+world_issued world is =
+    let replied = length-take world.answered world.log.replies in
+    let asked = length-take world.answered world.log.issued in
+    let few : length (take world.answered world.log.issued) ≤ length (take world.answered world.log.replies) = omega (arith, replied, asked, is.replied) in
+    ap (λ (l : List (List ℕ)). l ++ option_to_list (slice_get world.log.issued world.answered)) (exchanged-requests (take world.answered world.log.issued) (take world.answered world.log.replies) few)
+    ∙ take-last world.log.issued world.answered is.few
+
+pub get-none : (n : ℕ) → ◌≡◌ {A = Option (List ℕ)} (slice_get [] n) None
+get-none zero = refl
+get-none (suc n) = refl
+
+-- nothing was issued over a fresh one
+pub issued_none : (n : ℕ) → map (λ (exchange : Exchange). exchange.request) (exchanged (take n []) (take n [])) ++ option_to_list (slice_get [] n) ≡ []
+issued_none n =
+    ap (λ (l : List (List ℕ)). map (λ (exchange : Exchange). exchange.request) (exchanged l (take n [])) ++ option_to_list (slice_get [] n)) (take-none n)
+    ∙ ap (λ (o : Option (List ℕ)). option_to_list o) (get-none n)
+
+-- where a world that was fresh stopped within these requests, what was issued begins them
+pub issued_begins : {F : Type 0} (old new : WorldValue F) (whole : List (List ℕ)) → old.log ≡ no_log → IsLog new.log new.answered
+    → Begins (sent (Some (world_talk new))) (grown (sent (Some (world_talk old))) whole) → IsPrefix new.log.issued whole
+unfolding Begins sent grown
+issued_begins old new whole silent is begins =
+    let first : issued (world_talk old) ≡ [] = ap (λ (log : LogValue). map (λ (exchange : Exchange). exchange.request) (exchanged (take old.answered log.issued) (take old.answered log.replies)) ++ option_to_list (slice_get log.issued old.answered)) silent ∙ issued_none old.answered in
+    subst (λ (l : List (List ℕ)). IsPrefix l whole) (world_issued new is) (subst (λ (l : List (List ℕ)). IsPrefix (issued (world_talk new)) (l ++ whole)) first begins)
+
+-- ---- a report
+
+performed-begins : (meeting : Meeting) (rules : List RuleValue) (before after : FolderTold) (report : Report) → LineRan rules meeting.device before after report → IsPrefix (log_in report).issued (requests meeting)
+    → (log_in report).performed ≡ take (length (log_in report).replies) (requests meeting)
+performed-begins meeting rules before after report line prefix =
+    line.log.performed_is ∙ sym (ap (λ (l : List (List ℕ)). take (length (log_in report).replies) l) (sym prefix.is) ∙ take-append-le (length (log_in report).replies) (log_in report).issued prefix.rest line.log.performed_few)
+
+-- the handheld stands where a beginning of the session's requests leads it
+pub front_of : (meeting : Meeting) (rules : List RuleValue) (before after : FolderTold) (report : Report) (line : LineRan rules meeting.device before after report) → IsPrefix (log_in report).issued (requests meeting)
+    → Front meeting report.writes report.given.items line.last
+unfolding write_count
+front_of meeting rules before after report line prefix =
+    let is = performed-begins meeting rules before after report line prefix in
+    record {
+      count = length (log_in report).replies;
+      replies = (log_in report).replies;
+      reached = line.last;
+      run = subst (λ (l : List (List ℕ)). DeviceRun meeting.device l (log_in report).replies line.last) is line.ran;
+      holds = ap (λ (l : List (List ℕ)). length (filter changes l)) (sym is) ∙ sym line.writes;
+      ids = ap (λ (l : List (List ℕ)). flat_map (λ (exchange : Exchange). given_in exchange.request exchange.reply) (exchanged l (log_in report).replies)) (sym is) ∙ sym line.given;
+      databases = refl;
+      user = refl;
+    }

@@ -1,0 +1,281 @@
+-- What a session left of both sides, from what its call answered over a world.
+use Rattle.std.proofs.Common.{◌≡◌, ◌⊎◌, ◌∙◌, ◌+◌, ◌^◌, ◌≤◌, ◌<◌, ap, append_assoc, refl, sym, subst, arith, inl, inr, ℕ, List, [], ◌∷◌, ◌++◌, length}
+use Rattle.std.specs.Prelude.{Option, Some, None, IsSome, Result, Ok, Err, filter, map, replicate}
+use Rattle.std.specs.FinMap as finmap
+use Rattle.std.specs.Global.{Vec}
+use Rattle.std.specs.List.{AllByRecursion, flat_map}
+use Rattle.std.proofs.lemmas.List.{append-nil, length-append, map-append}
+use Rattle.hs_folders.specs.FileMaps.{FileMap}
+use Rattle.hs_folders.specs.Moments.{EachMomentSince, Moments}
+use Rattle.hs_folders.proofs.MomentLaws.{moments_weaken}
+use Rattle.palm_device.specs.Devices.{Device}
+use Rattle.dlp_commands.specs.Changes.{changes, given_in}
+use Rattle.dlp_commands.specs.DeviceRuns.{Exchange, exchanged}
+use Rattle.dlp_commands.specs.declared.link.LinkFault.{LinkFault}
+use Rattle.dlp_commands.proofs.StepLaws.{given-append}
+use Rattle.palm_device.specs.Handles.{no_handles}
+use Rattle.handheld_files.specs.Openings.{AreKept, Stands}
+use Rattle.handheld_laws.proofs.FileLaws.{opened-bounded, opened-device}
+use Rattle.desk_store.specs.Bounds.{AreBounded}
+use Rattle.desk_store.specs.Shelves.{SlotValue}
+use Rattle.desk_store.proofs.BoundLaws.{bounded_at}
+use Rattle.desk_journal.specs.Overlays.{StandsAs}
+use Rattle.desk_store.specs.Desks.{IsDesk}
+use Rattle.desktop_session.specs.Acts.{Act, text}
+use Rattle.desktop_session.specs.Says.{IsPrefix}
+use Rattle.desktop_session.specs.Tellings.{device_after, exchanges}
+use Rattle.desktop_session.specs.declared.fault.SessionFault.TheVariants as session_fault
+use Rattle.line_world.specs.declared.down.Down.{Down}
+use Rattle.line_world.specs.declared.down.Down.TheVariants as down
+use Rattle.line_world.specs.Logs.{LogValue, no_log}
+use Rattle.line_world.specs.Worlds.{IsLog, WorldSince, WorldValue, world_talk}
+use Rattle.sync_session.proofs.IdsLaws.{text-before_commit, text-session}
+use Rattle.sync_session.specs.Limits.{first_over}
+use Rattle.sync_session.specs.Given.{GetFreeIds}
+use Rattle.sync_session.specs.News.{all_news}
+use Rattle.sync_session.specs.Skips.{active}
+use Rattle.sync_session.specs.Merges.{merged_device, merged_slots}
+use Rattle.sync_session.specs.Outcomes.{IsStopOf, MergedSince, SessionEnds, StandsForSlots, requests_before_commit}
+use Rattle.sync_session.specs.Reports.{reports}
+use Rattle.sync_session.specs.Sessions.{adds_of, after_commit, before_commit, before_writes, requests, session, writes_before_commit}
+use Rattle.sync_session.specs.Rests.{IsAtRest}
+use Rattle.sync_session.specs.Tasks.{Meeting, meeting_of, place_for}
+use Rattle.sync_session.specs.declared.wishes.Wishes.{Wishes}
+use Rattle.sync_session.specs.Users.{begin_mark}
+use Rattle.sync_session.specs.declared.report.DbReport.{DbReport}
+use Rattle.sync_session.specs.declared.stop.Stop.{Stop}
+use Rattle.sync_session.specs.declared.stop.Stop.TheVariants as stop
+use Rattle.session_fronts.specs.Sound.{IsSoundMeeting}
+use Rattle.session_fronts.proofs.FrontLaws.{after-none, commit-ids, commit-told, session-ids, session-told}
+use Rattle.session_fronts.proofs.MergeActs.{merged}
+use Rattle.hotsync_run.specs.Causes.{down_status, stop_status}
+use Rattle.hotsync_run.specs.Ends.{EndedSession, SessionLeft, StatusShows, StoppedBefore, StoppedBehind}
+use Rattle.hotsync_run.specs.LineRuns.{exchanges_in, log_in, write_count}
+use Rattle.hotsync_run.specs.Talks.{left_databases, left_end, left_status}
+use Rattle.hotsync_run.specs.Told.{FolderTold}
+use Rattle.hotsync_run.specs.declared.report.Report.{Report}
+use Rattle.hotsync_run.specs.declared.status.Status.{Status}
+use Rattle.hotsync_run.specs.declared.status.Status.TheVariants.{NoMemory}
+use Rattle.hotsync_run.proofs.EndLaws.{BeganWith, LoggedAll, began_with, count-append, logged_all, none-front, none-given, performed-prefix, prefix-count}
+use Rattle.hotsync_run.proofs.FrontLaws.{issued_begins}
+
+abbrev ids_by : List Exchange → List ℕ
+ids_by exchanges = flat_map (λ (exchange : Exchange). given_in exchange.request exchange.reply) exchanges
+
+-- what a report tells of a world that was fresh, as far as a session's end needs it
+pub record Tells {F : Type 0} (old new : WorldValue F) (palm_after : FolderTold) (report : Report) : Type 0 where
+  pub silent : old.log ≡ no_log
+  pub is_log : IsLog new.log new.answered
+  pub said : log_in report ≡ new.log
+  pub given : (log_in report).given ≡ ids_by (exchanges_in report)
+  pub writes : report.writes ≡ write_count (log_in report).performed
+  pub stands : Stands palm_after.contents new.server.device.databases new.server.device.user
+
+-- ---- the session's requests
+
+parts-are : (meeting : Meeting) (given : List ℕ) → map text (before_commit meeting given) ++ map text (after_commit meeting) ≡ requests meeting
+unfolding session
+parts-are meeting given = sym (map-append text (before_commit meeting given) (after_commit meeting)) ∙ text-session meeting given
+
+before-longer : (meeting : Meeting) (given : List ℕ) → length (map text (before_writes meeting)) < length (map text (before_commit meeting given))
+unfolding before_commit
+before-longer meeting given =
+    let parts = ap length (map-append text (before_writes meeting) (begin_mark meeting ∷ all_news meeting (active meeting) given)) in
+    let sum = length-append (map text (before_writes meeting)) (map text (begin_mark meeting ∷ all_news meeting (active meeting) given)) in
+    omega (arith, parts, sum)
+
+prefix-more : (xs ys zs : List (List ℕ)) → IsPrefix xs ys → IsPrefix xs (ys ++ zs)
+prefix-more xs ys zs prefix = record { rest = prefix.rest ++ zs; is = sym (append_assoc xs prefix.rest zs) ∙ ap (λ (l : List (List ℕ)). l ++ zs) prefix.is }
+
+prefix-length : (xs ys : List (List ℕ)) → IsPrefix xs ys → length xs ≤ length ys
+prefix-length xs ys prefix = let sum = sym (length-append xs prefix.rest) ∙ ap length prefix.is in omega (arith, sum)
+
+whole-prefix : (xs ys : List (List ℕ)) → xs ≡ ys → IsPrefix xs ys
+whole-prefix xs ys same = record { rest = []; is = append-nil xs ∙ same }
+
+writes-before : (meeting : Meeting) (given : List ℕ) → length (filter changes (map text (before_commit meeting given))) ≡ writes_before_commit meeting
+unfolding writes_before_commit
+writes-before meeting given = ap (λ (l : List (List ℕ)). length (filter changes l)) (text-before_commit meeting given (replicate (adds_of meeting) 0))
+
+-- ---- a limit stops a session before it writes
+
+-- what went out is more than what writes nothing
+no-limit : (meeting : Meeting) (given : List ℕ) (sent_out : List (List ℕ)) (o : Option (List ℕ)) → length (map text (before_commit meeting given)) ≤ length sent_out
+    → (IsSome o → IsPrefix sent_out (map text (before_writes meeting))) → o ≡ None
+no-limit meeting given sent_out None many over = refl
+no-limit meeting given sent_out (Some name) many over =
+    let few = prefix-length sent_out (map text (before_writes meeting)) (over refl) in
+    let longer = before-longer meeting given in
+    absurd (omega (arith, few, longer, many))
+
+-- ---- it ended
+
+ended_left : {F : Type 0} (meeting : Meeting) (given : List ℕ) (old new : WorldValue F) (palm_after desk_after : FolderTold) (report : Report) → IsSoundMeeting meeting → old.server.device ≡ meeting.device → Tells old new palm_after report
+    → first_over meeting ≡ None → length given ≡ adds_of meeting → GetFreeIds (session meeting given) meeting.device → LoggedAll (session meeting given) old new
+    → IsDesk desk_after.contents (merged_slots meeting given) → report.databases.items ≡ reports meeting → EndedSession meeting palm_after desk_after report
+ended_left meeting given old new palm_after desk_after report sound device tells none count free logged desk told =
+    let acts : List Act = session meeting given in
+    let rows : exchanges_in report ≡ exchanges acts meeting.device =
+    ap (λ (l : LogValue). exchanged l.performed l.replies) tells.said ∙ logged.exchanges_are ∙ ap (λ (d : Device). exchanges acts d) device in
+    let ids : (log_in report).given ≡ given = tells.given ∙ ap ids_by rows ∙ session-told meeting given sound none free ∙ session-ids meeting given sound count in
+    let reached : new.server.device ≡ merged_device meeting (log_in report).given =
+    logged.device ∙ ap (λ (d : Device). device_after acts d) device ∙ merged meeting given sound none free ∙ ap (λ (l : List ℕ). merged_device meeting l) (sym ids) in
+    record {
+      issued = ap (λ (l : LogValue). l.issued) tells.said ∙ logged.issued_are ∙ text-session meeting given;
+      performed = ap (λ (l : LogValue). l.performed) tells.said ∙ logged.performed_are ∙ text-session meeting given;
+      handheld = subst (λ (d : Device). Stands palm_after.contents d.databases d.user) reached tells.stands;
+      desktop = subst (λ (l : List ℕ). IsDesk desk_after.contents (merged_slots meeting l)) (sym ids) desk;
+      databases = told;
+    }
+
+-- ---- it stopped
+
+before_left : {F : Type 0} (meeting : Meeting) (old new : WorldValue F) (palm_after desk desk_after : FolderTold) (report : Report) → Tells old new palm_after report
+    → IsPrefix new.log.issued (requests_before_commit meeting) → StandsAs desk.contents desk_after.contents → StoppedBefore meeting desk desk_after report
+unfolding write_count writes_before_commit
+before_left meeting old new palm_after desk desk_after report tells prefix stands =
+    let few = prefix-count new.log.performed (requests_before_commit meeting) (performed-prefix new.log new.answered (requests_before_commit meeting) tells.is_log prefix) in
+    let counted : report.writes ≡ length (filter changes new.log.performed) = tells.writes ∙ ap (λ (l : LogValue). length (filter changes l.performed)) tells.said in
+    record { stands = stands; writes = omega (arith, few, counted) }
+
+behind_left : {F : Type 0} (meeting : Meeting) (given : List ℕ) (old new : WorldValue F) (palm_after desk_after : FolderTold) (report : Report) → IsSoundMeeting meeting → old.server.device ≡ meeting.device → Tells old new palm_after report
+    → first_over meeting ≡ None → length given ≡ adds_of meeting → GetFreeIds (before_commit meeting given) meeting.device
+    → BeganWith (before_commit meeting given) (map text (after_commit meeting)) old.server.device new.log → StandsForSlots (merged_slots meeting given) desk_after.contents → StoppedBehind meeting desk_after report
+unfolding write_count
+behind_left meeting given old new palm_after desk_after report sound device tells none count free began stands =
+    let acts : List Act = before_commit meeting given in
+    let quiet : ids_by (exchanged began.rest began.replies) ≡ [] =
+    none-given began.rest began.replies (none-front began.rest began.rest_begins.rest (subst (λ (l : List (List ℕ)). AllByRecursion (λ (request : List ℕ). (reply : List ℕ) → given_in request reply ≡ []) l) (sym began.rest_begins.is) (after-none meeting sound))) in
+    let ids : (log_in report).given ≡ given =
+    tells.given ∙ ap (λ (l : LogValue). ids_by (exchanged l.performed l.replies)) tells.said ∙ ap ids_by began.exchanges_are
+    ∙ given-append (exchanges acts old.server.device) (exchanged began.rest began.replies) ∙ ap (λ (l : List ℕ). ids_by (exchanges acts old.server.device) ++ l) quiet ∙ append-nil (ids_by (exchanges acts old.server.device))
+    ∙ ap (λ (d : Device). ids_by (exchanges acts d)) device ∙ commit-told meeting given sound none free ∙ commit-ids meeting given sound count in
+    let counted : report.writes ≡ length (filter changes new.log.performed) = tells.writes ∙ ap (λ (l : LogValue). length (filter changes l.performed)) tells.said in
+    let split : length (filter changes new.log.performed) ≡ length (filter changes (map text acts)) + length (filter changes began.rest) =
+    ap (λ (l : List (List ℕ)). length (filter changes l)) began.performed_are ∙ count-append (map text acts) began.rest in
+    let own = writes-before meeting given in
+    record {
+      stands = subst (λ (l : List ℕ). StandsForSlots (merged_slots meeting l) desk_after.contents) (sym ids) stands;
+      writes = omega (arith, counted, split, own);
+    }
+
+-- ---- both
+
+-- what a session's call answered of the sides of this meeting, over a world
+abbrev pub EndsOver : {F : Type 0} → (F → Option FileMap) → (F → Moments) → (F → Option (List (List ℕ))) → (F → ℕ) → (WorldValue F → Option LinkFault) → (WorldValue F → ℕ)
+    → Meeting → WorldValue F → WorldValue F → FolderTold → FolderTold → Result (Vec DbReport) Stop → Type 0
+EndsOver contents moments paths faults fault downs meeting old new desk desk_after answer =
+    SessionEnds (λ (world : WorldValue _). Some (world_talk world)) (λ (first last : WorldValue _). WorldSince contents moments paths faults first last) fault downs meeting old new
+    (record { before = desk.contents; after = desk_after.contents; moments_before = desk.moments; moments_after = desk_after.moments }) answer
+
+limit-prefix : {F : Type 0} (contents : F → Option FileMap) (moments : F → Moments) (paths : F → Option (List (List ℕ))) (faults : F → ℕ) (fault : WorldValue F → Option LinkFault) (downs : WorldValue F → ℕ)
+    (meeting : Meeting) (old new : WorldValue F) (desk desk_after : FolderTold) (answer : Result (Vec DbReport) Stop) → old.log ≡ no_log → IsLog new.log new.answered
+    → EndsOver contents moments paths faults fault downs meeting old new desk desk_after answer → IsSome (first_over meeting) → IsPrefix new.log.issued (map text (before_writes meeting))
+limit-prefix contents moments paths faults fault downs meeting old new desk desk_after answer silent is ends some = issued_begins old new (map text (before_writes meeting)) silent is (ends.over some).only
+
+stood_or_merged : (meeting : Meeting) (given : List ℕ) (desk desk_after : FolderTold) → MergedSince meeting given desk.moments desk_after.moments
+    → EachMomentSince (λ told. StandsAs desk.contents told ⊎ StandsForSlots (merged_slots meeting given) told) desk.moments desk_after.moments
+stood_or_merged meeting given desk desk_after since =
+    moments_weaken (StandsForSlots (merged_slots meeting given)) (λ told. StandsAs desk.contents told ⊎ StandsForSlots (merged_slots meeting given) told) desk.moments desk_after.moments since (λ told stands. inr stands)
+
+pub session_left : {F : Type 0} (contents : F → Option FileMap) (moments : F → Moments) (paths : F → Option (List (List ℕ))) (faults : F → ℕ) (fault : WorldValue F → Option LinkFault) (downs : WorldValue F → ℕ)
+    (meeting : Meeting) (old new : WorldValue F) (palm_after desk desk_after : FolderTold) (report : Report) (answer : Result (Vec DbReport) Stop) → IsSoundMeeting meeting → old.server.device ≡ meeting.device → Tells old new palm_after report
+    → report.end ≡ left_end answer → report.databases.items ≡ left_databases answer → EndsOver contents moments paths faults fault downs meeting old new desk desk_after answer → SessionLeft meeting palm_after desk desk_after report
+session_left contents moments paths faults fault downs meeting old new palm_after desk desk_after report (Ok made) sound device tells end databases ends =
+    let e = ends.ended in
+    let logged = logged_all (session meeting e.given) old new tells.silent tells.is_log e.does in
+    let over = limit-prefix contents moments paths faults fault downs meeting old new desk desk_after (Ok made) tells.silent tells.is_log ends in
+    let whole : new.log.issued ≡ requests meeting = logged.issued_are ∙ text-session meeting e.given in
+    let parts = ap length (whole ∙ sym (parts-are meeting e.given)) ∙ length-append (map text (before_commit meeting e.given)) (map text (after_commit meeting)) in
+    let none : first_over meeting ≡ None = no-limit meeting e.given new.log.issued (first_over meeting) (omega (arith, parts)) over in
+    let same : (log_in report).issued ≡ new.log.issued = ap (λ (l : LogValue). l.issued) tells.said in
+    record {
+      issued = whole-prefix (log_in report).issued (requests meeting) (same ∙ whole);
+      over = λ some. subst (λ (l : List (List ℕ)). IsPrefix l (map text (before_writes meeting))) (sym same) (over some);
+      ended = λ is. ended_left meeting e.given old new palm_after desk_after report sound device tells none e.count e.free logged e.desk (databases ∙ e.told);
+      stopped = λ is. cc;
+      given = e.given;
+      moments = stood_or_merged meeting e.given desk desk_after e.moments;
+    }
+session_left contents moments paths faults fault downs meeting old new palm_after desk desk_after report (Err why) sound device tells end databases ends =
+    let over = limit-prefix contents moments paths faults fault downs meeting old new desk desk_after (Err why) tells.silent tells.is_log ends in
+    let same : (log_in report).issued ≡ new.log.issued = ap (λ (l : LogValue). l.issued) tells.said in
+    elim ends.stopped [
+      | inl b ↦
+          let prefix : IsPrefix new.log.issued (requests_before_commit meeting) = issued_begins old new (requests_before_commit meeting) tells.silent tells.is_log b.stops.only in
+          record {
+            issued = subst (λ (l : List (List ℕ)). IsPrefix l (requests meeting)) (sym same)
+                (subst (λ (l : List (List ℕ)). IsPrefix new.log.issued l) (parts-are meeting (replicate (adds_of meeting) 0)) (prefix-more new.log.issued (requests_before_commit meeting) (map text (after_commit meeting)) prefix));
+            over = λ some. subst (λ (l : List (List ℕ)). IsPrefix l (map text (before_writes meeting))) (sym same) (over some);
+            ended = λ is. cc;
+            stopped = λ is. inl (before_left meeting old new palm_after desk desk_after report tells prefix b.stands);
+            given = b.given;
+            moments = stood_or_merged meeting b.given desk desk_after b.moments;
+          }
+      | inr b ↦
+          let began = began_with contents moments paths faults (before_commit meeting b.given) (map text (after_commit meeting)) old b.between new tells.silent tells.is_log b.does b.rest.later b.rest.only b.rest.kept in
+          let performed = prefix-length new.log.performed new.log.issued (performed-prefix new.log new.answered new.log.issued tells.is_log (whole-prefix new.log.issued new.log.issued refl)) in
+          let split = ap length began.performed_are ∙ length-append (map text (before_commit meeting b.given)) began.rest in
+          let none : first_over meeting ≡ None = no-limit meeting b.given new.log.issued (first_over meeting) (omega (arith, performed, split)) over in
+          record {
+            issued = subst (λ (l : List (List ℕ)). IsPrefix l (requests meeting)) (sym same) (subst (λ (l : List (List ℕ)). IsPrefix new.log.issued l) (parts-are meeting b.given) began.issued_begins);
+            over = λ some. subst (λ (l : List (List ℕ)). IsPrefix l (map text (before_writes meeting))) (sym same) (over some);
+            ended = λ is. cc;
+            stopped = λ is. inr (behind_left meeting b.given old new palm_after desk_after report sound device tells none b.count b.free began b.stands);
+            given = b.given;
+            moments = stood_or_merged meeting b.given desk desk_after b.moments;
+          }
+    ]
+
+-- ---- the cause of a stop
+
+down_shows : (meeting : Meeting) (report : Report) (cause : Option Down) → StatusShows meeting report (down_status cause)
+down_shows meeting report None = tt
+down_shows meeting report (Some (down.LineDown end numbers)) = tt
+down_shows meeting report (Some (down.Unplugged number)) = tt
+down_shows meeting report (Some (down.Aborted number)) = tt
+down_shows meeting report (Some (down.Undetected number)) = tt
+down_shows meeting report (Some down.Keeper) = tt
+
+stop_shows : {F : Type 0} (fault : WorldValue F → Option LinkFault) (meeting : Meeting) (old new : WorldValue F) (palm_after : FolderTold) (report : Report) (cause : Option Down) (why : Stop) → Tells old new palm_after report
+    → IsStopOf (λ (world : WorldValue F). Some (world_talk world)) fault meeting old new why → StatusShows meeting report (stop_status cause why)
+stop_shows fault meeting old new palm_after report cause (stop.Session session_fault.Down) tells is = down_shows meeting report cause
+stop_shows fault meeting old new palm_after report cause (stop.Session (session_fault.Refused code)) tells is = tt
+stop_shows fault meeting old new palm_after report cause (stop.Session (session_fault.BadReply broken)) tells is = tt
+stop_shows fault meeting old new palm_after report cause (stop.Session (session_fault.OtherUser handheld desktop)) tells is = is
+stop_shows fault meeting old new palm_after report cause (stop.Session session_fault.TooManyUsers) tells is = is
+stop_shows fault meeting old new palm_after report cause (stop.Session session_fault.NoMemory) tells is = tt
+stop_shows fault meeting old new palm_after report cause (stop.Limit name) tells is =
+    (is.first, ap (λ (l : LogValue). l.performed) tells.said ∙ (logged_all (before_writes meeting) old new tells.silent tells.is_log is.does).performed_are)
+stop_shows fault meeting old new palm_after report cause stop.DeskFault tells is = tt
+
+pub status_shows : {F : Type 0} (contents : F → Option FileMap) (moments : F → Moments) (paths : F → Option (List (List ℕ))) (faults : F → ℕ) (fault : WorldValue F → Option LinkFault) (downs : WorldValue F → ℕ)
+    (meeting : Meeting) (old new : WorldValue F) (palm_after desk desk_after : FolderTold) (report : Report) (answer : Result (Vec DbReport) Stop) (cause : Option Down) (status : Status) → Tells old new palm_after report
+    → (status ≡ left_status cause answer) ⊎ (status ≡ NoMemory) → EndsOver contents moments paths faults fault downs meeting old new desk desk_after answer → StatusShows meeting report status
+status_shows contents moments paths faults fault downs meeting old new palm_after desk desk_after report answer cause status tells (inr memory) ends = subst (λ (s : Status). StatusShows meeting report s) (sym memory) tt
+status_shows contents moments paths faults fault downs meeting old new palm_after desk desk_after report (Ok made) cause status tells (inl is) ends = subst (λ (s : Status). StatusShows meeting report s) (sym is) tt
+status_shows contents moments paths faults fault downs meeting old new palm_after desk desk_after report (Err why) cause status tells (inl is) ends =
+    subst (λ (s : Status). StatusShows meeting report s) (sym is) (stop_shows fault meeting old new palm_after report cause why tells ends.cause)
+
+-- ---- both sides before it
+
+-- an opened handheld, on which nothing is open
+pub opened_rests : (held : Option FileMap) (device : Device) → IsSome held → Stands held device.databases device.user → AreKept device.databases → device.handles ≡ no_handles → IsAtRest device
+opened_rests None device told stands kept closed = absurd (let no : ⊥ = cc in no)
+opened_rests (Some files) device told stands kept closed =
+    let whole : device ≡ record { databases = device.databases; user = device.user; handles = no_handles } = λ i. record { databases = device.databases; user = device.user; handles = closed i } in
+    subst IsAtRest (sym whole) (record {
+      proper = record { sound = opened-device device.databases device.user kept; bounded = opened-bounded (finmap.get files) device.databases device.user stands };
+      closed = refl;
+    })
+
+-- with an opened desktop it can have a session
+pub sound_meeting : (device : Device) (slots : List SlotValue) (wishes : Wishes) → IsAtRest device → AreBounded slots → wishes.date < 2 ^ 32 → IsSoundMeeting (meeting_of device slots wishes)
+sound_meeting device slots wishes rests bounded date =
+    let b = bounded_at slots (place_for device slots wishes.add_user) bounded in
+    record {
+      device = rests.proper;
+      closed = rests.closed;
+      slot = record { rows = b.shelves.rows; bases = b.shelves.bases; short = b.marks.short; no_zero = b.marks.no_zero; number = b.marks.number; pc = b.marks.pc };
+      date = date;
+    }

@@ -1,0 +1,57 @@
+-- What a session left of both sides, by what both held before it.
+use Rattle.std.specs.Prelude.{◌≡◌, ◌⊎◌, ◌≤◌, ⊤, ℕ, List, map, IsSome, Some}
+use Rattle.hs_folders.specs.Moments.{EachMomentSince}
+use Rattle.pdb_values.specs.declared.slot.Slot.TheVariants.{Full}
+use Rattle.handheld_files.specs.Openings.{Stands}
+use Rattle.desk_journal.specs.Overlays.{StandsAs}
+use Rattle.desk_store.specs.Desks.{IsDesk}
+use Rattle.desktop_session.specs.Acts.{text}
+use Rattle.desktop_session.specs.Says.{IsPrefix}
+use Rattle.sync_session.specs.Limits.{first_over}
+use Rattle.sync_session.specs.Merges.{merged_device, merged_slots}
+use Rattle.sync_session.specs.Outcomes.{IsOtherUser, StandsForSlots, slot_in}
+use Rattle.sync_session.specs.Reports.{reports}
+use Rattle.sync_session.specs.Sessions.{before_writes, requests, writes_before_commit}
+use Rattle.sync_session.specs.Tasks.{Meeting}
+use Rattle.hotsync_run.specs.LineRuns.{log_in}
+use Rattle.hotsync_run.specs.Told.{FolderTold}
+use Rattle.hotsync_run.specs.declared.report.Report.{Report}
+use Rattle.hotsync_run.specs.declared.report.SessionEnd.TheVariants.{Ended, Stopped}
+use Rattle.hotsync_run.specs.declared.status.Status.{Status}
+use Rattle.hotsync_run.specs.declared.status.Status.TheVariants.{OtherUser, TooManyUsers, Limit}
+
+-- It ended: each of the session's requests was issued and performed, both folders stand for the merge under the ids that new records got, the
+-- desktop's without a journal, and what was done with each database is told.
+pub record EndedSession (meeting : Meeting) (palm_after desk_after : FolderTold) (report : Report) : Type 0 where
+  pub issued : (log_in report).issued ≡ requests meeting
+  pub performed : (log_in report).performed ≡ requests meeting
+  pub handheld : Stands palm_after.contents (merged_device meeting (log_in report).given).databases (merged_device meeting (log_in report).given).user
+  pub desktop : IsDesk desk_after.contents (merged_slots meeting (log_in report).given)
+  pub databases : report.databases.items ≡ reports meeting
+
+-- it stopped before the desktop's commit: its folder stands for what it stood for
+pub record StoppedBefore (meeting : Meeting) (desk desk_after : FolderTold) (report : Report) : Type 0 where
+  pub stands : StandsAs desk.contents desk_after.contents
+  pub writes : report.writes ≤ writes_before_commit meeting
+
+-- it stopped behind it: the folder stands for the merge
+pub record StoppedBehind (meeting : Meeting) (desk_after : FolderTold) (report : Report) : Type 0 where
+  pub stands : StandsForSlots (merged_slots meeting (log_in report).given) desk_after.contents
+  pub writes : writes_before_commit meeting ≤ report.writes
+
+-- What was issued begins the session's requests, and where a limit would be passed those that write nothing; and this is left of both sides. At each
+-- moment the desktop's folder stood for what it stood for at first, or for the merge under some ids.
+pub record SessionLeft (meeting : Meeting) (palm_after desk desk_after : FolderTold) (report : Report) : Type 0 where
+  pub issued : IsPrefix (log_in report).issued (requests meeting)
+  pub over : IsSome (first_over meeting) → IsPrefix (log_in report).issued (map text (before_writes meeting))
+  pub ended : report.end ≡ Ended → EndedSession meeting palm_after desk_after report
+  pub stopped : report.end ≡ Stopped → StoppedBefore meeting desk desk_after report ⊎ StoppedBehind meeting desk_after report
+  pub given : List ℕ
+  pub moments : EachMomentSince (λ told. StandsAs desk.contents told ⊎ StandsForSlots (merged_slots meeting given) told) desk.moments desk_after.moments
+
+-- why a session ended before anything was written: the users have no slot in common, or a limit would be passed
+abbrev pub StatusShows : Meeting → Report → Status → Type 0
+StatusShows meeting report (OtherUser handheld desktop) = IsOtherUser meeting handheld desktop
+StatusShows meeting report TooManyUsers = slot_in meeting ≡ Full
+StatusShows meeting report (Limit name) = (first_over meeting ≡ Some name) × ((log_in report).performed ≡ map text (before_writes meeting))
+StatusShows meeting report other = ⊤
