@@ -26,7 +26,11 @@ only_memory status (inr is) = is
 pub unread_call : (task : Option Task) (before : CallTold) (out out_after : SinkTold) (report : Report) → IsNotStarted report → IsPrinted (λ text. ⊥) out out_after NoMemory → IsCall task before before out out_after NoMemory report
 unread_call None before out out_after report is printed = record { ended = inr refl; printed = printed }
 unread_call (Some (Sync run)) before out out_after report is printed =
-    record { ran = unread_run run before report is; printed = printed_weaken (λ text. ⊥) (λ text. text ≡ done_lines report.databases.items) out out_after NoMemory (λ text no. absurd no) printed }
+    record {
+      ran = unread_run run before report is;
+      printed = printed_weaken (λ text. ⊥) (λ text. text ≡ done_lines report.databases.items) out out_after NoMemory (λ text no. absurd no) printed;
+      complete = λ calm. inr (inl refl);
+    }
 unread_call (Some (LookAt look file)) before out out_after report is printed =
     look_refused look file before.source before.source out out_after NoMemory NoMemory (inl refl) tt (memory_shows file before.source.left) (λ e. cc) (inl refl)
     (printed_weaken (λ text. ⊥) (IsTextIn look before.source.left) out out_after NoMemory (λ text no. absurd no) printed)

@@ -8,4 +8,5 @@ pub mod PrintedLaws
 pub mod RunLaws
 pub mod TalkLaws
 pub mod TraceLaws
+pub mod UndisturbedLaws
 pub mod WriteLaws

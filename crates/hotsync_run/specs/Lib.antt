@@ -16,5 +16,6 @@ pub mod Scripts
 pub mod Talks
 pub mod Told
 pub mod Traces
+pub mod Undisturbed
 pub mod Views
 pub mod Wishes

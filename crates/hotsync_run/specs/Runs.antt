@@ -24,6 +24,7 @@ use Rattle.hotsync_run.specs.Scripts.{IsScripted}
 use Rattle.hotsync_run.specs.Talks.{Talked}
 use Rattle.hotsync_run.specs.Told.{CallTold, FolderTold, SinkTold}
 use Rattle.hotsync_run.specs.Traces.{IsTraced}
+use Rattle.hotsync_run.specs.Undisturbed.{EndsWell, IsUndisturbed}
 use Rattle.hotsync_run.specs.declared.report.Report.{Report}
 use Rattle.hotsync_run.specs.declared.report.SessionEnd.{SessionEnd}
 use Rattle.hotsync_run.specs.declared.report.SessionEnd.TheVariants.{Ended}
@@ -101,7 +102,8 @@ pub record HasRun (run : Run) (before after : CallTold) (status : Status) (repor
   pub blames : BlamesByCount before after status
   pub opened : OpensNamed run before after report.end
 
--- What is known of a run: this, and that standard output took exactly the lines of its status.
+-- What is known of a run: this, and that standard output took exactly the lines of its status. One that nothing disturbs is done whole.
 pub record IsRun (run : Run) (before after : CallTold) (out out_after : SinkTold) (status : Status) (report : Report) : Type 0 where
   pub ran : HasRun run before after status report
   pub printed : IsPrinted (λ text. text ≡ done_lines report.databases.items) out out_after status
+  pub complete : IsUndisturbed run before after out out_after report → EndsWell status report

@@ -5,6 +5,7 @@ use Rattle.hotsync_run.specs.Lines.{done_lines}
 use Rattle.hotsync_run.specs.Told.{CallTold, SinkTold, folder_told, sink_told, source_told}
 use Rattle.hotsync_run.proofs.PrintedLaws.{printed_weaken}
 use Rattle.hotsync_run.proofs.RunLaws.{run_printed}
+use Rattle.hotsync_run.proofs.UndisturbedLaws.{run_ends_well}
 use Rattle.hotsync_run.proofs.run.run_folders.Goals as goal
 
 pub returns-clause-run : goal.returns-clause-run
@@ -16,7 +17,10 @@ returns-clause-run g c =
     let out : SinkTold = sink_told g.O.Sink.taken g.O.Sink.paths g.O.Sink.faults c.args.out.now in
     let out_after : SinkTold = sink_told g.O.Sink.taken g.O.Sink.paths g.O.Sink.faults c.print_status-status.new.out in
     let printed = c.print_status-status.ensures.printed in
+    let status = c.print_status-status.result in
+    let ran = run_printed run before after answer.status status answer.report c.print_status-status.ensures.status c.judged_run-answer.ensures.ran in
     record {
-      ran = run_printed run before after answer.status c.print_status-status.result answer.report c.print_status-status.ensures.status c.judged_run-answer.ensures.ran;
+      ran = ran;
+      complete = run_ends_well run before after out out_after status answer.report (λ text. text ≡ done_lines c.deref.result.now) ran printed;
       printed = printed_weaken (λ text. text ≡ done_lines c.deref.result.now) (λ text. text ≡ done_lines answer.report.databases.items) out out_after c.print_status-status.result (λ text is. is ∙ ap done_lines c.deref.ensures.value) printed;
     }

@@ -1,0 +1,92 @@
+-- A run that nothing disturbs: it is done whole, unless memory runs out or the line makes a packet of what it damages.
+use Rattle.std.specs.Prelude.{◌≡◌, ◌≢◌, ◌⊎◌, ◌≤◌, ℕ, false, List, length, Option, None, Some, IfSome, IsSome}
+use Rattle.std.specs.FinMap as finmap
+use Rattle.std.specs.Option.{option_map}
+use Rattle.hs_folders.specs.Causes.{Rose}
+use Rattle.hs_folders.specs.FileMaps.{FileMap}
+use Rattle.pdb_values.specs.declared.slot.Slot.TheVariants.{Full, Refused}
+use Rattle.pdb_files.specs.declared.bad_kind.BadKind.{BadKind}
+use Rattle.palm_device.specs.Devices.{Device, most_databases}
+use Rattle.handheld_files.specs.Openings.{HoldsAll, IsFirstBad, database_count}
+use Rattle.trace_text.specs.Fates.{is_stop}
+use Rattle.trace_text.specs.Tallies.{IsFairUpTo}
+use Rattle.line_script.specs.Rules.{RuleValue}
+use Rattle.line_script.specs.Scripts.{fate_by}
+use Rattle.line_steps.specs.declared.harm.Stop.TheVariants as stop
+use Rattle.line_world.specs.Causes.{EndsBy}
+use Rattle.desk_journal.specs.Overlays.{finished}
+use Rattle.desk_store.specs.Desks.{IsDesk, IsReadable}
+use Rattle.desk_store.specs.Shelves.{SlotValue}
+use Rattle.run_words.specs.Runs.{Run}
+use Rattle.sync_session.specs.Limits.{first_over}
+use Rattle.sync_session.specs.Outcomes.{slot_in}
+use Rattle.sync_session.specs.Tasks.{Meeting, meeting_of}
+use Rattle.sync_session.specs.declared.wishes.Wishes.{Wishes}
+use Rattle.hotsync_run.specs.LineRuns.{frames_in}
+use Rattle.hotsync_run.specs.Scripts.{IsScripted}
+use Rattle.hotsync_run.specs.Told.{CallTold, SinkTold}
+use Rattle.hotsync_run.specs.Wishes.{AsksFor}
+use Rattle.hotsync_run.specs.declared.report.Report.{Report}
+use Rattle.hotsync_run.specs.declared.report.SessionEnd.TheVariants.{Ended}
+use Rattle.hotsync_run.specs.declared.status.Status.{Status}
+use Rattle.hotsync_run.specs.declared.status.Status.TheVariants.{Done, NoMemory, Undetected}
+
+-- ---- what has to be given
+
+-- the source tells its bytes where the words name it, and they are a script
+pub record IsGoodScript (path left : Option (List ℕ)) : Type 0 where
+  pub told : IsSome path → IsSome left
+  pub rules : List RuleValue
+  pub scripted : IsScripted path left rules
+
+-- the handheld's folder tells its files: there are not too many of databases, and none is bad
+pub record IsGoodHandheld (told : Option FileMap) : Type 0 where
+  pub held : FileMap
+  pub is : told ≡ Some held
+  pub few : database_count held ≤ most_databases
+  pub good : (name : List ℕ) (kind : BadKind) (place : ℕ) → ¬ (IsFirstBad (finmap.keys held) held name kind place)
+
+-- the desktop's folder does, and so it is once a journal that was left is finished
+pub record IsGoodDesktop (told : Option FileMap) : Type 0 where
+  pub held : FileMap
+  pub is : told ≡ Some held
+  pub readable : IsReadable (finished held)
+
+-- no count of faults rose in the call
+pub record NoneFailed (before after : CallTold) (out out_after : SinkTold) : Type 0 where
+  pub reading : ¬ (Rose before.source.faults after.source.faults)
+  pub handheld : ¬ (Rose before.palm.faults after.palm.faults)
+  pub desktop : ¬ (Rose before.desk.faults after.desk.faults)
+  pub tracing : ¬ (Rose before.trace.faults after.trace.faults)
+  pub printing : ¬ (Rose out.faults out_after.faults)
+
+-- a script under which the line is fair up to the last of so many frames, and is neither unplugged nor aborted
+pub record IsKindScript (rules : List RuleValue) (frames : ℕ) : Type 0 where
+  pub fair : IsFairUpTo frames (fate_by rules)
+  pub goes_on : (number : ℕ) → is_stop (fate_by rules number) ≡ false
+
+-- the desktop has a slot for the handheld's user, or may add one, and no limit would be passed
+pub record MayMeet (meeting : Meeting) : Type 0 where
+  pub known : slot_in meeting ≢ Refused
+  pub room : slot_in meeting ≢ Full
+  pub within : first_over meeting ≡ None
+
+-- Good files on both sides and a good script, no object that failed, a kind line, and two sides that may meet.
+pub record IsUndisturbed (run : Run) (before after : CallTold) (out out_after : SinkTold) (report : Report) : Type 0 where
+  pub script : IsGoodScript run.script before.source.left
+  pub handheld : IsGoodHandheld before.palm.contents
+  pub desktop : IsGoodDesktop before.desk.contents
+  pub none_failed : NoneFailed before after out out_after
+  pub line : (rules : List RuleValue) → IsScripted run.script before.source.left rules → IsKindScript rules (length (frames_in report))
+  pub sides : (device : Device) (slots : List SlotValue) (wishes : Wishes)
+      → IfSome before.palm.contents (λ held. HoldsAll held device.databases device.user) → IsDesk (option_map finished before.desk.contents) slots
+      → AsksFor run wishes → MayMeet (meeting_of device slots wishes)
+
+-- ---- what follows
+
+-- It was done whole; or memory ran out; or what the line made of the last frame holds a packet.
+abbrev pub EndsWell : Status → Report → Type 0
+EndsWell status report =
+    ((status ≡ Done) × (report.end ≡ Ended))
+    ⊎ (status ≡ NoMemory)
+    ⊎ ((number : ℕ) × (status ≡ Undetected number) × EndsBy stop.Undetected (frames_in report))
