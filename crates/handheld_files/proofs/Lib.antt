@@ -1,5 +1,7 @@
+pub mod BoundLaws
 pub mod ChangeLaws
 pub mod FreshLaws
+pub mod GivenLaws
 pub mod KeptLaws
 pub mod SettledLaws
 pub mod StandLaws

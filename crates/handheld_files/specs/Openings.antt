@@ -9,7 +9,8 @@ use Rattle.hs_folders.specs.declared.faults.FolderFault.TheVariants as folder
 use Rattle.pdb_values.specs.Databases.{DatabaseValue}
 use Rattle.pdb_values.specs.declared.user.UserInfo.{UserInfo}
 use Rattle.pdb_files.specs.declared.bad_kind.BadKind.{BadKind}
-use Rattle.palm_device.specs.Devices.{most_databases}
+use Rattle.palm_device.specs.Devices.{Device, most_databases}
+use Rattle.palm_device.specs.Handles.{no_handles}
 use Rattle.pdb_values.specs.NamedDatabases.{NamesRise}
 use Rattle.folder_files.specs.FileNames.{is_handheld_file}
 use Rattle.handheld_files.specs.BadFiles.{FirstFails}
@@ -56,6 +57,10 @@ Shows NoMemory held = ⊤
 pub record HoldsAll (held : FileMap) (databases : List DatabaseValue) (user : UserInfo) : Type 0 where
   pub few : database_count held ≤ most_databases
   pub stands : StandFor (finmap.get held) databases user
+
+-- a handheld of these databases and this user, on which nothing is open
+abbrev pub opened_device : List DatabaseValue → UserInfo → Device
+opened_device databases user = record { databases = databases; user = user; handles = no_handles }
 
 -- databases as a store keeps them, whatever its folder tells
 pub record AreKept (databases : List DatabaseValue) : Type 0 where

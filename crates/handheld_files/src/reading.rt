@@ -3,8 +3,9 @@ ghost use Rattle.std.specs.Prelude.{◌≡◌, ◌≢◌, ◌+◌, ◌≤◌, �
 ghost use Rattle.hs_folders.specs.Causes.{HasCause};
 ghost use Rattle.hs_folders.specs.Moments.{OnlyRead};
 ghost use Rattle.handheld_files.specs.Handhelds.{StandFor, is_database_file as is_name_of_database};
-ghost use Rattle.handheld_files.specs.Openings.{AreKept, HoldsAll, Shows, among};
+ghost use Rattle.handheld_files.specs.Openings.{AreKept, HoldsAll, Shows, among, opened_device};
 ghost use Rattle.handheld_files.specs.Reading.{ReadsFile, RefusesOne};
+ghost use Rattle.palm_device.specs.Bounds.{IsBounded};
 
 use crate::fault::OpenFault;
 use crate::handheld::{Handheld, add_file, empty_handheld, is_database_file};
@@ -17,11 +18,13 @@ const MOST_DATABASES: usize = 200;
 
 /// Reads all databases and the user of a folder that was opened before. The refusals in their
 /// order: the folder fails to be listed, it has files of too many databases, a file fails to be read
-/// or is bad.
+/// or is bad. Whatever the folder tells, the values keep the bounds of their types.
 pub fn read_folder<F: Folder>(alloc: Global, folder: &mut F) -> Result<Handheld, OpenFault>
     ensures held { IfOk result (λ handheld. IfSome (F.contents folder.old) (λ held.
         HoldsAll held handheld.databases.items handheld.user)) }
     ensures kept { IfOk result (λ handheld. AreKept handheld.databases.items) }
+    ensures bounded { IfOk result (λ handheld. IsBounded (opened_device handheld.databases.items
+        handheld.user)) }
     ensures shown { IfErr result (λ fault. IfSome (F.contents folder.old) (Shows fault)) }
     ensures cause { HasCause (F.faults folder.old) (F.faults folder.new)
         (IsErrOf result OpenFault.Keeper) }
@@ -54,6 +57,8 @@ fn read_files<F: Folder>(
     ensures stand { IfOk result (λ handheld. IfSome (F.contents folder.old) (λ held.
         StandFor (among (map string_bytes names.now) held) handheld.databases.items handheld.user)) }
     ensures kept { IfOk result (λ handheld. AreKept handheld.databases.items) }
+    ensures bounded { IfOk result (λ handheld. IsBounded (opened_device handheld.databases.items
+        handheld.user)) }
     ensures refused { IfErr result (λ fault. IfSome (F.contents folder.old)
         (RefusesOne (map string_bytes names.now) fault)) }
     ensures cause { HasCause (F.faults folder.old) (F.faults folder.new)

@@ -7,10 +7,11 @@ ghost use Rattle.hs_folders.specs.Moments.{OneChange};
 ghost use Rattle.pdb_values.specs.NamedDatabases as named;
 ghost use Rattle.pdb_values.specs.NamedDatabases.{replaced, with_new, without_named};
 ghost use Rattle.palm_device.specs.Blocks.{empty_database};
+ghost use Rattle.palm_device.specs.Bounds.{IsBounded};
 ghost use Rattle.palm_device.specs.Records.{place_of_id};
 ghost use Rattle.folder_files.specs.FileNames as file_names;
 ghost use Rattle.folder_files.specs.InfoFiles.{device_text};
-ghost use Rattle.handheld_files.specs.Openings.{AreKept, HoldsAll, Shows, Stands};
+ghost use Rattle.handheld_files.specs.Openings.{AreKept, HoldsAll, Shows, Stands, opened_device};
 ghost use Rattle.handheld_files.specs.Settled.{are_settled};
 ghost use Rattle.handheld_store.specs.Files.{FollowsName};
 ghost use Rattle.handheld_store.specs.Refusals.{create_fault, delete_fault, refusal_of, stops};
@@ -66,6 +67,8 @@ impl<F: Folder> Store<F> {
         ensures held { IfOk result (λ store. IfSome (F.contents folder) (λ held.
             HoldsAll held store.databases store.user)) }
         ensures kept { IfOk result (λ store. AreKept store.databases) }
+        ensures bounded { IfOk result (λ store. IsBounded (opened_device store.databases
+            store.user)) }
         ensures sound { IfOk result (λ store. store.sound ≡ true) }
 
         // Why it is refused.

@@ -13,9 +13,10 @@ use Rattle.dlp_commands.specs.Changes.{changes, given_in}
 use Rattle.dlp_commands.specs.DeviceRuns.{Exchange, exchanged}
 use Rattle.dlp_commands.specs.declared.link.LinkFault.{LinkFault}
 use Rattle.dlp_commands.proofs.StepLaws.{given-append}
+use Rattle.palm_device.specs.Bounds.{IsBounded}
 use Rattle.palm_device.specs.Handles.{no_handles}
-use Rattle.handheld_files.specs.Openings.{AreKept, Stands}
-use Rattle.handheld_laws.proofs.FileLaws.{opened-bounded, opened-device}
+use Rattle.handheld_files.specs.Openings.{AreKept, Stands, opened_device}
+use Rattle.handheld_files.proofs.BoundLaws.{opened-device}
 use Rattle.desk_store.specs.Bounds.{AreBounded}
 use Rattle.desk_store.specs.Shelves.{SlotValue}
 use Rattle.desk_store.proofs.BoundLaws.{bounded_at}
@@ -260,12 +261,11 @@ status_shows contents moments paths faults fault downs meeting old new palm_afte
 -- ---- both sides before it
 
 -- an opened handheld, on which nothing is open
-pub opened_rests : (held : Option FileMap) (device : Device) → IsSome held → Stands held device.databases device.user → AreKept device.databases → device.handles ≡ no_handles → IsAtRest device
-opened_rests None device told stands kept closed = absurd (let no : ⊥ = cc in no)
-opened_rests (Some files) device told stands kept closed =
-    let whole : device ≡ record { databases = device.databases; user = device.user; handles = no_handles } = λ i. record { databases = device.databases; user = device.user; handles = closed i } in
+pub opened_rests : (device : Device) → AreKept device.databases → IsBounded device → device.handles ≡ no_handles → IsAtRest device
+opened_rests device kept bounded closed =
+    let whole : device ≡ opened_device device.databases device.user = λ i. record { databases = device.databases; user = device.user; handles = closed i } in
     subst IsAtRest (sym whole) (record {
-      proper = record { sound = opened-device device.databases device.user kept; bounded = opened-bounded (finmap.get files) device.databases device.user stands };
+      proper = record { sound = opened-device device.databases device.user kept; bounded = subst IsBounded whole bounded };
       closed = refl;
     })
 

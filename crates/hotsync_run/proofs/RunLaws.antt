@@ -267,8 +267,8 @@ talked_from run rules device slots first before after desk_first desk_before des
   fair = talked.fair;
   faulted = talked.faulted;
   stopped = talked.stopped;
-  left = λ told. left_from (meeting_of device slots talked.wishes) after desk_first desk_before desk_after report stood (talked.left (subst (λ (t : Option FileMap). IsSome t) (sym stays.contents) told));
-  shows = λ told. talked.shows (subst (λ (t : Option FileMap). IsSome t) (sym stays.contents) told);
+  left = left_from (meeting_of device slots talked.wishes) after desk_first desk_before desk_after report stood talked.left;
+  shows = talked.shows;
 }
 
 traced_from : (path : Option (List ℕ)) (text : List ℕ) (first before after : SinkTold) (status : Status) → before.taken ≡ first.taken → first.faults ≤ before.faults → IsTraced path text before after status → IsTraced path text first after status

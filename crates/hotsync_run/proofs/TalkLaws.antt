@@ -172,9 +172,9 @@ pub spoke : {F D : Type 0} (contents : F → Option FileMap) (moments : F → Mo
     → AsksFor run wishes → Stands (contents old.server.folder) old.server.device.databases old.server.device.user → old.log ≡ no_log → old.cause ≡ None
     → WorldSince contents moments paths faults old outcome.link → LeavesFolder desk_contents desk_moments desk_paths desk_faults folder outcome
     → cause ≡ outcome.link.cause → BearsOut outcome.link.cause outcome.link.frames → (IsFairUpTo (length outcome.link.frames) (fate_by outcome.link.script) → down_end outcome.link.cause ≡ None)
-    → (IsSome (contents old.server.folder) → IsSoundMeeting (meeting_of old.server.device slots wishes))
-    → (IsSome (contents old.server.folder) → EndsOver contents moments paths faults fault downs (meeting_of old.server.device slots wishes) old outcome.link
-    (folder_told desk_contents desk_moments desk_paths desk_faults folder) (folder_told desk_contents desk_moments desk_paths desk_faults outcome.folder) outcome.end)
+    → IsSoundMeeting (meeting_of old.server.device slots wishes)
+    → EndsOver contents moments paths faults fault downs (meeting_of old.server.device slots wishes) old outcome.link
+    (folder_told desk_contents desk_moments desk_paths desk_faults folder) (folder_told desk_contents desk_moments desk_paths desk_faults outcome.folder) outcome.end
     → IsLeft outcome.end cause left → TellsWorld outcome.link report → report.end ≡ left.end → report.databases.items ≡ left.databases.items → report.faulted.items ≡ left.faulted.items
     → IsTalk run old.script old.server.device slots (folder_told contents moments paths faults old.server.folder) (folder_told contents moments paths faults outcome.link.server.folder)
     (folder_told desk_contents desk_moments desk_paths desk_faults folder) (folder_told desk_contents desk_moments desk_paths desk_faults outcome.folder) left.status report
@@ -201,8 +201,8 @@ spoke contents moments paths faults desk_contents desk_moments desk_paths desk_f
           (subst (λ (rules : List RuleValue). IsFairUpTo (length (frames_in report)) (fate_by rules)) (sym since.same_script) calm_script))) fallen;
       faulted = faults_moved report.faulted.items left.faulted.items (frames_in report) new.frames faulted_are tells.frames shown.faulted;
       stopped = λ e. databases_are ∙ left_none outcome.end cause left is (sym end_is ∙ e);
-      left = λ told. session_left contents moments paths faults fault downs (meeting_of old.server.device slots wishes) old new palm_after desk desk_after report outcome.end (sound told) refl sides end databases (ends told);
-      shows = λ told. status_shows contents moments paths faults fault downs (meeting_of old.server.device slots wishes) old new palm_after desk desk_after report outcome.end cause left.status sides is.status (ends told);
+      left = session_left contents moments paths faults fault downs (meeting_of old.server.device slots wishes) old new palm_after desk desk_after report outcome.end sound refl sides end databases ends;
+      shows = status_shows contents moments paths faults fault downs (meeting_of old.server.device slots wishes) old new palm_after desk desk_after report outcome.end cause left.status sides is.status ends;
     } in
     record {
       shown = by_left outcome.end report.end (KeptSilent palm palm_after desk desk_after left.status report) (Talked run old.script old.server.device slots palm palm_after desk desk_after left.status report) end talked;

@@ -47,7 +47,7 @@ talked_as run rules device slots palm palm_after desk desk_after status other re
   faulted = talked.faulted;
   stopped = talked.stopped;
   left = talked.left;
-  shows = λ told. shows;
+  shows = shows;
 }
 
 pub talked_memory : (run : Run) (rules : List RuleValue) (device : Device) (slots : List SlotValue) (palm palm_after desk desk_after : FolderTold) (status : Status) (report : Report) → Talked run rules device slots palm palm_after desk desk_after status report

@@ -1,5 +1,5 @@
 -- What is known of a session over a line once it is over.
-use Rattle.std.specs.Prelude.{◌≡◌, ◌⊎◌, List, [], length, Option, Some, Result, Ok, Err, IsSome}
+use Rattle.std.specs.Prelude.{◌≡◌, ◌⊎◌, List, [], length, Option, Some, Result, Ok, Err}
 use Rattle.std.specs.Global.{Vec}
 use Rattle.std.specs.Option.{option_map}
 use Rattle.hs_folders.specs.Causes.{Rose}
@@ -71,7 +71,7 @@ NamesFaults report =
     (report.faulted.items ≡ []) ⊎ ((end : End) × BearsOut (Some (down.LineDown end report.faulted.items)) (frames_in report))
 
 -- A session that began: what the words ask of it, what went over the line, and its cause where it stopped. Where the script is fair up to the
--- last frame no line goes down. Databases are told where it ended. Where the folder told what the handheld held, that is the session of both sides.
+-- last frame no line goes down. Databases are told where it ended. What it left of both sides is that of the session of both.
 pub record Talked (run : Run) (rules : List RuleValue) (device : Device) (slots : List SlotValue) (palm palm_after desk desk_after : FolderTold) (status : Status) (report : Report) : Type 0 where
   pub wishes : Wishes
   pub asked : AsksFor run wishes
@@ -81,8 +81,8 @@ pub record Talked (run : Run) (rules : List RuleValue) (device : Device) (slots 
   pub fair : IsFairUpTo (length (frames_in report)) (fate_by rules) → ¬ IsLineDown status
   pub faulted : NamesFaults report
   pub stopped : report.end ≡ Stopped → report.databases.items ≡ []
-  pub left : IsSome palm.contents → SessionLeft (meeting_of device slots wishes) palm_after desk desk_after report
-  pub shows : IsSome palm.contents → StatusShows (meeting_of device slots wishes) report status
+  pub left : SessionLeft (meeting_of device slots wishes) palm_after desk desk_after report
+  pub shows : StatusShows (meeting_of device slots wishes) report status
 
 -- memory ran out before anything was sent, and both folders are as they were
 pub record KeptSilent (palm palm_after desk desk_after : FolderTold) (status : Status) (report : Report) : Type 0 where

@@ -2,7 +2,8 @@
 ghost use Rattle.std.specs.Prelude.{◌≡◌, ◌≢◌, None, true};
 ghost use Rattle.desk_store.specs.Bounds.{AreBounded};
 ghost use Rattle.desk_store.specs.Shelves.{AreInOrder};
-ghost use Rattle.handheld_files.specs.Openings.{AreKept, Stands};
+ghost use Rattle.handheld_files.specs.Openings.{AreKept, Stands, opened_device};
+ghost use Rattle.palm_device.specs.Bounds.{IsBounded};
 ghost use Rattle.palm_device.specs.Handles.{no_handles};
 ghost use Rattle.hotsync_run.specs.Refusals.{BlamesHandheld, BlamesScript};
 ghost use Rattle.hotsync_run.specs.Runs.{HasRun, IsRun};
@@ -139,6 +140,7 @@ fn traced_talk<H: Folder, D: Folder, T: Sink>(
     requires sound { store.sound ≡ true }
     requires stands { Stands (H.contents store.folder) store.databases store.user }
     requires kept { AreKept store.databases }
+    requires proper { IsBounded (opened_device store.databases store.user) }
     requires ordered { AreInOrder desk.slots }
     requires bounded { AreBounded desk.slots }
     ensures talk { IsTracedTalk (run_view words.now) script

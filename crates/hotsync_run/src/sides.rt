@@ -3,7 +3,8 @@ ghost use Rattle.std.specs.Prelude.{◌≡◌, ◌⊎◌, ◌≤◌, IfErr, IfOk
 ghost use Rattle.std.specs.Option.{option_map};
 ghost use Rattle.hs_folders.specs.Causes.{Rose};
 ghost use Rattle.hs_folders.specs.Moments.{EachMomentSince};
-ghost use Rattle.handheld_files.specs.Openings.{AreKept, HoldsAll};
+ghost use Rattle.handheld_files.specs.Openings.{AreKept, HoldsAll, opened_device};
+ghost use Rattle.palm_device.specs.Bounds.{IsBounded};
 ghost use Rattle.desk_journal.specs.Overlays.{StandsAs, finished};
 ghost use Rattle.desk_store.specs.Bounds.{AreBounded};
 ghost use Rattle.desk_store.specs.Desks.{IsDesk};
@@ -27,6 +28,8 @@ pub fn open_handheld<H: Folder>(
     ensures held { IfOk result (λ store. IfSome (H.contents device) (λ files.
         HoldsAll files store.databases store.user)) }
     ensures kept { IfOk result (λ store. AreKept store.databases) }
+    ensures bounded { IfOk result (λ store. IsBounded (opened_device store.databases
+        store.user)) }
     ensures sound { IfOk result (λ store. store.sound ≡ true) }
     ensures refused { IfErr result (λ refused. HandheldRefuses (H.contents device) refused.0) }
     ensures failed { IfErr result (λ refused. refused.0 ≡ Status.HandheldFolder
@@ -51,6 +54,8 @@ fn open_store<H: Folder>(alloc: Global, device: H) -> Result<Store<H>, (Status, 
     ensures held { IfOk result (λ store. IfSome (H.contents device) (λ files.
         HoldsAll files store.databases store.user)) }
     ensures kept { IfOk result (λ store. AreKept store.databases) }
+    ensures bounded { IfOk result (λ store. IsBounded (opened_device store.databases
+        store.user)) }
     ensures sound { IfOk result (λ store. store.sound ≡ true) }
     ensures refused { IfErr result (λ refused. HandheldRefuses (H.contents device) refused.0) }
     ensures failed { IfErr result (λ refused. refused.0 ≡ Status.HandheldFolder

@@ -2,8 +2,9 @@
 ghost use Rattle.std.specs.Prelude.{◌≡◌, ◌<◌, ◌^◌, None, false, true};
 ghost use Rattle.desk_store.specs.Bounds.{AreBounded};
 ghost use Rattle.desk_store.specs.Shelves.{AreInOrder};
-ghost use Rattle.handheld_files.specs.Openings.{AreKept, Stands};
+ghost use Rattle.handheld_files.specs.Openings.{AreKept, Stands, opened_device};
 ghost use Rattle.line_world.specs.Logs.{no_log};
+ghost use Rattle.palm_device.specs.Bounds.{IsBounded};
 ghost use Rattle.palm_device.specs.Handles.{no_handles};
 ghost use Rattle.run_words.specs.Views.{run_view};
 ghost use Rattle.hotsync_run.specs.Talks.{IsTalk};
@@ -36,6 +37,7 @@ pub fn talk<H: Folder, D: Folder>(
     requires sound { store.sound ≡ true }
     requires stands { Stands (H.contents store.folder) store.databases store.user }
     requires kept { AreKept store.databases }
+    requires proper { IsBounded (opened_device store.databases store.user) }
     requires ordered { AreInOrder desk.slots }
     requires bounded { AreBounded desk.slots }
     ensures { IsTalk (run_view words.now) script
@@ -77,6 +79,7 @@ fn speak<H: Folder, D: Folder>(
     requires stands { Stands (H.contents world.server.folder) world.server.device.databases
         world.server.device.user }
     requires kept { AreKept world.server.device.databases }
+    requires proper { IsBounded world.server.device }
     requires closed { world.server.device.handles ≡ no_handles }
     requires ordered { AreInOrder desk.slots }
     requires bounded { AreBounded desk.slots }

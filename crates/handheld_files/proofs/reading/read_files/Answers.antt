@@ -6,11 +6,13 @@ use Rattle.handheld_files.specs.Openings.{among}
 use Rattle.handheld_files.specs.Reading.{ReadsOn, RefusesFile}
 use Rattle.handheld_files.specs.declared.fault.OpenFault.TheVariants.{Keeper}
 use Rattle.handheld_files.proofs.FreshLaws.{take_all}
+use Rattle.handheld_files.proofs.BoundLaws.{bounded_begin, bounded_on}
 use Rattle.handheld_files.proofs.KeptLaws.{KeptSoFar, OnlyRead-trans, cause_on, kept_none, kept_on, names_around, names_next, ok_is_no_fault, refused_on, stands_begin, stands_on}
 use Rattle.handheld_files.proofs.reading.read_files.Goals as goal
 
 pub loop-name-init : goal.loop-name-init
 loop-name-init g c = record {
+  bounded = bounded_begin c.empty_handheld-handheld.result.databases.items c.empty_handheld-handheld.result.user c.empty_handheld-handheld.ensures.databases c.empty_handheld-handheld.ensures.user;
   kept = kept_none c.empty_handheld-handheld.result.databases.items c.empty_handheld-handheld.ensures.databases;
   stands = stands_begin (g.F.Folder.contents c.args.folder.now) c.empty_handheld-handheld.result.databases.items c.empty_handheld-handheld.result.user c.empty_handheld-handheld.ensures.databases c.empty_handheld-handheld.ensures.user;
   only_read = record { same_contents = refl; same_moments = refl; same_paths = refl; later = omega arith };
@@ -30,6 +32,7 @@ loop-name-preserved g c =
     subst (λ t. ReadsOn t name old.databases.items old.user new.databases.items new.user) c.loop-name.invariant.only_read.same_contents
     (subst (λ n. ReadsOn (g.F.Folder.contents c.loop-name.folder) n old.databases.items old.user new.databases.items new.user) c.as_str.ensures.value c.in-Ok.ensures.read) in
     record {
+      bounded = bounded_on told name old.databases.items new.databases.items old.user new.user c.loop-name.invariant.bounded reads;
       kept = subst (λ ns. KeptSoFar ns new.databases.items) (sym next) (kept_on told before name old.databases.items new.databases.items old.user new.user c.loop-name.invariant.kept reads);
       stands = subst (λ ns. IfSome told (λ held. StandFor (among ns held) new.databases.items new.user)) (sym next) (stands_on told before name old.databases.items new.databases.items old.user new.user c.loop-name.invariant.stands reads);
       only_read = OnlyRead-trans g.F.Folder.contents g.F.Folder.moments g.F.Folder.paths g.F.Folder.faults c.args.folder.now c.loop-name.folder c.read_file.new.folder c.loop-name.invariant.only_read c.read_file.ensures.only_read;

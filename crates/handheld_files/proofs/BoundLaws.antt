@@ -1,6 +1,6 @@
 -- What files of a handheld say keeps the bounds of its types.
-use Rattle.std.proofs.Common.{◌≡◌, ◌∙◌, ◌≤◌, ◌<◌, ◌^◌, ◌==◌, ◌||◌, ◌&&◌, not, refl, ap, sym, subst, ℕ, suc, Bool, true, false, List, [], ◌∷◌, ◌++◌, length, map, nat_lt, if◌then◌else◌, arith, lit<}
-use Rattle.std.specs.Prelude.{Option, Some, None, slice_get}
+use Rattle.std.proofs.Common.{◌≡◌, ◌∙◌, ◌≤◌, ◌<◌, ◌^◌, ◌==◌, ◌||◌, ◌&&◌, not, refl, ap, sym, subst, ℕ, suc, Bool, true, false, List, [], ◌∷◌, ◌++◌, length, map, nat_lt, if◌then◌else◌, arith, inl, inr, lit<}
+use Rattle.std.specs.Prelude.{Option, Some, None, IfSome, MatchBool}
 use Rattle.std.specs.List.{AllByRecursion, list_all, list_any}
 use Rattle.std.proofs.lemmas.Bool.Decides.{nat_tests}
 use Rattle.pdb_values.specs.Blocks.{block_length}
@@ -12,21 +12,23 @@ use Rattle.pdb_values.specs.declared.civil.CivilTime.{CivilTime}
 use Rattle.pdb_values.specs.declared.record.Record.{Record}
 use Rattle.pdb_values.specs.declared.resource.Resource.{Resource}
 use Rattle.pdb_values.specs.declared.user.UserInfo.{UserInfo}
-use Rattle.pdb_values.proofs.NamedLaws.{All-AllByRecursion, database_of-at}
+use Rattle.pdb_values.proofs.NamedLaws.{All-AllByRecursion, AllByRecursion-with_new}
 use Rattle.pdb_files.specs.Blocks.{AreShort, block_list}
 use Rattle.pdb_files.specs.Entries.{record_data, resource_data}
 use Rattle.pdb_files.specs.Files.{FitsRecord, FitsResource, IsFileText, data_of, has_resources}
-use Rattle.palm_device.specs.Bounds.{IsBounded, IsBoundedDatabase, IsBoundedRecord, IsBoundedResource, IsBoundedUser}
+use Rattle.hs_folders.specs.FileMaps.{FileMap}
+use Rattle.palm_device.specs.Bounds.{IsBounded, IsBoundedDatabase, IsBoundedOpened, IsBoundedRecord, IsBoundedResource, IsBoundedUser}
 use Rattle.palm_device.specs.FreshIds.{fresh_ids, is_among, with_fresh_ids, with_ids}
 use Rattle.palm_device.specs.Handles.{no_handles}
 use Rattle.palm_device.specs.Soundness.{AreIds, IsDevice, ids_of}
-use Rattle.folder_files.specs.FileNames.{device_info_file}
 use Rattle.folder_files.specs.InfoFiles.{IsDeviceFile}
 use Rattle.folder_files.specs.Lines.{SaysDate}
-use Rattle.handheld_files.specs.Handhelds.{Files, IsUserOf, StandFor, no_user}
-use Rattle.handheld_files.specs.Openings.{AreKept}
+use Rattle.handheld_files.specs.Adding.{AddsDatabase}
+use Rattle.handheld_files.specs.Handhelds.{is_database_file, no_user}
+use Rattle.handheld_files.specs.Openings.{AreKept, opened_device}
+use Rattle.handheld_files.specs.Reading.{ReadsOn}
 use Rattle.handheld_files.specs.Settled.{are_ids, are_settled, as_opened, idle}
-use Rattle.handheld_laws.proofs.FreshLaws.{fresh-have, with-each, with-length, with-none}
+use Rattle.handheld_files.proofs.GivenLaws.{fresh-have, with-each, with-length, with-none}
 
 -- ---- lists
 
@@ -37,10 +39,6 @@ all-front P (x ∷ xs) ys all = (all.0, all-front P xs ys all.1)
 all-back : {A : Type 0} (P : A → Type 0) (xs ys : List A) → AllByRecursion P (xs ++ ys) → AllByRecursion P ys
 all-back P [] ys all = all
 all-back P (x ∷ xs) ys all = all-back P xs ys all.1
-
-all-places : {A : Type 0} (P : A → Type 0) (xs : List A) → ((k : ℕ) (x : A) → slice_get xs k ≡ Some x → P x) → AllByRecursion P xs
-all-places P [] each = tt
-all-places P (x ∷ xs) each = (each 0 x refl, all-places P xs (λ k y is. each (suc k) y is))
 
 map-length : {A B : Type 0} (f : A → B) (xs : List A) → length (map f xs) ≡ length xs
 map-length f [] = refl
@@ -128,7 +126,7 @@ entries_of stored bytes text =
           few_resources = (let zero_length = ap length none in omega (arith, zero_length));
         }
 
-opened_database : (stored : DatabaseValue) (bytes : List ℕ) → IsFileText stored bytes → IsBoundedDatabase (as_opened stored)
+pub opened_database : (stored : DatabaseValue) (bytes : List ℕ) → IsFileText stored bytes → IsBoundedDatabase (as_opened stored)
 unfolding as_opened
 opened_database stored bytes text =
     let entries = entries_of stored bytes text in
@@ -166,13 +164,6 @@ opened_database stored bytes text =
       records = opened_bounded stored.records entries.few_records entries.records;
       resources = entries.resources;
     }
-
-pub opened-databases : (files : Files) (databases : List DatabaseValue) (user : UserInfo) → StandFor files databases user
-    → AllByRecursion IsBoundedDatabase databases
-opened-databases files databases user stand =
-    all-places IsBoundedDatabase databases (λ k database there.
-    let file = stand.each_database database.head.name database (database_of-at databases k database stand.order there) in
-    subst IsBoundedDatabase (sym file.is) (opened_database file.stored file.bytes file.text))
 
 -- ---- the user
 
@@ -275,22 +266,43 @@ none_bounded = record {
   password = omega arith;
 }
 
-pub opened-user : (files : Files) (databases : List DatabaseValue) (user : UserInfo) → StandFor files databases user → IsBoundedUser user
-opened-user files databases user stand = by (files device_info_file) stand.owner
-  where
-    by : (o : Option (List ℕ)) → IsUserOf o user → IsBoundedUser user
-    by None is = subst IsBoundedUser (sym is) none_bounded
-    by (Some bytes) is = file_user user bytes is
+-- ---- one file after the other
 
--- ---- the handheld
+closed : AllByRecursion (λ slot. IfSome slot IsBoundedOpened) no_handles
+closed = (tt, (tt, (tt, (tt, (tt, (tt, (tt, (tt, tt))))))))
 
-pub opened-bounded : (files : Files) (databases : List DatabaseValue) (user : UserInfo) → StandFor files databases user
-    → IsBounded (record { databases = databases; user = user; handles = no_handles })
-opened-bounded files databases user stand = record {
-  databases = opened-databases files databases user stand;
-  user = opened-user files databases user stand;
-  handles = (tt, (tt, (tt, (tt, (tt, (tt, (tt, (tt, tt))))))));
+-- behind no file
+pub bounded_begin : (databases : List DatabaseValue) (user : UserInfo) → databases ≡ [] → user ≡ no_user → IsBounded (opened_device databases user)
+bounded_begin databases user none nobody = record {
+  databases = subst (AllByRecursion IsBoundedDatabase) (sym none) tt;
+  user = subst IsBoundedUser (sym nobody) none_bounded;
+  handles = closed;
 }
+
+-- behind one more
+pub bounded_on : (told : Option FileMap) (name : List ℕ) (old new : List DatabaseValue) (user user' : UserInfo) → IsBounded (opened_device old user) → ReadsOn told name old user new user'
+    → IsBounded (opened_device new user')
+bounded_on told name old new user user' bounded (inl past) = record {
+  databases = subst (AllByRecursion IsBoundedDatabase) (sym past.1.databases) bounded.databases;
+  user = subst IsBoundedUser (sym past.1.owner) bounded.user;
+  handles = closed;
+}
+bounded_on told name old new user user' bounded (inr did) = by (is_database_file name) did.2
+  where
+    by : (b : Bool) → MatchBool b (AddsDatabase old name did.0 new × (user' ≡ user)) (IsDeviceFile user' did.0 × (new ≡ old)) → IsBounded (opened_device new user')
+    by true adds = record {
+      databases = subst (AllByRecursion IsBoundedDatabase) (sym adds.0.made)
+          (AllByRecursion-with_new IsBoundedDatabase (as_opened adds.0.stored) old (opened_database adds.0.stored did.0 adds.0.file.text) bounded.databases);
+      user = subst IsBoundedUser (sym adds.1) bounded.user;
+      handles = closed;
+    }
+    by false adds = record {
+      databases = subst (AllByRecursion IsBoundedDatabase) (sym adds.1) bounded.databases;
+      user = file_user user' did.0 adds.0;
+      handles = closed;
+    }
+
+-- ---- a store's databases
 
 both_parts : (a b : Bool) → (a && b) ≡ true → (a ≡ true) × (b ≡ true)
 both_parts true b is = (refl, is)
@@ -316,6 +328,6 @@ settled_ids (database ∷ databases) all = (
   settled_ids databases all.1,
 )
 
-pub opened-device : (databases : List DatabaseValue) (user : UserInfo) → AreKept databases
-    → IsDevice (record { databases = databases; user = user; handles = no_handles })
+-- databases as a store keeps them are those of a device
+pub opened-device : (databases : List DatabaseValue) (user : UserInfo) → AreKept databases → IsDevice (opened_device databases user)
 opened-device databases user kept = record { names = kept.order; few = kept.few; ids = settled_ids databases kept.settled; handles = refl }
