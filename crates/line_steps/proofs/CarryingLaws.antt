@@ -163,7 +163,7 @@ own_step heard whole wire x y new later_x later_y is before waits still turn hol
   go (Data key Accepted) turn now = now
   go (Data key Repeated) turn now = now
   go (Data key Dropped) turn now = now
-  go (Data key Whole) turn now = record { turn = turn.0; waits = subst (λ (h : Half). Waits h.sender) (sym x_moved) waits; message = turn.1 }
+  go (Data key Whole) turn now = record { turn = turn.0; waits = subst (λ (h : Half). Waits h.sender) (sym x_moved) waits; message = turn.1; acked = turn.2 }
 
 -- x, which waits, took the next frame of y
 pub other_step : (heard : Heard) (wire : Wire) (x y : Half) (new : Wire) (later_x later_y : Half) → Apart x.end y.end → Waiting (side_of x) → StillUnderway heard wire y x new later_y later_x → Holds new later_y later_x → work_left new later_y later_x < work_left wire y x → SameMessage x later_x → SameMessage y later_y

@@ -1,8 +1,9 @@
 -- A message goes over to the other end, step by step.
-use Rattle.std.specs.Prelude.{◌≡◌, ◌⊎◌, ◌<◌, Bool, true, false, Some}
+use Rattle.std.specs.Prelude.{◌≡◌, ◌⊎◌, ◌<◌, Bool, true, false, Some, map}
 use Rattle.padp_link.specs.Receivers.{whole_of}
 use Rattle.padp_link.specs.Senders.{Waits}
 use Rattle.padp_link.specs.declared.receiver.Taken.TheVariants.{Whole}
+use Rattle.trace_text.specs.TraceLines.{frame_value}
 use Rattle.line_laws.specs.Progress.{Blocked}
 use Rattle.line_steps.specs.declared.carrying.Next.{Next}
 use Rattle.line_steps.specs.declared.carrying.Next.TheVariants.{Own, Other, Nothing}
@@ -10,6 +11,7 @@ use Rattle.line_steps.specs.declared.half.Half.{Half}
 use Rattle.line_steps.specs.declared.half.Wire.{Wire}
 use Rattle.line_steps.specs.declared.hearing.Heard.{Heard}
 use Rattle.line_steps.specs.declared.hearing.Heard.TheVariants.{Data}
+use Rattle.line_steps.specs.Acknowledging.{EndsAcknowledging, last_key}
 use Rattle.line_steps.specs.Running.{Holds, past_now}
 use Rattle.line_steps.specs.Taking.{Delivers}
 use Rattle.line_steps.specs.Settling.{AllTaken}
@@ -24,11 +26,12 @@ pub record SameMessage (old new : Half) : Type 0 where
   pub message_is : new.message ≡ old.message
   pub id_is : new.sender.id ≡ old.sender.id
 
--- y has the message of x, which it may answer; x waits for the acknowledgement of its last piece
+-- y has the message of x, which it may answer, and sent the acknowledgement of its last piece last; x waits for that
 pub record Carried (wire : Wire) (x y : Half) : Type 0 where
   pub turn : Turn wire y x
   pub waits : Waits x.sender
   pub message : whole_of y.receiver.pieces ≡ Some x.message.items
+  pub acked : EndsAcknowledging y.end (last_key x.sender.id x.message.items) (map frame_value wire.frames.items)
 
 -- the message is over, or on its way still
 abbrev pub Reaches : Bool → Wire → Half → Half → Type 0

@@ -1,3 +1,4 @@
+pub mod Acknowledging
 pub mod Adding
 pub mod Advancing
 pub mod Carrying

@@ -1,10 +1,12 @@
 //! A request, and its reply.
-ghost use Rattle.std.specs.Prelude.{◌≡◌, ◌+◌, ◌<◌, OnOk, IfErr, Some, length};
+ghost use Rattle.std.specs.Prelude.{◌≡◌, ◌+◌, ◌<◌, OnOk, IfErr, Some, length, map};
 ghost use Rattle.padp_link.specs.Neighbours.{session_id};
 ghost use Rattle.padp_link.specs.Receivers.{whole_of};
 ghost use Rattle.trace_text.specs.declared.frame.End.TheVariants.{Handheld, Desktop};
 ghost use Rattle.trace_text.specs.Talks.{Talk};
+ghost use Rattle.trace_text.specs.TraceLines.{frame_value};
 ghost use Rattle.line_laws.specs.Talking.{say};
+ghost use Rattle.line_steps.specs.Acknowledging.{EndsAcknowledging, last_key};
 ghost use Rattle.line_talk.specs.Halting.{HaltsWithin, LineEnds};
 ghost use Rattle.line_talk.specs.Rests.{MayAnswer, MayAsk};
 ghost use Rattle.line_talk.specs.Telling.{HasSaid, LineCounts, LineRecords, LineTells};
@@ -60,6 +62,8 @@ pub fn answer(
     requires short { length reply.now < 65536 }
     ensures asks { OnOk result (MayAsk line.new (requests + 1)) }
     ensures whole { OnOk result (whole_of line.new.desktop.receiver.pieces ≡ Some reply.now) }
+    ensures acked { OnOk result (EndsAcknowledging Desktop (last_key (session_id (requests + 1))
+        reply.now) (map frame_value line.new.wire.frames.items)) }
 
     ensures recorded { LineRecords script.now line.old → LineRecords script.now line.new }
     ensures counted { LineCounts line.old → LineCounts line.new }

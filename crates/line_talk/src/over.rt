@@ -1,9 +1,11 @@
 //! A message of one end goes over to the other one.
-ghost use Rattle.std.specs.Prelude.{◌≡◌, ◌<◌, OnOk, IfErr, Some, length};
+ghost use Rattle.std.specs.Prelude.{◌≡◌, ◌<◌, OnOk, IfErr, Some, length, map};
 ghost use Rattle.padp_link.specs.Receivers.{whole_of};
 ghost use Rattle.padp_link.specs.Senders.{Waits};
 ghost use Rattle.trace_text.specs.Talks.{Talk};
+ghost use Rattle.trace_text.specs.TraceLines.{frame_value};
 ghost use Rattle.line_laws.specs.Talking.{say};
+ghost use Rattle.line_steps.specs.Acknowledging.{EndsAcknowledging, last_key};
 ghost use Rattle.line_steps.specs.Carrying.{SameMessage};
 ghost use Rattle.line_steps.specs.Counting.{Counted};
 ghost use Rattle.line_steps.specs.Telling.{IsNextTo, Recorded, Talks};
@@ -30,6 +32,8 @@ pub(crate) fn send_over(
     ensures turn { OnOk result (Turn wire.new y.new x.new) }
     ensures waits { OnOk result (Waits x.new.sender) }
     ensures whole { OnOk result (whole_of y.new.receiver.pieces ≡ Some message.now) }
+    ensures acked { OnOk result (EndsAcknowledging y.old.end (last_key id message.now)
+        (map frame_value wire.new.frames.items)) }
     ensures own_id { OnOk result (x.new.sender.id ≡ id) }
     ensures other_same { OnOk result (SameMessage y.old y.new) }
     ensures own_end { x.new.end ≡ x.old.end }

@@ -1,7 +1,10 @@
-use Rattle.std.proofs.Common.{ap, subst, ◌∙◌, arith}
+use Rattle.std.proofs.Common.{ℕ, ap, map, subst, ◌∙◌, arith}
 use Rattle.std.proofs.lemmas.Result.{IfErr-weaker, on_ok_weaker}
 use Rattle.trace_text.specs.declared.frame.End.{End}
+use Rattle.trace_text.specs.declared.frame.End.TheVariants.{Desktop}
+use Rattle.trace_text.specs.TraceLines.{frame_value}
 use Rattle.line_laws.specs.Talking.{say}
+use Rattle.line_steps.specs.Acknowledging.{EndsAcknowledging, last_key}
 use Rattle.line_steps.specs.Advancing.{FallsShort, piece_total}
 use Rattle.line_steps.specs.Halting.{Spoke}
 use Rattle.line_steps.proofs.AdvancingLaws.{turn_took}
@@ -37,3 +40,9 @@ returns-clause-within c =
       short = subst (λ (X : End). FallsShort halt (say X c.args.reply.now talk) c.send_over.new.wire c.send_over.new.x) ends.handheld_is
           (halted.short talk (answers-next line c.args.requests c.transaction.result talk c.requires.answers c.transaction.ensures said) before);
     }) done.halted
+
+pub returns-clause-acked : goal.returns-clause-acked
+returns-clause-acked c =
+    let frames = map frame_value c.send_over.new.wire.frames.items in
+    on_ok_weaker c.send_over.result (λ acked. subst (λ (n : ℕ). EndsAcknowledging Desktop (last_key n c.args.reply.now) frames) c.transaction.ensures
+    (subst (λ (E : End). EndsAcknowledging E (last_key c.transaction.result c.args.reply.now) frames) c.requires.answers.ends.desktop_is acked)) c.send_over.ensures.acked

@@ -1,9 +1,12 @@
 use Rattle.std.specs.Prelude.{Result, Ok, Err, OnOk}
-use Rattle.std.proofs.Common.{◌≡◌, ℕ, ◌+◌, List, length, Some, ap, subst, ◌∙◌, arith}
+use Rattle.std.proofs.Common.{◌≡◌, ℕ, ◌+◌, List, length, map, Some, ap, subst, ◌∙◌, arith}
 use Rattle.std.proofs.lemmas.Result.{IfErr-weaker, err_from_is_err_and, on_ok_weaker}
+use Rattle.trace_text.specs.declared.frame.End.{End}
+use Rattle.trace_text.specs.TraceLines.{frame_value}
 use Rattle.line_laws.specs.Talking.{say}
 use Rattle.line_script.specs.Scripts.{fate_by}
 use Rattle.line_steps.specs.declared.half.Half.{Half}
+use Rattle.line_steps.specs.Acknowledging.{EndsAcknowledging, last_key}
 use Rattle.line_steps.specs.Advancing.{FallsShort}
 use Rattle.line_steps.proofs.AdvancingLaws.{up_where}
 use Rattle.line_steps.specs.Halting.{Spoke}
@@ -14,6 +17,10 @@ use Rattle.line_talk.proofs.over.send_over.Goals as goal
 both_ok : {T E A B C : Type 0} (r : Result T E) → (A → B → C) → OnOk r A → OnOk r B → OnOk r C
 both_ok (Ok x) f a b = f a b
 both_ok (Err y) f a b = tt
+
+three_ok : {T E A B C D : Type 0} (r : Result T E) → (A → B → C → D) → OnOk r A → OnOk r B → OnOk r C → OnOk r D
+three_ok (Ok x) f a b c = f a b c
+three_ok (Err y) f a b c = tt
 
 pub start-requires-clause-turn : goal.start-requires-clause-turn
 start-requires-clause-turn c = c.expect.ensures.other c.args.wire.now c.args.x.now c.requires.turn
@@ -113,3 +120,16 @@ returns-clause-other_same c =
       message_is = same.message_is ∙ ap (λ (h : Half). h.message) from;
       id_is = same.id_is ∙ ap (λ (h : Half). h.sender.id) from;
     }) c.carry.ensures.y_same
+
+pub returns-clause-acked : goal.returns-clause-acked
+returns-clause-acked c =
+    let frames = map frame_value c.carry.new.wire.frames.items in
+    three_ok c.carry.result (λ carried x_same y_same.
+    (let end_is : c.carry.new.y.end ≡ c.args.y.now.end = y_same.end_is ∙ ap (λ (h : Half). h.end) c.expect.ensures.receiver in
+    let id_is : c.carry.new.x.sender.id ≡ c.args.id = x_same.id_is ∙ c.start.ensures.id in
+    let message_is : c.carry.new.x.message.items ≡ c.args.message.now =
+    ap (λ (m : _). m.items) x_same.message_is ∙ ap (λ (h : Half). h.message.items) c.start.ensures.says ∙ c.in_ok-text.ensures.items in
+    subst (λ (E : End). EndsAcknowledging E (last_key c.args.id c.args.message.now) frames) end_is
+    (subst (λ (n : ℕ). EndsAcknowledging c.carry.new.y.end (last_key n c.args.message.now) frames) id_is
+    (subst (λ (m : List ℕ). EndsAcknowledging c.carry.new.y.end (last_key c.carry.new.x.sender.id m) frames) message_is carried.acked))))
+    c.carry.ensures.carried c.carry.ensures.x_same c.carry.ensures.y_same
