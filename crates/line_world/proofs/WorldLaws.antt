@@ -1,6 +1,6 @@
 -- What holds of each world, behind a greeting and behind a request.
 use Rattle.std.specs.Prelude.{IsErrOf, map}
-use Rattle.std.proofs.Common.{◌≡◌, ◌⊎◌, ℕ, ◌+◌, ◌<◌, Bool, true, false, List, [], ◌∷◌, length, take, Option, Some, None, Err, refl, sym, ap, subst, arith, inl, inr}
+use Rattle.std.proofs.Common.{◌≡◌, ◌⊎◌, ℕ, ◌+◌, ◌<◌, ◌≤◌, Bool, true, false, List, [], ◌∷◌, length, take, Option, Some, None, Err, refl, sym, ap, subst, arith, inl, inr}
 use Rattle.std.proofs.lemmas.Bool.{both_ways}
 use Rattle.std.proofs.lemmas.List.{length-take}
 use Rattle.hs_folders.specs.FileMaps.{FileMap}
@@ -24,11 +24,13 @@ use Rattle.line_steps.proofs.TellsLaws.{halted_story, halted_tells, turn_tells_a
 use Rattle.line_steps.proofs.TurnLaws.{apart_turned}
 use Rattle.line_steps.specs.declared.sending.Halt.{Halt}
 use Rattle.line_steps.specs.declared.sending.Halt.TheVariants.{NoMemory}
+use Rattle.line_steps.specs.Acknowledging.{EndsAcknowledging, last_key}
 use Rattle.line_steps.specs.Promising.{TellsOf}
 use Rattle.line_steps.specs.Stories.{told_from}
 use Rattle.line_laws.specs.Framing.{CameByCursor}
 use Rattle.trace_text.specs.declared.frame.Frame.{Frame}
 use Rattle.line_steps.specs.Adding.{AllBy}
+use Rattle.padp_link.specs.Neighbours.{session_id}
 use Rattle.padp_link.specs.Senders.{SenderValue}
 use Rattle.line_steps.specs.Resting.{IsNew}
 use Rattle.line_steps.specs.Turning.{Turn}
@@ -42,12 +44,12 @@ use Rattle.line_talk.specs.Rests.{MayGreet, MayAsk}
 use Rattle.line_talk.specs.Telling.{LineCounts, LineRecords, LineTells, LineTold, bytes_of, greeted, init, wake}
 use Rattle.line_world.specs.declared.down.Down.{Down}
 use Rattle.line_world.specs.declared.stop.Break.{Break}
-use Rattle.line_world.specs.declared.stop.Break.TheVariants.{Line as OfLine}
+use Rattle.line_world.specs.declared.stop.Break.TheVariants.{Line as OfLine, NoMemory as OutOfMemory, Keeper as KeeperBroke}
 use Rattle.line_world.proofs.CauseLaws.{halt-by, no-halt, no-names, up-cause}
-use Rattle.line_world.specs.Causes.{IsCause, IsCauseOf, NamesLast, halt_of, link_fault}
-use Rattle.line_world.specs.Conversing.{Answers, Breaks}
+use Rattle.line_world.specs.Causes.{IsCause, IsCauseOf, KeeperOnly, NamesLast, halt_of, link_fault}
+use Rattle.line_world.specs.Conversing.{Answers, Breaks, Went, Unsent, Sent, Served, WentTo}
 use Rattle.line_world.specs.Logs.{LogValue, no_log, said_in}
-use Rattle.line_world.specs.Worlds.{IsHeard, IsLog, IsAtRest, IsTold, IsWorld, TellAll, TellBoth, TellDone}
+use Rattle.line_world.specs.Worlds.{EndsAcknowledged, IsHeard, IsLog, IsAtRest, IsTold, IsWorld, LeavesOff, TellAll, TellBoth, TellDone}
 use Rattle.line_world.proofs.HeardLaws.{heard-rest}
 use Rattle.line_world.proofs.LogLaws.{length-later, replies-all, log-answered}
 use Rattle.line_world.proofs.WentLaws.{log-went}
@@ -88,6 +90,44 @@ said-greeted log answered is all none =
     let replies = nothing log.replies (omega (arith, is.performed_few, all, none)) in
     λ i. record { handheld = bytes_of wake ∷ replies i; desktop = bytes_of init ∷ issued i }
 
+-- ---- what a request leaves off
+
+performed-few : (log : LogValue) (answered : ℕ) → IsLog log answered → length log.performed ≤ length log.issued
+performed-few log answered is =
+    let count = length-take (length log.replies) log.issued in
+    omega (arith, count, is.performed_few, ap (λ (l : List (List ℕ)). length l) is.performed_is)
+
+memory-up : (cause : Option Down) → cause ≡ None → Some (link_fault cause) ≡ Some link.Down → ⊥
+memory-up None none is = cc
+memory-up (Some cause) none is = cc
+
+left-went : {F : Type 0} (contents : F → Option FileMap) (moments : F → Moments) (paths : F → Option (List (List ℕ))) (faults : F → ℕ) (went : Went) (old new : ServerValue F) (log later : LogValue) (answered count : ℕ) (request : List ℕ) (ended : Break) (now : Option Down)
+    → IsLog log answered → length log.issued ≡ answered → WentTo contents moments paths faults went old new log later request → (went ≡ Unsent → ended ≡ OutOfMemory) → (ended ≡ KeeperBroke → went ≡ Sent) → IsCauseOf ended count now → KeeperOnly ended now
+    → LeavesOff later answered (Some (link_fault now)) now
+left-went contents moments paths faults Unsent old new log later answered count request ended now is all to unsent unserved is_cause only = record {
+  down = λ down. absurd (memory-up now (subst (λ (b : Break). IsCauseOf b count now) (unsent refl) is_cause) down);
+  keeper = λ keeper. absurd (let e : Unsent ≡ Sent = unserved (only keeper) in cc);
+}
+left-went contents moments paths faults Sent old new log later answered count request ended now is all to unsent unserved is_cause only =
+    let more = length-later log.issued later.issued request (ap (λ (l : LogValue). l.issued) to.1) in
+    let same : length later.performed ≡ length log.performed = ap (λ (l : LogValue). length l.performed) to.1 in
+    let few = performed-few log answered is in
+    record { down = λ down. inr (omega (arith, more, all)); keeper = λ keeper. omega (arith, more, same, few) }
+left-went contents moments paths faults (Served reply) old new log later answered count request ended now is all to unsent unserved is_cause only =
+    let more = length-later log.issued later.issued request (ap (λ (l : LogValue). l.issued) to.1) in
+    record { down = λ down. inr (omega (arith, more, all)); keeper = λ keeper. absurd (let e : Served reply ≡ Sent = unserved (only keeper) in cc) }
+
+-- the last frame stays where nothing was sent
+acked-went : {F : Type 0} (contents : F → Option FileMap) (moments : F → Moments) (paths : F → Option (List (List ℕ))) (faults : F → ℕ) (went : Went) (old new : ServerValue F) (line later_line : Line) (log later : LogValue) (answered : ℕ) (request : List ℕ)
+    → WentTo contents moments paths faults went old new log later request → length log.issued ≡ answered → (later ≡ log → later_line ≡ line) → EndsAcknowledged log (map frame_value line.wire.frames.items) → length later.issued ≡ answered
+    → EndsAcknowledged later (map frame_value later_line.wire.frames.items)
+acked-went contents moments paths faults Unsent old new line later_line log later answered request to all stays acked same =
+    subst (λ (l : LogValue). EndsAcknowledged l (map frame_value later_line.wire.frames.items)) (sym to.1) (subst (λ (l : Line). EndsAcknowledged log (map frame_value l.wire.frames.items)) (sym (stays to.1)) acked)
+acked-went contents moments paths faults Sent old new line later_line log later answered request to all stays acked same =
+    absurd (omega (arith, all, same, length-later log.issued later.issued request (ap (λ (l : LogValue). l.issued) to.1)))
+acked-went contents moments paths faults (Served reply) old new line later_line log later answered request to all stays acked same =
+    absurd (omega (arith, all, same, length-later log.issued later.issued request (ap (λ (l : LogValue). l.issued) to.1)))
+
 -- ---- the invariant
 
 pub world-new : (line : Line) (script : List RuleValue) (log : LogValue) (sound : Bool) → sound ≡ true → log ≡ no_log → Turn line.wire line.handheld line.desktop → IsNew line.handheld Handheld → IsNew line.desktop Desktop → LineTells no_talk line → LineCounts line → line.wire.frames.items ≡ []
@@ -103,7 +143,10 @@ world-new line script log sound is_sound quiet turn handheld desktop tells count
       told = record { halt = NoMemory; ends = subst (λ (l : LogValue). LineEnds NoMemory (said_in l) line) (sym quiet) (greets-ends line greets tells); halt_is = tt; names = tt };
       heard = λ first. absurd cc;
       is_log = subst (λ (l : LogValue). IsLog l 0) (sym quiet) (record { performed_is = refl; replied = omega arith; performed_few = omega arith; few = omega arith });
+      silent = λ first. ap (λ (l : LogValue). l.issued) quiet;
+      left_off = record { down = λ is. absurd cc; keeper = λ is. absurd cc };
       running = λ none. record { is_sound = is_sound; all = ap (λ (l : LogValue). length l.issued) quiet; at_rest = (greets, refl, tells) };
+      acked = λ some all. absurd (omega (arith, some));
       caused = refl;
     }
 
@@ -123,9 +166,16 @@ world-greeted line new script log sound answered begun fault cause world none fi
       told = record { halt = NoMemory; ends = asks-ends (said_in log) new 0 asks says; halt_is = no-halt fault cause (length new.wire.frames.items) NoMemory world.caused none; names = no-names fault cause (map frame_value new.wire.frames.items) world.caused none };
       heard = λ is. heard-rest NoMemory log answered new (replies-all log answered world.is_log running.all) (omega (arith, running.all, replies-all log answered world.is_log running.all)) (told-asks (said_in log) new 0 asks says);
       is_log = world.is_log;
+      silent = λ before. absurd cc;
+      left_off = world.left_off;
+      acked = λ some all. absurd (omega (arith, some, greets.none));
       running = λ is. record { is_sound = running.is_sound; all = running.all; at_rest = (subst (λ (n : ℕ). MayAsk new n) (sym greets.none) asks, says) };
       caused = world.caused;
     }
+
+none-cause : (fault : Option LinkFault) (cause : Option Down) → IsCause fault cause → fault ≡ None → cause ≡ None
+none-cause None cause caused none = caused
+none-cause (Some fault) cause caused none = absurd cc
 
 pub world-answered : {F : Type 0} (contents : F → Option FileMap) (moments : F → Moments) (paths : F → Option (List (List ℕ))) (faults : F → ℕ) (old later_server : ServerValue F) (line new : Line) (script : List RuleValue) (log later : LogValue) (answered n : ℕ) (begun : Bool)
     (fault : Option LinkFault) (cause : Option Down) (request reply : List ℕ) → IsWorld line script log old.sound answered begun fault cause → fault ≡ None → begun ≡ true → LineRecords script new → LineCounts new → Answers contents moments paths faults old later_server log later new request reply → LineTells (said_in later) new
@@ -142,6 +192,15 @@ world-answered contents moments paths faults old later_server line new script lo
       told = record { halt = NoMemory; ends = asks-ends (said_in later) new (length log.issued + 1) answers.asks tells; halt_is = no-halt fault cause (length new.wire.frames.items) NoMemory world.caused none; names = no-names fault cause (map frame_value new.wire.frames.items) world.caused none };
       heard = λ is. heard-rest NoMemory later n new (sym count) (omega (arith, count, asked, more, running.all)) (told-asks (said_in later) new (length log.issued + 1) answers.asks tells);
       is_log = subst (λ (k : ℕ). IsLog later k) (sym more) (subst (λ (l : LogValue). IsLog l (answered + 1)) (sym performs.log_is) (log-answered log answered request reply world.is_log running.all));
+      silent = λ before. absurd (both_ways begun before first);
+      left_off = record { down = λ is. absurd cc; keeper = λ is. absurd (let e = none-cause fault cause world.caused none in cc) };
+      acked = λ some all. record {
+        earlier = log.replies;
+        reply = reply;
+        is = ap (λ (l : LogValue). l.replies) performs.log_is;
+        acked = (let same : length log.issued + 1 ≡ length later.replies = omega (arith, count, more, running.all) in
+            subst (λ (k : ℕ). EndsAcknowledging Desktop (last_key (session_id k) reply) (map frame_value new.wire.frames.items)) same answers.acked);
+      };
       running = λ is. record {
         is_sound = performs.sound;
         all = omega (arith, asked, more, running.all);
@@ -151,23 +210,27 @@ world-answered contents moments paths faults old later_server line new script lo
     }
 
 pub world-broke : {F : Type 0} (contents : F → Option FileMap) (moments : F → Moments) (paths : F → Option (List (List ℕ))) (faults : F → ℕ) (old later_server : ServerValue F) (line new : Line) (script : List RuleValue) (log later : LogValue) (answered : ℕ) (begun : Bool) (fault : Option LinkFault)
-    (cause now : Option Down) (request : List ℕ) (ended : Break) → IsWorld line script log old.sound answered begun fault cause → fault ≡ None → LineRecords script new → LineCounts new → LineEnds (halt_of ended) (said_in later) new → IsCauseOf ended (length new.wire.frames.items) now → NamesLast now (map frame_value new.wire.frames.items) → Breaks contents moments paths faults old later_server log later request ended
-    → IsHeard (halt_of ended) later (length log.replies) new → IsWorld new script later later_server.sound answered begun (Some (link_fault now)) now
-world-broke contents moments paths faults old later_server line new script log later answered begun fault cause now request ended world none by counted over is_cause names breaks heard = record {
+    (cause now : Option Down) (request : List ℕ) (ended : Break) → IsWorld line script log old.sound answered begun fault cause → fault ≡ None → begun ≡ true → LineRecords script new → LineCounts new → LineEnds (halt_of ended) (said_in later) new → IsCauseOf ended (length new.wire.frames.items) now → KeeperOnly ended now → NamesLast now (map frame_value new.wire.frames.items) → Breaks contents moments paths faults old later_server log later request ended
+    → IsHeard (halt_of ended) later (length log.replies) new → (later ≡ log → new ≡ line) → IsWorld new script later later_server.sound answered begun (Some (link_fault now)) now
+world-broke contents moments paths faults old later_server line new script log later answered begun fault cause now request ended world none first by counted over is_cause only names breaks heard stays = record {
   recorded = by;
   counted = counted;
   told = record { halt = halt_of ended; ends = over; halt_is = halt-by ended (length new.wire.frames.items) now is_cause; names = names };
-  heard = λ first. subst (λ (n : ℕ). IsHeard (halt_of ended) later n new) (replies-all log answered world.is_log (world.running none).all) heard;
+  heard = λ is. subst (λ (n : ℕ). IsHeard (halt_of ended) later n new) (replies-all log answered world.is_log (world.running none).all) heard;
   is_log = log-went contents moments paths faults breaks.went old later_server log later answered request world.is_log (world.running none).all breaks.is;
+  silent = λ before. absurd (both_ways begun before first);
+  left_off = left-went contents moments paths faults breaks.went old later_server log later answered (length new.wire.frames.items) request ended now world.is_log (world.running none).all breaks.is breaks.unsent breaks.unserved is_cause only;
+  acked = λ some all. acked-went contents moments paths faults breaks.went old later_server line new log later answered request breaks.is (world.running none).all stays (world.acked some (world.running none).all) all;
   running = λ is. absurd cc;
   caused = caused-by now;
 }
 
 pub world-halted : (line new : Line) (script : List RuleValue) (log : LogValue) (sound : Bool) (answered : ℕ) (begun : Bool) (fault : Option LinkFault) (cause now : Option Down) (halt : Halt) → IsWorld line script log sound answered begun fault cause → fault ≡ None → begun ≡ false
-    → LineRecords script new → LineCounts new → LineEnds halt greeted new → IsCauseOf (OfLine halt) (length new.wire.frames.items) now → NamesLast now (map frame_value new.wire.frames.items) → IsWorld new script log sound answered begun (Some (link_fault now)) now
-world-halted line new script log sound answered begun fault cause now halt world none first by counted over is_cause names =
+    → LineRecords script new → LineCounts new → LineEnds halt greeted new → IsCauseOf (OfLine halt) (length new.wire.frames.items) now → KeeperOnly (OfLine halt) now → NamesLast now (map frame_value new.wire.frames.items) → IsWorld new script log sound answered begun (Some (link_fault now)) now
+world-halted line new script log sound answered begun fault cause now halt world none first by counted over is_cause only names =
     let running = world.running none in
     let greets = greets-of begun line log answered first running.at_rest in
+    let quiet = nothing log.issued (omega (arith, running.all, greets.none)) in
     record {
       recorded = by;
       counted = counted;
@@ -179,6 +242,9 @@ world-halted line new script log sound answered begun fault cause now halt world
       };
       heard = λ is. absurd (both_ways begun first is);
       is_log = world.is_log;
+      silent = λ before. quiet;
+      left_off = record { down = λ is. inl quiet; keeper = λ is. absurd (let e : OfLine halt ≡ KeeperBroke = only is in cc) };
+      acked = λ some all. absurd (omega (arith, some, greets.none));
       running = λ is. absurd cc;
       caused = caused-by now;
     }

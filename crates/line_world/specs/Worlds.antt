@@ -1,21 +1,24 @@
 -- What contracts see of a world, and what holds of it since an earlier time.
-use Rattle.std.specs.Prelude.{◌≡◌, ◌⊎◌, ℕ, ◌+◌, ◌≤◌, ◌<◌, Bool, true, false, List, ◌∷◌, ◌++◌, length, map, take, slice_get, Option, Some, None}
+use Rattle.std.specs.Prelude.{◌≡◌, ◌⊎◌, ℕ, ◌+◌, ◌≤◌, ◌<◌, Bool, true, false, List, [], ◌∷◌, ◌++◌, length, map, take, slice_get, Option, Some, None}
 use Rattle.std.specs.List.{flat_map}
 use Rattle.hs_folders.specs.Causes.{Rose}
 use Rattle.hs_folders.specs.FileMaps.{FileMap}
 use Rattle.hs_folders.specs.Moments.{Moments}
 use Rattle.dlp_commands.specs.declared.link.LinkFault.{LinkFault}
+use Rattle.dlp_commands.specs.declared.link.LinkFault.TheVariants as link
 use Rattle.dlp_commands.specs.Changes.{given_in}
 use Rattle.dlp_commands.specs.DeviceRuns.{Exchange, exchanged}
 use Rattle.dlp_commands.specs.Talks.{Talk}
 use Rattle.handheld_server.specs.Servers.{ServerValue}
 use Rattle.line_script.specs.Rules.{RuleValue}
+use Rattle.padp_link.specs.Neighbours.{session_id}
 use Rattle.trace_text.specs.declared.frame.End.TheVariants as ends
 use Rattle.trace_text.specs.Stories.{IsStory}
 use Rattle.trace_text.specs.Talks as talks
 use Rattle.trace_text.specs.TraceLines.{FrameValue, frame_value}
 use Rattle.line_steps.specs.declared.line.Line.{Line}
 use Rattle.line_steps.specs.declared.sending.Halt.{Halt}
+use Rattle.line_steps.specs.Acknowledging.{EndsAcknowledging, last_key}
 use Rattle.line_steps.specs.Advancing.{IsUp}
 use Rattle.line_steps.specs.Promising.{TellsOf}
 use Rattle.line_steps.specs.Stories.{told_from}
@@ -72,6 +75,18 @@ pub record TellDone (log : LogValue) (answered : ℕ) (fault : Option LinkFault)
       IsStory ends.Handheld frames (told_from 0 (bytes_of wake ∷ take answered log.replies))
       ⊎ (StoppedUp fault cause × (answered < length log.replies) × IsStory ends.Handheld frames (told_from 0 (bytes_of wake ∷ log.replies)))
 
+-- the frames end with the desktop's acknowledgement of the last piece of the last reply
+pub record EndsAcknowledged (log : LogValue) (frames : List FrameValue) : Type 0 where
+  pub earlier : List (List ℕ)
+  pub reply : List ℕ
+  pub is : log.replies ≡ earlier ++ reply ∷ []
+  pub acked : EndsAcknowledging ends.Desktop (last_key (session_id (length log.replies)) reply) frames
+
+-- A line that went down left the last request without an answer, where one was sent; a folder that failed left it unperformed.
+pub record LeavesOff (log : LogValue) (answered : ℕ) (fault : Option LinkFault) (cause : Option Down) : Type 0 where
+  pub down : fault ≡ Some link.Down → (log.issued ≡ []) ⊎ (answered < length log.issued)
+  pub keeper : cause ≡ Some Keeper → length log.performed < length log.issued
+
 -- Since the first of the two more was sent, performed and replied: each request that was performed was one step of the device, in order. The script is the same.
 -- A folder that failed meanwhile had its count rise.
 pub record WorldSince {F : Type 0} (contents : F → Option FileMap) (moments : F → Moments) (paths : F → Option (List (List ℕ))) (faults : F → ℕ) (old new : WorldValue F) : Type 0 where
@@ -126,5 +141,8 @@ pub record IsWorld (line : Line) (script : List RuleValue) (log : LogValue) (sou
   pub told : IsTold line log cause
   pub heard : begun ≡ true → IsHeard told.halt log answered line
   pub is_log : IsLog log answered
+  pub silent : begun ≡ false → log.issued ≡ []
+  pub left_off : LeavesOff log answered fault cause
+  pub acked : 0 < answered → length log.issued ≡ answered → EndsAcknowledged log (map frame_value line.wire.frames.items)
   pub running : fault ≡ None → IsRunning line log sound answered begun
   pub caused : IsCause fault cause

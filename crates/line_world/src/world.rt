@@ -1,5 +1,5 @@
 //! The world of a line.
-ghost use Rattle.std.specs.Prelude.{◌≡◌, None, IfErr, IfOk, false, true, length, map, []};
+ghost use Rattle.std.specs.Prelude.{◌≡◌, ◌<◌, None, IfErr, IfOk, false, true, length, map, []};
 ghost use Rattle.trace_text.specs.TraceLines.{frame_value};
 ghost use Rattle.std.specs.Option.{option_copied};
 ghost use Rattle.line_script.specs.Scripts.{fate_by};
@@ -9,7 +9,7 @@ ghost use Rattle.trace_text.specs.Tallies.{IsFairUpTo};
 ghost use Rattle.line_world.specs.Causes.{BearsOut, IsCause, down_end};
 ghost use Rattle.line_world.specs.Counts.{CountsOf};
 ghost use Rattle.line_world.specs.Logs.{no_log, said_in, texts};
-ghost use Rattle.line_world.specs.Worlds.{IsLog, TellAll, TellBoth, TellDone};
+ghost use Rattle.line_world.specs.Worlds.{EndsAcknowledged, IsLog, LeavesOff, TellAll, TellBoth, TellDone};
 
 use crate::down::Down;
 use crate::log::{LineLog, Log};
@@ -140,6 +140,13 @@ impl<F: Folder> World<F> {
         // Behind the greetings that is what was performed and what was answered, or one message more where the run stopped at it.
         ensures told_done { self.begun ≡ true → TellDone self.log self.answered self.fault
             self.cause (map frame_value result.0.frames.items) }
+        // Before the greetings were over nothing was sent. A line that went down left the last request unanswered.
+        ensures silent { self.begun ≡ false → self.log.issued ≡ [] }
+        ensures left_off { LeavesOff self.log self.answered self.fault self.cause }
+        // Where all that was sent was answered, the last frame is the desktop's acknowledgement of the last reply, and the run goes
+        // on behind it.
+        ensures acked { 0 < self.answered → length self.log.issued ≡ self.answered →
+            EndsAcknowledged self.log (map frame_value result.0.frames.items) }
         // Each reader counted what landed of the frames that were taken, which is, in sums, as many packets as came.
         ensures to_handheld { CountsOf Desktop result.0.to_handheld result.0.frames.items }
         ensures to_desktop { CountsOf Handheld result.0.to_desktop result.0.frames.items }

@@ -1,20 +1,25 @@
 use Rattle.std.specs.Prelude.{IfSome}
-use Rattle.std.proofs.Common.{◌≡◌, ℕ, ◌+◌, ◌≤◌, List, [], ◌∷◌, ◌++◌, length, Option, refl, sym, ap, subst, ◌∙◌, arith}
+use Rattle.std.proofs.Common.{◌≡◌, ℕ, ◌+◌, ◌≤◌, List, [], ◌∷◌, ◌++◌, length, map, Option, refl, sym, ap, subst, ◌∙◌, arith}
 use Rattle.std.proofs.lemmas.List.{length-map}
 use Rattle.std.proofs.lemmas.Result.{err_from_is_err_and}
 use Rattle.dlp_args.specs.Messages.{MessageTextValue}
+use Rattle.padp_link.specs.Neighbours.{session_id}
+use Rattle.trace_text.specs.declared.frame.End.TheVariants.{Desktop}
+use Rattle.trace_text.specs.TraceLines.{frame_value}
+use Rattle.line_steps.specs.Acknowledging.{EndsAcknowledging, last_key}
 use Rattle.line_steps.specs.declared.sending.Halt.{Halt}
 use Rattle.line_steps.specs.declared.sending.Halt.TheVariants.{NoMemory}
 use Rattle.line_talk.specs.Halting.{LineEnds}
 use Rattle.line_talk.specs.Rests.{MayAsk}
 use Rattle.line_talk.specs.Telling.{HasSaid, LineTells}
-use Rattle.line_world.specs.Conversing.{Sent, Served}
+use Rattle.line_world.specs.Conversing.{Sent, Served, Unsent}
 use Rattle.line_world.specs.Logs.{LogValue, log_value, said_in, with_issued, with_performed}
 use Rattle.line_world.specs.Serving.{Performs}
 use Rattle.line_talk.proofs.ToldLaws.{told-answers, told-asks}
+use Rattle.line_world.specs.SinceLaws.{served-itself}
 use Rattle.line_world.specs.Worlds.{IsHeard}
 use Rattle.line_world.proofs.HeardLaws.{heard-answered, heard-asked, heard-refused, heard-rest}
-use Rattle.line_world.proofs.LogLaws.{length-more}
+use Rattle.line_world.proofs.LogLaws.{length-later, length-more}
 use Rattle.line_world.proofs.OverLaws.{answered-over, answers-over, asked-over, asks-over}
 use Rattle.line_world.proofs.conversing.converse.Goals as goal
 
@@ -81,11 +86,33 @@ returns-in_err-answer-clause-ends g c =
     rw (p.1, p.2) (λ before. answered-over c.answer.new.line log (log_value c.perform.new.log) request reply c.bytes-2.result.now log_is c.bytes-2.ensures.bytes
     (c.in_err-answer.ensures.ends (said_in (with_issued log request)) then (subst (λ (m : List ℕ). LineTells (said_in (with_issued log m)) c.ask.new.line) c.bytes.ensures.bytes (c.in_ok-ask.ensures.tells (said_in log) said before))))
 
+pub returns-in_err-issue-clause-breaks : goal.returns-in_err-issue-clause-breaks
+returns-in_err-issue-clause-breaks g c =
+    let p = err_from_is_err_and c.from_residual.result c.from_residual.ensures.1 in
+    rw (p.1, p.2) (record {
+      went = Unsent;
+      is = (served-itself g.F.Folder.contents g.F.Folder.moments g.F.Folder.paths g.F.Folder.faults c.args.server.now, c.in_err-issue.ensures.stays);
+      unsent = λ is. refl;
+      unserved = λ is. absurd cc;
+      keeper = λ is. absurd cc;
+    })
+
+pub returns-in_err-ask-clause-breaks : goal.returns-in_err-ask-clause-breaks
+returns-in_err-ask-clause-breaks g c =
+    let p = err_from_is_err_and c.from_residual-in_err-ask.result c.from_residual-in_err-ask.ensures.1 in
+    rw (p.1, p.2) (record {
+      went = Sent;
+      is = (served-itself g.F.Folder.contents g.F.Folder.moments g.F.Folder.paths g.F.Folder.faults c.args.server.now, c.in_ok-issue.ensures.kept);
+      unsent = λ is. absurd cc;
+      unserved = λ is. absurd cc;
+      keeper = λ is. absurd cc;
+    })
+
 pub returns-in_err-perform-clause-breaks : goal.returns-in_err-perform-clause-breaks
 returns-in_err-perform-clause-breaks g c =
     let p = err_from_is_err_and c.from_residual-in_err-perform.result c.from_residual-in_err-perform.ensures.1 in
     let refuses = c.in_err-perform.ensures.refuses in
-    rw (p.1, p.2) (record { went = Sent; is = (refuses.since, refuses.log_is ∙ c.in_ok-issue.ensures.kept); keeper = refuses.keeper })
+    rw (p.1, p.2) (record { went = Sent; is = (refuses.since, refuses.log_is ∙ c.in_ok-issue.ensures.kept); unsent = λ is. absurd cc; unserved = λ is. refl; keeper = refuses.keeper })
 
 pub returns-in_err-answer-clause-breaks : goal.returns-in_err-answer-clause-breaks
 returns-in_err-answer-clause-breaks g c =
@@ -94,6 +121,8 @@ returns-in_err-answer-clause-breaks g c =
     rw (p.1, p.2) (record {
       went = Served c.perform.new.reply;
       is = (performs.since, performs.log_is ∙ ap (λ (l : LogValue). with_performed l c.args.request.now c.perform.new.reply) c.in_ok-issue.ensures.kept);
+      unsent = λ is. absurd cc;
+      unserved = λ is. absurd cc;
       keeper = λ is. absurd cc;
     })
 
@@ -101,9 +130,12 @@ pub returns-clause-answers : goal.returns-clause-answers
 returns-clause-answers g c =
     let answered = c.in_ok-answer.ensures in
     let requests : c.len-requests.result ≡ length (log_value c.args.log.now).issued = omega (arith, c.len-requests.ensures, length-map c.args.log.now.issued.items (λ (t : MessageTextValue). t.bytes)) in
+    let frames = map frame_value c.answer.new.line.wire.frames.items in
     let message : c.take_whole.new.message ≡ c.perform.new.reply = subst (λ (o : Option (List ℕ)). IfSome o (λ whole. length whole ≤ 65535 → c.take_whole.new.message ≡ whole)) answered.whole c.take_whole.ensures c.bytes-2.ensures.bound ∙ c.bytes-2.ensures.bytes in
     record {
       asks = subst (λ (n : ℕ). MayAsk c.answer.new.line (n + 1)) requests answered.asks;
+      acked = subst (λ (n : ℕ). EndsAcknowledging Desktop (last_key (session_id (n + 1)) c.take_whole.new.message) frames) requests
+          (subst (λ (m : List ℕ). EndsAcknowledging Desktop (last_key (session_id (c.len-requests.result + 1)) m) frames) (c.bytes-2.ensures.bytes ∙ sym message) answered.acked);
       performs = subst (λ (m : List ℕ). Performs g.F.Folder.contents g.F.Folder.moments g.F.Folder.paths g.F.Folder.faults c.args.server.now c.perform.new.server (with_issued (log_value c.args.log.now) c.args.request.now) (log_value c.perform.new.log) c.args.request.now m) (sym message)
           (subst (λ (l : LogValue). Performs g.F.Folder.contents g.F.Folder.moments g.F.Folder.paths g.F.Folder.faults c.args.server.now c.perform.new.server l (log_value c.perform.new.log) c.args.request.now c.perform.new.reply) c.in_ok-issue.ensures.kept c.in_ok-perform.ensures.performs);
     }
@@ -166,3 +198,29 @@ returns-in_err-answer-clause-heard g c =
     rw (p.1, p.2) (λ before. (let tells = subst (λ (m : List ℕ). LineTells (said_in (with_issued log m)) c.ask.new.line) c.bytes.ensures.bytes (c.in_ok-ask.ensures.tells (said_in log) said before) in
     heard-answered log (log_value c.perform.new.log) c.answer.new.line request reply c.bytes-2.result.now log_is c.bytes-2.ensures.bytes c.requires.answered
     (failed.ends (said_in (with_issued log request)) then tells) (failed.within (said_in (with_issued log request)) then tells)))
+
+longer : (xs ys : List (List ℕ)) (x : List ℕ) → ys ≡ xs ++ x ∷ [] → ys ≡ xs → ⊥
+longer xs ys x more same = omega (arith, length-later xs ys x more, ap (λ (l : List (List ℕ)). length l) same)
+
+pub returns-in_err-ask-clause-unsent : goal.returns-in_err-ask-clause-unsent
+returns-in_err-ask-clause-unsent g c =
+    let p = err_from_is_err_and c.from_residual-in_err-ask.result c.from_residual-in_err-ask.ensures.1 in
+    let log = log_value c.args.log.now in
+    let later = log_value c.issue.new.self in
+    rw (p.1) (λ same. absurd (longer log.issued later.issued c.args.request.now (ap (λ (l : LogValue). l.issued) c.in_ok-issue.ensures.kept) (ap (λ (l : LogValue). l.issued) same)))
+
+pub returns-in_err-perform-clause-unsent : goal.returns-in_err-perform-clause-unsent
+returns-in_err-perform-clause-unsent g c =
+    let p = err_from_is_err_and c.from_residual-in_err-perform.result c.from_residual-in_err-perform.ensures.1 in
+    let log = log_value c.args.log.now in
+    let later = log_value c.perform.new.log in
+    let is = c.in_err-perform.ensures.refuses.log_is ∙ c.in_ok-issue.ensures.kept in
+    rw (p.1) (λ same. absurd (longer log.issued later.issued c.args.request.now (ap (λ (l : LogValue). l.issued) is) (ap (λ (l : LogValue). l.issued) same)))
+
+pub returns-in_err-answer-clause-unsent : goal.returns-in_err-answer-clause-unsent
+returns-in_err-answer-clause-unsent g c =
+    let p = err_from_is_err_and c.from_residual-in_err-answer.result c.from_residual-in_err-answer.ensures.1 in
+    let log = log_value c.args.log.now in
+    let later = log_value c.perform.new.log in
+    let is = c.in_ok-perform.ensures.performs.log_is ∙ ap (λ (l : LogValue). with_performed l c.args.request.now c.perform.new.reply) c.in_ok-issue.ensures.kept in
+    rw (p.1) (λ same. absurd (longer log.issued later.issued c.args.request.now (ap (λ (l : LogValue). l.issued) is) (ap (λ (l : LogValue). l.issued) same)))

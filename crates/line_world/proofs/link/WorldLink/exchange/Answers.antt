@@ -1,9 +1,10 @@
-use Rattle.std.proofs.Common.{◌≡◌, List, length, map, Some, refl, subst, sym, arith, inl, inr}
+use Rattle.std.proofs.Common.{◌≡◌, ◌≤◌, List, length, map, Some, refl, subst, sym, arith, inl, inr}
 use Rattle.std.proofs.lemmas.List.{length-map}
 use Rattle.dlp_args.specs.Messages.{MessageTextValue}
 use Rattle.dlp_commands.specs.declared.link.LinkFault.{LinkFault}
 use Rattle.dlp_commands.specs.Links.{MayExchange}
 use Rattle.dlp_commands.specs.Talks.{Answered, Unanswered}
+use Rattle.handheld_server.specs.SaidThings.{downs_of}
 use Rattle.trace_text.specs.declared.frame.Frame.{Frame}
 use Rattle.trace_text.specs.TraceLines.{frame_value}
 use Rattle.line_world.specs.Causes.{IsCauseOf, NamesLast}
@@ -39,10 +40,10 @@ invariant_of-self-in-Err g c =
     let running = c.self.invariant.running c.in_default.is in
     subst (λ (f : LinkFault). IsWorld c.converse.new.line w.script (log_value later) c.converse.new.server.sound w.answered w.begun (Some f) c.cause_of-cause.result) (sym c.fault_of-fault.ensures)
     (world-broke g.F.Folder.contents g.F.Folder.moments g.F.Folder.paths g.F.Folder.faults w.server c.converse.new.server w.line c.converse.new.line w.script (log_value w.log) (log_value later) w.answered w.begun w.fault w.cause c.cause_of-cause.result c.args.request.now c.in-Err.ended
-    c.self.invariant c.in_default.is (c.converse.ensures.recorded c.self.invariant.recorded) (c.converse.ensures.counted c.self.invariant.counted) (c.in-Err.ensures.ends (tells-of w.begun w.line (log_value w.log) w.answered first running.at_rest))
-    (subst (λ (fs : List Frame). IsCauseOf c.in-Err.ended (length fs) c.cause_of-cause.result) c.deref.ensures.value c.cause_of-cause.ensures.is)
+    c.self.invariant c.in_default.is first (c.converse.ensures.recorded c.self.invariant.recorded) (c.converse.ensures.counted c.self.invariant.counted) (c.in-Err.ensures.ends (tells-of w.begun w.line (log_value w.log) w.answered first running.at_rest))
+    (subst (λ (fs : List Frame). IsCauseOf c.in-Err.ended (length fs) c.cause_of-cause.result) c.deref.ensures.value c.cause_of-cause.ensures.is) c.cause_of-cause.ensures.keeper
     (subst (λ (fs : List Frame). NamesLast c.cause_of-cause.result (map frame_value fs)) c.deref.ensures.value c.cause_of-cause.ensures.names) c.in-Err.ensures.breaks
-    (c.in-Err.ensures.heard (tells-of w.begun w.line (log_value w.log) w.answered first running.at_rest)))
+    (c.in-Err.ensures.heard (tells-of w.begun w.line (log_value w.log) w.answered first running.at_rest)) c.in-Err.ensures.unsent)
 
 pub returns-in-Ok-clause-answered : goal.returns-in-Ok-clause-answered
 returns-in-Ok-clause-answered g c =
@@ -83,3 +84,9 @@ returns-in-Err-clause-since g c =
     let new : WorldValue g.row.F.Denot = record { server = c.converse.new.server; script = w.script; log = log_value later; answered = w.answered; frames = map frame_value c.converse.new.line.wire.frames.items; begun = w.begun; fault = Some c.fault_of-fault.result; cause = c.cause_of-cause.result } in
     subst (λ (v : WorldValue g.row.F.Denot). WorldSince g.F.Folder.contents g.F.Folder.moments g.F.Folder.paths g.F.Folder.faults v new) c.self.view_is
     (since-went g.F.Folder.contents g.F.Folder.moments g.F.Folder.paths g.F.Folder.faults breaks.went old new c.args.request.now refl (λ is. inr (breaks.keeper (c.cause_of-cause.ensures.keeper is))) breaks.is)
+
+pub returns-in-Ok-clause-cause : goal.returns-in-Ok-clause-cause
+returns-in-Ok-clause-cause g c = record {
+  later = subst (λ (v : WorldValue g.row.F.Denot). downs_of v.fault ≤ downs_of c.self.inside.fault) c.self.view_is (omega arith);
+  rose = λ is. absurd cc;
+}

@@ -34,7 +34,7 @@ invariant_of-self-in-Err g c =
     subst (λ (f : LinkFault). IsWorld c.greet.new.line w.script (log_value w.log) w.server.sound w.answered w.begun (Some f) c.cause_of-cause.result) (sym c.fault_of-fault.ensures)
     (world-halted w.line c.greet.new.line w.script (log_value w.log) w.server.sound w.answered w.begun w.fault w.cause c.cause_of-cause.result c.in-Err.halt c.self.invariant c.in_default.is first
     (c.greet.ensures.recorded c.self.invariant.recorded) (c.greet.ensures.counted c.self.invariant.counted) (c.in-Err.ensures.ends greets.tells)
-    (subst (λ (fs : List Frame). IsCauseOf (OfLine c.in-Err.halt) (length fs) c.cause_of-cause.result) c.deref.ensures.value c.cause_of-cause.ensures.is)
+    (subst (λ (fs : List Frame). IsCauseOf (OfLine c.in-Err.halt) (length fs) c.cause_of-cause.result) c.deref.ensures.value c.cause_of-cause.ensures.is) c.cause_of-cause.ensures.keeper
     (subst (λ (fs : List Frame). NamesLast c.cause_of-cause.result (map frame_value fs)) c.deref.ensures.value c.cause_of-cause.ensures.names))
 
 pub returns-in-Ok-clause-cause : goal.returns-in-Ok-clause-cause

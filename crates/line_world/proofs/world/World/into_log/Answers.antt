@@ -1,10 +1,10 @@
-use Rattle.std.proofs.Common.{◌≡◌, map, None, true, sym, subst}
+use Rattle.std.proofs.Common.{◌≡◌, ◌<◌, [], length, map, None, true, false, sym, subst}
 use Rattle.line_script.specs.Scripts.{fate_by}
 use Rattle.trace_text.specs.Proper.{IsProper}
 use Rattle.trace_text.specs.TraceLines.{frame_value}
 use Rattle.line_world.specs.Counts.{CountsOf}
 use Rattle.line_world.specs.Logs.{log_value, said_in}
-use Rattle.line_world.specs.Worlds.{IsLog, TellAll, TellBoth, TellDone, WorldValue}
+use Rattle.line_world.specs.Worlds.{EndsAcknowledged, IsLog, LeavesOff, TellAll, TellBoth, TellDone, WorldValue}
 use Rattle.slp_frames.specs.Readers.{TallyValue}
 use Rattle.trace_text.specs.declared.frame.End.TheVariants.{Handheld, Desktop}
 use Rattle.line_world.proofs.CauseLaws.{counts-desktop, counts-handheld}
@@ -47,3 +47,14 @@ returns-clause-told_done g c =
     let w = c.self.inside in
     subst (λ (v : WorldValue g.row.F.Denot). v.begun ≡ true → TellDone v.log v.answered v.fault v.cause (map frame_value w.line.wire.frames.items)) c.self.view_is
     (λ first. world-done w.line w.script (log_value w.log) w.server.sound w.answered w.begun w.fault w.cause c.self.invariant first)
+
+pub returns-clause-silent : goal.returns-clause-silent
+returns-clause-silent g c = subst (λ (v : WorldValue g.row.F.Denot). v.begun ≡ false → v.log.issued ≡ []) c.self.view_is c.self.invariant.silent
+
+pub returns-clause-left_off : goal.returns-clause-left_off
+returns-clause-left_off g c = subst (λ (v : WorldValue g.row.F.Denot). LeavesOff v.log v.answered v.fault v.cause) c.self.view_is c.self.invariant.left_off
+
+pub returns-clause-acked : goal.returns-clause-acked
+returns-clause-acked g c =
+    let w = c.self.inside in
+    subst (λ (v : WorldValue g.row.F.Denot). 0 < v.answered → length v.log.issued ≡ v.answered → EndsAcknowledged v.log (map frame_value w.line.wire.frames.items)) c.self.view_is c.self.invariant.acked
