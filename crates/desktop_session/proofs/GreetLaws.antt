@@ -1,17 +1,21 @@
 -- A greeting: the user's reply, its slot, and the second reply.
-use Rattle.std.proofs.Common.{◌≡◌, ◌∙◌, refl, sym, ap, subst, ℕ, Bool, List, [], ◌∷◌}
-use Rattle.std.specs.Prelude.{Option, Some, None, IfSome, Result, Ok, Err}
+use Rattle.std.proofs.Common.{◌≡◌, ◌∙◌, refl, sym, ap, subst, inl, inr, ℕ, Bool, List, [], ◌∷◌, map}
+use Rattle.std.specs.Prelude.{◌⊎◌, Option, Some, None, IfSome, IsOk, Result, Ok, Err}
 use Rattle.pdb_values.specs.declared.user.UserInfo.{UserInfo}
 use Rattle.dlp_replies.specs.ReplyReading.{reply_at}
 use Rattle.dlp_commands.specs.declared.link.LinkFault.{LinkFault}
+use Rattle.dlp_commands.specs.declared.link.LinkFault.TheVariants as link
+use Rattle.dlp_commands.specs.Links.{WentDown, first_fault}
 use Rattle.dlp_commands.specs.Talks.{Talk}
 use Rattle.desktop_session.specs.declared.fault.SessionFault.{SessionFault}
-use Rattle.desktop_session.specs.Acts.{Act, acted}
+use Rattle.desktop_session.specs.Acts.{Act, acted, text}
 use Rattle.desktop_session.specs.Answers.{answer_by, mapped, no_more, said_in, user_of}
 use Rattle.desktop_session.specs.Faults.{fault_of}
-use Rattle.desktop_session.specs.Greetings.{Greeted, begun_by, greeted, user_by}
+use Rattle.desktop_session.specs.Greetings.{AsksUser, Greeted, HasSlot, begun_by, greeted, user_by}
 use Rattle.desktop_session.specs.Requests.{beginning, reading_user}
-use Rattle.desktop_session.specs.Says.{said, saying}
+use Rattle.desktop_session.specs.Says.{grown, said, saying, sent}
+use Rattle.desktop_session.specs.Stops.{Does}
+use Rattle.desktop_session.proofs.StopLaws.{stops_after_none, stops_between, stops_none}
 
 -- an answer of what was said says that the link has no fault, and that this was said
 pub no_fault_said : {A : Type 0} (fault : Option LinkFault) (said : Result A SessionFault) (x : A) → Ok x ≡ answer_by fault said → fault ≡ None
@@ -87,3 +91,51 @@ greet_none users add talk fault now is = record {
   told = λ none. absurd (let both : None ≡ Some now = sym none ∙ is in cc);
   begun = λ none. absurd (let both : None ≡ Some now = sym none ∙ is in cc);
 }
+
+-- ---- what is asked of a user without a slot
+
+-- the user that was read has a slot
+pub slot_read : (users : List ℕ) (add : Bool) (talk : Option Talk) (fault : Option LinkFault) (reply : List ℕ) (user : UserInfo)
+    → Ok user ≡ answer_by fault (user_by users add (said_in user_of (reply_at 0x10 reply)))
+    → (fault ≡ None → IfSome talk (λ talk. reply ≡ (acted reading_user talk.device).0)) → HasSlot users add talk
+slot_read users add None fault reply user is told = tt
+slot_read users add (Some talk) fault reply user is told =
+    let read : Result UserInfo SessionFault = user_by users add (said_in user_of (reply_at 0x10 reply)) in
+    let found : read ≡ Ok user = said_of_answer fault read user is in
+    subst (λ (bytes : List ℕ). IsOk (user_by users add (said_in user_of (reply_at 0x10 bytes)))) (told (no_fault_said fault read user is))
+    (subst IsOk (sym found) refl)
+
+does_from : {L : Type 0} (talk : L → Option Talk) (acts : List Act) (a b c : L) → talk b ≡ talk a → Does talk acts b c → Does talk acts a c
+does_from talk acts a b c same does = record {
+  said = does.said ∙ ap (saying acts) same;
+  sent = does.sent ∙ ap (λ (t : Option Talk). grown (sent t) (map text acts)) same;
+}
+
+some_first : (before : Option LinkFault) (now : LinkFault) → first_fault before (Some now) ≡ None → ⊥
+some_first None now is = cc
+some_first (Some fault) now is = cc
+
+-- nothing was said yet
+pub asks_none : {L : Type 0} (talk : L → Option Talk) (since : L → L → Type 0) (fault : L → Option LinkFault) (downs : L → ℕ) (users : List ℕ) (add : Bool)
+    (old new : L) (now : LinkFault) → talk new ≡ talk old → since old new → fault new ≡ first_fault (fault old) (Some now)
+    → WentDown (fault old) (downs old) (downs new) (fault new ≡ Some link.Down) → AsksUser talk since fault downs old new ⊎ HasSlot users add (talk old)
+asks_none talk since fault downs users add old new now same later is fell = inl (record {
+  stops = stops_none talk since fault downs (text reading_user ∷ []) old new same later fell;
+  does = λ none. absurd (some_first (fault old) now (sym is ∙ none));
+})
+
+-- the same from a link over which nothing was said
+pub asks_after : {L : Type 0} (talk : L → Option Talk) (since : L → L → Type 0) (fault : L → Option LinkFault) (downs : L → ℕ)
+    (since_more : (x y z : L) → since x y → since y z → since x z) (users : List ℕ) (add : Bool) (old mid new x y : L) → talk mid ≡ talk old
+    → since old mid → WentDown (fault old) (downs old) (downs mid) (fault mid ≡ Some link.Down) → x ≡ mid → y ≡ new
+    → AsksUser talk since fault downs x y ⊎ HasSlot users add (talk x) → AsksUser talk since fault downs old new ⊎ HasSlot users add (talk old)
+asks_after talk since fault downs since_more users add old mid new x y same later fell first last (inl asks) = inl (record {
+  stops = stops_after_none talk since fault downs since_more (text reading_user ∷ []) old mid new same later fell
+      (stops_between talk since fault downs (text reading_user ∷ []) x y mid new first last asks.stops);
+  does = λ none.
+      let near : Does talk (reading_user ∷ []) x y = asks.does (ap fault last ∙ none) in
+      does_from talk (reading_user ∷ []) old mid new same
+      (subst (λ (z : _). Does talk (reading_user ∷ []) mid z) last (subst (λ (z : _). Does talk (reading_user ∷ []) z y) first near));
+})
+asks_after talk since fault downs since_more users add old mid new x y same later fell first last (inr slot) =
+    inr (subst (HasSlot users add) (ap talk first ∙ same) slot)

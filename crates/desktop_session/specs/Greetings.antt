@@ -1,5 +1,5 @@
 -- How a session begins: the user is read, the desktop's slot for it is found, and the conduits begin.
-use Rattle.std.specs.Prelude.{◌≡◌, ℕ, Bool, List, Option, None, IfSome, Result, Ok, Err, slice_index}
+use Rattle.std.specs.Prelude.{◌≡◌, ℕ, Bool, List, [], ◌∷◌, Option, None, IfSome, IsOk, Result, Ok, Err, slice_index}
 use Rattle.pdb_values.specs.Slots.{slot_for}
 use Rattle.pdb_values.specs.declared.slot.Slot.{Slot}
 use Rattle.pdb_values.specs.declared.slot.Slot.TheVariants as slot
@@ -9,9 +9,10 @@ use Rattle.dlp_commands.specs.declared.link.LinkFault.{LinkFault}
 use Rattle.dlp_commands.specs.Talks.{Talk}
 use Rattle.desktop_session.specs.declared.fault.SessionFault.{SessionFault}
 use Rattle.desktop_session.specs.declared.fault.SessionFault.TheVariants as session
-use Rattle.desktop_session.specs.Acts.{acted}
+use Rattle.desktop_session.specs.Acts.{acted, text}
 use Rattle.desktop_session.specs.Answers.{answer_by, no_more, said_in, user_of}
 use Rattle.desktop_session.specs.Requests.{beginning, reading_user}
+use Rattle.desktop_session.specs.Stops.{Does, Stops}
 
 -- a user without a slot ends the session: the desktop doesn't know it, or has no room for it
 abbrev pub user_with : List ℕ → UserInfo → Slot → Result UserInfo SessionFault
@@ -43,3 +44,12 @@ pub record Greeted (users : List ℕ) (add : Bool) (talk : Option Talk) (fault :
   pub is : answer ≡ answer_by fault (greeted users add first second)
   pub told : fault ≡ None → IfSome talk (λ talk. first ≡ (acted reading_user talk.device).0)
   pub begun : fault ≡ None → IfSome talk (λ talk. second ≡ (acted beginning (acted reading_user talk.device).1).0)
+
+-- the device's reply to ReadUserInfo bears a user that has a slot
+abbrev pub HasSlot : List ℕ → Bool → Option Talk → Type 0
+HasSlot users add talk = IfSome talk (λ talk. IsOk (user_by users add (said_in user_of (reply_at 0x10 (acted reading_user talk.device).0))))
+
+-- a greeting asked for the user alone, which was answered unless the link has a fault
+pub record AsksUser {L : Type 0} (talk : L → Option Talk) (since : L → L → Type 0) (fault : L → Option LinkFault) (downs : L → ℕ) (old new : L) : Type 0 where
+  pub stops : Stops talk since fault downs (text reading_user ∷ []) old new
+  pub does : fault new ≡ None → Does talk (reading_user ∷ []) old new

@@ -1,9 +1,9 @@
 // How a session begins.
-ghost use Rattle.std.specs.Prelude.{◌≡◌, ◌≤◌, ◌∷◌, [], OnOk, length};
+ghost use Rattle.std.specs.Prelude.{◌≡◌, ◌≤◌, ◌∷◌, ◌⊎◌, [], OnOk, length};
 ghost use Rattle.dlp_replies.specs.ReplyReading.{reply_at};
 ghost use Rattle.desktop_session.specs.Acts.{text};
 ghost use Rattle.desktop_session.specs.Answers.{answer_by, no_more, said_in, user_of};
-ghost use Rattle.desktop_session.specs.Greetings.{Greeted, user_by, user_with};
+ghost use Rattle.desktop_session.specs.Greetings.{AsksUser, Greeted, HasSlot, user_by, user_with};
 ghost use Rattle.desktop_session.specs.Requests.{beginning, reading_user};
 ghost use Rattle.desktop_session.specs.Stops.{Asked, Does, Stops};
 ghost use Rattle.pdb_values.specs.Slots.{slot_for as slot_of};
@@ -69,6 +69,8 @@ impl<L: Link> Linked<L> {
             self.new.link) }
         ensures greeted { Greeted users.now add (L.talk self.old.link) (L.fault
             self.new.link) result }
+        ensures unseated { AsksUser L.talk L.since L.fault L.downs self.old.link self.new.link
+            ⊎ HasSlot users.now add (L.talk self.old.link) }
         ensures abandoned { self.new.abandoned ≡ self.old.abandoned }
     {
         let user = self.ask_user(users, add)?;

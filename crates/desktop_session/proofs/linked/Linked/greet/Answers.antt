@@ -1,5 +1,5 @@
 -- A greeting is two requests.
-use Rattle.std.proofs.Common.{[], ◌∷◌}
+use Rattle.std.proofs.Common.{inl, inr, [], ◌∷◌}
 use Rattle.std.proofs.lemmas.Result.{err_from_is_err_and}
 use Rattle.std.specs.Prelude.{Ok, Err}
 use Rattle.desktop_session.specs.Acts.{text}
@@ -7,7 +7,7 @@ use Rattle.desktop_session.specs.Answers.{no_more, said_in, user_of}
 use Rattle.desktop_session.specs.Greetings.{user_by}
 use Rattle.desktop_session.specs.Requests.{beginning, reading_user}
 use Rattle.dlp_replies.specs.ReplyReading.{reply_at}
-use Rattle.desktop_session.proofs.GreetLaws.{greet_first, greet_second, no_fault_said}
+use Rattle.desktop_session.proofs.GreetLaws.{greet_first, greet_second, no_fault_said, slot_read}
 use Rattle.desktop_session.proofs.StopLaws.{does_then, stops_more, stops_then}
 use Rattle.desktop_session.proofs.linked.Linked.greet.Goals as goal
 
@@ -22,6 +22,19 @@ returns-in_err-user-clause-greeted g c =
     rw (p.1, p.2) (greet_first c.args.users.now c.args.add (g.L.Link.talk c.args.self.now.link)
     (g.L.Link.fault c.ask_user.new.self.link) c.ask_user.new.self.reply _
     c.in_err-user.ensures.answer c.in_err-user.ensures.asked.told)
+
+pub returns-in_err-user-clause-unseated : goal.returns-in_err-user-clause-unseated
+returns-in_err-user-clause-unseated g c = inl (record { stops = c.in_err-user.ensures.asked.stops; does = c.in_err-user.ensures.asked.does })
+
+pub returns-in_err-ask_conduits-clause-unseated : goal.returns-in_err-ask_conduits-clause-unseated
+returns-in_err-ask_conduits-clause-unseated g c =
+    inr (slot_read c.args.users.now c.args.add (g.L.Link.talk c.args.self.now.link) (g.L.Link.fault c.ask_user.new.self.link)
+    c.ask_user.new.self.reply c.in_ok-user.user c.in_ok-user.ensures.answer c.in_ok-user.ensures.asked.told)
+
+pub returns-clause-unseated : goal.returns-clause-unseated
+returns-clause-unseated g c =
+    inr (slot_read c.args.users.now c.args.add (g.L.Link.talk c.args.self.now.link) (g.L.Link.fault c.ask_user.new.self.link)
+    c.ask_user.new.self.reply c.in_ok-user.user c.in_ok-user.ensures.answer c.in_ok-user.ensures.asked.told)
 
 pub returns-in_err-ask_conduits-clause-stops : goal.returns-in_err-ask_conduits-clause-stops
 returns-in_err-ask_conduits-clause-stops g c =
