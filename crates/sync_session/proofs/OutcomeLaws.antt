@@ -1,12 +1,13 @@
 -- How a session over a link that tells its device ends, by how it went.
 use Rattle.std.proofs.Common.{◌≡◌, ◌∙◌, refl, ap, sym, subst, inl, inr, ℕ, List, [], ◌∷◌, ◌++◌, map}
-use Rattle.std.specs.Prelude.{◌⊎◌, Option, None, Some, IsSome, Ok, Err, Result, flat_map, replicate}
+use Rattle.std.specs.Prelude.{◌⊎◌, Option, None, Some, IsOk, IsSome, Ok, Err, Result, flat_map, replicate}
 use Rattle.std.specs.Global.{Vec}
 use Rattle.std.specs.Option.{option_map}
 use Rattle.hs_folders.specs.FileMaps.{FileMap}
 use Rattle.hs_folders.specs.Moments.{EachMomentSince, Moments}
 use Rattle.hs_folders.proofs.MomentLaws.{moments_weaken, no_moment}
 use Rattle.pdb_values.specs.declared.user.Marks.{Marks}
+use Rattle.pdb_values.specs.declared.user.UserInfo.{UserInfo}
 use Rattle.dlp_commands.specs.declared.link.LinkFault.{LinkFault}
 use Rattle.dlp_commands.specs.Talks.{Talk}
 use Rattle.desk_journal.specs.Entries.{EntryValue}
@@ -22,12 +23,13 @@ use Rattle.desktop_session.specs.declared.ending.Halted.{Halted}
 use Rattle.desktop_session.specs.declared.fault.SessionFault.{SessionFault}
 use Rattle.desktop_session.specs.declared.fault.SessionFault.TheVariants as session
 use Rattle.desktop_session.specs.Acts.{text}
-use Rattle.desktop_session.specs.Requests.{marking}
+use Rattle.desktop_session.specs.Requests.{marking, reading_user}
 use Rattle.desktop_session.proofs.StopLaws.{fell_none, stops_none}
 use Rattle.desktop_session.specs.Sessions.{SessionValue}
 use Rattle.desktop_session.specs.Stops.{Stops}
 use Rattle.sync_session.specs.declared.outcome.Outcome.{Outcome}
 use Rattle.sync_session.specs.declared.preparing.Prepared.{Prepared}
+use Rattle.sync_session.specs.declared.report.DbReport.{DbReport}
 use Rattle.sync_session.specs.declared.stop.Stop.{Stop}
 use Rattle.sync_session.specs.declared.stop.Stop.TheVariants as stop
 use Rattle.sync_session.specs.Causes.{IsLater}
@@ -36,11 +38,11 @@ use Rattle.sync_session.specs.Courses.{AfterCommit, AfterNews, closed, last_acts
 use Rattle.sync_session.specs.Endings.{Ends}
 use Rattle.sync_session.specs.Limits.{first_over}
 use Rattle.sync_session.specs.Merges.{merged_slots}
-use Rattle.sync_session.specs.Outcomes.{IsCommitted, IsStopOf, IsUncommitted, MergedSince, SessionEnds, StandsForSlots, requests_before_commit, tellings}
+use Rattle.sync_session.specs.Outcomes.{IsAtCommit, IsCommitted, IsStopOf, IsUncommitted, MergedSince, SessionEnds, StandsForSlots, StopsAtLimit, StopsFor, requests_before_commit, seat_of, tellings}
 use Rattle.sync_session.specs.Reports.{reports}
 use Rattle.sync_session.specs.PlannedTasks.{ArePlannedFor}
 use Rattle.sync_session.specs.Rests.{IsAtRest}
-use Rattle.sync_session.specs.Sessions.{adds_of, after_commit, before_writes, session}
+use Rattle.sync_session.specs.Sessions.{adds_of, after_commit, before_writes}
 use Rattle.sync_session.specs.Stopping.{stop_of}
 use Rattle.sync_session.specs.Takes.{each_of, taken_entries, taken_slots}
 use Rattle.sync_session.specs.Tasks.{Meeting, slot_of}
@@ -80,9 +82,30 @@ later_stop talk fault meeting old new (session.OtherUser handheld desktop) later
 later_stop talk fault meeting old new session.TooManyUsers later = absurd later
 
 commit_stop : {L : Type 0} (talk : L → Option Talk) (fault : L → Option LinkFault) (meeting : Meeting) (old new : L) (cause : CommitFault)
-    → IsStopOf talk fault meeting old new (stop_of cause)
-commit_stop talk fault meeting old new commit.DeskFault = tt
-commit_stop talk fault meeting old new commit.NoMemory = tt
+    → IsAtCommit talk meeting old new → IsStopOf talk fault meeting old new (stop_of cause)
+commit_stop talk fault meeting old new commit.DeskFault said = said
+commit_stop talk fault meeting old new commit.NoMemory said = tt
+
+-- what is said where the user has no slot, and where a limit would be passed
+abbrev pub SaysUnseated : {L : Type 0} → (L → Option Talk) → (L → L → Type 0) → (L → Option LinkFault) → (L → ℕ) → Meeting → L → L
+    → Result (Vec DbReport) Stop → Type 0
+SaysUnseated talk since fault downs meeting old new answer =
+    (why : SessionFault) → seat_of meeting ≡ Err why → Stops talk since fault downs (text reading_user ∷ []) old new × StopsFor (stop.Session why) answer
+
+abbrev pub SaysLimit : Meeting → Result (Vec DbReport) Stop → Type 0
+SaysLimit meeting answer = (name : List ℕ) → first_over meeting ≡ Some name → StopsAtLimit name answer
+
+pub seated_says : (P : Type 0) (meeting : Meeting) (why : SessionFault) → IsOk (seat_of meeting) → seat_of meeting ≡ Err why → P
+seated_says P meeting why seated is = absurd (let no : IsOk {T = UserInfo} (Err why) = subst IsOk is seated in let never : ⊥ = cc in never)
+
+none_limit : (meeting : Meeting) (answer : Result (Vec DbReport) Stop) → first_over meeting ≡ None → SaysLimit meeting answer
+none_limit meeting answer none = λ name is. absurd (let never : ⊥ = cc in never)
+
+-- the session said all that precedes the commit
+at_commit : {L : Type 0} (talk : L → Option Talk) (since : L → L → Type 0) (fault : L → Option LinkFault) (downs : L → ℕ) (meeting : Meeting)
+    (given : List ℕ) (dealt : List (List ℕ)) (old new : L) → NewsReach talk since fault downs meeting given dealt old new → IsAtCommit talk meeting old new
+at_commit talk since fault downs meeting given dealt old new news =
+    record { given = given; count = news.count; free = news.free; does = news.reached.does }
 
 -- ---- a stop before the commit
 
@@ -90,8 +113,9 @@ pub ends_before : {L F : Type 0} (talk : L → Option Talk) (since : L → L →
     (contents : F → Option FileMap) (moments : F → Moments) (meeting : Meeting) (old new : L) (folder : F) (cause : Stop) (left : Outcome L F)
     → left ≡ stopped new folder cause → Stops talk since fault downs (requests_before_commit meeting) old new → IsStopOf talk fault meeting old new cause
     → (IsSome (first_over meeting) → Stops talk since fault downs (map text (before_writes meeting)) old new)
+    → SaysUnseated talk since fault downs meeting old new (Err cause) → SaysLimit meeting (Err cause)
     → SessionEnds talk since fault downs meeting old left.link (tellings contents moments folder left.folder) left.end
-ends_before {L} {F} talk since fault downs contents moments meeting old new folder cause left is stops why over =
+ends_before {L} {F} talk since fault downs contents moments meeting old new folder cause left is stops why over unseated limit =
     subst (λ o. SessionEnds talk since fault downs meeting old o.link (tellings contents moments folder o.folder) o.end) (sym is)
     (record {
       ended = tt;
@@ -103,17 +127,19 @@ ends_before {L} {F} talk since fault downs contents moments meeting old new fold
       });
       cause = why;
       over = over;
+      unseated = unseated;
+      limit = limit;
     })
 
 -- while nothing was written
 pub ends_unwritten : {L F : Type 0} (talk : L → Option Talk) (since : L → L → Type 0) (fault : L → Option LinkFault) (downs : L → ℕ)
     (contents : F → Option FileMap) (moments : F → Moments) (meeting : Meeting) (old new : L) (folder : F) (cause : Stop) (left : Outcome L F)
     → left ≡ stopped new folder cause → Stops talk since fault downs (map text (before_writes meeting)) old new
-    → IsStopOf talk fault meeting old new cause
+    → IsStopOf talk fault meeting old new cause → SaysUnseated talk since fault downs meeting old new (Err cause) → SaysLimit meeting (Err cause)
     → SessionEnds talk since fault downs meeting old left.link (tellings contents moments folder left.folder) left.end
-ends_unwritten talk since fault downs contents moments meeting old new folder cause left is stops why =
+ends_unwritten talk since fault downs contents moments meeting old new folder cause left is stops why unseated limit =
     ends_before talk since fault downs contents moments meeting old new folder cause left is
-    (writes_stop talk since fault downs meeting (replicate (adds_of meeting) 0) old new stops) why (λ over. stops)
+    (writes_stop talk since fault downs meeting (replicate (adds_of meeting) 0) old new stops) why (λ over. stops) unseated limit
 
 none_over : {A : Type 0} (P : Type 0) (over : Option A) → over ≡ None → IsSome over → P
 none_over P None none some = absurd cc
@@ -127,6 +153,7 @@ record Committed {L F : Type 0} (talk : L → Option Talk) (since : L → L → 
     → Moments) (meeting : Meeting) (given : List ℕ) (dealt : List (List ℕ)) (old between : L) (folder after : F) : Type 0 where
   news : NewsReach talk since fault downs meeting given dealt old between
   none : first_over meeting ≡ None
+  seated : IsOk (seat_of meeting)
   desk : IsDesk (contents after) (merged_slots meeting given)
   each : MergedSince meeting given (moments folder) (moments after)
 
@@ -160,6 +187,9 @@ closes_ends {L} {F} talk since fault downs contents moments since_more meeting g
       stopped = tt;
       cause = tt;
       over = none_over (Stops talk since fault downs (map text (before_writes meeting)) old ended.link) (first_over meeting) done.none;
+      unseated = λ why is. seated_says (Stops talk since fault downs (text reading_user ∷ []) old ended.link × StopsFor (stop.Session why)
+          (Ok prepared.reports)) meeting why done.seated is;
+      limit = none_limit meeting (Ok prepared.reports) done.none;
     }
 closes_ends {L} {F} talk since fault downs contents moments since_more meeting given dealt date slot prepared old between folder after
     (Err halted) dated known marked are told done ends =
@@ -180,6 +210,9 @@ closes_ends {L} {F} talk since fault downs contents moments since_more meeting g
       });
       cause = later_stop talk fault meeting old halted.link halted.cause ends.cause;
       over = none_over (Stops talk since fault downs (map text (before_writes meeting)) old halted.link) (first_over meeting) done.none;
+      unseated = λ why is. seated_says (Stops talk since fault downs (text reading_user ∷ []) old halted.link × StopsFor (stop.Session why)
+          (Err (stop.Session halted.cause))) meeting why done.seated is;
+      limit = none_limit meeting (Err (stop.Session halted.cause)) done.none;
     }
 
 -- ---- the commit
@@ -189,11 +222,11 @@ refused_ends : {L F : Type 0} (talk : L → Option Talk) (since : L → L → Ty
     (contents : F → Option FileMap) (moments : F → Moments) (paths : F → Option (List (List ℕ))) (faults : F → ℕ) (itself : (a : L)
     → since a a) (meeting : Meeting) (given : List ℕ) (dealt : List (List ℕ))
     (entries : List EntryValue) (old between : L) (desk : DeskValue F) (refusal : CommitFault × F) (left : Outcome L F)
-    → NewsReach talk since fault downs meeting given dealt old between → first_over meeting ≡ None
+    → NewsReach talk since fault downs meeting given dealt old between → first_over meeting ≡ None → IsOk (seat_of meeting)
     → Commits contents moments paths faults (merged_slots meeting given) entries desk (Err refusal) → left ≡ stopped between refusal.1 (stop_of refusal.0)
     → SessionEnds talk since fault downs meeting old left.link (tellings contents moments desk.folder left.folder) left.end
 refused_ends {L} {F} talk since fault downs contents moments paths faults itself meeting given dealt entries old between desk refusal left news none
-    commits is =
+    seated commits is =
     let made : Option FileMap = option_map (put_all entries) (contents desk.folder) in
     let merged : List SlotValue = merged_slots meeting given in
     let stops : Stops talk since fault downs (requests_before_commit meeting) old between
@@ -231,8 +264,11 @@ refused_ends {L} {F} talk since fault downs contents moments paths faults itself
     (record {
       ended = tt;
       stopped = both;
-      cause = commit_stop talk fault meeting old between refusal.0;
+      cause = commit_stop talk fault meeting old between refusal.0 (at_commit talk since fault downs meeting given dealt old between news);
       over = none_over (Stops talk since fault downs (map text (before_writes meeting)) old between) (first_over meeting) none;
+      unseated = λ why is. seated_says (Stops talk since fault downs (text reading_user ∷ []) old between × StopsFor (stop.Session why)
+          (Err (stop_of refusal.0))) meeting why seated is;
+      limit = none_limit meeting (Err (stop_of refusal.0)) none;
     })
 
 commit_ends : {L F : Type 0} (talk : L → Option Talk) (since : L → L → Type 0) (fault : L → Option LinkFault) (downs : L → ℕ)
@@ -243,11 +279,11 @@ commit_ends : {L F : Type 0} (talk : L → Option Talk) (since : L → L → Typ
     (desk : DeskValue F) (answer : Result (DeskValue F) (CommitFault × F)) (left : Outcome L F) → date ≡ meeting.wishes.date
     → between.user ≡ meeting.device.user → slot ≡ (slot_of meeting).marks → ArePlannedFor meeting prepared.planned.items
     → prepared.reports.items ≡ reports meeting → NewsReach talk since fault downs meeting given dealt old between.link → first_over meeting ≡ None
-    → Commits contents moments paths faults (merged_slots meeting given) entries desk answer
+    → IsOk (seat_of meeting) → Commits contents moments paths faults (merged_slots meeting given) entries desk answer
     → AfterCommit talk since fault downs date slot prepared between answer left
     → SessionEnds talk since fault downs meeting old left.link (tellings contents moments desk.folder left.folder) left.end
 commit_ends {L} {F} talk since fault downs contents moments paths faults itself since_more meeting given dealt date slot prepared entries old between
-    desk (Ok after) left dated known marked are told news none commits goes =
+    desk (Ok after) left dated known marked are told news none seated commits goes =
     let merged : List SlotValue = merged_slots meeting given in
     let stands : IsDesk (contents after.folder) merged = subst (IsDesk (contents after.folder)) commits.slots commits.stands in
     let made : IsDesk (option_map (put_all entries) (contents desk.folder)) merged = subst (λ t. IsDesk t merged) commits.written stands in
@@ -255,6 +291,7 @@ commit_ends {L} {F} talk since fault downs contents moments paths faults itself 
     = record {
       news = news;
       none = none;
+      seated = seated;
       desk = stands;
       each = moments_merged merged (option_map (put_all entries) (contents desk.folder)) (moments desk.folder)
           (moments after.folder) made commits.each_moment;
@@ -264,9 +301,9 @@ commit_ends {L} {F} talk since fault downs contents moments paths faults itself 
     goes.answer dated known marked are told done
     goes.ends)
 commit_ends {L} {F} talk since fault downs contents moments paths faults itself since_more meeting given dealt date slot prepared entries old between
-    desk (Err refusal) left dated known marked are told news none commits goes =
+    desk (Err refusal) left dated known marked are told news none seated commits goes =
     refused_ends talk since fault downs contents moments paths faults itself meeting given dealt entries old between.link desk refusal left news none
-    commits goes
+    seated commits goes
 
 -- ---- the news
 
@@ -282,6 +319,7 @@ pub record Known {L F : Type 0} (talk : L → Option Talk) (since : L → L → 
   pub are : ArePlannedFor meeting prepared.planned.items
   pub told : prepared.reports.items ≡ reports meeting
   pub none : first_over meeting ≡ None
+  pub seated : IsOk (seat_of meeting)
   pub ordered : AreInOrder meeting.slots
   pub read : Reached talk since fault downs (before_writes meeting) old now.link
   pub tells : Tells meeting.device (talk now.link)
@@ -321,7 +359,7 @@ news_ends {L} {F} talk since fault downs contents moments paths faults itself si
     let entries : List EntryValue = taken_entries date then.user prepared.planned.items (each_of ids.items) desk.picked desk.slots in
     commit_ends talk since fault downs contents moments paths faults itself since_more meeting given dealt date
     (marks_in desk) prepared entries old then desk goes.answer left knows.dated user marked knows.are
-    knows.told news knows.none (subst (λ ss. Commits contents moments paths faults ss entries desk goes.answer) taken goes.commits) goes.goes
+    knows.told news knows.none knows.seated (subst (λ ss. Commits contents moments paths faults ss entries desk goes.answer) taken goes.commits) goes.goes
 news_ends {L} {F} talk since fault downs contents moments paths faults itself since_more meeting date prepared old now then desk
     (Err cause) left knows sends goes =
     ends_before talk since fault downs contents moments meeting old then.link desk.folder (stop.Session cause) left goes
@@ -329,3 +367,5 @@ news_ends {L} {F} talk since fault downs contents moments paths faults itself si
     (replicate (adds_of meeting) 0) old now then (Err cause) knows.rests knows.user knows.are knows.read knows.tells sends)
     (later_stop talk fault meeting old then.link cause sends.cause)
     (none_over (Stops talk since fault downs (map text (before_writes meeting)) old then.link) (first_over meeting) knows.none)
+    (λ why is. seated_says (Stops talk since fault downs (text reading_user ∷ []) old then.link × StopsFor (stop.Session why)
+    (Err (stop.Session cause))) meeting why knows.seated is) (none_limit meeting (Err (stop.Session cause)) knows.none)

@@ -1,6 +1,6 @@
 -- How a session over a link that tells its device ends: from its beginning up to what it writes, and the whole.
-use Rattle.std.proofs.Common.{◌≡◌, ◌∙◌, refl, ap, sym, subst, inl, inr, ℕ, List, ◌++◌, length, map}
-use Rattle.std.specs.Prelude.{◌⊎◌, Option, None, Some, IfSome, Ok, Err, Result, slice_index}
+use Rattle.std.proofs.Common.{◌≡◌, ◌∙◌, refl, ap, sym, subst, inl, inr, ℕ, List, [], ◌∷◌, ◌++◌, length, map}
+use Rattle.std.specs.Prelude.{◌⊎◌, Option, None, Some, IfSome, IsOk, Ok, Err, Result, slice_index}
 use Rattle.std.specs.Global.{Vec}
 use Rattle.hs_folders.specs.FileMaps.{FileMap}
 use Rattle.hs_folders.specs.Moments.{Moments}
@@ -8,6 +8,7 @@ use Rattle.pdb_values.specs.declared.head.DbHead.{DbHead}
 use Rattle.pdb_values.specs.declared.user.UserInfo.{UserInfo}
 use Rattle.folder_files.specs.Slots.{users_of}
 use Rattle.dlp_commands.specs.declared.link.LinkFault.{LinkFault}
+use Rattle.dlp_commands.specs.declared.link.LinkFault.TheVariants as link
 use Rattle.dlp_commands.specs.Talks.{Talk}
 use Rattle.desk_store.specs.Desks.{all_rows, place_of}
 use Rattle.desk_store.specs.Shelves.{AreInOrder, marks_of, slot_at}
@@ -17,7 +18,7 @@ use Rattle.desktop_session.specs.declared.fault.SessionFault.{SessionFault}
 use Rattle.desktop_session.specs.declared.fault.SessionFault.TheVariants as session
 use Rattle.desktop_session.specs.Acts.{acted, text}
 use Rattle.desktop_session.specs.Answers.{no_more, said_in, user_of}
-use Rattle.desktop_session.specs.Greetings.{Greeted, begun_by, user_by, user_with}
+use Rattle.desktop_session.specs.Greetings.{AsksUser, Greeted, HasSlot, begun_by, user_by, user_with}
 use Rattle.desktop_session.specs.Requests.{reading_user}
 use Rattle.desktop_session.specs.Tellings.{IsProper}
 use Rattle.desktop_session.proofs.StopLaws.{fell_none, stops_none}
@@ -44,16 +45,17 @@ use Rattle.sync_session.specs.declared.wishes.Wishes.{Wishes}
 use Rattle.sync_session.specs.Causes.{IsLater}
 use Rattle.sync_session.specs.Courses.{AfterMeeting, AfterPreparing, AfterReading, GoesOn, MeetsOrNot, ReadsAll, Runs, jobs_met, picked_for, stopped}
 use Rattle.sync_session.specs.Limits.{first_over}
-use Rattle.sync_session.specs.Outcomes.{IsOtherUser, IsStopOf, SessionEnds, slot_in, tellings}
+use Rattle.sync_session.specs.Outcomes.{IsOtherUser, IsStopOf, SessionEnds, StopsFor, seat_of, slot_in, tellings}
 use Rattle.sync_session.specs.PlannedTasks.{ArePlannedFor}
 use Rattle.sync_session.specs.Rests.{IsAtRest}
-use Rattle.sync_session.specs.Sessions.{before_writes, greeting, listing_all, session}
+use Rattle.sync_session.specs.Sessions.{before_writes, greeting, listing_all}
 use Rattle.sync_session.specs.Stopping.{Judges}
 use Rattle.sync_session.specs.Tasks.{Meeting, meeting_of, slot_of}
 use Rattle.sync_session.proofs.SessionJoins.{Reached, ReadsReach, meets_stop, met_reaches, reads_reach, reads_stop}
 use Rattle.sync_session.proofs.StretchLaws.{Tells}
 use Rattle.sync_session.proofs.CauseLaws.{later_by, later_refused}
 use Rattle.sync_session.proofs.MeetJoins.{jobs_meet, meets_join, user_told}
+use Rattle.sync_session.proofs.MeetLaws.{greeted_slot}
 use Rattle.sync_session.proofs.PlanJoins.{plans_join}
 use Rattle.sync_session.proofs.PlannedLaws.{over_is_first_over, reports_are}
 use Rattle.sync_session.proofs.ReadJoins.{jobs_for}
@@ -61,7 +63,7 @@ use Rattle.sync_session.specs.Choosing.{agrees}
 use Rattle.sync_session.specs.Meets.{IsUnlisted}
 use Rattle.sync_session.specs.PlannedLimits.{over_planned}
 use Rattle.sync_session.specs.PlannedReports.{reports_planned}
-use Rattle.sync_session.proofs.OutcomeLaws.{ends_unwritten, later_stop, news_ends}
+use Rattle.sync_session.proofs.OutcomeLaws.{SaysLimit, SaysUnseated, ends_unwritten, later_stop, news_ends, seated_says}
 
 -- ---- what precedes each write
 
@@ -77,6 +79,7 @@ record HaveMet {L F : Type 0} (talk : L → Option Talk) (since : L → L → Ty
   picked : desk.picked ≡ meeting.picked
   heads_are : heads ≡ map (λ (database : DatabaseValue). listed database.head) meeting.device.databases
   ordered : AreInOrder meeting.slots
+  seated : IsOk (seat_of meeting)
   met : Reached talk since fault downs (greeting ++ listing_all meeting) old now.link
 
 own_shelves : {L F : Type 0} (talk : L → Option Talk) (since : L → L → Type 0) (fault : L → Option LinkFault) (downs : L
@@ -120,13 +123,25 @@ judged_stop : {L : Type 0} (talk : L → Option Talk) (fault : L → Option Link
     (reported : List DbReport) (cause : Stop) → over ≡ first_over meeting → Does talk (before_writes meeting) old new
     → Judges over reported (Err cause) → IsStopOf talk fault meeting old new cause
 judged_stop talk fault meeting old new over reported (stop.Limit name) is does judged = record { first = sym is ∙ judged; does = does }
-judged_stop talk fault meeting old new over reported stop.DeskFault is does judged = tt
+judged_stop talk fault meeting old new over reported stop.DeskFault is does judged = absurd judged
 judged_stop talk fault meeting old new over reported (stop.Session session.NoMemory) is does judged = tt
 judged_stop talk fault meeting old new over reported (stop.Session session.Down) is does judged = absurd judged
 judged_stop talk fault meeting old new over reported (stop.Session (session.Refused code)) is does judged = absurd judged
 judged_stop talk fault meeting old new over reported (stop.Session (session.BadReply broken)) is does judged = absurd judged
 judged_stop talk fault meeting old new over reported (stop.Session (session.OtherUser handheld desktop)) is does judged = absurd judged
 judged_stop talk fault meeting old new over reported (stop.Session session.TooManyUsers) is does judged = absurd judged
+
+judged_limit : (meeting : Meeting) (over : Option (List ℕ)) (reported : List DbReport) (cause : Stop) → over ≡ first_over meeting
+    → Judges over reported (Err cause) → SaysLimit meeting (Err cause)
+judged_limit meeting over reported (stop.Limit name) is judged = λ found first. let same : name ≡ found = cc in same
+judged_limit meeting over reported stop.DeskFault is judged = absurd judged
+judged_limit meeting over reported (stop.Session cause) is judged = λ found first. tt
+
+-- a session that went on from a user with a slot
+seated_unseated : {L : Type 0} (talk : L → Option Talk) (since : L → L → Type 0) (fault : L → Option LinkFault) (downs : L → ℕ) (meeting : Meeting) (old new : L)
+    (cause : Stop) → IsOk (seat_of meeting) → SaysUnseated talk since fault downs meeting old new (Err cause)
+seated_unseated talk since fault downs meeting old new cause seated = λ why is.
+    seated_says (Stops talk since fault downs (text reading_user ∷ []) old new × StopsFor (stop.Session why) (Err cause)) meeting why seated is
 
 -- all was read, and then judged
 judged_ends : {L F : Type 0} (talk : L → Option Talk) (since : L → L → Type 0) (fault : L → Option LinkFault) (downs : L → ℕ)
@@ -170,6 +185,7 @@ judged_ends {L} {F} talk since fault downs contents moments paths faults itself 
           told = judged.0.1 ∙ ap (λ s. reports_planned s planned.items) (own_shelves talk since fault downs meeting heads wishes old now desk so)
               ∙ reports_are meeting planned.items so.rests.proper are none;
           none = none;
+          seated = so.seated;
           ordered = so.ordered;
           read = reach.reached;
           tells = reach.tells;
@@ -178,6 +194,9 @@ judged_ends {L} {F} talk since fault downs contents moments paths faults itself 
         ends_unwritten talk since fault downs contents moments meeting old then.link desk.folder cause left goes reach.reached.stops
         (judged_stop talk fault meeting old then.link (over_planned (shelves_in desk) (length heads) (all_rows desk.slots) planned.items)
         (reports_planned (shelves_in desk) planned.items) cause over reach.reached.does judged.0)
+        (seated_unseated talk since fault downs meeting old then.link cause so.seated)
+        (judged_limit meeting (over_planned (shelves_in desk) (length heads) (all_rows desk.slots) planned.items)
+        (reports_planned (shelves_in desk) planned.items) cause over judged.0)
 
 -- not all was read
 unread_ends : {L F : Type 0} (talk : L → Option Talk) (since : L → L → Type 0) (fault : L → Option LinkFault) (downs : L → ℕ)
@@ -197,6 +216,7 @@ unread_ends {L} {F} talk since fault downs contents moments paths faults since_m
     (own_shelves talk since fault downs meeting heads wishes old now desk so)
     (own_jobs talk since fault downs meeting heads wishes old now desk so) so.met reads.reads)
     (later_stop talk fault meeting old then.link fault_is reads.reads.cause)
+    (seated_unseated talk since fault downs meeting old then.link (stop.Session fault_is) so.seated) (λ name first. tt)
 
 prepared_ends : {L F : Type 0} (talk : L → Option Talk) (since : L → L → Type 0) (fault : L → Option LinkFault) (downs : L → ℕ)
     (contents : F → Option FileMap) (moments : F → Moments) (paths : F → Option (List (List ℕ))) (faults : F → ℕ) (itself : (a : L)
@@ -216,6 +236,18 @@ prepared_ends talk since fault downs contents moments paths faults itself since_
     unread_ends talk since fault downs contents moments paths faults since_more meeting heads wishes old now then desk cause answer left so reads judged goes
 
 -- ---- both sides meet
+
+-- the handheld's user has a slot
+seat_told : (meeting : Meeting) (told : Option Talk) → IsProper meeting.device → Tells meeting.device told
+    → HasSlot (users_of (marks_of meeting.slots)) meeting.wishes.add_user told → IsOk (seat_of meeting)
+seat_told meeting told proper tells slot =
+    let seat : Result ReplyValue ReplyFault → Result UserInfo SessionFault
+    = λ read. user_by (users_of (marks_of meeting.slots)) meeting.wishes.add_user (said_in user_of read) in
+    let here : IfSome (Some tells.talk) (λ talk. IsOk (seat (reply_at 0x10 (acted reading_user talk.device).0)))
+    = subst (HasSlot (users_of (marks_of meeting.slots)) meeting.wishes.add_user) tells.is slot in
+    let mine : IsOk (seat (reply_at 0x10 (acted reading_user meeting.device).0))
+    = subst (λ d. IsOk (seat (reply_at 0x10 (acted reading_user d).0))) tells.same here in
+    subst (λ r. IsOk (user_by (users_of (marks_of meeting.slots)) meeting.wishes.add_user r)) (user_told meeting.device proper) mine
 
 -- another user, and one too many
 record IsOther (meeting : Meeting) (cause : SessionFault) : Type 0 where
@@ -254,7 +286,7 @@ slot_why meeting slot.Full second read cause found same is =
 
 greeted_why : (meeting : Meeting) (told : Option Talk) (fault_now : Option LinkFault) (cause : SessionFault) → IsProper meeting.device
     → Tells meeting.device told → Greeted (users_of (marks_of meeting.slots)) meeting.wishes.add_user told fault_now (Err cause)
-    → IsLater fault_now cause ⊎ (IsOther meeting cause ⊎ IsMany meeting cause)
+    → IsLater fault_now cause ⊎ ((fault_now ≡ None) × (IsOther meeting cause ⊎ IsMany meeting cause))
 greeted_why meeting told (Some now) cause proper tells said =
     inl (later_refused {A = UserInfo} (Some now) user_of (reply_at 0x10 said.first) cause said.is)
 greeted_why meeting told None cause proper tells said =
@@ -265,23 +297,81 @@ greeted_why meeting told None cause proper tells said =
     let read : said_in user_of (reply_at 0x10 said.first) ≡ Ok meeting.device.user
     = ap (λ b. said_in user_of (reply_at 0x10 b)) bytes ∙ user_told meeting.device proper in
     let second : Result (Unit {0}) SessionFault = said_in no_more (reply_at 0x2E said.second) in
-    slot_why meeting (slot_in meeting) second (reply_at 0x2E said.second) cause refl refl
-    (said.is ∙ ap (λ r. begun_by (user_by users meeting.wishes.add_user r) second) read)
+    elim (slot_why meeting (slot_in meeting) second (reply_at 0x2E said.second) cause refl refl
+    (said.is ∙ ap (λ r. begun_by (user_by users meeting.wishes.add_user r) second) read)) [
+      | inl later ↦ inl later
+      | inr unseated ↦ inr (refl, unseated)
+    ]
 
-met_stop : {L : Type 0} (talk : L → Option Talk) (fault : L → Option LinkFault) (meeting : Meeting) (old new : L) (cause : SessionFault)
-    → IsProper meeting.device → Tells meeting.device (talk old)
+-- a user without a slot is the cause, unless the link has a fault
+greeted_for : (meeting : Meeting) (told : Option Talk) (fault_now : Option LinkFault) (cause why : SessionFault) → IsProper meeting.device
+    → Tells meeting.device told → seat_of meeting ≡ Err why → Greeted (users_of (marks_of meeting.slots)) meeting.wishes.add_user told fault_now (Err cause)
+    → StopsFor (stop.Session why) (Err (stop.Session cause))
+greeted_for meeting told (Some link.Down) cause why proper tells unseated said =
+    inr (inl (ap stop.Session (let same : cause ≡ session.Down = let is = said.is in cc in same)))
+greeted_for meeting told (Some link.NoMemory) cause why proper tells unseated said =
+    inr (inr (ap stop.Session (let same : cause ≡ session.NoMemory = let is = said.is in cc in same)))
+greeted_for meeting told None cause why proper tells unseated said =
+    let users : List ℕ = users_of (marks_of meeting.slots) in
+    let here : IfSome (Some tells.talk) (λ talk. said.first ≡ (acted reading_user talk.device).0)
+    = subst (λ o. IfSome o (λ talk. said.first ≡ (acted reading_user talk.device).0)) tells.is (said.told refl) in
+    let bytes : said.first ≡ (acted reading_user meeting.device).0 = here ∙ ap (λ d. (acted reading_user d).0) tells.same in
+    let read : said_in user_of (reply_at 0x10 said.first) ≡ Ok meeting.device.user
+    = ap (λ b. said_in user_of (reply_at 0x10 b)) bytes ∙ user_told meeting.device proper in
+    let second : Result (Unit {0}) SessionFault = said_in no_more (reply_at 0x2E said.second) in
+    let found : ◌≡◌ {A = Result UserInfo SessionFault} (Err cause) (begun_by (Err why) second)
+    = said.is ∙ ap (λ r. begun_by (user_by users meeting.wishes.add_user r) second) read ∙ ap (λ r. begun_by r second) unseated in
+    inl (ap stop.Session (let same : cause ≡ why = cc in same))
+
+-- it was all that was asked for
+asks_alone : {L : Type 0} (talk : L → Option Talk) (since : L → L → Type 0) (fault : L → Option LinkFault) (downs : L → ℕ) (meeting : Meeting) (old new : L)
+    (why : SessionFault) → IsProper meeting.device → Tells meeting.device (talk old) → seat_of meeting ≡ Err why
+    → AsksUser talk since fault downs old new ⊎ HasSlot (users_of (marks_of meeting.slots)) meeting.wishes.add_user (talk old)
+    → AsksUser talk since fault downs old new
+asks_alone talk since fault downs meeting old new why proper tells unseated (inl asks) = asks
+asks_alone talk since fault downs meeting old new why proper tells unseated (inr slot) =
+    seated_says (AsksUser talk since fault downs old new) meeting why (seat_told meeting (talk old) proper tells slot) unseated
+
+-- a greeting that was answered is of a user with a slot
+seat_greeted : (meeting : Meeting) (told : Option Talk) (user : UserInfo) → IsProper meeting.device → Tells meeting.device told
+    → Greeted (users_of (marks_of meeting.slots)) meeting.wishes.add_user told None (Ok user) → IsOk (seat_of meeting)
+seat_greeted meeting told user proper tells said =
+    seat_told meeting told proper tells (greeted_slot (users_of (marks_of meeting.slots)) meeting.wishes.add_user told user said)
+
+unmet_for : {L : Type 0} (talk : L → Option Talk) (fault : L → Option LinkFault) (meeting : Meeting) (old new : L) (cause why : SessionFault)
+    → IsProper meeting.device → Tells meeting.device (talk old) → seat_of meeting ≡ Err why
+    → Greeted (users_of (marks_of meeting.slots)) meeting.wishes.add_user (talk old) (fault new) (Err cause)
+    ⊎ IsUnlisted (users_of (marks_of meeting.slots)) meeting.wishes.add_user (talk old) (fault new) cause
+    → StopsFor (stop.Session why) (Err (stop.Session cause))
+unmet_for talk fault meeting old new cause why proper tells unseated (inl said) =
+    greeted_for meeting (talk old) (fault new) cause why proper tells unseated said
+unmet_for talk fault meeting old new cause why proper tells unseated (inr unlisted) =
+    seated_says (StopsFor (stop.Session why) (Err (stop.Session cause))) meeting why
+    (seat_greeted meeting (talk old) unlisted.user proper tells unlisted.greeted) unseated
+
+met_stop : {L : Type 0} (talk : L → Option Talk) (since : L → L → Type 0) (fault : L → Option LinkFault) (downs : L → ℕ) (meeting : Meeting) (old new : L)
+    (cause : SessionFault) → IsProper meeting.device → Tells meeting.device (talk old)
+    → AsksUser talk since fault downs old new ⊎ HasSlot (users_of (marks_of meeting.slots)) meeting.wishes.add_user (talk old)
     → Greeted (users_of (marks_of meeting.slots)) meeting.wishes.add_user (talk old) (fault new) (Err cause)
     ⊎ IsUnlisted (users_of (marks_of meeting.slots)) meeting.wishes.add_user (talk old) (fault new) cause
     → IsStopOf talk fault meeting old new (stop.Session cause)
-met_stop talk fault meeting old new cause proper tells (inl said) =
+met_stop talk since fault downs meeting old new cause proper tells asks (inl said) =
+    let alone : (why : SessionFault) → seat_of meeting ≡ Err why → fault new ≡ None → Does talk (reading_user ∷ []) old new
+    = λ why is none. (asks_alone talk since fault downs meeting old new why proper tells is asks).does none in
+    let seat : Slot → Result UserInfo SessionFault = user_with (users_of (marks_of meeting.slots)) meeting.device.user in
     elim (greeted_why meeting (talk old) (fault new) cause proper tells said) [
       | inl later ↦ later_stop talk fault meeting old new cause later
-      | inr unseated ↦ elim unseated [
-        | inl one ↦ subst (λ c. IsStopOf talk fault meeting old new (stop.Session c)) (sym one.is) one.other
-        | inr many ↦ subst (λ c. IsStopOf talk fault meeting old new (stop.Session c)) (sym many.is) many.full
+      | inr unseated ↦ elim unseated.1 [
+        | inl one ↦ subst (λ c. IsStopOf talk fault meeting old new (stop.Session c)) (sym one.is) (
+          one.other,
+          alone (session.OtherUser meeting.device.user.user (slice_index (users_of (marks_of meeting.slots)) 0))
+              (ap seat one.other.slot) unseated.0,
+        )
+        | inr many ↦ subst (λ c. IsStopOf talk fault meeting old new (stop.Session c)) (sym many.is)
+            (many.full, alone session.TooManyUsers (ap seat many.full) unseated.0)
       ]
     ]
-met_stop talk fault meeting old new cause proper tells (inr unlisted) =
+met_stop talk since fault downs meeting old new cause proper tells asks (inr unlisted) =
     later_stop talk fault meeting old new cause (later_by (fault new) (reply_at 0x16 unlisted.reply) cause unlisted.is)
 
 unmet_ends : {L F : Type 0} (talk : L → Option Talk) (since : L → L → Type 0) (fault : L → Option LinkFault) (downs : L → ℕ)
@@ -294,12 +384,21 @@ unmet_ends : {L F : Type 0} (talk : L → Option Talk) (since : L → L → Type
 unmet_ends talk since fault downs contents moments itself meeting old desk halted left rests tells (inl meets) is =
     ends_unwritten talk since fault downs contents moments meeting old halted.link desk.folder (stop.Session halted.cause) left is
     (meets_stop talk since fault downs (users_of (marks_of meeting.slots)) meeting.wishes.add_user old (Err halted) meeting rests tells meets)
-    (met_stop talk fault meeting old halted.link halted.cause rests.proper tells meets.cause)
+    (met_stop talk since fault downs meeting old halted.link halted.cause rests.proper tells meets.unseated meets.cause)
+    (λ why unseated. (
+      (asks_alone talk since fault downs meeting old halted.link why rests.proper tells unseated meets.unseated).stops,
+      unmet_for talk fault meeting old halted.link halted.cause why rests.proper tells unseated meets.cause,
+    )) (λ name first. tt)
 unmet_ends talk since fault downs contents moments itself meeting old desk halted left rests tells (inr none) is =
     ends_unwritten talk since fault downs contents moments meeting old halted.link desk.folder (stop.Session halted.cause) left is
     (subst (Stops talk since fault downs (map text (before_writes meeting)) old) (sym none.0)
     (stops_none talk since fault downs (map text (before_writes meeting)) old old refl (itself old) (fell_none fault downs old)))
     (later_stop talk fault meeting old halted.link halted.cause (subst (IsLater (fault halted.link)) (sym none.1) tt))
+    (λ why unseated. (
+      subst (Stops talk since fault downs (text reading_user ∷ []) old) (sym none.0)
+          (stops_none talk since fault downs (text reading_user ∷ []) old old refl (itself old) (fell_none fault downs old)),
+      inr (inr (ap stop.Session none.1)),
+    )) (λ name first. tt)
 
 met_ends : {L F : Type 0} (talk : L → Option Talk) (since : L → L → Type 0) (fault : L → Option LinkFault) (downs : L → ℕ)
     (contents : F → Option FileMap) (moments : F → Moments) (paths : F → Option (List (List ℕ))) (faults : F → ℕ) (itself : (a : L)
@@ -327,6 +426,7 @@ met_ends {L} {F} talk since fault downs contents moments paths faults itself sin
           (marks_of desk.slots)) u.user meeting.wishes.add_user)) joined.user ∙ place;
       heads_are = joined.heads;
       ordered = ordered;
+      seated = seat_greeted meeting (talk old) met.linked.user rests.proper tells meets.user;
       met = met_reaches talk since fault downs (users_of (marks_of meeting.slots)) meeting.wishes.add_user old met meeting rests tells meets;
     })
     goes.prepares.reads goes.prepares.goes goes.goes

@@ -7,7 +7,7 @@ use Rattle.dlp_commands.specs.Talks.{Talk}
 use Rattle.desktop_session.specs.declared.ending.Halted.{Halted}
 use Rattle.desktop_session.specs.declared.fault.SessionFault.{SessionFault}
 use Rattle.desktop_session.specs.Acts.{Act, text}
-use Rattle.desktop_session.specs.Greetings.{Greeted}
+use Rattle.desktop_session.specs.Greetings.{AsksUser, Greeted, HasSlot}
 use Rattle.desktop_session.specs.Lists.{HasCause, HasReplied, IsNotMissing, has_more, heads_listed, list_reply, listings}
 use Rattle.desktop_session.specs.Requests.{listing}
 use Rattle.desktop_session.specs.Says.{saying}
@@ -36,7 +36,7 @@ pub record IsUnlisted (users : List ℕ) (add : Bool) (talk : Option Talk) (faul
 -- Nothing went out but a greeting and then a list, as far as the answers go, each request of the list but the first where the reply before
 -- it said that more follow. Where both sides met, each request was answered, the user has a slot, the heads are those that the device lists
 -- behind the greeting, in so many replies, and the last of these said that no more follow, unless it was the 65,536th. Else the greeting or
--- the list was refused.
+-- the list was refused. A user without a slot is all that is asked for.
 pub record Meets {L : Type 0} (talk : L → Option Talk) (since : L → L → Type 0) (fault : L → Option LinkFault) (downs : L → ℕ)
     (users : List ℕ) (add : Bool) (old : L) (answer : Result (Met L) (Halted L)) : Type 0 where
   pub count : ℕ
@@ -44,6 +44,7 @@ pub record Meets {L : Type 0} (talk : L → Option Talk) (since : L → L → Ty
   pub more : IfSome (saying greeting (talk old)) (λ talk. (k : ℕ) → k + 1 < count → has_more (list_reply talk.device k) ≡ true)
   pub stops : Stops talk since fault downs (map text (meeting_acts count)) old (link_met answer)
   pub does : IfOk answer (λ met. Does talk (meeting_acts count) old met.linked.link)
+  pub unseated : AsksUser talk since fault downs old (link_met answer) ⊎ HasSlot users add (talk old)
   pub user : IfOk answer (λ met. Greeted users add (talk old) None (Ok met.linked.user))
   pub some : IfOk answer (λ met. 0 < count)
   pub heads : IfOk answer (λ met. IfSome (saying greeting (talk old)) (λ talk. met.heads.items ≡ heads_listed talk.device count))

@@ -1,11 +1,12 @@
 -- How a session over a link that tells its device ends, and what it leaves of both sides.
-use Rattle.std.specs.Prelude.{◌≡◌, ◌⊎◌, ℕ, List, length, map, replicate, slice_index, Option, None, Some, IfErr, IfOk, IfSome, IsSome, OnErr, Result}
+use Rattle.std.specs.Prelude.{◌≡◌, ◌⊎◌, ℕ, List, [], ◌∷◌, length, map, replicate, slice_index, Option, None, Some, IfErr, IfOk, IfSome, IsSome, OnErr, Result, Ok, Err}
 use Rattle.std.specs.Global.{Vec}
 use Rattle.hs_folders.specs.FileMaps.{FileMap}
 use Rattle.hs_folders.specs.Moments.{EachMomentSince, Moments}
 use Rattle.pdb_values.specs.Slots.{slot_for}
 use Rattle.pdb_values.specs.declared.slot.Slot.{Slot}
 use Rattle.pdb_values.specs.declared.slot.Slot.TheVariants.{Full, Refused}
+use Rattle.pdb_values.specs.declared.user.UserInfo.{UserInfo}
 use Rattle.folder_files.specs.Slots.{users_of}
 use Rattle.dlp_commands.specs.declared.link.LinkFault.{LinkFault}
 use Rattle.dlp_commands.specs.declared.link.LinkFault.TheVariants.{Down}
@@ -13,8 +14,11 @@ use Rattle.dlp_commands.specs.Talks.{Talk}
 use Rattle.desk_journal.specs.Overlays.{StandsAs, overlay}
 use Rattle.desk_store.specs.Desks.{IsDesk, IsDeskOf}
 use Rattle.desk_store.specs.Shelves.{SlotValue, marks_of}
+use Rattle.desktop_session.specs.declared.fault.SessionFault.{SessionFault}
 use Rattle.desktop_session.specs.declared.fault.SessionFault.TheVariants as session
 use Rattle.desktop_session.specs.Acts.{text}
+use Rattle.desktop_session.specs.Greetings.{user_with}
+use Rattle.desktop_session.specs.Requests.{reading_user}
 use Rattle.desktop_session.specs.Stops.{Does, Stops}
 use Rattle.sync_session.specs.declared.report.DbReport.{DbReport}
 use Rattle.sync_session.specs.declared.stop.Stop.{Stop}
@@ -99,30 +103,58 @@ pub record IsOtherUser (meeting : Meeting) (handheld desktop : ℕ) : Type 0 whe
   pub handheld_is : handheld ≡ meeting.device.user.user
   pub desktop_is : desktop ≡ slice_index (users_of (marks_of meeting.slots)) 0
 
+-- the handheld's user, where it has a slot, and else why a session stops
+abbrev pub seat_of : Meeting → Result UserInfo SessionFault
+seat_of meeting = user_with (users_of (marks_of meeting.slots)) meeting.device.user (slot_in meeting)
+
 -- this database would pass a limit first, and all is read and nothing written
 pub record IsLimit {L : Type 0} (talk : L → Option Talk) (meeting : Meeting) (old new : L) (name : List ℕ) : Type 0 where
   pub first : first_over meeting ≡ Some name
   pub does : Does talk (before_writes meeting) old new
 
--- The cause of a stop. A reply is refused only where the link has no fault; want of memory is free, and the folder tells its own failure by
--- its count.
+-- all that precedes the commit was answered, each new record got an id that was free at its turn, and no more went out
+pub record IsAtCommit {L : Type 0} (talk : L → Option Talk) (meeting : Meeting) (old new : L) : Type 0 where
+  pub given : List ℕ
+  pub count : length given ≡ adds_of meeting
+  pub free : GetFreeIds (before_commit meeting given) meeting.device
+  pub does : Does talk (before_commit meeting given) old new
+
+-- The cause of a stop. A reply is refused only where the link has no fault; for its user a session stops where nothing else was asked for;
+-- the folder tells its own failure by its count, and it fails at the commit alone; want of memory is free.
 abbrev pub IsStopOf : {L : Type 0} → (L → Option Talk) → (L → Option LinkFault) → Meeting → L → L → Stop → Type 0
 IsStopOf talk fault meeting old new (stop.Session session.Down) = fault new ≡ Some Down
 IsStopOf talk fault meeting old new (stop.Session (session.Refused code)) = fault new ≡ None
 IsStopOf talk fault meeting old new (stop.Session (session.BadReply broken)) = fault new ≡ None
-IsStopOf talk fault meeting old new (stop.Session (session.OtherUser handheld desktop)) = IsOtherUser meeting handheld desktop
-IsStopOf talk fault meeting old new (stop.Session session.TooManyUsers) = slot_in meeting ≡ Full
+IsStopOf talk fault meeting old new (stop.Session (session.OtherUser handheld desktop)) =
+    IsOtherUser meeting handheld desktop × Does talk (reading_user ∷ []) old new
+IsStopOf talk fault meeting old new (stop.Session session.TooManyUsers) = (slot_in meeting ≡ Full) × Does talk (reading_user ∷ []) old new
 IsStopOf talk fault meeting old new (stop.Session session.NoMemory) = Unit {0}
 IsStopOf talk fault meeting old new (stop.Limit name) = IsLimit talk meeting old new name
-IsStopOf talk fault meeting old new stop.DeskFault = Unit {0}
+IsStopOf talk fault meeting old new stop.DeskFault = IsAtCommit talk meeting old new
+
+-- it stopped for this, unless its link is down or memory was wanted
+abbrev pub StopsFor : Stop → Result (Vec DbReport) Stop → Type 0
+StopsFor why (Ok reports) = ⊥
+StopsFor why (Err cause) = (cause ≡ why) ⊎ ((cause ≡ stop.Session session.Down) ⊎ (cause ≡ stop.Session session.NoMemory))
+
+-- it stopped for a limit that this database would pass, unless what it said or memory stopped it before
+abbrev pub StopsAtLimit : List ℕ → Result (Vec DbReport) Stop → Type 0
+StopsAtLimit name (Ok reports) = ⊥
+StopsAtLimit name (Err (stop.Session cause)) = Unit {0}
+StopsAtLimit name (Err (stop.Limit other)) = other ≡ name
+StopsAtLimit name (Err stop.DeskFault) = ⊥
 
 -- ---- both
 
--- A session of these two sides ended, or it stopped: before the desktop's commit or behind it, and by its cause. Where a limit would be
--- passed, nothing is written.
+-- A session of these two sides ended, or it stopped: before the desktop's commit or behind it, and by its cause. Where the handheld's user
+-- has no slot, nothing but the user is asked for, and it stops for that; where a limit would be passed, nothing is written, and it stops for
+-- that or before.
 pub record SessionEnds {L : Type 0} (talk : L → Option Talk) (since : L → L → Type 0) (fault : L → Option LinkFault) (downs : L → ℕ)
     (meeting : Meeting) (old new : L) (folder : Tellings) (answer : Result (Vec DbReport) Stop) : Type 0 where
   pub ended : IfOk answer (λ reports. IsEnded talk meeting old new folder reports.items)
   pub stopped : OnErr answer (IsUncommitted talk since fault downs meeting old new folder ⊎ IsCommitted talk since fault downs meeting old new folder)
   pub cause : IfErr answer (IsStopOf talk fault meeting old new)
+  pub unseated : (why : SessionFault) → seat_of meeting ≡ Err why
+      → Stops talk since fault downs (text reading_user ∷ []) old new × StopsFor (stop.Session why) answer
   pub over : IsSome (first_over meeting) → Stops talk since fault downs (map text (before_writes meeting)) old new
+  pub limit : (name : List ℕ) → first_over meeting ≡ Some name → StopsAtLimit name answer

@@ -5,7 +5,7 @@ use Rattle.sync_session.proofs.meeting.meet.Goals as goal
 pub returns-in-Err : goal.returns-in-Err
 returns-in-Err g c = record {
   meets = meets_not g.L.Link.talk g.L.Link.since g.L.Link.fault g.L.Link.downs c.args.users.now c.args.add c.args.idle.link c.in-Err.halted
-      c.in-Err.ensures.stops c.in-Err.ensures.greeted;
+      c.in-Err.ensures.stops c.in-Err.ensures.greeted c.in-Err.ensures.unseated;
 }
 
 pub returns-in-Ok-list : goal.returns-in-Ok-list
