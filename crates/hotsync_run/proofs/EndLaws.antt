@@ -32,7 +32,7 @@ said_left : (acts : List Act) (talk : Talk) → talk.left ≡ None → (said act
 said_left [] talk none = none
 said_left (act ∷ acts) talk none = said_left acts (said_one act talk) refl
 
-same_some : {A : Type 0} (a b : A) → Some a ≡ Some b → a ≡ b
+pub same_some : {A : Type 0} (a b : A) → Some a ≡ Some b → a ≡ b
 same_some a b same = ap (λ (o : Option _). unwrap_or o a) same
 
 -- what a fresh world tells

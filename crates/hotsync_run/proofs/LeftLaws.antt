@@ -74,7 +74,7 @@ pub record Tells {F : Type 0} (old new : WorldValue F) (palm_after : FolderTold)
 
 -- ---- the session's requests
 
-parts-are : (meeting : Meeting) (given : List ℕ) → map text (before_commit meeting given) ++ map text (after_commit meeting) ≡ requests meeting
+pub parts-are : (meeting : Meeting) (given : List ℕ) → map text (before_commit meeting given) ++ map text (after_commit meeting) ≡ requests meeting
 unfolding session
 parts-are meeting given = sym (map-append text (before_commit meeting given) (after_commit meeting)) ∙ text-session meeting given
 
@@ -94,14 +94,14 @@ prefix-length xs ys prefix = let sum = sym (length-append xs prefix.rest) ∙ ap
 whole-prefix : (xs ys : List (List ℕ)) → xs ≡ ys → IsPrefix xs ys
 whole-prefix xs ys same = record { rest = []; is = append-nil xs ∙ same }
 
-writes-before : (meeting : Meeting) (given : List ℕ) → length (filter changes (map text (before_commit meeting given))) ≡ writes_before_commit meeting
+pub writes-before : (meeting : Meeting) (given : List ℕ) → length (filter changes (map text (before_commit meeting given))) ≡ writes_before_commit meeting
 unfolding writes_before_commit
 writes-before meeting given = ap (λ (l : List (List ℕ)). length (filter changes l)) (text-before_commit meeting given (replicate (adds_of meeting) 0))
 
 -- ---- a limit stops a session before it writes
 
 -- what went out is more than what writes nothing
-no-limit : (meeting : Meeting) (given : List ℕ) (sent_out : List (List ℕ)) (o : Option (List ℕ)) → length (map text (before_commit meeting given)) ≤ length sent_out
+pub no-limit : (meeting : Meeting) (given : List ℕ) (sent_out : List (List ℕ)) (o : Option (List ℕ)) → length (map text (before_commit meeting given)) ≤ length sent_out
     → (IsSome o → IsPrefix sent_out (map text (before_writes meeting))) → o ≡ None
 no-limit meeting given sent_out None many over = refl
 no-limit meeting given sent_out (Some name) many over =
@@ -191,6 +191,7 @@ session_left contents moments paths faults fault downs meeting old new palm_afte
     let none : first_over meeting ≡ None = no-limit meeting e.given new.log.issued (first_over meeting) (omega (arith, parts)) over in
     let same : (log_in report).issued ≡ new.log.issued = ap (λ (l : LogValue). l.issued) tells.said in
     record {
+      sound = sound;
       issued = whole-prefix (log_in report).issued (requests meeting) (same ∙ whole);
       over = λ some. subst (λ (l : List (List ℕ)). IsPrefix l (map text (before_writes meeting))) (sym same) (over some);
       ended = λ is. ended_left meeting e.given old new palm_after desk_after report sound device tells none e.count e.free logged e.desk (databases ∙ e.told);
@@ -205,6 +206,7 @@ session_left contents moments paths faults fault downs meeting old new palm_afte
       | inl b ↦
           let prefix : IsPrefix new.log.issued (requests_before_commit meeting) = issued_begins old new (requests_before_commit meeting) tells.silent tells.is_log b.stops.only in
           record {
+            sound = sound;
             issued = subst (λ (l : List (List ℕ)). IsPrefix l (requests meeting)) (sym same)
                 (subst (λ (l : List (List ℕ)). IsPrefix new.log.issued l) (parts-are meeting (replicate (adds_of meeting) 0)) (prefix-more new.log.issued (requests_before_commit meeting) (map text (after_commit meeting)) prefix));
             over = λ some. subst (λ (l : List (List ℕ)). IsPrefix l (map text (before_writes meeting))) (sym same) (over some);
@@ -219,6 +221,7 @@ session_left contents moments paths faults fault downs meeting old new palm_afte
           let split = ap length began.performed_are ∙ length-append (map text (before_commit meeting b.given)) began.rest in
           let none : first_over meeting ≡ None = no-limit meeting b.given new.log.issued (first_over meeting) (omega (arith, performed, split)) over in
           record {
+            sound = sound;
             issued = subst (λ (l : List (List ℕ)). IsPrefix l (requests meeting)) (sym same) (subst (λ (l : List (List ℕ)). IsPrefix new.log.issued l) (parts-are meeting b.given) began.issued_begins);
             over = λ some. subst (λ (l : List (List ℕ)). IsPrefix l (map text (before_writes meeting))) (sym same) (over some);
             ended = λ is. cc;

@@ -1,11 +1,17 @@
+pub mod AgainLaws
 pub mod CallLaws
 pub mod EndLaws
 pub mod FrontLaws
 pub mod LeftLaws
 pub mod LineLaws
 pub mod LookLaws
+pub mod OneLaws
+pub mod OverLaws
+pub mod PickLaws
 pub mod PrintedLaws
+pub mod QuietRuns
 pub mod RunLaws
+pub mod SlotLaws
 pub mod TalkLaws
 pub mod TraceLaws
 pub mod UndisturbedLaws

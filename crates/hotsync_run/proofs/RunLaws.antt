@@ -242,6 +242,7 @@ left_from : (meeting : Meeting) (palm_after first before after : FolderTold) (re
 left_from meeting palm_after first before after report stood left =
     let Merged : Option FileMap → Type 0 = StandsForSlots (merged_slots meeting left.given) in
     record {
+      sound = left.sound;
       issued = left.issued;
       over = left.over;
       ended = left.ended;

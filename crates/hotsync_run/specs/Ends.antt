@@ -13,6 +13,7 @@ use Rattle.sync_session.specs.Outcomes.{IsOtherUser, StandsForSlots, slot_in}
 use Rattle.sync_session.specs.Reports.{reports}
 use Rattle.sync_session.specs.Sessions.{before_writes, requests, writes_before_commit}
 use Rattle.sync_session.specs.Tasks.{Meeting}
+use Rattle.session_fronts.specs.Sound.{IsSoundMeeting}
 use Rattle.hotsync_run.specs.LineRuns.{log_in}
 use Rattle.hotsync_run.specs.Told.{FolderTold}
 use Rattle.hotsync_run.specs.declared.report.Report.{Report}
@@ -39,9 +40,10 @@ pub record StoppedBehind (meeting : Meeting) (desk_after : FolderTold) (report :
   pub stands : StandsForSlots (merged_slots meeting (log_in report).given) desk_after.contents
   pub writes : writes_before_commit meeting ≤ report.writes
 
--- What was issued begins the session's requests, and where a limit would be passed those that write nothing; and this is left of both sides. At each
--- moment the desktop's folder stood for what it stood for at first, or for the merge under some ids.
+-- Both sides keep the bounds of their types. What was issued begins the session's requests, and where a limit would be passed those that write
+-- nothing; and this is left of both sides. At each moment the desktop's folder stood for what it stood for at first, or for the merge under some ids.
 pub record SessionLeft (meeting : Meeting) (palm_after desk desk_after : FolderTold) (report : Report) : Type 0 where
+  pub sound : IsSoundMeeting meeting
   pub issued : IsPrefix (log_in report).issued (requests meeting)
   pub over : IsSome (first_over meeting) → IsPrefix (log_in report).issued (map text (before_writes meeting))
   pub ended : report.end ≡ Ended → EndedSession meeting palm_after desk_after report

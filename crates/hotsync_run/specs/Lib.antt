@@ -1,3 +1,4 @@
+pub mod Again
 pub mod BadFiles
 pub mod Calls
 pub mod Causes

@@ -9,6 +9,7 @@
 mod answer;
 mod bad_file;
 mod command;
+pub mod laws;
 mod left;
 mod look;
 mod packets;

@@ -1,0 +1,129 @@
+-- A folder stands for one handheld only, and for the slots of one desktop.
+use Rattle.std.proofs.Common.{◌≡◌, ◌∙◌, ◌<◌, ◌≤◌, ap, refl, sym, subst, arith, ℕ, zero, suc, Bool, true, false, List, [], ◌∷◌, length, get_or, map}
+use Rattle.std.specs.Prelude.{Option, Some, None, IfSome, Result, Ok, is_some, if◌then◌else◌}
+use Rattle.std.specs.FinMap as finmap
+use Rattle.std.specs.List.{AllByRecursion}
+use Rattle.hs_folders.specs.FileMaps.{FileMap}
+use Rattle.pdb_values.specs.Databases.{DatabaseValue}
+use Rattle.pdb_values.specs.NamedDatabases.{database_of}
+use Rattle.pdb_values.specs.declared.head.DbHead.{DbHead}
+use Rattle.pdb_values.specs.declared.user.Marks.{Marks}
+use Rattle.pdb_values.specs.declared.user.UserInfo.{UserInfo}
+use Rattle.pdb_values.proofs.NamedLaws.{database_of-name, database_of-same}
+use Rattle.pdb_files.proofs.FileLaws.{one_database}
+use Rattle.folder_files.specs.FileNames.{database_file, device_info_file, journal_file}
+use Rattle.folder_files.specs.InfoFiles.{IsDeviceFile, device_in}
+use Rattle.folder_files.specs.declared.bad_line.BadLine.{BadLine}
+use Rattle.folder_files.proofs.InfoLaws.{device_only}
+use Rattle.handheld_files.specs.Handhelds.{Files, HasFile, IsUserOf, StandFor}
+use Rattle.handheld_files.specs.Settled.{as_opened}
+use Rattle.handheld_files.proofs.ChangeLaws.{database_file_is}
+use Rattle.handheld_files.proofs.StandLaws.{as_opened-head}
+use Rattle.desk_journal.specs.Overlays.{HasNoJournal, bad_of, finished, overlay}
+use Rattle.desk_journal.specs.declared.bad_journal.BadJournal.{BadJournal}
+use Rattle.desk_store.specs.Desks.{IsDeskOf}
+use Rattle.desk_store.specs.Shelves.{AreInOrder, AreOrdered, ShelvesValue, SlotValue, database_at, marks_of, new_slot, number_of, shelf_at, slot_at}
+use Rattle.desk_store.specs.declared.role.Role.{Role}
+use Rattle.desk_store.specs.declared.role.Role.TheVariants.{Rows, Base, Archive}
+use Rattle.desk_store.proofs.OrderLaws.{rising}
+use Rattle.desk_store.proofs.SlotListLaws.{marks-length, ordered_at, slot_at-any}
+
+-- ---- a handheld
+
+same_info : (bytes : List ℕ) (one other : UserInfo) → IsDeviceFile one bytes → IsDeviceFile other bytes → one ≡ other
+same_info bytes one other first second =
+    let both : ◌≡◌ {A = Result UserInfo BadLine} (Ok one) (Ok other) = sym (device_only bytes one first) ∙ device_only bytes other second in cc
+
+same_user : (file : Option (List ℕ)) (one other : UserInfo) → IsUserOf file one → IsUserOf file other → one ≡ other
+same_user None one other first second = first ∙ sym second
+same_user (Some bytes) one other first second = same_info bytes one other first second
+
+-- a database of the one list is one of the other
+found_there : (files : Files) (one other : List DatabaseValue) (user user' : UserInfo) → StandFor files one user → StandFor files other user'
+    → (name : List ℕ) (database : DatabaseValue) → database_of name one ≡ Some database → database_of name other ≡ Some database
+found_there files one other user user' first second name database found =
+    let has = first.each_database name database found in
+    let held = second.each_file (database_file has.stored.head) has.bytes (database_file_is has.stored.head) has.there in
+    let same : held.stored ≡ has.stored = one_database has.bytes held.stored has.stored held.file.text has.text in
+    let opened : as_opened held.stored ≡ database = ap as_opened same ∙ sym has.is in
+    let named : held.stored.head.name ≡ name =
+    ap (λ (d : DatabaseValue). d.head.name) same ∙ sym (ap (λ (h : DbHead). h.name) (as_opened-head has.stored)) ∙ sym (ap (λ (d : DatabaseValue). d.head.name) has.is)
+    ∙ database_of-name name one database found in
+    sym (ap (λ n. database_of n other) named) ∙ held.held ∙ ap (λ (d : DatabaseValue). Some d) opened
+
+same_found : (one other : Option DatabaseValue) → ((d : DatabaseValue) → one ≡ Some d → other ≡ Some d) → ((d : DatabaseValue) → other ≡ Some d → one ≡ Some d) → one ≡ other
+same_found (Some d) other front back = sym (front d refl)
+same_found None (Some d) front back = back d refl
+same_found None None front back = refl
+
+-- what files stand for is one
+pub record IsOne (one other : List DatabaseValue) (user user' : UserInfo) : Type 0 where
+  pub databases : one ≡ other
+  pub user_is : user ≡ user'
+
+pub one-handheld : (files : Files) (one other : List DatabaseValue) (user user' : UserInfo) → StandFor files one user → StandFor files other user' → IsOne one other user user'
+one-handheld files one other user user' first second = record {
+  databases = database_of-same one other first.order second.order
+      (λ name. same_found (database_of name one) (database_of name other) (found_there files one other user user' first second name) (found_there files other one user' user second first name));
+  user_is = same_user (files device_info_file) user user' first.owner second.owner;
+}
+
+-- ---- a desktop
+
+-- files without a journal are the whole
+finished_by : (held : FileMap) (o : Option (List ℕ)) → finmap.get held journal_file ≡ o → (b : Option BadJournal) → bad_of o ≡ b
+    → HasNoJournal (if is_some b then held else overlay held) → (if is_some b then held else overlay held) ≡ overlay held
+finished_by held o is None bad none = refl
+finished_by held None is (Some b) bad none = absurd (cc)
+finished_by held (Some bytes) is (Some b) bad none = absurd (let no : ◌≡◌ {A = Option (List ℕ)} (Some bytes) None = sym is ∙ none in cc)
+
+finished-overlay : (held : FileMap) → HasNoJournal (finished held) → finished held ≡ overlay held
+finished-overlay held none = finished_by held (finmap.get held journal_file) refl (bad_of (finmap.get held journal_file)) refl none
+
+pub desk-overlay : (held : FileMap) (slots : List SlotValue) → IsDeskOf (finished held) slots → IsDeskOf (overlay held) slots
+desk-overlay held slots is = subst (λ files. IsDeskOf files slots) (finished-overlay held is.no_journal) is
+
+same_slot : (one other : SlotValue) → one.marks ≡ other.marks → one.shelves.rows ≡ other.shelves.rows → one.shelves.bases ≡ other.shelves.bases → one.shelves.archives ≡ other.shelves.archives → one ≡ other
+same_slot one other marks rows bases archives k = record { marks = marks k; shelves = record { rows = rows k; bases = bases k; archives = archives k } }
+
+-- lists that agree at each place are one
+same_at : (one other : List SlotValue) (d : SlotValue) → length one ≡ length other → ((k : ℕ) → k < length one → get_or one k d ≡ get_or other k d) → one ≡ other
+same_at [] [] d count each = refl
+same_at [] (y ∷ other) d count each = absurd (omega (arith, count))
+same_at (x ∷ one) [] d count each = absurd (omega (arith, count))
+same_at (x ∷ one) (y ∷ other) d count each =
+    let first : x ≡ y = each 0 (omega arith) in
+    let rest : one ≡ other = same_at one other d (omega (arith, count)) (λ k less. each (suc k) (omega (arith, less))) in
+    λ i. first i ∷ rest i
+
+marks_at : (slots : List SlotValue) (k : ℕ) (d : SlotValue) → get_or (marks_of slots) k d.marks ≡ (get_or slots k d).marks
+marks_at [] k d = refl
+marks_at (slot ∷ slots) zero d = refl
+marks_at (slot ∷ slots) (suc k) d = marks_at slots k d
+
+pub one-desktop : (held : FileMap) (one other : List SlotValue) → AreInOrder one → AreInOrder other → IsDeskOf held one → IsDeskOf held other → one ≡ other
+one-desktop held one other order order' first second = same_at one other behind count each
+  where
+    marked : marks_of one ≡ marks_of other
+    marked = first.marked ∙ sym second.marked
+
+    count : length one ≡ length other
+    count = sym (marks-length one) ∙ ap length marked ∙ marks-length other
+
+    behind : SlotValue
+    behind = new_slot (number_of one)
+
+    shelf : (k : ℕ) → k < length one → (role : Role) → shelf_at one k role ≡ shelf_at other k role
+    shelf k less role =
+        database_of-same (shelf_at one k role) (shelf_at other k role) (rising (slot_at one k).shelves (ordered_at one k order) role) (rising (slot_at other k).shelves (ordered_at other k order') role)
+        (λ name. first.shelved k role name less ∙ ap (λ n. database_at held n k role name) count ∙ sym (second.shelved k role name (subst (λ n. k < n) count less)))
+
+    there : (k : ℕ) → k < length one → slot_at other k ≡ get_or other k behind
+    there k less = slot_at-any other k (new_slot (number_of other)) behind (subst (λ n. k < n) count less)
+
+    each : (k : ℕ) → k < length one → get_or one k behind ≡ get_or other k behind
+    each k less =
+        same_slot (slot_at one k) (slot_at other k)
+        (sym (marks_at one k behind) ∙ ap (λ (ms : List Marks). get_or ms k behind.marks) marked ∙ marks_at other k behind ∙ ap (λ (s : SlotValue). s.marks) (sym (there k less)))
+        (shelf k less Rows) (shelf k less Base) (shelf k less Archive)
+        ∙ there k less
