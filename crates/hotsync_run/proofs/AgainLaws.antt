@@ -1,6 +1,6 @@
 -- What a stopped run left is what the next one meets: it takes the session up.
 use Rattle.std.proofs.Common.{◌≡◌, ◌⊎◌, ◌∙◌, ◌+◌, ◌≤◌, ◌<◌, ap, refl, sym, subst, arith, inl, inr, ℕ, zero, suc, Bool, true, false, List, [], ◌∷◌, ◌++◌, length, map}
-use Rattle.std.specs.Prelude.{Option, Some, None, IfSome, IsSome, filter, replicate}
+use Rattle.std.specs.Prelude.{Option, Some, None, IfSome, IsSome, filter, if◌then◌else◌, replicate}
 use Rattle.std.specs.FinMap as finmap
 use Rattle.std.specs.Option.{option_map}
 use Rattle.std.proofs.lemmas.List.{length-append, map-append}
@@ -110,42 +110,51 @@ one-meeting run before meeting other told first second =
 
 -- ---- a session
 
--- what is known of the session of a meeting
-record Ran (rules : List RuleValue) (m : Meeting) (add : Bool) (before after : CallTold) (report : Report) : Type 0 where
-  picked : m.picked ≡ place_for m.device m.slots add
-  handheld : IfSome before.palm.contents (λ held. HoldsAll held m.device.databases m.device.user)
-  desktop : IsDesk (option_map finished before.desk.contents) m.slots
-  line : LineRan rules m.device before.palm after.palm report
-  left : SessionLeft m after.palm before.desk after.desk report
+-- what is known of the session of a run: both sides before it, what went over the line, and what is left of them
+pub record Ran : Type 0 where
+  pub rules : List RuleValue
+  pub meeting : Meeting
+  pub add : Bool
+  pub before : CallTold
+  pub after : CallTold
+  pub report : Report
+  pub told : AreTold before
+  pub picked : meeting.picked ≡ place_for meeting.device meeting.slots add
+  pub handheld : IfSome before.palm.contents (λ held. HoldsAll held meeting.device.databases meeting.device.user)
+  pub desktop : IsDesk (option_map finished before.desk.contents) meeting.slots
+  pub line : LineRan rules meeting.device before.palm after.palm report
+  pub left : SessionLeft meeting after.palm before.desk after.desk report
+
+abbrev given_in : Ran → List ℕ
+given_in ran = ran.report.given.items
 
 some_writes : (m : Meeting) → 1 ≤ writes_before_commit m
 unfolding writes_before_commit before_commit text
 some_writes m =
-    let news = all_news m (active m) (replicate (adds_of m) 0) in
-    let parts = ap (λ (l : List (List ℕ)). length (filter changes l)) (map-append text (before_writes m) (begin_mark m ∷ news))
-    ∙ count-append (map text (before_writes m)) (text (begin_mark m) ∷ map text news) in
-    let one : length (filter changes (text (begin_mark m) ∷ map text news)) ≡ suc (length (filter changes (map text news))) = first_counts (changes (text (begin_mark m))) (changes-text (begin_mark m).asks) in
+    let news = map text (all_news m (active m) (replicate (adds_of m) 0)) in
+    let parts = ap (λ (l : List (List ℕ)). length (filter changes l)) (map-append text (before_writes m) (begin_mark m ∷ all_news m (active m) (replicate (adds_of m) 0)))
+    ∙ count-append (map text (before_writes m)) (text (begin_mark m) ∷ news) in
+    let one = by news (changes (text (begin_mark m))) (changes-text (begin_mark m).asks) in
     omega (arith, parts, one)
   where
-    first_counts : (b : Bool) → b ≡ true → length (if b then text (begin_mark m) ∷ filter changes (map text (all_news m (active m) (replicate (adds_of m) 0))) else filter changes (map text (all_news m (active m) (replicate (adds_of m) 0))))
-        ≡ suc (length (filter changes (map text (all_news m (active m) (replicate (adds_of m) 0)))))
-    first_counts true is = refl
-    first_counts false is = absurd (cc)
+    by : (news : List (List ℕ)) (b : Bool) → b ≡ true
+        → length (if b then text (begin_mark m) ∷ filter changes news else filter changes news) ≡ suc (length (filter changes news))
+    by news true is = refl
+    by news false is = absurd (cc)
 
 -- where a session ended it passed no limit, and wrote all
-none-over : (rules : List RuleValue) (m : Meeting) (add : Bool) (before after : CallTold) (report : Report) → Ran rules m add before after report
-    → EndedSession m after.palm after.desk report → first_over m ≡ None
-none-over rules m add before after report ran ended =
-    let none : List ℕ = replicate (adds_of m) 0 in
-    let parts = ap length (ended.issued ∙ sym (parts-are m none)) ∙ length-append (map text (before_commit m none)) (map text (after_commit m)) in
-    no-limit m none (log_in report).issued (first_over m) (omega (arith, parts)) ran.left.over
+none-over : (ran : Ran) → EndedSession ran.meeting ran.after.palm ran.after.desk ran.report → first_over ran.meeting ≡ None
+none-over ran ended =
+    let none : List ℕ = replicate (adds_of ran.meeting) 0 in
+    let parts = ap length (ended.issued ∙ sym (parts-are ran.meeting none)) ∙ length-append (map text (before_commit ran.meeting none)) (map text (after_commit ran.meeting)) in
+    no-limit ran.meeting none (log_in ran.report).issued (first_over ran.meeting) (omega (arith, parts)) ran.left.over
 
-all-written : (m : Meeting) (rules : List RuleValue) (add : Bool) (before after : CallTold) (report : Report) → Ran rules m add before after report
-    → EndedSession m after.palm after.desk report → writes_before_commit m ≤ report.writes
+all-written : (ran : Ran) → EndedSession ran.meeting ran.after.palm ran.after.desk ran.report → writes_before_commit ran.meeting ≤ ran.report.writes
 unfolding write_count
-all-written m rules add before after report ran ended =
+all-written ran ended =
+    let m : Meeting = ran.meeting in
     let none : List ℕ = replicate (adds_of m) 0 in
-    let counted : report.writes ≡ length (filter changes (requests m)) = ran.line.writes ∙ ap (λ (l : List (List ℕ)). length (filter changes l)) ended.performed in
+    let counted : ran.report.writes ≡ length (filter changes (requests m)) = ran.line.writes ∙ ap (λ (l : List (List ℕ)). length (filter changes l)) ended.performed in
     let parts = ap (λ (l : List (List ℕ)). length (filter changes l)) (sym (parts-are m none)) ∙ count-append (map text (before_commit m none)) (map text (after_commit m)) in
     omega (arith, counted, parts, writes-before m none)
 
@@ -155,53 +164,43 @@ no_items : (xs : List (List ℕ)) → length xs ≤ 0 → xs ≡ []
 no_items [] few = refl
 no_items (x ∷ xs) few = absurd (omega (arith, few))
 
--- where a limit would be passed nothing was written
-record WroteNone (m : Meeting) (last : Device) (report : Report) : Type 0 where
-  kept : IsKept m.device last
-  none : report.writes ≡ 0
+-- nothing was written
+record WroteNone (ran : Ran) : Type 0 where
+  kept : IsKept ran.meeting.device ran.line.last
+  none : ran.report.writes ≡ 0
 
-wrote_none : (rules : List RuleValue) (m : Meeting) (add : Bool) (before after : CallTold) (report : Report) (ran : Ran rules m add before after report)
-    → IsSome (first_over m) → WroteNone m ran.line.last report
+-- which is so where a limit would be passed
+wrote_none : (ran : Ran) → IsSome (first_over ran.meeting) → WroteNone ran
 unfolding write_count
-wrote_none rules m add before after report ran over =
-    let quiet : filter changes (map text (before_writes m)) ≡ [] = quiet-before_writes m in
-    let begins : IsPrefix (log_in report).performed (map text (before_writes m)) =
-    performed-prefix (log_in report) ran.line.answered (map text (before_writes m)) ran.line.log (ran.left.over over) in
-    let few = prefix-count (log_in report).performed (map text (before_writes m)) begins in
-    let count : length (filter changes (map text (before_writes m))) ≡ 0 = ap length quiet in
-    let none : filter changes (log_in report).performed ≡ [] = no_items (filter changes (log_in report).performed) (omega (arith, few, count)) in
-    record {
-      kept = quiet-run (log_in report).performed (log_in report).replies m.device ran.line.last none ran.line.ran.ran;
-      none = ran.line.writes ∙ ap length none;
-    }
+wrote_none ran over =
+    let m : Meeting = ran.meeting in
+    let log = log_in ran.report in
+    let begins : IsPrefix log.performed (map text (before_writes m)) = performed-prefix log ran.line.answered (map text (before_writes m)) ran.line.log (ran.left.over over) in
+    let few = prefix-count log.performed (map text (before_writes m)) begins in
+    let count : length (filter changes (map text (before_writes m))) ≡ 0 = ap length (quiet-before_writes m) in
+    let none : filter changes log.performed ≡ [] = no_items (filter changes log.performed) (omega (arith, few, count)) in
+    record { kept = quiet-run log.performed log.replies m.device ran.line.last none ran.line.ran.ran; none = ran.line.writes ∙ ap length none }
 
 -- ---- what the next one meets
 
--- two sessions of the same folders, of which the first stopped and the second ended
-record Both (rules later_rules : List RuleValue) (m next : Meeting) (add other : Bool) (before after again done : CallTold) (report report' : Report) : Type 0 where
-  first : Ran rules m add before after report
-  second : Ran later_rules next other again done report'
-  asks : AsksTheSame m next
-  palm : again.palm.contents ≡ after.palm.contents
-  desk : again.desk.contents ≡ after.desk.contents
-  told : AreTold before
-  told_again : AreTold again
-  stopped : StoppedBefore m before.desk after.desk report ⊎ StoppedBehind m after.desk report
-  ended : EndedSession next done.palm done.desk report'
+-- a session stopped, and the next one is that of the folders that it left, where the same is asked
+pub record Precedes (ran next : Ran) : Type 0 where
+  pub asks : AsksTheSame ran.meeting next.meeting
+  pub palm : next.before.palm.contents ≡ ran.after.palm.contents
+  pub desk : next.before.desk.contents ≡ ran.after.desk.contents
+  pub stopped : StoppedBefore ran.meeting ran.before.desk ran.after.desk ran.report ⊎ StoppedBehind ran.meeting ran.after.desk ran.report
 
 -- the handheld is the one that the stopped session left
-met-device : (rules later_rules : List RuleValue) (m next : Meeting) (add other : Bool) (before after again done : CallTold) (report report' : Report)
-    (both : Both rules later_rules m next add other before after again done report report')
-    → IsOne next.device.databases both.first.line.last.databases next.device.user both.first.line.last.user
-met-device rules later_rules m next add other before after again done report report' both =
-    same_handheld again.palm.contents both.first.line.last next.device both.told_again.palm
-    (subst (λ (told : Option FileMap). Stands told both.first.line.last.databases both.first.line.last.user) (sym both.palm) both.first.line.stands) both.second.handheld
+met-device : (ran next : Ran) → Precedes ran next
+    → IsOne next.meeting.device.databases ran.line.last.databases next.meeting.device.user ran.line.last.user
+met-device ran next is =
+    same_handheld next.before.palm.contents ran.line.last next.meeting.device next.told.palm
+    (subst (λ (told : Option FileMap). Stands told ran.line.last.databases ran.line.last.user) (sym is.palm) ran.line.stands) next.handheld
 
-met-front : (rules later_rules : List RuleValue) (m next : Meeting) (add other : Bool) (before after again done : CallTold) (report report' : Report)
-    → Both rules later_rules m next add other before after again done report report' → Front m report.writes report.given.items next.device
-met-front rules later_rules m next add other before after again done report report' both =
-    let one = met-device rules later_rules m next add other before after again done report report' both in
-    let front = front_of m rules before.palm after.palm report both.first.line both.first.left.issued in
+met-front : (ran next : Ran) → Precedes ran next → Front ran.meeting ran.report.writes (given_in ran) next.meeting.device
+met-front ran next is =
+    let one = met-device ran next is in
+    let front = front_of ran.meeting ran.rules ran.before.palm ran.after.palm ran.report ran.line ran.left.issued in
     record {
       count = front.count;
       replies = front.replies;
@@ -213,53 +212,47 @@ met-front rules later_rules m next add other before after again done report repo
       user = one.user_is ∙ front.user;
     }
 
--- before the commit the slots are as they were
-slots-before : (rules later_rules : List RuleValue) (m next : Meeting) (add other : Bool) (before after again done : CallTold) (report report' : Report)
-    → Both rules later_rules m next add other before after again done report report' → StoppedBefore m before.desk after.desk report → next.slots ≡ m.slots
-slots-before rules later_rules m next add other before after again done report report' both b =
-    same_slots before.desk.contents again.desk.contents m.slots next.slots both.told.desk both.told_again.desk
-    (subst (λ (told : Option FileMap). StandsAs before.desk.contents told) (sym both.desk) b.stands) both.first.desktop both.second.desktop
+-- before the commit the slots are as they were, and behind it they are merged
+slots-before : (ran next : Ran) → Precedes ran next → StoppedBefore ran.meeting ran.before.desk ran.after.desk ran.report → next.meeting.slots ≡ ran.meeting.slots
+slots-before ran next is b =
+    same_slots ran.before.desk.contents next.before.desk.contents ran.meeting.slots next.meeting.slots ran.told.desk next.told.desk
+    (subst (λ (told : Option FileMap). StandsAs ran.before.desk.contents told) (sym is.desk) b.stands) ran.desktop next.desktop
 
--- behind it they are merged
-slots-behind : (rules later_rules : List RuleValue) (m next : Meeting) (add other : Bool) (before after again done : CallTold) (report report' : Report)
-    → Both rules later_rules m next add other before after again done report report' → StoppedBehind m after.desk report → next.slots ≡ merged_slots m report.given.items
-slots-behind rules later_rules m next add other before after again done report report' both b =
-    merged_met again.desk.contents (merged_slots m report.given.items) next.slots both.told_again.desk
-    (subst (λ (told : Option FileMap). StandsForSlots (merged_slots m report.given.items) told) (sym both.desk) b.stands)
-    (merged-ordered m report.given.items (picked-near m add both.first.picked) both.first.desktop.ordered) both.second.desktop
+slots-behind : (ran next : Ran) → Precedes ran next → StoppedBehind ran.meeting ran.after.desk ran.report → next.meeting.slots ≡ merged_slots ran.meeting (given_in ran)
+slots-behind ran next is b =
+    merged_met next.before.desk.contents (merged_slots ran.meeting (given_in ran)) next.meeting.slots next.told.desk
+    (subst (λ (told : Option FileMap). StandsForSlots (merged_slots ran.meeting (given_in ran)) told) (sym is.desk) b.stands)
+    (merged-ordered ran.meeting (given_in ran) (picked-near ran.meeting ran.add ran.picked) ran.desktop.ordered) next.desktop
 
--- the first session passed no limit: else the second would have met the same, and passed it too
-first-none : (rules later_rules : List RuleValue) (m next : Meeting) (add other : Bool) (before after again done : CallTold) (report report' : Report)
-    → Both rules later_rules m next add other before after again done report report' → first_over m ≡ None
-first-none rules later_rules m next add other before after again done report report' both = by (first_over m) refl
+-- where the next session passes no limit, the stopped one passed none: else the next would meet the same
+first-none : (ran next : Ran) → Precedes ran next → first_over next.meeting ≡ None → first_over ran.meeting ≡ None
+first-none ran next is none_next = by (first_over ran.meeting) refl
   where
-    none_next : first_over next ≡ None
-    none_next = none-over later_rules next other again done report' both.second both.ended
-
-    met : (name : List ℕ) → first_over m ≡ Some name → StoppedBefore m before.desk after.desk report ⊎ StoppedBehind m after.desk report → ⊥
+    met : (name : List ℕ) → first_over ran.meeting ≡ Some name
+        → StoppedBefore ran.meeting ran.before.desk ran.after.desk ran.report ⊎ StoppedBehind ran.meeting ran.after.desk ran.report → ⊥
     met name over (inl b) =
-        let wrote = wrote_none rules m add before after report both.first (subst IsSome (sym over) refl) in
-        let one = met-device rules later_rules m next add other before after again done report report' both in
-        let slots = slots-before rules later_rules m next add other before after again done report report' both b in
-        let user : next.device.user ≡ m.device.user = one.user_is ∙ wrote.kept.user in
-        let same : MeetsTheSame m next = record {
+        let wrote = wrote_none ran (subst IsSome (sym over) refl) in
+        let one = met-device ran next is in
+        let slots = slots-before ran next is b in
+        let user : next.meeting.device.user ≡ ran.meeting.device.user = one.user_is ∙ wrote.kept.user in
+        let same : MeetsTheSame ran.meeting next.meeting = record {
           databases = one.databases ∙ wrote.kept.databases;
           user = user;
           slots = slots;
-          picked = same-place m next add other both.first.picked both.second.picked slots (ap (λ (u : UserInfo). u.user) user);
-          actions = both.asks.actions;
-          slow = both.asks.slow;
+          picked = same-place ran.meeting next.meeting ran.add next.add ran.picked next.picked slots (ap (λ (u : UserInfo). u.user) user);
+          actions = is.asks.actions;
+          slow = is.asks.slow;
         } in
-        let no : ◌≡◌ {A = Option (List ℕ)} (Some name) None = sym over ∙ sym (over-same m next same) ∙ none_next in
+        let no : ◌≡◌ {A = Option (List ℕ)} (Some name) None = sym over ∙ sym (over-same ran.meeting next.meeting same) ∙ none_next in
         cc
     met name over (inr b) =
-        let wrote = wrote_none rules m add before after report both.first (subst IsSome (sym over) refl) in
-        let some = some_writes m in
+        let wrote = wrote_none ran (subst IsSome (sym over) refl) in
+        let some = some_writes ran.meeting in
         omega (arith, some, b.writes, wrote.none)
 
-    by : (o : Option (List ℕ)) → first_over m ≡ o → first_over m ≡ None
-    by None is = is
-    by (Some name) is = absurd (met name is both.stopped)
+    by : (o : Option (List ℕ)) → first_over ran.meeting ≡ o → first_over ran.meeting ≡ None
+    by None none = none
+    by (Some name) over = absurd (met name over is.stopped)
 
 -- ---- it runs again
 
@@ -280,64 +273,71 @@ user-done m next given stands = elim stands.ended [
   | inr (user, databases) ↦ inr (ap (λ (u : UserInfo). u.user) user)
 ]
 
--- where the first one stopped, as the second one finds it
-record Found (m next : Meeting) (writes : ℕ) (given : List ℕ) : Type 0 where
-  picked : next.picked ≡ m.picked
-  slot : HasSlot m next writes given
-  kept : AsksTheSame m next → (name : List ℕ) → IsActive m name → IsActive next name
+-- where the one stopped, as the next one finds it
+pub record IsFound (m next : Meeting) (writes : ℕ) (given : List ℕ) : Type 0 where
+  pub picked : next.picked ≡ m.picked
+  pub slot : HasSlot m next writes given
+  pub kept : (name : List ℕ) → IsActive m name → IsActive next name
 
-found-before : (rules later_rules : List RuleValue) (m next : Meeting) (add other : Bool) (before after again done : CallTold) (report report' : Report)
-    → Both rules later_rules m next add other before after again done report report' → first_over m ≡ None → StoppedBefore m before.desk after.desk report
-    → Found m next report.writes report.given.items
-found-before rules later_rules m next add other before after again done report report' both none b =
-    let front = met-front rules later_rules m next add other before after again done report report' both in
-    let stands = front-among m report.writes report.given.items next.device both.first.left.sound none front b.writes in
-    let slots = slots-before rules later_rules m next add other before after again done report report' both b in
-    let picked = same-place m next add other both.first.picked both.second.picked slots (user-begun m next report.given.items stands) in
-    let slot : slot_of next ≡ slot_of m = (λ k. slot_at (slots k) (picked k)) in
-    record { picked = picked; slot = inl (slot, b.writes); kept = λ asks name is. active-among m next report.given.items stands name is asks slot }
+found-before : (ran next : Ran) → Precedes ran next → first_over ran.meeting ≡ None
+    → StoppedBefore ran.meeting ran.before.desk ran.after.desk ran.report → IsFound ran.meeting next.meeting ran.report.writes (given_in ran)
+found-before ran next is none b =
+    let m : Meeting = ran.meeting in
+    let stands = front-among m ran.report.writes (given_in ran) next.meeting.device ran.left.sound none (met-front ran next is) b.writes in
+    let slots = slots-before ran next is b in
+    let picked = same-place m next.meeting ran.add next.add ran.picked next.picked slots (user-begun m next.meeting (given_in ran) stands) in
+    let slot : slot_of next.meeting ≡ slot_of m = (λ k. slot_at (slots k) (picked k)) in
+    record { picked = picked; slot = inl (slot, b.writes); kept = λ name active. active-among m next.meeting (given_in ran) stands name active is.asks slot }
 
-found-behind : (rules later_rules : List RuleValue) (m next : Meeting) (add other : Bool) (before after again done : CallTold) (report report' : Report)
-    → Both rules later_rules m next add other before after again done report report' → first_over m ≡ None → StoppedBehind m after.desk report
-    → Found m next report.writes report.given.items
-found-behind rules later_rules m next add other before after again done report report' both none b =
-    let front = met-front rules later_rules m next add other before after again done report report' both in
-    let stands = front-behind m report.writes report.given.items next.device both.first.left.sound none front b.writes in
-    let slots = slots-behind rules later_rules m next add other before after again done report report' both b in
-    let picked = merged-place m next report.given.items add other both.first.picked both.second.picked slots (user-done m next report.given.items stands) in
-    let slot : slot_of next ≡ merged_slot m report.given.items =
-    (λ k. slot_at (slots k) (picked k)) ∙ merged-picked m report.given.items (picked-near m add both.first.picked) in
-    record { picked = picked; slot = inr (slot, b.writes); kept = λ asks name is. active-behind m next report.given.items stands name is asks slot }
+found-behind : (ran next : Ran) → Precedes ran next → first_over ran.meeting ≡ None
+    → StoppedBehind ran.meeting ran.after.desk ran.report → IsFound ran.meeting next.meeting ran.report.writes (given_in ran)
+found-behind ran next is none b =
+    let m : Meeting = ran.meeting in
+    let stands = front-behind m ran.report.writes (given_in ran) next.meeting.device ran.left.sound none (met-front ran next is) b.writes in
+    let slots = slots-behind ran next is b in
+    let picked = merged-place m next.meeting (given_in ran) ran.add next.add ran.picked next.picked slots (user-done m next.meeting (given_in ran) stands) in
+    let slot : slot_of next.meeting ≡ merged_slot m (given_in ran) =
+    (λ k. slot_at (slots k) (picked k)) ∙ merged-picked m (given_in ran) (picked-near m ran.add ran.picked) in
+    record { picked = picked; slot = inr (slot, b.writes); kept = λ name active. active-behind m next.meeting (given_in ran) stands name active is.asks slot }
 
-taken-up : (rules later_rules : List RuleValue) (m next : Meeting) (add other : Bool) (before after again done : CallTold) (report report' : Report)
-    → Both rules later_rules m next add other before after again done report report' → TakesUp m next (log_in report).given (log_in report').given done
-taken-up rules later_rules m next add other before after again done report report' both =
-    let none = first-none rules later_rules m next add other before after again done report report' both in
-    let found : Found m next report.writes report.given.items = elim both.stopped [
-      | inl b ↦ found-before rules later_rules m next add other before after again done report report' both none b
-      | inr b ↦ found-behind rules later_rules m next add other before after again done report report' both none b
-    ] in
-    let runs : RunsAgain m next report.writes report.given.items = record {
-      front = met-front rules later_rules m next add other before after again done report report' both;
-      slot = found.slot;
-      asks = both.asks;
-      number = number-of (option_map finished before.desk.contents) m both.first.desktop;
-    } in
-    let behind = front-behind next report'.writes report'.given.items both.second.line.last both.second.left.sound
-    (none-over later_rules next other again done report' both.second both.ended)
-    (front_of next later_rules again.palm done.palm report' both.second.line both.second.left.issued)
-    (all-written next later_rules other again done report' both.second both.ended) in
-    let action : (name : List ℕ) → action_at next name ≡ action_at m name = (λ name. ap (λ items. action_or_sync (action_of_word (action_for name items))) both.asks.actions) in
+pub is-found : (ran next : Ran) → Precedes ran next → first_over ran.meeting ≡ None → IsFound ran.meeting next.meeting ran.report.writes (given_in ran)
+is-found ran next is none = elim is.stopped [
+  | inl b ↦ found-before ran next is none b
+  | inr b ↦ found-behind ran next is none b
+]
+
+pub runs-of : (ran next : Ran) → Precedes ran next → first_over ran.meeting ≡ None → RunsAgain ran.meeting next.meeting ran.report.writes (given_in ran)
+runs-of ran next is none = record {
+  front = met-front ran next is;
+  slot = (is-found ran next is none).slot;
+  asks = is.asks;
+  number = number-of (option_map finished ran.before.desk.contents) ran.meeting ran.desktop;
+}
+
+-- the ids that the new records of a database got in a session that ended
+got-of : (ran : Ran) → EndedSession ran.meeting ran.after.palm ran.after.desk ran.report → (name : List ℕ) → IsActive ran.meeting name
+    → GotAllIds (action_at ran.meeting name) (found_of ran.meeting name) (ids_at ran.meeting (given_in ran) name)
+got-of ran ended name active =
+    (front-behind ran.meeting ran.report.writes (given_in ran) ran.line.last ran.left.sound (none-over ran ended)
+    (front_of ran.meeting ran.rules ran.before.palm ran.after.palm ran.report ran.line ran.left.issued) (all-written ran ended)).free name active
+
+taken-up : (ran next : Ran) → Precedes ran next → EndedSession next.meeting next.after.palm next.after.desk next.report
+    → TakesUp ran.meeting next.meeting (given_in ran) (given_in next) next.after
+taken-up ran next is ended =
+    let none = first-none ran next is (none-over next ended) in
+    let found = is-found ran next is none in
+    let action : (name : List ℕ) → action_at next.meeting name ≡ action_at ran.meeting name =
+    (λ name. ap (λ items. action_or_sync (action_of_word (action_for name items))) is.asks.actions) in
     record {
-      handheld = both.ended.handheld;
-      desktop = both.ended.desktop;
+      handheld = ended.handheld;
+      desktop = ended.desktop;
       picked = found.picked;
-      slot = subst (λ k. slot_at (merged_slots next (log_in report').given) k ≡ merged_slot next (log_in report').given) found.picked
-          (merged-picked next (log_in report').given (picked-near next other both.second.picked));
-      kept = found.kept both.asks;
-      each = λ name new is fresh can.
-          (runs-again m next report.writes report.given.items report'.given.items new name both.first.left.sound none runs is fresh
-          (subst (λ a. GotAllIds a (found_of next name) (ids_at next report'.given.items name)) (action name) (behind.free name (found.kept both.asks name is)))
+      slot = subst (λ k. slot_at (merged_slots next.meeting (given_in next)) k ≡ merged_slot next.meeting (given_in next)) found.picked
+          (merged-picked next.meeting (given_in next) (picked-near next.meeting next.add next.picked));
+      kept = found.kept;
+      each = λ name new active fresh can.
+          (runs-again ran.meeting next.meeting ran.report.writes (given_in ran) (given_in next) new name ran.left.sound none (runs-of ran next is none) active fresh
+          (subst (λ a. GotAllIds a (found_of next.meeting name) (ids_at next.meeting (given_in next) name)) (action name) (got-of next ended name (found.kept name active)))
           can.got can.unknown).1;
     }
 
@@ -348,9 +348,15 @@ session_in : (run : Run) (before after : CallTold) (out out_after : SinkTold) (s
 session_in run before after out out_after status report end is ran =
     subst (λ e. ByEnd e (SentNothing run before after status report) (SessionRan run before after status report)) is ran.ran.shown
 
-ran-of : (run : Run) (before after : CallTold) (status : Status) (report : Report) (ran : SessionRan run before after status report) → AreTold before
-    → Ran ran.rules (meeting_of ran.device ran.slots ran.talked.wishes) ran.talked.wishes.add_user before after report
+abbrev ran-of : (run : Run) (before after : CallTold) (status : Status) (report : Report) (ran : SessionRan run before after status report) → AreTold before → Ran
 ran-of run before after status report ran told = record {
+  rules = ran.rules;
+  meeting = meeting_of ran.device ran.slots ran.talked.wishes;
+  add = ran.talked.wishes.add_user;
+  before = before;
+  after = after;
+  report = report;
+  told = told;
   picked = refl;
   handheld = ran.handheld;
   desktop = ran.desktop;
@@ -360,13 +366,8 @@ ran-of run before after status report ran told = record {
 
 meets-of : (run : Run) (before after : CallTold) (status : Status) (report : Report) (ran : SessionRan run before after status report)
     → Meets run before (meeting_of ran.device ran.slots ran.talked.wishes)
-meets-of run before after status report ran = record {
-  handheld = ran.handheld;
-  closed = ran.closed;
-  desktop = ran.desktop;
-  picked = refl;
-  asked = ran.talked.asked;
-}
+meets-of run before after status report ran =
+    record { handheld = ran.handheld; closed = ran.closed; desktop = ran.desktop; picked = refl; asked = ran.talked.asked }
 
 pub run-again : (run next : Run) (before after again done : CallTold) (out out_after out_again out_done : SinkTold) (status status_again : Status) (report report_again : Report)
     → AreTold before → AreTold again → IsRepeat run next after again → IsRun run before after out out_after status report → report.end ≡ Stopped
@@ -375,27 +376,20 @@ pub run-again : (run next : Run) (before after again done : CallTold) (out out_a
 run-again run next before after again done out out_after out_again out_done status status_again report report_again told told_again repeats ran stopped ran_again ended =
     let first : SessionRan run before after status report = session_in run before after out out_after status report Stopped stopped ran in
     let second : SessionRan next again done status_again report_again = session_in next again done out_again out_done status_again report_again Ended ended ran_again in
-    let m : Meeting = meeting_of first.device first.slots first.talked.wishes in
-    let n : Meeting = meeting_of second.device second.slots second.talked.wishes in
-    let was = ran-of run before after status report first told in
-    let now = ran-of next again done status_again report_again second told_again in
+    let was : Ran = ran-of run before after status report first told in
+    let now : Ran = ran-of next again done status_again report_again second told_again in
     record {
-      meeting = m;
+      meeting = was.meeting;
       meets = meets-of run before after status report first;
-      next = n;
+      next = now.meeting;
       meets_again = meets-of next again done status_again report_again second;
-      takes_up = taken-up first.rules second.rules m n first.talked.wishes.add_user second.talked.wishes.add_user before after again done report report_again (record {
-        first = was;
-        second = now;
+      takes_up = taken-up was now (record {
         asks = record {
           actions = second.talked.asked.actions ∙ ap actions_by repeats.actions ∙ sym first.talked.asked.actions;
           slow = second.talked.asked.slow ∙ repeats.slow ∙ sym first.talked.asked.slow;
         };
         palm = repeats.palm;
         desk = repeats.desk;
-        told = told;
-        told_again = told_again;
         stopped = was.left.stopped stopped;
-        ended = now.left.ended ended;
-      });
+      }) (now.left.ended ended);
     }
