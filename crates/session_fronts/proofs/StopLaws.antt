@@ -229,15 +229,14 @@ active-behind meeting next given stands name is asks slot =
 -- ---- a step
 
 -- where the session stopped, as the next one finds it
-record IsStep (meeting next : Meeting) (name ids : List ℕ) : Type 0 where
-  place : Place
-  follows : Follows meeting next name place
-  may : MayStop (action_at meeting name) (found_of meeting name) place
-  own : AllByRecursion (IsNewIn (found_of meeting name).records) ids
-  back : (later : List ℕ) → GotAllIds (action_at meeting name) (found_of next name) later → AllByRecursion (IsNewIn (found_of meeting name).records) later
-  stay : (later : List ℕ) → AreUnknown (found_of meeting name) (ids ++ later)
-      → AreUnknown (found_of meeting name) (ids_with (action_at meeting name) place later)
-  active : IsActive next name
+pub record IsStep (meeting next : Meeting) (name ids : List ℕ) : Type 0 where
+  pub place : Place
+  pub follows : Follows meeting next name place
+  pub may : MayStop (action_at meeting name) (found_of meeting name) place
+  pub own : AllByRecursion (IsNewIn (found_of meeting name).records) ids
+  pub back : (later : List ℕ) → GotAllIds (action_at meeting name) (found_of next name) later → AllByRecursion (IsNewIn (found_of meeting name).records) later
+  pub stay : (x : Found) (later : List ℕ) → AreUnknown x (ids ++ later) → AreUnknown x (ids_with (action_at meeting name) place later)
+  pub active : IsActive next name
 
 same-action : (meeting next : Meeting) (name : List ℕ) → AsksTheSame meeting next → action_at next name ≡ action_at meeting name
 same-action meeting next name asks = ap (λ items. action_or_sync (action_of_word (action_for name items))) asks.actions
@@ -269,7 +268,7 @@ found-before : (meeting next : Meeting) (name : List ℕ) → AsksTheSame meetin
 found-before meeting next name asks user databases slot =
     found-is next name ∙ (λ k. found_from (user k) (databases k) (slot k) (asks.slow k) (asks.actions k) name) ∙ sym (found-is meeting name)
 
-step-among : (meeting next : Meeting) (given : List ℕ) (name : List ℕ) → StandsAmongNews meeting given next.device → IsActive meeting name
+pub step-among : (meeting next : Meeting) (given : List ℕ) (name : List ℕ) → StandsAmongNews meeting given next.device → IsActive meeting name
     → AsksTheSame meeting next → slot_of next ≡ slot_of meeting → 0 < (slot_of meeting).marks.pc → IsRead (found_of meeting name)
     → NoBase (base_at (found_of meeting name).base true) (ids_at meeting given name)
     → NoneUnderGone (found_of meeting name).gone_counts (found_of meeting name).base (found_of meeting name).records
@@ -299,7 +298,7 @@ step-among meeting next given name stands is asks slot number read fresh gone = 
           (subst (λ (rs : List Record). AllByRecursion (IsNewIn rs) later)
           (ap (λ (y : Found). y.records) (among-news meeting next (ids_at meeting given) stands.count name
           (left-among meeting next given stands asks begun slot number)).finds) (all-new a (found_of next name) later got));
-      stay = λ later un. ids-among a x ids later (stands.count name) un;
+      stay = λ z later un. ids-among a z ids later (stands.count name) un;
       active = later_active;
     }
     by (inr (user, databases)) = record {
@@ -309,7 +308,7 @@ step-among meeting next given name stands is asks slot number read fresh gone = 
       own = news-new a x ids (stands.count name) (stands.free name) (stands.all name);
       back = λ later got. subst (λ (y : Found). AllByRecursion (IsNewIn y.records) later) (found-before meeting next name asks user databases slot)
           (all-new a (found_of next name) later got);
-      stay = λ later un. ids-before a x ids later un;
+      stay = λ z later un. ids-before a z ids later un;
       active = later_active;
     }
 
@@ -338,17 +337,17 @@ honest-then meeting next given name read got left =
     (honest-merged (chosen a x) (shown x) ids x.records differ read.bounded read.shows got))
 
 -- behind the commit there are no more adds
-adds-behind : (a : Action) (x : Found) (given : List ℕ) (n : ℕ) → IsRead x → GotIds a x given → (chosen a (left_behind_commit a x given n)).adds ≡ []
+pub adds-behind : (a : Action) (x : Found) (given : List ℕ) (n : ℕ) → IsRead x → GotIds a x given → (chosen a (left_behind_commit a x given n)).adds ≡ []
 adds-behind Sync x given n read got = commit-adds Sync x given n tt read got (read-commit Sync x given n read got)
 adds-behind Handheld x given n read got = ap (λ (c : Choice). c.adds) (handheld-is (sides (left_behind_commit Handheld x given n)))
 adds-behind Desktop x given n read got = commit-adds Desktop x given n tt read got (read-commit Desktop x given n read got)
 
-none-later : (a : Action) (y : Found) (later : List ℕ) (records : List Record) → (chosen a y).adds ≡ [] → GotAllIds a y later
+pub none-later : (a : Action) (y : Found) (later : List ℕ) (records : List Record) → (chosen a y).adds ≡ [] → GotAllIds a y later
     → AllByRecursion (IsNewIn records) later
 none-later a y [] records none got = tt
 none-later a y (g ∷ later) records none got = absurd (let no : suc (length later) ≡ 0 = got.each ∙ ap length none in omega (arith, no))
 
-step-behind : (meeting next : Meeting) (given : List ℕ) (name : List ℕ) → StandsBehindCommit meeting given next.device → IsActive meeting name
+pub step-behind : (meeting next : Meeting) (given : List ℕ) (name : List ℕ) → StandsBehindCommit meeting given next.device → IsActive meeting name
     → AsksTheSame meeting next → slot_of next ≡ merged_slot meeting given → 0 < (slot_of meeting).marks.pc → IsRead (found_of meeting name)
     → IsStep meeting next name (ids_at meeting given name)
 step-behind meeting next given name stands is asks slot number read = by stands.ended
@@ -375,7 +374,7 @@ step-behind meeting next given name stands is asks slot number read = by stands.
           (ap (λ (y : Found). (chosen a y).adds) (behind-the_commit meeting next (ids_at meeting given) stands.count name
           (left-behind meeting next given stands name is asks begun slot number)).finds
           ∙ adds-behind a x ids (stands.count name) read (stands.free name is).got) got;
-      stay = λ later un. ids-behind a x ids later (stands.count name) un;
+      stay = λ z later un. ids-behind a z ids later (stands.count name) un;
       active = active-behind meeting next given stands name is asks slot;
     }
     by (inr (user, databases)) =
@@ -393,7 +392,7 @@ step-behind meeting next given name stands is asks slot number read = by stands.
           own = all-new a x ids free;
           back = λ later got. none-later a (found_of next name) later x.records
               (ap (λ (y : Found). (chosen a y).adds) follows.finds ∙ end-adds a x ids seen (not (agrees next)) read free.got then_read) got;
-          stay = λ later un. ids-end a x ids later seen (not (agrees next)) un;
+          stay = λ z later un. ids-end a z ids later seen (not (agrees next)) un;
           active = active-again meeting next given name merged is;
         }
 
@@ -430,5 +429,5 @@ runs-again meeting next writes given later new name sound none runs is fresh got
     (unknown-of x second (step.back second got) (none-back (base_at x.base true) first second fresh.fresh)) in (
       step.active,
       meetings-hold meeting name ((next, step.place) ∷ []) later new is step.active (step.follows, tt) read (step.may, tt) got
-          (step.stay second unknown) new_got new_un,
+          (step.stay x second unknown) new_got new_un,
     )

@@ -15,7 +15,8 @@ ghost use Rattle.sync_session.specs.Tasks.{Meeting};
 ghost use Rattle.session_laws.specs.Meetings.{IsActive, action_at, found_of, holding_after, ids_at};
 ghost use Rattle.session_laws.specs.Renaming.{AreUnknown, SameEnds};
 ghost use Rattle.session_laws.specs.Repeats.{GotAllIds};
-ghost use Rattle.session_fronts.specs.Again.{IsFresh, RunsAgain};
+ghost use Rattle.session_fronts.specs.Again.{AllRunAgain, IsFresh, IsFreshBehind, Later};
+ghost use Rattle.session_fronts.specs.Again.{RunsAgain, last_run};
 ghost use Rattle.session_fronts.specs.Given.{GetFreeIds, ids_in};
 ghost use Rattle.session_fronts.specs.Sound.{IsSoundMeeting};
 ghost use Rattle.session_fronts.specs.Stops.{StandsAmongNews, StandsBehindCommit};
@@ -99,4 +100,20 @@ pub fn a_stopped_session_is_run_again()
         → GotAllIds a x (ids_at meeting new name) → AreUnknown x (ids_at meeting new name)
         → IsActive next name
         × SameEnds x (holding_after next later name) (holding_after meeting new name) }
+{}
+
+/// After any number of sessions that stopped, wherever each did, the one that ends leaves what the first
+/// would have left, whichever ids that would have given to its new records; and it skips no database that
+/// the first didn't.
+pub fn stopped_sessions_are_run_again()
+    ensures { (meeting : Meeting) (es : List Later) (later new : List ℕ) (name : List ℕ)
+        → let last = last_run meeting es in
+        IsSoundMeeting meeting → AllRunAgain meeting es → IsActive meeting name
+        → IsFreshBehind meeting es later name
+        → let a = action_at meeting name in
+        let x = found_of meeting name in
+        GotAllIds a (found_of last name) (ids_at last later name)
+        → GotAllIds a x (ids_at meeting new name) → AreUnknown x (ids_at meeting new name)
+        → IsActive last name
+        × SameEnds x (holding_after last later name) (holding_after meeting new name) }
 {}
