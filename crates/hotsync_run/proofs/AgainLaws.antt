@@ -1,4 +1,4 @@
--- What a stopped run left is what the next one meets: it takes the session up.
+-- What a stopped run left is what the next one meets: so the last one takes up all that stopped.
 use Rattle.std.proofs.Common.{◌≡◌, ◌⊎◌, ◌∙◌, ◌+◌, ◌≤◌, ◌<◌, ap, refl, sym, subst, arith, inl, inr, ℕ, zero, suc, Bool, true, false, List, [], ◌∷◌, ◌++◌, length, map}
 use Rattle.std.specs.Prelude.{Option, Some, None, IfSome, IsSome, filter, if◌then◌else◌, replicate}
 use Rattle.std.specs.FinMap as finmap
@@ -35,11 +35,12 @@ use Rattle.sync_session.proofs.QuietLaws.{quiet-before_writes}
 use Rattle.session_laws.specs.Meetings.{AsksTheSame, IsActive, action_at, found_of, holding_after, ids_at}
 use Rattle.session_laws.specs.Renaming.{SameEnds}
 use Rattle.session_laws.specs.Repeats.{GotAllIds}
-use Rattle.session_fronts.specs.Again.{HasSlot, IsFresh, RunsAgain}
+use Rattle.session_fronts.specs.Again.{AllRunAgain, HasSlot, Later, RunsAgain, last_run}
 use Rattle.session_fronts.specs.Stops.{StandsAmongNews, StandsBehindCommit}
 use Rattle.session_fronts.proofs.FrontLaws.{front-among, front-behind}
-use Rattle.session_fronts.proofs.StopLaws.{active-among, active-behind, runs-again}
-use Rattle.hotsync_run.specs.Again.{AreOfOneKind, AreTold, CanGive, IsRepeat, IsRunAgain, Meets, TakesUp}
+use Rattle.session_fronts.proofs.ManyLaws.{all-run_again}
+use Rattle.session_fronts.proofs.StopLaws.{active-among, active-behind}
+use Rattle.hotsync_run.specs.Again.{AllMeet, AllRan, AreOfOneKind, AreTold, CanGive, DidRun, EndsAsOne, IsRepeat, Meets, RunCall, TakesUp, last_call}
 use Rattle.hotsync_run.specs.Causes.{ByEnd}
 use Rattle.hotsync_run.specs.Ends.{EndedSession, SessionLeft, StoppedBefore, StoppedBehind}
 use Rattle.hotsync_run.specs.LineRuns.{LineRan, log_in, write_count}
@@ -321,41 +322,94 @@ got-of ran ended name active =
     (front-behind ran.meeting ran.report.writes (given_in ran) ran.line.last ran.left.sound (none-over ran ended)
     (front_of ran.meeting ran.rules ran.before.palm ran.after.palm ran.report ran.line ran.left.issued) (all-written ran ended)).free name active
 
-taken-up : (ran next : Ran) → Precedes ran next → EndedSession next.meeting next.after.palm next.after.desk next.report
-    → TakesUp ran.meeting next.meeting (given_in ran) (given_in next) next.after
-taken-up ran next is ended =
-    let none = first-none ran next is (none-over next ended) in
-    let found = is-found ran next is none in
-    let action : (name : List ℕ) → action_at next.meeting name ≡ action_at ran.meeting name =
-    (λ name. ap (λ items. action_or_sync (action_of_word (action_for name items))) is.asks.actions) in
+-- ---- one behind another
+
+-- all stopped but the last, which ended
+abbrev AllPrecede : Ran → List Ran → Type 0
+AllPrecede ran [] = EndedSession ran.meeting ran.after.palm ran.after.desk ran.report
+AllPrecede ran (next ∷ later) = Precedes ran next × AllPrecede next later
+
+abbrev last_ran : Ran → List Ran → Ran
+last_ran ran [] = ran
+last_ran ran (next ∷ later) = last_ran next later
+
+abbrev laters : Ran → List Ran → List Later
+laters ran [] = []
+laters ran (next ∷ later) = record { next = next.meeting; writes = ran.report.writes; given = given_in ran } ∷ laters next later
+
+last-is : (ran : Ran) (later : List Ran) → last_run ran.meeting (laters ran later) ≡ (last_ran ran later).meeting
+last-is ran [] = refl
+last-is ran (next ∷ later) = last-is next later
+
+ended-last : (ran : Ran) (later : List Ran) → AllPrecede ran later
+    → EndedSession (last_ran ran later).meeting (last_ran ran later).after.palm (last_ran ran later).after.desk (last_ran ran later).report
+ended-last ran [] all = all
+ended-last ran (next ∷ later) all = ended-last next later all.1
+
+none-all : (ran : Ran) (later : List Ran) → AllPrecede ran later → first_over ran.meeting ≡ None
+none-all ran [] all = none-over ran all
+none-all ran (next ∷ later) all = first-none ran next all.0 (none-all next later all.1)
+
+runs-all : (ran : Ran) (later : List Ran) → AllPrecede ran later → AllRunAgain ran.meeting (laters ran later)
+runs-all ran [] all = tt
+runs-all ran (next ∷ later) all =
+    let none = none-all ran (next ∷ later) all in
+    (ran.left.sound, none, runs-of ran next all.0 none, runs-all next later all.1)
+
+-- what goes on to the last one
+record GoesOn (ran : Ran) (last : Meeting) : Type 0 where
+  picked : last.picked ≡ ran.meeting.picked
+  kept : (name : List ℕ) → IsActive ran.meeting name → IsActive last name
+  action : (name : List ℕ) → action_at last name ≡ action_at ran.meeting name
+
+goes-on : (ran : Ran) (later : List Ran) → AllPrecede ran later → GoesOn ran (last_ran ran later).meeting
+goes-on ran [] all = record { picked = refl; kept = λ name active. active; action = λ name. refl }
+goes-on ran (next ∷ later) all =
+    let rest = goes-on next later all.1 in
+    let found = is-found ran next all.0 (none-all ran (next ∷ later) all) in
     record {
-      handheld = ended.handheld;
-      desktop = ended.desktop;
-      picked = found.picked;
-      slot = subst (λ k. slot_at (merged_slots next.meeting (given_in next)) k ≡ merged_slot next.meeting (given_in next)) found.picked
-          (merged-picked next.meeting (given_in next) (picked-near next.meeting next.add next.picked));
-      kept = found.kept;
+      picked = rest.picked ∙ found.picked;
+      kept = λ name active. rest.kept name (found.kept name active);
+      action = λ name. rest.action name ∙ ap (λ items. action_or_sync (action_of_word (action_for name items))) all.0.asks.actions;
+    }
+
+taken-up : (ran : Ran) (later : List Ran) → AllPrecede ran later
+    → TakesUp ran.meeting (laters ran later) (given_in (last_ran ran later)) (last_ran ran later).after
+taken-up ran later all =
+    let last : Ran = last_ran ran later in
+    let given : List ℕ = given_in last in
+    let ended : EndedSession last.meeting last.after.palm last.after.desk last.report = ended-last ran later all in
+    let on : GoesOn ran last.meeting = goes-on ran later all in
+    let now : last.meeting ≡ last_run ran.meeting (laters ran later) = sym (last-is ran later) in
+    record {
+      handheld = subst (λ (m : Meeting). Stands last.after.palm.contents (merged_device m given).databases (merged_device m given).user) now ended.handheld;
+      desktop = subst (λ (m : Meeting). IsDesk last.after.desk.contents (merged_slots m given)) now ended.desktop;
+      slot = subst (λ (m : Meeting). slot_at (merged_slots m given) ran.meeting.picked ≡ merged_slot m given) now
+          (subst (λ k. slot_at (merged_slots last.meeting given) k ≡ merged_slot last.meeting given) on.picked
+          (merged-picked last.meeting given (picked-near last.meeting last.add last.picked)));
+      kept = λ name active. subst (λ (m : Meeting). IsActive m name) now (on.kept name active);
       each = λ name new active fresh can.
-          (runs-again ran.meeting next.meeting ran.report.writes (given_in ran) (given_in next) new name ran.left.sound none (runs-of ran next is none) active fresh
-          (subst (λ a. GotAllIds a (found_of next.meeting name) (ids_at next.meeting (given_in next) name)) (action name) (got-of next ended name (found.kept name active)))
+          (all-run_again ran.meeting (laters ran later) given new name ran.left.sound (runs-all ran later all) active fresh
+          (subst (λ (m : Meeting). GotAllIds (action_at ran.meeting name) (found_of m name) (ids_at m given name)) now
+          (subst (λ a. GotAllIds a (found_of last.meeting name) (ids_at last.meeting given name)) (on.action name) (got-of last ended name (on.kept name active))))
           can.got can.unknown).1;
     }
 
--- ---- two runs
+-- ---- calls
 
-session_in : (run : Run) (before after : CallTold) (out out_after : SinkTold) (status : Status) (report : Report) (end : SessionEnd) → report.end ≡ end
-    → IsRun run before after out out_after status report → ByEnd end (SentNothing run before after status report) (SessionRan run before after status report)
-session_in run before after out out_after status report end is ran =
-    subst (λ e. ByEnd e (SentNothing run before after status report) (SessionRan run before after status report)) is ran.ran.shown
+session_in : (call : RunCall) (end : SessionEnd) → call.report.end ≡ end → DidRun call
+    → ByEnd end (SentNothing call.run call.before call.after call.status call.report) (SessionRan call.run call.before call.after call.status call.report)
+session_in call end is did =
+    subst (λ e. ByEnd e (SentNothing call.run call.before call.after call.status call.report) (SessionRan call.run call.before call.after call.status call.report)) is did.1.ran.shown
 
-abbrev ran-of : (run : Run) (before after : CallTold) (status : Status) (report : Report) (ran : SessionRan run before after status report) → AreTold before → Ran
-ran-of run before after status report ran told = record {
+abbrev ran-of : (call : RunCall) → SessionRan call.run call.before call.after call.status call.report → AreTold call.before → Ran
+ran-of call ran told = record {
   rules = ran.rules;
   meeting = meeting_of ran.device ran.slots ran.talked.wishes;
   add = ran.talked.wishes.add_user;
-  before = before;
-  after = after;
-  report = report;
+  before = call.before;
+  after = call.after;
+  report = call.report;
   told = told;
   picked = refl;
   handheld = ran.handheld;
@@ -364,32 +418,71 @@ ran-of run before after status report ran told = record {
   left = ran.talked.left told.palm;
 }
 
-meets-of : (run : Run) (before after : CallTold) (status : Status) (report : Report) (ran : SessionRan run before after status report)
-    → Meets run before (meeting_of ran.device ran.slots ran.talked.wishes)
-meets-of run before after status report ran =
-    record { handheld = ran.handheld; closed = ran.closed; desktop = ran.desktop; picked = refl; asked = ran.talked.asked }
+meets-of : (call : RunCall) (ran : SessionRan call.run call.before call.after call.status call.report)
+    → Meets call.run call.before (meeting_of ran.device ran.slots ran.talked.wishes)
+meets-of call ran = record { handheld = ran.handheld; closed = ran.closed; desktop = ran.desktop; picked = refl; asked = ran.talked.asked }
 
-pub run-again : (run next : Run) (before after again done : CallTold) (out out_after out_again out_done : SinkTold) (status status_again : Status) (report report_again : Report)
-    → AreTold before → AreTold again → IsRepeat run next after again → IsRun run before after out out_after status report → report.end ≡ Stopped
-    → IsRun next again done out_again out_done status_again report_again → report_again.end ≡ Ended
-    → IsRunAgain run next before again done (log_in report).given (log_in report_again).given
-run-again run next before after again done out out_after out_again out_done status status_again report report_again told told_again repeats ran stopped ran_again ended =
-    let first : SessionRan run before after status report = session_in run before after out out_after status report Stopped stopped ran in
-    let second : SessionRan next again done status_again report_again = session_in next again done out_again out_done status_again report_again Ended ended ran_again in
-    let was : Ran = ran-of run before after status report first told in
-    let now : Ran = ran-of next again done status_again report_again second told_again in
+-- the sessions of calls
+record AreSessions (call : RunCall) (later : List RunCall) : Type 0 where
+  ran : Ran
+  others : List Ran
+  precede : AllPrecede ran others
+  meets : Meets call.run call.before ran.meeting
+  meet : AllMeet call later (laters ran others)
+  before : ran.before ≡ call.before
+  last_given : given_in (last_ran ran others) ≡ (log_in (last_call call later).report).given
+  last_after : (last_ran ran others).after ≡ (last_call call later).after
+
+are-sessions : (call : RunCall) (later : List RunCall) → AllRan call later → AreSessions call later
+are-sessions call [] all =
+    let session : SessionRan call.run call.before call.after call.status call.report = session_in call Ended all.1 all.0 in
+    let ran : Ran = ran-of call session all.0.0 in
     record {
-      meeting = was.meeting;
-      meets = meets-of run before after status report first;
-      next = now.meeting;
-      meets_again = meets-of next again done status_again report_again second;
-      takes_up = taken-up was now (record {
-        asks = record {
-          actions = second.talked.asked.actions ∙ ap actions_by repeats.actions ∙ sym first.talked.asked.actions;
-          slow = second.talked.asked.slow ∙ repeats.slow ∙ sym first.talked.asked.slow;
-        };
-        palm = repeats.palm;
-        desk = repeats.desk;
-        stopped = was.left.stopped stopped;
-      }) (now.left.ended ended);
+      ran = ran;
+      others = [];
+      precede = ran.left.ended all.1;
+      meets = meets-of call session;
+      meet = tt;
+      before = refl;
+      last_given = refl;
+      last_after = refl;
+    }
+are-sessions call (next ∷ later) all =
+    let session : SessionRan call.run call.before call.after call.status call.report = session_in call Stopped all.1 all.0 in
+    let ran : Ran = ran-of call session all.0.0 in
+    let rest = are-sessions next later all.3 in
+    let asked = rest.meets.asked in
+    record {
+      ran = ran;
+      others = rest.ran ∷ rest.others;
+      precede = (
+        record {
+          asks = record {
+            actions = asked.actions ∙ ap actions_by all.2.actions ∙ sym session.talked.asked.actions;
+            slow = asked.slow ∙ all.2.slow ∙ sym session.talked.asked.slow;
+          };
+          palm = ap (λ (told : CallTold). told.palm.contents) rest.before ∙ all.2.palm;
+          desk = ap (λ (told : CallTold). told.desk.contents) rest.before ∙ all.2.desk;
+          stopped = ran.left.stopped all.1;
+        },
+        rest.precede,
+      );
+      meets = meets-of call session;
+      meet = (rest.meets, refl, refl, rest.meet);
+      before = refl;
+      last_given = rest.last_given;
+      last_after = rest.last_after;
+    }
+
+pub end-as_one : (call : RunCall) (later : List RunCall) → AllRan call later → EndsAsOne call later
+end-as_one call later all =
+    let sessions = are-sessions call later all in
+    record {
+      meeting = sessions.ran.meeting;
+      meets = sessions.meets;
+      others = laters sessions.ran sessions.others;
+      meet = sessions.meet;
+      takes_up = subst (λ (after : CallTold). TakesUp sessions.ran.meeting (laters sessions.ran sessions.others) (log_in (last_call call later).report).given after) sessions.last_after
+          (subst (λ (given : List ℕ). TakesUp sessions.ran.meeting (laters sessions.ran sessions.others) given (last_ran sessions.ran sessions.others).after) sessions.last_given
+          (taken-up sessions.ran sessions.others sessions.precede));
     }

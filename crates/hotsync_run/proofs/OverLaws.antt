@@ -29,15 +29,15 @@ pub record MeetsTheSame (meeting next : Meeting) : Type 0 where
 tasks-same : (meeting next : Meeting) → MeetsTheSame meeting next → active next ≡ active meeting
 unfolding active tasks
 tasks-same meeting next same = λ k.
-  filter (λ task. is_none (skip_of task))
-  (map (λ (name : List ℕ). record {
-    name = name;
-    handheld = database_of name (same.databases k);
-    rows = database_of name (slot_at (same.slots k) (same.picked k)).shelves.rows;
-    base = database_of name (slot_at (same.slots k) (same.picked k)).shelves.bases;
-    archive = database_of name (slot_at (same.slots k) (same.picked k)).shelves.archives;
-    action = action_of_word (action_for name (same.actions k));
-  }) (with_names (names_of (slot_at (same.slots k) (same.picked k)).shelves.rows) (with_names (names_of (same.databases k)) [])))
+    filter (λ task. is_none (skip_of task))
+    (map (λ (name : List ℕ). record {
+      name = name;
+      handheld = database_of name (same.databases k);
+      rows = database_of name (slot_at (same.slots k) (same.picked k)).shelves.rows;
+      base = database_of name (slot_at (same.slots k) (same.picked k)).shelves.bases;
+      archive = database_of name (slot_at (same.slots k) (same.picked k)).shelves.archives;
+      action = action_of_word (action_for name (same.actions k));
+    }) (with_names (names_of (slot_at (same.slots k) (same.picked k)).shelves.rows) (with_names (names_of (same.databases k)) [])))
 
 -- the meeting of these, with what the sizes of a database don't look at left empty
 abbrev bare : UserInfo → List SlotValue → ℕ → Bool → Vec NamedAction → Meeting

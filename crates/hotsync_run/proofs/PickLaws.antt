@@ -139,7 +139,7 @@ found-again users user place some (follows is none last) =
     subst (λ n. position (λ other. other == user) (placed users n user) ≡ Some n) (sym last)
     (ap (λ b. position (λ other. other == user) (set (if b then users else users ++ 0 ∷ []) (length users) user)) (le-ltb (length users) (length users) (omega arith))
     ∙ position-set (λ other. other == user) (users ++ 0 ∷ []) (length users) user 0 (same_user user) (omega (arith, length-append users (0 ∷ [])))
-      (λ i less. ap (λ (n : ℕ). n == user) (get-front users (0 ∷ []) i 0 less) ∙ position-none (λ other. other == user) users 0 none i less))
+    (λ i less. ap (λ (n : ℕ). n == user) (get-front users (0 ∷ []) i 0 less) ∙ position-none (λ other. other == user) users 0 none i less))
 
 pub user-again : (users : List ℕ) (user : ℕ) (add other : Bool) → (user == 0) ≡ false → place_in (placed users (place_in users user add) user) user other ≡ place_in users user add
 user-again users user add other some =

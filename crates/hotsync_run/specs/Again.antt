@@ -1,5 +1,5 @@
--- A run whose session stopped, and one that ends a session of the same folders.
-use Rattle.std.specs.Prelude.{◌≡◌, ℕ, List, IfSome, IsSome}
+-- Runs of one pair of folders, one behind another, of which each stopped but the last.
+use Rattle.std.specs.Prelude.{◌≡◌, ℕ, List, [], ◌∷◌, IfSome, IsSome}
 use Rattle.std.specs.Option.{option_map}
 use Rattle.palm_device.specs.Handles.{no_handles}
 use Rattle.handheld_files.specs.Openings.{HoldsAll, Stands}
@@ -12,13 +12,18 @@ use Rattle.sync_session.specs.Tasks.{Meeting, place_for}
 use Rattle.session_laws.specs.Meetings.{IsActive, action_at, found_of, holding_after, ids_at}
 use Rattle.session_laws.specs.Renaming.{AreUnknown, SameEnds}
 use Rattle.session_laws.specs.Repeats.{GotAllIds}
-use Rattle.session_fronts.specs.Again.{IsFresh}
-use Rattle.hotsync_run.specs.Told.{CallTold}
+use Rattle.session_fronts.specs.Again.{IsFreshBehind, Later, last_run}
+use Rattle.hotsync_run.specs.LineRuns.{log_in}
+use Rattle.hotsync_run.specs.Runs.{IsRun}
+use Rattle.hotsync_run.specs.Told.{CallTold, SinkTold}
 use Rattle.hotsync_run.specs.Wishes.{AsksFor}
+use Rattle.hotsync_run.specs.declared.report.Report.{Report}
+use Rattle.hotsync_run.specs.declared.report.SessionEnd.TheVariants.{Ended, Stopped}
+use Rattle.hotsync_run.specs.declared.status.Status.{Status}
 
 -- ---- both sides before a run
 
--- the folders are told before a call
+-- both folders are told before a call
 pub record AreTold (told : CallTold) : Type 0 where
   pub palm : IsSome told.palm.contents
   pub desk : IsSome told.desk.contents
@@ -38,35 +43,67 @@ pub record AreOfOneKind (meeting other : Meeting) : Type 0 where
   pub slots : other.slots ≡ meeting.slots
   pub picked : other.picked ≡ meeting.picked
 
--- ---- a run behind another
+-- ---- runs one behind another
 
--- nothing is edited between them, and the words ask the same, but for date, script, trace and whether a user may be added
-pub record IsRepeat (run next : Run) (after again : CallTold) : Type 0 where
-  pub actions : next.actions ≡ run.actions
-  pub slow : next.slow ≡ run.slow
-  pub palm : again.palm.contents ≡ after.palm.contents
-  pub desk : again.desk.contents ≡ after.desk.contents
+-- a call for the words of a run: its objects before and after it, and what it answered
+pub record RunCall : Type 0 where
+  pub run : Run
+  pub before : CallTold
+  pub after : CallTold
+  pub out : SinkTold
+  pub out_after : SinkTold
+  pub status : Status
+  pub report : Report
+
+abbrev pub DidRun : RunCall → Type 0
+DidRun call = AreTold call.before × IsRun call.run call.before call.after call.out call.out_after call.status call.report
+
+-- nothing is edited between two calls, and the words ask the same, but for date, script, trace and whether a user may be added
+pub record IsRepeat (call next : RunCall) : Type 0 where
+  pub actions : next.run.actions ≡ call.run.actions
+  pub slow : next.run.slow ≡ call.run.slow
+  pub palm : next.before.palm.contents ≡ call.after.palm.contents
+  pub desk : next.before.desk.contents ≡ call.after.desk.contents
+
+-- the session of each call stopped, and the last one's ended
+abbrev pub AllRan : RunCall → List RunCall → Type 0
+AllRan call [] = DidRun call × (call.report.end ≡ Ended)
+AllRan call (next ∷ later) = DidRun call × (call.report.end ≡ Stopped) × IsRepeat call next × AllRan next later
+
+abbrev pub last_call : RunCall → List RunCall → RunCall
+last_call call [] = call
+last_call call (next ∷ later) = last_call next later
+
+-- the calls behind a first one met these, each after the writes of the one before it and the ids that its new records got
+abbrev pub AllMeet : RunCall → List RunCall → List Later → Type 0
+AllMeet call [] [] = Unit {0}
+AllMeet call [] (e ∷ es) = ⊥
+AllMeet call (next ∷ later) [] = ⊥
+AllMeet call (next ∷ later) (e ∷ es) =
+    Meets next.run next.before e.next × (e.writes ≡ call.report.writes) × (e.given ≡ (log_in call.report).given) × AllMeet next later es
+
+-- ---- what they leave
 
 -- ids that one whole session could have given to the new records of a database: each was free at its turn, and nothing had one
 pub record CanGive (meeting : Meeting) (name ids : List ℕ) : Type 0 where
   pub got : GotAllIds (action_at meeting name) (found_of meeting name) ids
   pub unknown : AreUnknown (found_of meeting name) ids
 
--- The next session takes up a stopped one, where these are the ids that both gave. The folders stand for its merge. It skips no database that the
--- first one didn't, and each of these ends as one whole session of the first meeting would have ended it, whichever ids that would have given.
-pub record TakesUp (meeting next : Meeting) (given later : List ℕ) (after : CallTold) : Type 0 where
-  pub handheld : Stands after.palm.contents (merged_device next later).databases (merged_device next later).user
-  pub desktop : IsDesk after.desk.contents (merged_slots next later)
-  pub picked : next.picked ≡ meeting.picked
-  pub slot : slot_at (merged_slots next later) meeting.picked ≡ merged_slot next later
-  pub kept : (name : List ℕ) → IsActive meeting name → IsActive next name
-  pub each : (name new : List ℕ) → IsActive meeting name → IsFresh meeting next given later name → CanGive meeting name (ids_at meeting new name)
-      → SameEnds (found_of meeting name) (holding_after next later name) (holding_after meeting new name)
+-- The last of the sessions behind a first one, where it gave these ids, takes up all that stopped. The folders stand for its merge. It skips no
+-- database that the first one didn't, and each of these ends as one whole session of the first meeting would have ended it, whichever ids that
+-- would have given.
+pub record TakesUp (meeting : Meeting) (others : List Later) (given : List ℕ) (after : CallTold) : Type 0 where
+  pub handheld : Stands after.palm.contents (merged_device (last_run meeting others) given).databases (merged_device (last_run meeting others) given).user
+  pub desktop : IsDesk after.desk.contents (merged_slots (last_run meeting others) given)
+  pub slot : slot_at (merged_slots (last_run meeting others) given) meeting.picked ≡ merged_slot (last_run meeting others) given
+  pub kept : (name : List ℕ) → IsActive meeting name → IsActive (last_run meeting others) name
+  pub each : (name new : List ℕ) → IsActive meeting name → IsFreshBehind meeting others given name → CanGive meeting name (ids_at meeting new name)
+      → SameEnds (found_of meeting name) (holding_after (last_run meeting others) given name) (holding_after meeting new name)
 
--- both runs met the sides that their folders held, and the second session took up the first
-pub record IsRunAgain (run next_run : Run) (before again after : CallTold) (given later : List ℕ) : Type 0 where
+-- each call met the sides that its folders held, and the last one took up all that stopped
+pub record EndsAsOne (call : RunCall) (later : List RunCall) : Type 0 where
   pub meeting : Meeting
-  pub meets : Meets run before meeting
-  pub next : Meeting
-  pub meets_again : Meets next_run again next
-  pub takes_up : TakesUp meeting next given later after
+  pub meets : Meets call.run call.before meeting
+  pub others : List Later
+  pub meet : AllMeet call later others
+  pub takes_up : TakesUp meeting others (log_in (last_call call later).report).given (last_call call later).after
