@@ -415,7 +415,7 @@ ran-of call ran told = record {
   handheld = ran.handheld;
   desktop = ran.desktop;
   line = ran.talked.line;
-  left = ran.talked.left told.palm;
+  left = ran.talked.left;
 }
 
 meets-of : (call : RunCall) (ran : SessionRan call.run call.before call.after call.status call.report)

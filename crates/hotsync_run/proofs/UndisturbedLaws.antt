@@ -184,7 +184,7 @@ session_ends_well run before after out out_after status report calm blames ran =
     ends_well meeting status report (record {
       ends = talked.ends;
       caused = talked.caused;
-      shows = talked.shows told;
+      shows = talked.shows;
       blames = blames;
       up = talked.fair kind.fair;
       unplugged = never_unplugged (fate_by ran.rules) (frames_in report) talked.line.proper.numbered kind.goes_on;
