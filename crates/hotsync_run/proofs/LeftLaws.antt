@@ -1,6 +1,6 @@
 -- What a session left of both sides, from what its call answered over a world.
 use Rattle.std.proofs.Common.{◌≡◌, ◌⊎◌, ◌∙◌, ◌+◌, ◌^◌, ◌≤◌, ◌<◌, ap, append_assoc, refl, sym, subst, arith, inl, inr, ℕ, List, [], ◌∷◌, ◌++◌, length}
-use Rattle.std.specs.Prelude.{Option, Some, None, IsSome, Result, Ok, Err, filter, map, replicate}
+use Rattle.std.specs.Prelude.{Option, Some, None, IsErr, IsSome, Result, Ok, Err, filter, map, replicate}
 use Rattle.std.specs.FinMap as finmap
 use Rattle.std.specs.Global.{Vec}
 use Rattle.std.specs.List.{AllByRecursion, flat_map}
@@ -25,9 +25,9 @@ use Rattle.desk_store.specs.Desks.{IsDesk}
 use Rattle.desktop_session.specs.Acts.{Act, text}
 use Rattle.desktop_session.specs.Says.{IsPrefix}
 use Rattle.desktop_session.specs.Tellings.{device_after, exchanges}
-use Rattle.desktop_session.specs.declared.fault.SessionFault.TheVariants as session_fault
-use Rattle.line_world.specs.declared.down.Down.{Down}
-use Rattle.line_world.specs.declared.down.Down.TheVariants as down
+use Rattle.desktop_session.specs.Requests.{reading_user}
+use Rattle.desktop_session.specs.declared.fault.SessionFault.{SessionFault}
+use Rattle.pdb_values.specs.declared.user.UserInfo.{UserInfo}
 use Rattle.line_world.specs.Logs.{LogValue, no_log}
 use Rattle.line_world.specs.Worlds.{IsLog, WorldSince, WorldValue, world_talk}
 use Rattle.sync_session.proofs.IdsLaws.{text-before_commit, text-session}
@@ -36,7 +36,7 @@ use Rattle.sync_session.specs.Given.{GetFreeIds}
 use Rattle.sync_session.specs.News.{all_news}
 use Rattle.sync_session.specs.Skips.{active}
 use Rattle.sync_session.specs.Merges.{merged_device, merged_slots}
-use Rattle.sync_session.specs.Outcomes.{IsStopOf, MergedSince, SessionEnds, StandsForSlots, requests_before_commit}
+use Rattle.sync_session.specs.Outcomes.{MergedSince, SessionEnds, StandsForSlots, requests_before_commit, seat_of}
 use Rattle.sync_session.specs.Reports.{reports}
 use Rattle.sync_session.specs.Sessions.{adds_of, after_commit, before_commit, before_writes, requests, session, writes_before_commit}
 use Rattle.sync_session.specs.Rests.{IsAtRest}
@@ -45,18 +45,14 @@ use Rattle.sync_session.specs.declared.wishes.Wishes.{Wishes}
 use Rattle.sync_session.specs.Users.{begin_mark}
 use Rattle.sync_session.specs.declared.report.DbReport.{DbReport}
 use Rattle.sync_session.specs.declared.stop.Stop.{Stop}
-use Rattle.sync_session.specs.declared.stop.Stop.TheVariants as stop
 use Rattle.session_fronts.specs.Sound.{IsSoundMeeting}
 use Rattle.session_fronts.proofs.FrontLaws.{after-none, commit-ids, commit-told, session-ids, session-told}
 use Rattle.session_fronts.proofs.MergeActs.{merged}
-use Rattle.hotsync_run.specs.Causes.{down_status, stop_status}
-use Rattle.hotsync_run.specs.Ends.{EndedSession, SessionLeft, StatusShows, StoppedBefore, StoppedBehind}
+use Rattle.hotsync_run.specs.Ends.{EndedSession, SessionLeft, StoppedBefore, StoppedBehind}
 use Rattle.hotsync_run.specs.LineRuns.{exchanges_in, log_in, write_count}
-use Rattle.hotsync_run.specs.Talks.{left_databases, left_end, left_status}
+use Rattle.hotsync_run.specs.Talks.{left_databases, left_end}
 use Rattle.hotsync_run.specs.Told.{FolderTold}
 use Rattle.hotsync_run.specs.declared.report.Report.{Report}
-use Rattle.hotsync_run.specs.declared.status.Status.{Status}
-use Rattle.hotsync_run.specs.declared.status.Status.TheVariants.{NoMemory}
 use Rattle.hotsync_run.proofs.EndLaws.{BeganWith, LoggedAll, began_with, count-append, logged_all, none-front, none-given, performed-prefix, prefix-count}
 use Rattle.hotsync_run.proofs.FrontLaws.{issued_begins}
 
@@ -174,6 +170,18 @@ limit-prefix : {F : Type 0} (contents : F → Option FileMap) (moments : F → M
     → EndsOver contents moments paths faults fault downs meeting old new desk desk_after answer → IsSome (first_over meeting) → IsPrefix new.log.issued (map text (before_writes meeting))
 limit-prefix contents moments paths faults fault downs meeting old new desk desk_after answer silent is ends some = issued_begins old new (map text (before_writes meeting)) silent is (ends.over some).only
 
+-- a user without a slot is all that is asked for
+unseated-prefix : {F : Type 0} (contents : F → Option FileMap) (moments : F → Moments) (paths : F → Option (List (List ℕ))) (faults : F → ℕ) (fault : WorldValue F → Option LinkFault) (downs : WorldValue F → ℕ)
+    (meeting : Meeting) (old new : WorldValue F) (desk desk_after : FolderTold) (report : Report) (answer : Result (Vec DbReport) Stop) → old.log ≡ no_log → IsLog new.log new.answered → (log_in report).issued ≡ new.log.issued
+    → EndsOver contents moments paths faults fault downs meeting old new desk desk_after answer → IsErr (seat_of meeting) → IsPrefix (log_in report).issued (text reading_user ∷ [])
+unseated-prefix contents moments paths faults fault downs meeting old new desk desk_after report answer silent is same ends unseated =
+    let why = the_error (seat_of meeting) unseated in
+    subst (λ (l : List (List ℕ)). IsPrefix l (text reading_user ∷ [])) (sym same) (issued_begins old new (text reading_user ∷ []) silent is ((ends.unseated why.0 why.1).0).only)
+  where
+    the_error : (seat : Result UserInfo SessionFault) → IsErr seat → (why : SessionFault) × (seat ≡ Err why)
+    the_error (Ok user) unseated = absurd (let never : ⊥ = cc in never)
+    the_error (Err why) unseated = (why, refl)
+
 stood_or_merged : (meeting : Meeting) (given : List ℕ) (desk desk_after : FolderTold) → MergedSince meeting given desk.moments desk_after.moments
     → EachMomentSince (λ told. StandsAs desk.contents told ⊎ StandsForSlots (merged_slots meeting given) told) desk.moments desk_after.moments
 stood_or_merged meeting given desk desk_after since =
@@ -194,6 +202,7 @@ session_left contents moments paths faults fault downs meeting old new palm_afte
       sound = sound;
       issued = whole-prefix (log_in report).issued (requests meeting) (same ∙ whole);
       over = λ some. subst (λ (l : List (List ℕ)). IsPrefix l (map text (before_writes meeting))) (sym same) (over some);
+      unseated = unseated-prefix contents moments paths faults fault downs meeting old new desk desk_after report (Ok made) tells.silent tells.is_log same ends;
       ended = λ is. ended_left meeting e.given old new palm_after desk_after report sound device tells none e.count e.free logged e.desk (databases ∙ e.told);
       stopped = λ is. cc;
       given = e.given;
@@ -210,6 +219,7 @@ session_left contents moments paths faults fault downs meeting old new palm_afte
             issued = subst (λ (l : List (List ℕ)). IsPrefix l (requests meeting)) (sym same)
                 (subst (λ (l : List (List ℕ)). IsPrefix new.log.issued l) (parts-are meeting (replicate (adds_of meeting) 0)) (prefix-more new.log.issued (requests_before_commit meeting) (map text (after_commit meeting)) prefix));
             over = λ some. subst (λ (l : List (List ℕ)). IsPrefix l (map text (before_writes meeting))) (sym same) (over some);
+            unseated = unseated-prefix contents moments paths faults fault downs meeting old new desk desk_after report (Err why) tells.silent tells.is_log same ends;
             ended = λ is. cc;
             stopped = λ is. inl (before_left meeting old new palm_after desk desk_after report tells prefix b.stands);
             given = b.given;
@@ -224,42 +234,13 @@ session_left contents moments paths faults fault downs meeting old new palm_afte
             sound = sound;
             issued = subst (λ (l : List (List ℕ)). IsPrefix l (requests meeting)) (sym same) (subst (λ (l : List (List ℕ)). IsPrefix new.log.issued l) (parts-are meeting b.given) began.issued_begins);
             over = λ some. subst (λ (l : List (List ℕ)). IsPrefix l (map text (before_writes meeting))) (sym same) (over some);
+            unseated = unseated-prefix contents moments paths faults fault downs meeting old new desk desk_after report (Err why) tells.silent tells.is_log same ends;
             ended = λ is. cc;
             stopped = λ is. inr (behind_left meeting b.given old new palm_after desk_after report sound device tells none b.count b.free began b.stands);
             given = b.given;
             moments = stood_or_merged meeting b.given desk desk_after b.moments;
           }
     ]
-
--- ---- the cause of a stop
-
-down_shows : (meeting : Meeting) (report : Report) (cause : Option Down) → StatusShows meeting report (down_status cause)
-down_shows meeting report None = tt
-down_shows meeting report (Some (down.LineDown end numbers)) = tt
-down_shows meeting report (Some (down.Unplugged number)) = tt
-down_shows meeting report (Some (down.Aborted number)) = tt
-down_shows meeting report (Some (down.Undetected number)) = tt
-down_shows meeting report (Some down.Keeper) = tt
-
-stop_shows : {F : Type 0} (fault : WorldValue F → Option LinkFault) (meeting : Meeting) (old new : WorldValue F) (palm_after : FolderTold) (report : Report) (cause : Option Down) (why : Stop) → Tells old new palm_after report
-    → IsStopOf (λ (world : WorldValue F). Some (world_talk world)) fault meeting old new why → StatusShows meeting report (stop_status cause why)
-stop_shows fault meeting old new palm_after report cause (stop.Session session_fault.Down) tells is = down_shows meeting report cause
-stop_shows fault meeting old new palm_after report cause (stop.Session (session_fault.Refused code)) tells is = tt
-stop_shows fault meeting old new palm_after report cause (stop.Session (session_fault.BadReply broken)) tells is = tt
-stop_shows fault meeting old new palm_after report cause (stop.Session (session_fault.OtherUser handheld desktop)) tells is = is
-stop_shows fault meeting old new palm_after report cause (stop.Session session_fault.TooManyUsers) tells is = is
-stop_shows fault meeting old new palm_after report cause (stop.Session session_fault.NoMemory) tells is = tt
-stop_shows fault meeting old new palm_after report cause (stop.Limit name) tells is =
-    (is.first, ap (λ (l : LogValue). l.performed) tells.said ∙ (logged_all (before_writes meeting) old new tells.silent tells.is_log is.does).performed_are)
-stop_shows fault meeting old new palm_after report cause stop.DeskFault tells is = tt
-
-pub status_shows : {F : Type 0} (contents : F → Option FileMap) (moments : F → Moments) (paths : F → Option (List (List ℕ))) (faults : F → ℕ) (fault : WorldValue F → Option LinkFault) (downs : WorldValue F → ℕ)
-    (meeting : Meeting) (old new : WorldValue F) (palm_after desk desk_after : FolderTold) (report : Report) (answer : Result (Vec DbReport) Stop) (cause : Option Down) (status : Status) → Tells old new palm_after report
-    → (status ≡ left_status cause answer) ⊎ (status ≡ NoMemory) → EndsOver contents moments paths faults fault downs meeting old new desk desk_after answer → StatusShows meeting report status
-status_shows contents moments paths faults fault downs meeting old new palm_after desk desk_after report answer cause status tells (inr memory) ends = subst (λ (s : Status). StatusShows meeting report s) (sym memory) tt
-status_shows contents moments paths faults fault downs meeting old new palm_after desk desk_after report (Ok made) cause status tells (inl is) ends = subst (λ (s : Status). StatusShows meeting report s) (sym is) tt
-status_shows contents moments paths faults fault downs meeting old new palm_after desk desk_after report (Err why) cause status tells (inl is) ends =
-    subst (λ (s : Status). StatusShows meeting report s) (sym is) (stop_shows fault meeting old new palm_after report cause why tells ends.cause)
 
 -- ---- both sides before it
 

@@ -12,6 +12,7 @@ pub mod PrintedLaws
 pub mod QuietRuns
 pub mod RunLaws
 pub mod SlotLaws
+pub mod StatusLaws
 pub mod TalkLaws
 pub mod TraceLaws
 pub mod UndisturbedLaws

@@ -245,6 +245,7 @@ left_from meeting palm_after first before after report stood left =
       sound = left.sound;
       issued = left.issued;
       over = left.over;
+      unseated = left.unseated;
       ended = left.ended;
       stopped = λ is. elim (left.stopped is) [
         | inl b ↦ inl (record { stands = b.stands ∙ stood.stands; writes = b.writes })
@@ -270,6 +271,7 @@ talked_from run rules device slots first before after desk_first desk_before des
   stopped = talked.stopped;
   left = left_from (meeting_of device slots talked.wishes) after desk_first desk_before desk_after report stood talked.left;
   shows = talked.shows;
+  refused = talked.refused;
 }
 
 traced_from : (path : Option (List ℕ)) (text : List ℕ) (first before after : SinkTold) (status : Status) → before.taken ≡ first.taken → first.faults ≤ before.faults → IsTraced path text before after status → IsTraced path text first after status

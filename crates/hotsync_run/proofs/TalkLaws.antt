@@ -38,8 +38,9 @@ use Rattle.hotsync_run.specs.Reports.{IsNotStarted}
 use Rattle.hotsync_run.specs.Talks.{ChangedOnce, IsLeft, IsTalk, KeptSilent, Talked, left_databases, left_end}
 use Rattle.hotsync_run.specs.Told.{FolderTold, folder_told}
 use Rattle.hotsync_run.specs.Wishes.{AsksFor}
-use Rattle.hotsync_run.proofs.LeftLaws.{EndsOver, Tells, session_left, status_shows}
+use Rattle.hotsync_run.proofs.LeftLaws.{EndsOver, Tells, session_left}
 use Rattle.hotsync_run.proofs.LineLaws.{line_ran}
+use Rattle.hotsync_run.proofs.StatusLaws.{refusal_told, status_shows}
 use Rattle.hotsync_run.specs.declared.left.Left.{Left}
 use Rattle.hotsync_run.specs.declared.report.Report.{Report}
 use Rattle.hotsync_run.specs.declared.report.SessionEnd.{SessionEnd}
@@ -203,6 +204,7 @@ spoke contents moments paths faults desk_contents desk_moments desk_paths desk_f
       stopped = λ e. databases_are ∙ left_none outcome.end cause left is (sym end_is ∙ e);
       left = session_left contents moments paths faults fault downs (meeting_of old.server.device slots wishes) old new palm_after desk desk_after report outcome.end sound refl sides end databases ends;
       shows = status_shows contents moments paths faults fault downs (meeting_of old.server.device slots wishes) old new palm_after desk desk_after report outcome.end cause left.status sides is.status ends;
+      refused = refusal_told contents moments paths faults fault downs (meeting_of old.server.device slots wishes) old new desk desk_after outcome.end cause left.status is.status ends;
     } in
     record {
       shown = by_left outcome.end report.end (KeptSilent palm palm_after desk desk_after left.status report) (Talked run old.script old.server.device slots palm palm_after desk desk_after left.status report) end talked;

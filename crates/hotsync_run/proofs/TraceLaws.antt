@@ -1,16 +1,22 @@
 -- What is known of a session stays, whatever becomes of its trace.
 use Rattle.std.proofs.Common.{◌≡◌, ◌≤◌, ◌++◌, inl, inr, refl, sym, subst, ◌∙◌, List, [], ℕ}
 use Rattle.std.specs.Option.{option_map}
+use Rattle.std.specs.Prelude.{◌⊎◌, Option, None, Some, IfSome, IsSome, Result, Ok, Err}
 use Rattle.hs_folders.proofs.Prefixes.{all_taken}
 use Rattle.palm_device.specs.Devices.{Device}
+use Rattle.pdb_values.specs.declared.user.UserInfo.{UserInfo}
+use Rattle.desktop_session.specs.declared.fault.SessionFault.{SessionFault}
+use Rattle.desktop_session.specs.declared.fault.SessionFault.TheVariants as session
 use Rattle.trace_text.specs.TraceLines.{trace_text}
 use Rattle.line_script.specs.Rules.{RuleValue}
 use Rattle.line_world.specs.Causes.{BearsOut}
 use Rattle.desk_store.specs.Shelves.{SlotValue}
 use Rattle.run_words.specs.Runs.{Run}
+use Rattle.sync_session.specs.Limits.{first_over}
+use Rattle.sync_session.specs.Outcomes.{seat_of}
 use Rattle.sync_session.specs.Tasks.{meeting_of}
-use Rattle.hotsync_run.specs.Causes.{ByEnd, EndsAs, IsLineDown, IsTracedStatus, IsUnsaid, cause_in}
-use Rattle.hotsync_run.specs.Ends.{StatusShows}
+use Rattle.hotsync_run.specs.Causes.{ByEnd, EndsAs, IsLineDown, IsTracedStatus, IsUnsaid, cause_in, fault_status}
+use Rattle.hotsync_run.specs.Ends.{IsCutShort, IsToldRefusal, StatusShows, status_refused}
 use Rattle.hotsync_run.specs.LineRuns.{frames_in}
 use Rattle.hotsync_run.specs.Refusals.{BlamesHandheld, BlamesScript}
 use Rattle.hotsync_run.specs.Talks.{IsTalk, KeptSilent, Talked}
@@ -36,8 +42,9 @@ by_end_both Stopped not began is = began is
 
 -- what is known of a session under another status
 talked_as : (run : Run) (rules : List RuleValue) (device : Device) (slots : List SlotValue) (palm palm_after desk desk_after : FolderTold) (status other : Status) (report : Report) → (talked : Talked run rules device slots palm palm_after desk desk_after status report)
-    → EndsAs other report.end → BearsOut (cause_in other report.faulted.items) (frames_in report) → (IsLineDown other → ⊥) → StatusShows (meeting_of device slots talked.wishes) report other → Talked run rules device slots palm palm_after desk desk_after other report
-talked_as run rules device slots palm palm_after desk desk_after status other report talked ends caused up shows = record {
+    → EndsAs other report.end → BearsOut (cause_in other report.faulted.items) (frames_in report) → (IsLineDown other → ⊥) → StatusShows (meeting_of device slots talked.wishes) report other
+    → IsToldRefusal (meeting_of device slots talked.wishes) other → Talked run rules device slots palm palm_after desk desk_after other report
+talked_as run rules device slots palm palm_after desk desk_after status other report talked ends caused up shows refused = record {
   wishes = talked.wishes;
   asked = talked.asked;
   line = talked.line;
@@ -48,11 +55,36 @@ talked_as run rules device slots palm palm_after desk desk_after status other re
   stopped = talked.stopped;
   left = talked.left;
   shows = shows;
+  refused = refused;
 }
+
+-- a session that was cut short is told by that
+memory_refused : (refused : Option Status) → IfSome refused (λ status. (NoMemory ≡ status) ⊎ IsCutShort NoMemory)
+memory_refused None = tt
+memory_refused (Some status) = inr tt
+
+-- one that both sides refuse is not done
+fault_not_done : (why : SessionFault) → Done ≡ fault_status None why → ⊥
+fault_not_done session.Down is = cc
+fault_not_done (session.Refused code) is = cc
+fault_not_done (session.BadReply broken) is = cc
+fault_not_done (session.OtherUser handheld desktop) is = cc
+fault_not_done session.TooManyUsers is = cc
+fault_not_done session.NoMemory is = cc
+
+done_refused : (seat : Result UserInfo SessionFault) (over : Option (List ℕ)) (other : Status)
+    → IfSome (status_refused seat over) (λ refused. (Done ≡ refused) ⊎ IsCutShort Done)
+    → IfSome (status_refused seat over) (λ refused. (other ≡ refused) ⊎ IsCutShort other)
+done_refused (Err why) over other (inl is) = absurd (fault_not_done why is)
+done_refused (Err why) over other (inr cut) = absurd cut
+done_refused (Ok user) (Some name) other (inl is) = absurd (let never : ⊥ = cc in never)
+done_refused (Ok user) (Some name) other (inr cut) = absurd cut
+done_refused (Ok user) None other is = tt
 
 pub talked_memory : (run : Run) (rules : List RuleValue) (device : Device) (slots : List SlotValue) (palm palm_after desk desk_after : FolderTold) (status : Status) (report : Report) → Talked run rules device slots palm palm_after desk desk_after status report
     → Talked run rules device slots palm palm_after desk desk_after NoMemory report
 talked_memory run rules device slots palm palm_after desk desk_after status report talked = talked_as run rules device slots palm palm_after desk desk_after status NoMemory report talked tt tt (λ is. is) tt
+    (memory_refused (status_refused (seat_of (meeting_of device slots talked.wishes)) (first_over (meeting_of device slots talked.wishes))))
 
 talked_done : (run : Run) (rules : List RuleValue) (device : Device) (slots : List SlotValue) (palm palm_after desk desk_after : FolderTold) (status : Status) (report : Report) → status ≡ Done → Talked run rules device slots palm palm_after desk desk_after status report → report.end ≡ Ended
 talked_done run rules device slots palm palm_after desk desk_after status report done talked = subst (λ (s : Status). EndsAs s report.end) done talked.ends
@@ -61,11 +93,15 @@ pub talked_untold : (run : Run) (rules : List RuleValue) (device : Device) (slot
     → Talked run rules device slots palm palm_after desk desk_after TraceWrite report
 talked_untold run rules device slots palm palm_after desk desk_after status report done talked =
     talked_as run rules device slots palm palm_after desk desk_after status TraceWrite report talked (talked_done run rules device slots palm palm_after desk desk_after status report done talked) tt (λ is. is) tt
+    (done_refused (seat_of (meeting_of device slots talked.wishes)) (first_over (meeting_of device slots talked.wishes)) TraceWrite
+    (subst (IsToldRefusal (meeting_of device slots talked.wishes)) done talked.refused))
 
 pub talked_unsaid : (run : Run) (rules : List RuleValue) (device : Device) (slots : List SlotValue) (palm palm_after desk desk_after : FolderTold) (status : Status) (report : Report) → status ≡ Done → Talked run rules device slots palm palm_after desk desk_after status report
     → Talked run rules device slots palm palm_after desk desk_after OutWrite report
 talked_unsaid run rules device slots palm palm_after desk desk_after status report done talked =
     talked_as run rules device slots palm palm_after desk desk_after status OutWrite report talked (talked_done run rules device slots palm palm_after desk desk_after status report done talked) tt (λ is. is) tt
+    (done_refused (seat_of (meeting_of device slots talked.wishes)) (first_over (meeting_of device slots talked.wishes)) OutWrite
+    (subst (IsToldRefusal (meeting_of device slots talked.wishes)) done talked.refused))
 
 talked_traced : (run : Run) (rules : List RuleValue) (device : Device) (slots : List SlotValue) (palm palm_after desk desk_after : FolderTold) (status traced : Status) (report : Report) → IsTracedStatus status traced → Talked run rules device slots palm palm_after desk desk_after status report
     → Talked run rules device slots palm palm_after desk desk_after traced report

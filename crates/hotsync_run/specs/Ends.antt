@@ -1,25 +1,29 @@
 -- What a session left of both sides, by what both held before it.
-use Rattle.std.specs.Prelude.{◌≡◌, ◌⊎◌, ◌≤◌, ⊤, ℕ, List, map, IsSome, Some}
+use Rattle.std.specs.Prelude.{◌≡◌, ◌⊎◌, ◌≤◌, ⊤, ℕ, List, [], ◌∷◌, map, IfSome, IsErr, IsSome, Option, None, Some, Result, Ok, Err}
 use Rattle.hs_folders.specs.Moments.{EachMomentSince}
 use Rattle.pdb_values.specs.declared.slot.Slot.TheVariants.{Full}
+use Rattle.pdb_values.specs.declared.user.UserInfo.{UserInfo}
 use Rattle.handheld_files.specs.Openings.{Stands}
 use Rattle.desk_journal.specs.Overlays.{StandsAs}
 use Rattle.desk_store.specs.Desks.{IsDesk}
 use Rattle.desktop_session.specs.Acts.{text}
+use Rattle.desktop_session.specs.Requests.{reading_user}
 use Rattle.desktop_session.specs.Says.{IsPrefix}
+use Rattle.desktop_session.specs.declared.fault.SessionFault.{SessionFault}
 use Rattle.sync_session.specs.Limits.{first_over}
 use Rattle.sync_session.specs.Merges.{merged_device, merged_slots}
-use Rattle.sync_session.specs.Outcomes.{IsOtherUser, StandsForSlots, slot_in}
+use Rattle.sync_session.specs.Outcomes.{IsOtherUser, StandsForSlots, requests_before_commit, seat_of, slot_in}
 use Rattle.sync_session.specs.Reports.{reports}
 use Rattle.sync_session.specs.Sessions.{before_writes, requests, writes_before_commit}
 use Rattle.sync_session.specs.Tasks.{Meeting}
 use Rattle.session_fronts.specs.Sound.{IsSoundMeeting}
+use Rattle.hotsync_run.specs.Causes.{fault_status}
 use Rattle.hotsync_run.specs.LineRuns.{log_in}
 use Rattle.hotsync_run.specs.Told.{FolderTold}
 use Rattle.hotsync_run.specs.declared.report.Report.{Report}
 use Rattle.hotsync_run.specs.declared.report.SessionEnd.TheVariants.{Ended, Stopped}
 use Rattle.hotsync_run.specs.declared.status.Status.{Status}
-use Rattle.hotsync_run.specs.declared.status.Status.TheVariants.{OtherUser, TooManyUsers, Limit}
+use Rattle.hotsync_run.specs.declared.status.Status.TheVariants.{HandheldFolder, DesktopFolder, NoMemory, LineDown, Unplugged, Aborted, Undetected, OtherUser, TooManyUsers, Limit}
 
 -- It ended: each of the session's requests was issued and performed, both folders stand for the merge under the ids that new records got, the
 -- desktop's without a journal, and what was done with each database is told.
@@ -40,20 +44,51 @@ pub record StoppedBehind (meeting : Meeting) (desk_after : FolderTold) (report :
   pub stands : StandsForSlots (merged_slots meeting (log_in report).given) desk_after.contents
   pub writes : writes_before_commit meeting ≤ report.writes
 
--- Both sides keep the bounds of their types. What was issued begins the session's requests, and where a limit would be passed those that write
--- nothing; and this is left of both sides. At each moment the desktop's folder stood for what it stood for at first, or for the merge under some ids.
+-- Both sides keep the bounds of their types. What was issued begins the session's requests; where a limit would be passed it begins those that write
+-- nothing, and where the handheld's user has no slot it is at most the request for the user. This is left of both sides. At each moment the desktop's
+-- folder stood for what it stood for at first, or for the merge under some ids.
 pub record SessionLeft (meeting : Meeting) (palm_after desk desk_after : FolderTold) (report : Report) : Type 0 where
   pub sound : IsSoundMeeting meeting
   pub issued : IsPrefix (log_in report).issued (requests meeting)
   pub over : IsSome (first_over meeting) → IsPrefix (log_in report).issued (map text (before_writes meeting))
+  pub unseated : IsErr (seat_of meeting) → IsPrefix (log_in report).issued (text reading_user ∷ [])
   pub ended : report.end ≡ Ended → EndedSession meeting palm_after desk_after report
   pub stopped : report.end ≡ Stopped → StoppedBefore meeting desk desk_after report ⊎ StoppedBehind meeting desk_after report
   pub given : List ℕ
   pub moments : EachMomentSince (λ told. StandsAs desk.contents told ⊎ StandsForSlots (merged_slots meeting given) told) desk.moments desk_after.moments
 
--- why a session ended before anything was written: the users have no slot in common, or a limit would be passed
+-- ---- why it stopped
+
+-- these requests were issued and performed, and no others
+pub record SaidAll (requests : List (List ℕ)) (report : Report) : Type 0 where
+  pub issued : (log_in report).issued ≡ requests
+  pub performed : (log_in report).performed ≡ requests
+
+-- What a status shows of a session. For its user it stopped behind the request for it alone; for a limit once all was read and nothing written; and the
+-- desktop's folder failed at the commit, where all that precedes it was performed and nothing behind it was issued.
 abbrev pub StatusShows : Meeting → Report → Status → Type 0
-StatusShows meeting report (OtherUser handheld desktop) = IsOtherUser meeting handheld desktop
-StatusShows meeting report TooManyUsers = slot_in meeting ≡ Full
-StatusShows meeting report (Limit name) = (first_over meeting ≡ Some name) × ((log_in report).performed ≡ map text (before_writes meeting))
+StatusShows meeting report (OtherUser handheld desktop) = IsOtherUser meeting handheld desktop × SaidAll (text reading_user ∷ []) report
+StatusShows meeting report TooManyUsers = (slot_in meeting ≡ Full) × SaidAll (text reading_user ∷ []) report
+StatusShows meeting report (Limit name) = (first_over meeting ≡ Some name) × SaidAll (map text (before_writes meeting)) report
+StatusShows meeting report DesktopFolder = SaidAll (requests_before_commit meeting) report
 StatusShows meeting report other = ⊤
+
+-- the status of a session that both sides refuse: the handheld's user has no slot, or else a limit would be passed
+abbrev pub status_refused : Result UserInfo SessionFault → Option (List ℕ) → Option Status
+status_refused (Err why) over = Some (fault_status None why)
+status_refused (Ok user) (Some name) = Some (Limit name)
+status_refused (Ok user) None = None
+
+-- the line went down, the handheld's folder failed, or memory ran out
+abbrev pub IsCutShort : Status → Type 0
+IsCutShort (LineDown end) = ⊤
+IsCutShort (Unplugged number) = ⊤
+IsCutShort (Aborted number) = ⊤
+IsCutShort (Undetected number) = ⊤
+IsCutShort HandheldFolder = ⊤
+IsCutShort NoMemory = ⊤
+IsCutShort other = ⊥
+
+-- where both sides refuse a session, its status says so, unless it was cut short before
+abbrev pub IsToldRefusal : Meeting → Status → Type 0
+IsToldRefusal meeting status = IfSome (status_refused (seat_of meeting) (first_over meeting)) (λ refused. (status ≡ refused) ⊎ IsCutShort status)

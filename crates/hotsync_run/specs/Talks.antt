@@ -21,7 +21,7 @@ use Rattle.desk_journal.specs.Entries.{EntryValue}
 use Rattle.desk_journal.specs.Overlays.{StandsAs, put_all}
 use Rattle.desk_store.specs.Shelves.{SlotValue}
 use Rattle.hotsync_run.specs.Causes.{ByEnd, EndsAs, IsLineDown, IsUnsaid, cause_in, numbers_by, stop_status}
-use Rattle.hotsync_run.specs.Ends.{SessionLeft, StatusShows}
+use Rattle.hotsync_run.specs.Ends.{IsToldRefusal, SessionLeft, StatusShows}
 use Rattle.hotsync_run.specs.LineRuns.{LineRan, frames_in}
 use Rattle.hotsync_run.specs.Reports.{IsNotStarted}
 use Rattle.hotsync_run.specs.Told.{FolderTold}
@@ -83,6 +83,7 @@ pub record Talked (run : Run) (rules : List RuleValue) (device : Device) (slots 
   pub stopped : report.end ≡ Stopped → report.databases.items ≡ []
   pub left : SessionLeft (meeting_of device slots wishes) palm_after desk desk_after report
   pub shows : StatusShows (meeting_of device slots wishes) report status
+  pub refused : IsToldRefusal (meeting_of device slots wishes) status
 
 -- memory ran out before anything was sent, and both folders are as they were
 pub record KeptSilent (palm palm_after desk desk_after : FolderTold) (status : Status) (report : Report) : Type 0 where
