@@ -20,7 +20,7 @@ use Rattle.hotsync_run.specs.declared.report.Report.{Report}
 
 -- ---- a world's talk
 
-exchanged-requests : (xs ys : List (List ℕ)) → length xs ≤ length ys → map (λ (exchange : Exchange). exchange.request) (exchanged xs ys) ≡ xs
+pub exchanged-requests : (xs ys : List (List ℕ)) → length xs ≤ length ys → map (λ (exchange : Exchange). exchange.request) (exchanged xs ys) ≡ xs
 exchanged-requests [] ys few = refl
 exchanged-requests (x ∷ xs) [] few = absurd (omega (arith, few))
 exchanged-requests (x ∷ xs) (y ∷ ys) few = ap (λ (l : List (List ℕ)). x ∷ l) (exchanged-requests xs ys (omega (arith, few)))

@@ -2,6 +2,7 @@ pub mod AgainLaws
 pub mod CallLaws
 pub mod EndLaws
 pub mod FrontLaws
+pub mod FrontMoments
 pub mod LeftLaws
 pub mod LineLaws
 pub mod LookLaws

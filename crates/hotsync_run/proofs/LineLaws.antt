@@ -56,6 +56,7 @@ line_ran contents moments paths faults old new report silent stands since tells 
         ran = subst (λ (l : List Exchange). Ran old.server.device l new.server.device) (sym is) since.served.ran;
       };
       stands = since.served.stands stands;
+      others = since.served.others;
       moments = subst (λ (l : List Exchange). EachMomentSince (StoodAfterSome old.server.device l) (moments old.server.folder) (moments new.server.folder)) (sym is) (since.served.moments_since stands);
       given = ap (λ (l : LogValue). l.given) log ∙ since.given_is ∙ ap (λ (l : LogValue). l.given ++ flat_map (λ (exchange : Exchange). given_in exchange.request exchange.reply) e) silent
           ∙ ap (λ (l : List Exchange). flat_map (λ (exchange : Exchange). given_in exchange.request exchange.reply) l) (sym is);

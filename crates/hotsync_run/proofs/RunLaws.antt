@@ -14,7 +14,7 @@ use Rattle.handheld_files.specs.declared.fault.OpenFault.{OpenFault}
 use Rattle.handheld_files.specs.declared.fault.OpenFault.TheVariants as opening
 use Rattle.trace_text.specs.TraceLines.{trace_text}
 use Rattle.line_script.specs.Rules.{RuleValue}
-use Rattle.line_world.specs.Folders.{StoodAfterSome}
+use Rattle.line_world.specs.Folders.{OthersStay, StoodAfterSome}
 use Rattle.desk_journal.specs.Overlays.{StandsAs, finished, put_all}
 use Rattle.desk_store.specs.Desks.{IsDesk}
 use Rattle.desk_store.specs.Shelves.{SlotValue}
@@ -25,7 +25,7 @@ use Rattle.sync_session.specs.Merges.{merged_slots}
 use Rattle.sync_session.specs.Outcomes.{StandsForSlots}
 use Rattle.sync_session.specs.Tasks.{Meeting, meeting_of}
 use Rattle.hotsync_run.specs.Causes.{ByEnd, HasBegun}
-use Rattle.hotsync_run.specs.Ends.{SessionLeft}
+use Rattle.hotsync_run.specs.Ends.{SessionLeft, StandsAtFront}
 use Rattle.hotsync_run.specs.LineRuns.{LineRan, exchanges_in, frames_in}
 use Rattle.hotsync_run.specs.Opening.{Opens, OpensAtMost, OpensGiven, OpensGivenAtMost}
 use Rattle.hotsync_run.specs.Printed.{IsPrintedStatus}
@@ -221,8 +221,8 @@ rose_earlier : (most a b c : ℕ) → a ≤ b → min (b + 1) most ≤ c → min
 rose_earlier most a b c less rose = omega (arith, rose, less)
 
 -- the line's part, told from an earlier time on
-line_from : (rules : List RuleValue) (device : Device) (first before after : FolderTold) (report : Report) → before.moments ≡ first.moments → LineRan rules device before after report → LineRan rules device first after report
-line_from rules device first before after report same line = record {
+abbrev line_from : (rules : List RuleValue) (device : Device) (first before after : FolderTold) (report : Report) → StaysAsItWas first before → LineRan rules device before after report → LineRan rules device first after report
+line_from rules device first before after report stays line = record {
   proper = line.proper;
   told = line.told;
   answered = line.answered;
@@ -230,7 +230,8 @@ line_from rules device first before after report same line = record {
   last = line.last;
   ran = line.ran;
   stands = line.stands;
-  moments = subst (λ (m : Moments). EachMomentSince (StoodAfterSome device (exchanges_in report)) m after.moments) same line.moments;
+  others = subst (λ (t : Option FileMap). OthersStay t after.contents) stays.contents line.others;
+  moments = subst (λ (m : Moments). EachMomentSince (StoodAfterSome device (exchanges_in report)) m after.moments) stays.moments line.moments;
   given = line.given;
   writes = line.writes;
   to_handheld = line.to_handheld;
@@ -263,7 +264,7 @@ talked_from : (run : Run) (rules : List RuleValue) (device : Device) (slots : Li
 talked_from run rules device slots first before after desk_first desk_before desk_after status report stays stood talked = record {
   wishes = talked.wishes;
   asked = talked.asked;
-  line = line_from rules device first before after report stays.moments talked.line;
+  line = line_from rules device first before after report stays talked.line;
   ends = talked.ends;
   caused = talked.caused;
   fair = talked.fair;
@@ -272,6 +273,8 @@ talked_from run rules device slots first before after desk_first desk_before des
   left = left_from (meeting_of device slots talked.wishes) after desk_first desk_before desk_after report stood talked.left;
   shows = talked.shows;
   refused = talked.refused;
+  front = talked.front;
+  fronts = subst (λ (m : Moments). EachMomentSince (StandsAtFront (meeting_of device slots talked.wishes)) m after.moments) stays.moments talked.fronts;
 }
 
 traced_from : (path : Option (List ℕ)) (text : List ℕ) (first before after : SinkTold) (status : Status) → before.taken ≡ first.taken → first.faults ≤ before.faults → IsTraced path text before after status → IsTraced path text first after status
@@ -287,6 +290,8 @@ desktop_ran first before after end finished_is stood changed =
     let same : option_map (put_all changed.entries) before.contents ≡ merged = ap (λ (t : Option FileMap). option_map (put_all changed.entries) t) finished_is in
     record {
       entries = changed.entries;
+      place = changed.place;
+      files = changed.files;
       written = λ ended. changed.written ended ∙ same;
       stands = elim changed.stands [
         | inl stays ↦ inl (stays ∙ stood.stands)

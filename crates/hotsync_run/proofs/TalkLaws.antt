@@ -26,7 +26,7 @@ use Rattle.line_world.specs.declared.down.Down.TheVariants as down
 use Rattle.sync_session.specs.Leaving.{LeavesFolder}
 use Rattle.sync_session.specs.declared.outcome.Outcome.{Outcome}
 use Rattle.sync_session.specs.declared.report.DbReport.{DbReport}
-use Rattle.sync_session.specs.Tasks.{meeting_of}
+use Rattle.sync_session.specs.Tasks.{Meeting, meeting_of}
 use Rattle.sync_session.specs.declared.wishes.Wishes.{Wishes}
 use Rattle.session_fronts.specs.Sound.{IsSoundMeeting}
 use Rattle.dlp_commands.specs.declared.link.LinkFault.{LinkFault}
@@ -38,6 +38,9 @@ use Rattle.hotsync_run.specs.Reports.{IsNotStarted}
 use Rattle.hotsync_run.specs.Talks.{ChangedOnce, IsLeft, IsTalk, KeptSilent, Talked, left_databases, left_end}
 use Rattle.hotsync_run.specs.Told.{FolderTold, folder_told}
 use Rattle.hotsync_run.specs.Wishes.{AsksFor}
+use Rattle.hotsync_run.specs.Ends.{SessionLeft}
+use Rattle.hotsync_run.proofs.FrontLaws.{front_of}
+use Rattle.hotsync_run.proofs.FrontMoments.{fronts_at_moments}
 use Rattle.hotsync_run.proofs.LeftLaws.{EndsOver, Tells, session_left}
 use Rattle.hotsync_run.proofs.LineLaws.{line_ran}
 use Rattle.hotsync_run.proofs.StatusLaws.{refusal_told, status_shows}
@@ -157,6 +160,8 @@ desk_changed : {L D : Type 0} (contents : D → Option FileMap) (moments : D →
     → end ≡ left_end outcome.end → LeavesFolder contents moments paths faults folder outcome → ChangedOnce (folder_told contents moments paths faults folder) (folder_told contents moments paths faults outcome.folder) end
 desk_changed contents moments paths faults folder outcome end is leaves = record {
   entries = leaves.entries;
+  place = leaves.place;
+  files = leaves.files;
   written = λ ended. was_ok outcome.end leaves.written (sym is ∙ ended);
   stands = leaves.stands;
   each_moment = leaves.each_moment;
@@ -192,6 +197,8 @@ spoke contents moments paths faults desk_contents desk_moments desk_paths desk_f
     let sides : Tells old new palm_after report =
     record { silent = silent; is_log = tells.log; said = tells.said; given = line.given; writes = tells.writes; stands = since.served.stands stands } in
     let databases : report.databases.items ≡ left_databases outcome.end = databases_are ∙ is.databases in
+    let meeting : Meeting = meeting_of old.server.device slots wishes in
+    let session : SessionLeft meeting palm_after desk desk_after report = session_left contents moments paths faults fault downs meeting old new palm_after desk desk_after report outcome.end sound refl sides end databases ends in
     let talked : Talked run old.script old.server.device slots palm palm_after desk desk_after left.status report = record {
       wishes = wishes;
       asked = asked;
@@ -202,8 +209,10 @@ spoke contents moments paths faults desk_contents desk_moments desk_paths desk_f
           (subst (λ (rules : List RuleValue). IsFairUpTo (length (frames_in report)) (fate_by rules)) (sym since.same_script) calm_script))) fallen;
       faulted = faults_moved report.faulted.items left.faulted.items (frames_in report) new.frames faulted_are tells.frames shown.faulted;
       stopped = λ e. databases_are ∙ left_none outcome.end cause left is (sym end_is ∙ e);
-      left = session_left contents moments paths faults fault downs (meeting_of old.server.device slots wishes) old new palm_after desk desk_after report outcome.end sound refl sides end databases ends;
+      left = session;
       shows = status_shows contents moments paths faults fault downs (meeting_of old.server.device slots wishes) old new palm_after desk desk_after report outcome.end cause left.status sides is.status ends;
+      front = front_of meeting old.script palm palm_after report line session.issued;
+      fronts = fronts_at_moments meeting old.script palm palm_after report line session.issued;
       refused = refusal_told contents moments paths faults fault downs (meeting_of old.server.device slots wishes) old new desk desk_after outcome.end cause left.status is.status ends;
     } in
     record {
@@ -227,6 +236,8 @@ kept_silent run rules device slots palm palm_after desk desk_after status report
       (record { memory = memory; report_is = is; handheld = palm_same; desktop = desk_same });
   changed = subst (λ (d : FolderTold). ChangedOnce desk d report.end) (sym desk_same) (record {
     entries = [];
+    place = 0;
+    files = tt;
     written = λ ended. let none = is.end in cc;
     stands = inl refl;
     each_moment = no_moment (StandsAs (option_map (put_all []) desk.contents)) desk.moments desk.moments refl;

@@ -56,6 +56,8 @@ talked_as run rules device slots palm palm_after desk desk_after status other re
   left = talked.left;
   shows = shows;
   refused = refused;
+  front = talked.front;
+  fronts = talked.fronts;
 }
 
 -- a session that was cut short is told by that

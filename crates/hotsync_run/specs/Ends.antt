@@ -1,8 +1,10 @@
 -- What a session left of both sides, by what both held before it.
 use Rattle.std.specs.Prelude.{◌≡◌, ◌⊎◌, ◌≤◌, ⊤, ℕ, List, [], ◌∷◌, map, IfSome, IsErr, IsSome, Option, None, Some, Result, Ok, Err}
+use Rattle.hs_folders.specs.FileMaps.{FileMap}
 use Rattle.hs_folders.specs.Moments.{EachMomentSince}
 use Rattle.pdb_values.specs.declared.slot.Slot.TheVariants.{Full}
 use Rattle.pdb_values.specs.declared.user.UserInfo.{UserInfo}
+use Rattle.palm_device.specs.Devices.{Device}
 use Rattle.handheld_files.specs.Openings.{Stands}
 use Rattle.desk_journal.specs.Overlays.{StandsAs}
 use Rattle.desk_store.specs.Desks.{IsDesk}
@@ -10,6 +12,7 @@ use Rattle.desktop_session.specs.Acts.{text}
 use Rattle.desktop_session.specs.Requests.{reading_user}
 use Rattle.desktop_session.specs.Says.{IsPrefix}
 use Rattle.desktop_session.specs.declared.fault.SessionFault.{SessionFault}
+use Rattle.sync_session.specs.Fronts.{Front}
 use Rattle.sync_session.specs.Limits.{first_over}
 use Rattle.sync_session.specs.Merges.{merged_device, merged_slots}
 use Rattle.sync_session.specs.Outcomes.{IsOtherUser, StandsForSlots, requests_before_commit, seat_of, slot_in}
@@ -56,6 +59,14 @@ pub record SessionLeft (meeting : Meeting) (palm_after desk desk_after : FolderT
   pub stopped : report.end ≡ Stopped → StoppedBefore meeting desk desk_after report ⊎ StoppedBehind meeting desk_after report
   pub given : List ℕ
   pub moments : EachMomentSince (λ told. StandsAs desk.contents told ⊎ StandsForSlots (merged_slots meeting given) told) desk.moments desk_after.moments
+
+-- what a folder told stands for a handheld at a front of the session: behind some of its requests, with the writes among them and the ids that these gave
+pub record StandsAtFront (meeting : Meeting) (told : Option FileMap) : Type 0 where
+  pub writes : ℕ
+  pub given : List ℕ
+  pub device : Device
+  pub front : Front meeting writes given device
+  pub stands : Stands told device.databases device.user
 
 -- ---- why it stopped
 

@@ -15,7 +15,7 @@ use Rattle.trace_text.specs.declared.frame.Frame.{Frame}
 use Rattle.line_script.specs.Rules.{RuleValue}
 use Rattle.line_script.specs.Scripts.{fate_by}
 use Rattle.line_world.specs.Counts.{CountsOf}
-use Rattle.line_world.specs.Folders.{StoodAfterSome}
+use Rattle.line_world.specs.Folders.{OthersStay, StoodAfterSome}
 use Rattle.line_world.specs.Logs.{LogValue, said_in, texts}
 use Rattle.line_world.specs.Worlds.{IsLog, TellBoth, WorldValue}
 use Rattle.hotsync_run.specs.Told.{FolderTold}
@@ -58,6 +58,7 @@ pub record LineRan (rules : List RuleValue) (device : Device) (before after : Fo
   pub last : Device
   pub ran : DeviceRun device (log_in report).performed (log_in report).replies last
   pub stands : Stands after.contents last.databases last.user
+  pub others : OthersStay before.contents after.contents
   pub moments : EachMomentSince (StoodAfterSome device (exchanges_in report)) before.moments after.moments
   pub given : (log_in report).given ≡ flat_map (λ (exchange : Exchange). given_in exchange.request exchange.reply) (exchanges_in report)
   pub writes : report.writes ≡ write_count (log_in report).performed

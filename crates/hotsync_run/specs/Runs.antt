@@ -1,5 +1,6 @@
 -- What holds of every run: all objects before it, and all of them after it.
-use Rattle.std.specs.Prelude.{◌≡◌, ◌⊎◌, List, IfSome}
+use Rattle.std.specs.Prelude.{◌≡◌, ◌⊎◌, ℕ, List, IfSome}
+use Rattle.std.specs.List.{AllByRecursion}
 use Rattle.std.specs.Option.{option_map}
 use Rattle.hs_folders.specs.Causes.{Rose}
 use Rattle.hs_folders.specs.Moments.{EachMomentSince}
@@ -13,6 +14,7 @@ use Rattle.desk_journal.specs.Overlays.{StandsAs, finished, put_all}
 use Rattle.desk_store.specs.Desks.{IsDesk}
 use Rattle.desk_store.specs.Shelves.{SlotValue}
 use Rattle.run_words.specs.Runs.{Run}
+use Rattle.sync_session.specs.Leaving.{IsSlotsFile}
 use Rattle.hotsync_run.specs.Causes.{ByEnd, HasBegun}
 use Rattle.hotsync_run.specs.LineRuns.{frames_in}
 use Rattle.hotsync_run.specs.Lines.{done_lines}
@@ -53,10 +55,12 @@ pub record SentNothing (run : Run) (before after : CallTold) (status : Status) (
 
 -- ---- a run with a session
 
--- The desktop's folder, its journal finished, and then changed once at most: an ended session has put some files over the others. One that stopped
--- left it standing for what it stood for at first, or for that, as it did at each moment.
+-- The desktop's folder, its journal finished, and then changed once at most: an ended session has put some files over the others, all of one slot or the
+-- information file. One that stopped left it standing for what it stood for at first, or for that, as it did at each moment.
 pub record DesktopRan (before after : FolderTold) (end : SessionEnd) : Type 0 where
   pub entries : List EntryValue
+  pub place : ℕ
+  pub files : AllByRecursion (λ (entry : EntryValue). IsSlotsFile place entry.name) entries
   pub written : end ≡ Ended → after.contents ≡ option_map (put_all entries) (option_map finished before.contents)
   pub stands : StandsAs before.contents after.contents ⊎ StandsAs (option_map (put_all entries) (option_map finished before.contents)) after.contents
   pub each_moment : EachMomentSince (λ told. StandsAs before.contents told ⊎ StandsAs (option_map (put_all entries) (option_map finished before.contents)) told)

@@ -1,6 +1,7 @@
 -- What is known of a session over a line once it is over.
-use Rattle.std.specs.Prelude.{◌≡◌, ◌⊎◌, List, [], length, Option, Some, Result, Ok, Err}
+use Rattle.std.specs.Prelude.{◌≡◌, ◌⊎◌, ℕ, List, [], length, Option, Some, Result, Ok, Err}
 use Rattle.std.specs.Global.{Vec}
+use Rattle.std.specs.List.{AllByRecursion}
 use Rattle.std.specs.Option.{option_map}
 use Rattle.hs_folders.specs.Causes.{Rose}
 use Rattle.hs_folders.specs.Moments.{EachMomentSince}
@@ -13,6 +14,8 @@ use Rattle.line_world.specs.Causes.{BearsOut}
 use Rattle.line_world.specs.declared.down.Down.{Down}
 use Rattle.line_world.specs.declared.down.Down.TheVariants as down
 use Rattle.run_words.specs.Runs.{Run}
+use Rattle.sync_session.specs.Fronts.{Front}
+use Rattle.sync_session.specs.Leaving.{IsSlotsFile}
 use Rattle.sync_session.specs.Tasks.{meeting_of}
 use Rattle.sync_session.specs.declared.report.DbReport.{DbReport}
 use Rattle.sync_session.specs.declared.stop.Stop.{Stop}
@@ -21,7 +24,7 @@ use Rattle.desk_journal.specs.Entries.{EntryValue}
 use Rattle.desk_journal.specs.Overlays.{StandsAs, put_all}
 use Rattle.desk_store.specs.Shelves.{SlotValue}
 use Rattle.hotsync_run.specs.Causes.{ByEnd, EndsAs, IsLineDown, IsUnsaid, cause_in, numbers_by, stop_status}
-use Rattle.hotsync_run.specs.Ends.{IsToldRefusal, SessionLeft, StatusShows}
+use Rattle.hotsync_run.specs.Ends.{IsToldRefusal, SessionLeft, StandsAtFront, StatusShows}
 use Rattle.hotsync_run.specs.LineRuns.{LineRan, frames_in}
 use Rattle.hotsync_run.specs.Reports.{IsNotStarted}
 use Rattle.hotsync_run.specs.Told.{FolderTold}
@@ -57,10 +60,12 @@ pub record IsLeft (answer : Result (Vec DbReport) Stop) (cause : Option Down) (l
 
 -- ---- what is known of it
 
--- The desktop's folder, changed once at most: with some files put over the others it has what an ended session leaves, and stands for that at each
--- moment since. A session that stopped left it standing for what it stood for, or for that.
+-- The desktop's folder, changed once at most: with some files put over the others, all of one slot or the information file, it has what an ended session
+-- leaves, and stands for that at each moment since. A session that stopped left it standing for what it stood for, or for that.
 pub record ChangedOnce (desk desk_after : FolderTold) (end : SessionEnd) : Type 0 where
   pub entries : List EntryValue
+  pub place : ℕ
+  pub files : AllByRecursion (λ (entry : EntryValue). IsSlotsFile place entry.name) entries
   pub written : end ≡ Ended → desk_after.contents ≡ option_map (put_all entries) desk.contents
   pub stands : StandsAs desk.contents desk_after.contents ⊎ StandsAs (option_map (put_all entries) desk.contents) desk_after.contents
   pub each_moment : EachMomentSince (StandsAs (option_map (put_all entries) desk.contents)) desk.moments desk_after.moments
@@ -71,7 +76,8 @@ NamesFaults report =
     (report.faulted.items ≡ []) ⊎ ((end : End) × BearsOut (Some (down.LineDown end report.faulted.items)) (frames_in report))
 
 -- A session that began: what the words ask of it, what went over the line, and its cause where it stopped. Where the script is fair up to the
--- last frame no line goes down. Databases are told where it ended. What it left of both sides is that of the session of both.
+-- last frame no line goes down. Databases are told where it ended. What it left of both sides is that of the session of both, and the
+-- handheld stands at a front of that, as its folder did at each moment.
 pub record Talked (run : Run) (rules : List RuleValue) (device : Device) (slots : List SlotValue) (palm palm_after desk desk_after : FolderTold) (status : Status) (report : Report) : Type 0 where
   pub wishes : Wishes
   pub asked : AsksFor run wishes
@@ -84,6 +90,8 @@ pub record Talked (run : Run) (rules : List RuleValue) (device : Device) (slots 
   pub left : SessionLeft (meeting_of device slots wishes) palm_after desk desk_after report
   pub shows : StatusShows (meeting_of device slots wishes) report status
   pub refused : IsToldRefusal (meeting_of device slots wishes) status
+  pub front : Front (meeting_of device slots wishes) report.writes report.given.items line.last
+  pub fronts : EachMomentSince (StandsAtFront (meeting_of device slots wishes)) palm.moments palm_after.moments
 
 -- memory ran out before anything was sent, and both folders are as they were
 pub record KeptSilent (palm palm_after desk desk_after : FolderTold) (status : Status) (report : Report) : Type 0 where
