@@ -87,6 +87,13 @@ logged_all acts old new silent is does =
           ∙ ap (λ (l : List (List ℕ)). exchanged (take new.answered new.log.issued) l) (sym (take_all new.answered new.log.replies (omega (arith, past, is.performed_few)))) ∙ told.exchanges_are;
     }
 
+-- so nothing waits for an answer
+pub all_answered : {F : Type 0} (acts : List Act) (old new : WorldValue F) → old.log ≡ no_log → IsLog new.log new.answered → Does (λ (world : WorldValue F). Some (world_talk world)) acts old new
+    → length new.log.issued ≡ new.answered
+all_answered acts old new silent is does =
+    let past = get-past new.log.issued new.answered (told_all acts old new silent does).none_left in
+    omega (arith, past, is.replied, is.performed_few)
+
 -- ---- counts of writes
 
 pub count-append : (xs ys : List (List ℕ)) → length (filter changes (xs ++ ys)) ≡ length (filter changes xs) + length (filter changes ys)

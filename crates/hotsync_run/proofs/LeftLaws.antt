@@ -74,7 +74,7 @@ pub parts-are : (meeting : Meeting) (given : List ℕ) → map text (before_comm
 unfolding session
 parts-are meeting given = sym (map-append text (before_commit meeting given) (after_commit meeting)) ∙ text-session meeting given
 
-before-longer : (meeting : Meeting) (given : List ℕ) → length (map text (before_writes meeting)) < length (map text (before_commit meeting given))
+pub before-longer : (meeting : Meeting) (given : List ℕ) → length (map text (before_writes meeting)) < length (map text (before_commit meeting given))
 unfolding before_commit
 before-longer meeting given =
     let parts = ap length (map-append text (before_writes meeting) (begin_mark meeting ∷ all_news meeting (active meeting) given)) in
@@ -84,7 +84,7 @@ before-longer meeting given =
 prefix-more : (xs ys zs : List (List ℕ)) → IsPrefix xs ys → IsPrefix xs (ys ++ zs)
 prefix-more xs ys zs prefix = record { rest = prefix.rest ++ zs; is = sym (append_assoc xs prefix.rest zs) ∙ ap (λ (l : List (List ℕ)). l ++ zs) prefix.is }
 
-prefix-length : (xs ys : List (List ℕ)) → IsPrefix xs ys → length xs ≤ length ys
+pub prefix-length : (xs ys : List (List ℕ)) → IsPrefix xs ys → length xs ≤ length ys
 prefix-length xs ys prefix = let sum = sym (length-append xs prefix.rest) ∙ ap length prefix.is in omega (arith, sum)
 
 whole-prefix : (xs ys : List (List ℕ)) → xs ≡ ys → IsPrefix xs ys

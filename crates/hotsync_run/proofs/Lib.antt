@@ -17,4 +17,5 @@ pub mod StatusLaws
 pub mod TalkLaws
 pub mod TraceLaws
 pub mod UndisturbedLaws
+pub mod WholeLaws
 pub mod WriteLaws

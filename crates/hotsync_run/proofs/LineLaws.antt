@@ -1,5 +1,5 @@
 -- What went over a line, as a report tells it.
-use Rattle.std.proofs.Common.{◌≡◌, ◌∙◌, ap, refl, sym, subst, ℕ, suc, List, [], ◌∷◌, ◌++◌, length}
+use Rattle.std.proofs.Common.{◌≡◌, ◌∙◌, ◌<◌, ap, refl, sym, subst, ℕ, suc, List, [], ◌∷◌, ◌++◌, length}
 use Rattle.std.specs.Prelude.{map, Option}
 use Rattle.std.specs.List.{flat_map}
 use Rattle.hs_folders.specs.FileMaps.{FileMap}
@@ -12,7 +12,7 @@ use Rattle.line_script.specs.Rules.{RuleValue}
 use Rattle.line_script.specs.Scripts.{fate_by}
 use Rattle.line_world.specs.Folders.{StoodAfterSome}
 use Rattle.line_world.specs.Logs.{LogValue, no_log, said_in}
-use Rattle.line_world.specs.Worlds.{IsLog, TellBoth, WorldSince, WorldValue}
+use Rattle.line_world.specs.Worlds.{EndsAcknowledged, IsLog, TellBoth, WorldSince, WorldValue}
 use Rattle.hotsync_run.specs.LineRuns.{LineRan, TellsWorld, exchanges_in, frames_in, log_in}
 use Rattle.hotsync_run.specs.Told.{folder_told}
 use Rattle.hotsync_run.specs.declared.report.Report.{Report}
@@ -50,6 +50,7 @@ line_ran contents moments paths faults old new report silent stands since tells 
       told = subst (λ (l : LogValue). TellBoth (said_in l) (frames_in report)) (sym log) tells.told;
       answered = new.answered;
       log = subst (λ (l : LogValue). IsLog l new.answered) (sym log) tells.log;
+      acked = subst (λ (l : LogValue). 0 < new.answered → length l.issued ≡ new.answered → EndsAcknowledged l (frames_in report)) (sym log) tells.acked;
       last = new.server.device;
       ran = record {
         same = ap length replies ∙ same_length e ∙ sym (ap length performed);
@@ -64,3 +65,10 @@ line_ran contents moments paths faults old new report silent stands since tells 
       to_handheld = tells.to_handheld;
       to_desktop = tells.to_desktop;
     }
+
+-- it counts the answers of the world
+pub line_answered : {F : Type 0} (contents : F → Option FileMap) (moments : F → Moments) (paths : F → Option (List (List ℕ))) (faults : F → ℕ) (old new : WorldValue F) (report : Report)
+    (silent : old.log ≡ no_log) (stands : Stands (contents old.server.folder) old.server.device.databases old.server.device.user) (since : WorldSince contents moments paths faults old new) (tells : TellsWorld new report)
+    → (line_ran contents moments paths faults old new report silent stands since tells).answered ≡ new.answered
+unfolding line_ran
+line_answered contents moments paths faults old new report silent stands since tells = refl

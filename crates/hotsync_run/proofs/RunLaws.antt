@@ -227,6 +227,7 @@ line_from rules device first before after report stays line = record {
   told = line.told;
   answered = line.answered;
   log = line.log;
+  acked = line.acked;
   last = line.last;
   ran = line.ran;
   stands = line.stands;
@@ -261,6 +262,7 @@ left_from meeting palm_after first before after report stood left =
 
 talked_from : (run : Run) (rules : List RuleValue) (device : Device) (slots : List SlotValue) (first before after desk_first desk_before desk_after : FolderTold) (status : Status) (report : Report) → StaysAsItWas first before → StandsAsItDid desk_first desk_before
     → Talked run rules device slots before after desk_before desk_after status report → Talked run rules device slots first after desk_first desk_after status report
+unfolding line_from
 talked_from run rules device slots first before after desk_first desk_before desk_after status report stays stood talked = record {
   wishes = talked.wishes;
   asked = talked.asked;
@@ -269,6 +271,7 @@ talked_from run rules device slots first before after desk_first desk_before des
   caused = talked.caused;
   fair = talked.fair;
   faulted = talked.faulted;
+  dealt = talked.dealt;
   stopped = talked.stopped;
   left = left_from (meeting_of device slots talked.wishes) after desk_first desk_before desk_after report stood talked.left;
   shows = talked.shows;

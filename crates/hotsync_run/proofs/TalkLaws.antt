@@ -20,10 +20,11 @@ use Rattle.run_words.specs.Runs.{Run}
 use Rattle.trace_text.specs.TraceLines.{FrameValue}
 use Rattle.desktop_session.specs.declared.fault.SessionFault.{SessionFault}
 use Rattle.desktop_session.specs.declared.fault.SessionFault.TheVariants as session
-use Rattle.line_world.specs.Causes.{BearsOut, down_end}
+use Rattle.line_world.specs.Causes.{BearsOut, IsCause, down_end}
 use Rattle.line_world.specs.declared.down.Down.{Down}
 use Rattle.line_world.specs.declared.down.Down.TheVariants as down
 use Rattle.sync_session.specs.Leaving.{LeavesFolder}
+use Rattle.sync_session.specs.Outcomes.{tellings}
 use Rattle.sync_session.specs.declared.outcome.Outcome.{Outcome}
 use Rattle.sync_session.specs.declared.report.DbReport.{DbReport}
 use Rattle.sync_session.specs.Tasks.{Meeting, meeting_of}
@@ -33,17 +34,20 @@ use Rattle.dlp_commands.specs.declared.link.LinkFault.{LinkFault}
 use Rattle.sync_session.specs.declared.stop.Stop.{Stop}
 use Rattle.sync_session.specs.declared.stop.Stop.TheVariants as stop
 use Rattle.hotsync_run.specs.Causes.{ByEnd, EndsAs, IsLineDown, IsUnsaid, cause_in, down_status, fault_status, numbers_by, stop_status}
+use Rattle.hotsync_run.specs.Ends.{SessionLeft, StatusShows}
 use Rattle.hotsync_run.specs.LineRuns.{TellsWorld, frames_in}
 use Rattle.hotsync_run.specs.Reports.{IsNotStarted}
 use Rattle.hotsync_run.specs.Talks.{ChangedOnce, IsLeft, IsTalk, KeptSilent, Talked, left_databases, left_end}
 use Rattle.hotsync_run.specs.Told.{FolderTold, folder_told}
+use Rattle.hotsync_run.specs.Whole.{DealtWith}
 use Rattle.hotsync_run.specs.Wishes.{AsksFor}
 use Rattle.hotsync_run.specs.Ends.{SessionLeft}
 use Rattle.hotsync_run.proofs.FrontLaws.{front_of}
 use Rattle.hotsync_run.proofs.FrontMoments.{fronts_at_moments}
 use Rattle.hotsync_run.proofs.LeftLaws.{EndsOver, Tells, session_left}
-use Rattle.hotsync_run.proofs.LineLaws.{line_ran}
+use Rattle.hotsync_run.proofs.LineLaws.{line_answered, line_ran}
 use Rattle.hotsync_run.proofs.StatusLaws.{refusal_told, status_shows}
+use Rattle.hotsync_run.proofs.WholeLaws.{dealt_with}
 use Rattle.hotsync_run.specs.declared.left.Left.{Left}
 use Rattle.hotsync_run.specs.declared.report.Report.{Report}
 use Rattle.hotsync_run.specs.declared.report.SessionEnd.{SessionEnd}
@@ -177,14 +181,14 @@ pub spoke : {F D : Type 0} (contents : F → Option FileMap) (moments : F → Mo
     (run : Run) (wishes : Wishes) (slots : List SlotValue) (old : WorldValue F) (folder : D) (outcome : Outcome (WorldValue F) D) (cause : Option Down) (left : Left) (report : Report)
     → AsksFor run wishes → Stands (contents old.server.folder) old.server.device.databases old.server.device.user → old.log ≡ no_log → old.cause ≡ None
     → WorldSince contents moments paths faults old outcome.link → LeavesFolder desk_contents desk_moments desk_paths desk_faults folder outcome
-    → cause ≡ outcome.link.cause → BearsOut outcome.link.cause outcome.link.frames → (IsFairUpTo (length outcome.link.frames) (fate_by outcome.link.script) → down_end outcome.link.cause ≡ None)
+    → cause ≡ outcome.link.cause → IsCause outcome.link.fault outcome.link.cause → BearsOut outcome.link.cause outcome.link.frames → (IsFairUpTo (length outcome.link.frames) (fate_by outcome.link.script) → down_end outcome.link.cause ≡ None)
     → IsSoundMeeting (meeting_of old.server.device slots wishes)
     → EndsOver contents moments paths faults fault downs (meeting_of old.server.device slots wishes) old outcome.link
     (folder_told desk_contents desk_moments desk_paths desk_faults folder) (folder_told desk_contents desk_moments desk_paths desk_faults outcome.folder) outcome.end
     → IsLeft outcome.end cause left → TellsWorld outcome.link report → report.end ≡ left.end → report.databases.items ≡ left.databases.items → report.faulted.items ≡ left.faulted.items
     → IsTalk run old.script old.server.device slots (folder_told contents moments paths faults old.server.folder) (folder_told contents moments paths faults outcome.link.server.folder)
     (folder_told desk_contents desk_moments desk_paths desk_faults folder) (folder_told desk_contents desk_moments desk_paths desk_faults outcome.folder) left.status report
-spoke contents moments paths faults desk_contents desk_moments desk_paths desk_faults fault downs run wishes slots old folder outcome cause left report asked stands silent calm since leaves cause_is borne fair sound ends is tells end_is databases_are faulted_are =
+spoke contents moments paths faults desk_contents desk_moments desk_paths desk_faults fault downs run wishes slots old folder outcome cause left report asked stands silent calm since leaves cause_is caused borne fair sound ends is tells end_is databases_are faulted_are =
     let new = outcome.link in
     let borne_out : BearsOut cause new.frames = subst (λ (c : Option Down). BearsOut c new.frames) (sym cause_is) borne in
     let shown = shown_left outcome.end cause left new.frames is borne_out in
@@ -199,15 +203,21 @@ spoke contents moments paths faults desk_contents desk_moments desk_paths desk_f
     let databases : report.databases.items ≡ left_databases outcome.end = databases_are ∙ is.databases in
     let meeting : Meeting = meeting_of old.server.device slots wishes in
     let session : SessionLeft meeting palm_after desk desk_after report = session_left contents moments paths faults fault downs meeting old new palm_after desk desk_after report outcome.end sound refl sides end databases ends in
+    let ends_as : EndsAs left.status report.end = subst (λ (e : SessionEnd). EndsAs left.status e) (sym end_is) shown.ends in
+    let bears : BearsOut (cause_in left.status report.faulted.items) (frames_in report) = subst (λ (n : List ℕ). BearsOut (cause_in left.status n) (frames_in report)) (sym faulted_are)
+    (subst (λ (f : List FrameValue). BearsOut (cause_in left.status left.faulted.items) f) (sym tells.frames) shown.caused) in
     let talked : Talked run old.script old.server.device slots palm palm_after desk desk_after left.status report = record {
       wishes = wishes;
       asked = asked;
       line = line;
-      ends = subst (λ (e : SessionEnd). EndsAs left.status e) (sym end_is) shown.ends;
-      caused = subst (λ (n : List ℕ). BearsOut (cause_in left.status n) (frames_in report)) (sym faulted_are) (subst (λ (f : List FrameValue). BearsOut (cause_in left.status left.faulted.items) f) (sym tells.frames) shown.caused);
+      ends = ends_as;
+      caused = bears;
       fair = λ calm_script fallen. shown.up (ap (λ (c : Option Down). down_end c) cause_is ∙ fair (subst (λ (f : List FrameValue). IsFairUpTo (length f) (fate_by new.script)) tells.frames
           (subst (λ (rules : List RuleValue). IsFairUpTo (length (frames_in report)) (fate_by rules)) (sym since.same_script) calm_script))) fallen;
       faulted = faults_moved report.faulted.items left.faulted.items (frames_in report) new.frames faulted_are tells.frames shown.faulted;
+      dealt = subst (λ (n : ℕ). DealtWith meeting left.status report n) (sym (line_answered contents moments paths faults old new report silent stands since tells))
+          (dealt_with fault meeting (tellings desk_contents desk_moments folder outcome.folder) old new palm_after desk desk_after report
+          outcome.end cause left sides tells is cause_is caused end_is line.ran.same shown.up shown.keeper ends_as bears ends.cause ends.ended session);
       stopped = λ e. databases_are ∙ left_none outcome.end cause left is (sym end_is ∙ e);
       left = session;
       shows = status_shows contents moments paths faults fault downs (meeting_of old.server.device slots wishes) old new palm_after desk desk_after report outcome.end cause left.status sides is.status ends;

@@ -1,5 +1,5 @@
 -- What is known of a session stays, whatever becomes of its trace.
-use Rattle.std.proofs.Common.{◌≡◌, ◌≤◌, ◌++◌, inl, inr, refl, sym, subst, ◌∙◌, List, [], ℕ}
+use Rattle.std.proofs.Common.{◌≡◌, ◌⊎◌, ◌≤◌, ◌++◌, inl, inr, refl, sym, subst, ◌∙◌, List, [], ℕ}
 use Rattle.std.specs.Option.{option_map}
 use Rattle.std.specs.Prelude.{◌⊎◌, Option, None, Some, IfSome, IsSome, Result, Ok, Err}
 use Rattle.hs_folders.proofs.Prefixes.{all_taken}
@@ -15,12 +15,14 @@ use Rattle.run_words.specs.Runs.{Run}
 use Rattle.sync_session.specs.Limits.{first_over}
 use Rattle.sync_session.specs.Outcomes.{seat_of}
 use Rattle.sync_session.specs.Tasks.{meeting_of}
-use Rattle.hotsync_run.specs.Causes.{ByEnd, EndsAs, IsLineDown, IsTracedStatus, IsUnsaid, cause_in, fault_status}
+use Rattle.hotsync_run.specs.Causes.{ByEnd, EndsAs, IsFallen, IsLineDown, IsTracedStatus, IsUnsaid, cause_in, fault_status}
 use Rattle.hotsync_run.specs.Ends.{IsCutShort, IsToldRefusal, StatusShows, status_refused}
 use Rattle.hotsync_run.specs.LineRuns.{frames_in}
 use Rattle.hotsync_run.specs.Refusals.{BlamesHandheld, BlamesScript}
 use Rattle.hotsync_run.specs.Talks.{IsTalk, KeptSilent, Talked}
 use Rattle.hotsync_run.specs.Told.{FolderTold, SinkTold}
+use Rattle.hotsync_run.specs.Whole.{StopsAnswered}
+use Rattle.hotsync_run.proofs.WholeLaws.{dealt_as}
 use Rattle.hotsync_run.specs.Traces.{IsTracedTalk, SilentTrace, TalkedTrace, TracesFrames, TracesText}
 use Rattle.hotsync_run.specs.declared.report.Report.{Report}
 use Rattle.hotsync_run.specs.declared.report.SessionEnd.{SessionEnd}
@@ -42,9 +44,10 @@ by_end_both Stopped not began is = began is
 
 -- what is known of a session under another status
 talked_as : (run : Run) (rules : List RuleValue) (device : Device) (slots : List SlotValue) (palm palm_after desk desk_after : FolderTold) (status other : Status) (report : Report) → (talked : Talked run rules device slots palm palm_after desk desk_after status report)
-    → EndsAs other report.end → BearsOut (cause_in other report.faulted.items) (frames_in report) → (IsLineDown other → ⊥) → StatusShows (meeting_of device slots talked.wishes) report other
-    → IsToldRefusal (meeting_of device slots talked.wishes) other → Talked run rules device slots palm palm_after desk desk_after other report
-talked_as run rules device slots palm palm_after desk desk_after status other report talked ends caused up shows refused = record {
+    → EndsAs other report.end → BearsOut (cause_in other report.faulted.items) (frames_in report) → (IsLineDown other → ⊥) → (IsFallen other → ⊥) → (StopsAnswered other → ⊥)
+    → (report.end ≡ Ended) ⊎ (other ≡ NoMemory) → StatusShows (meeting_of device slots talked.wishes) report other → IsToldRefusal (meeting_of device slots talked.wishes) other
+    → Talked run rules device slots palm palm_after desk desk_after other report
+talked_as run rules device slots palm palm_after desk desk_after status other report talked ends caused up stands free over shows refused = record {
   wishes = talked.wishes;
   asked = talked.asked;
   line = talked.line;
@@ -52,6 +55,7 @@ talked_as run rules device slots palm palm_after desk desk_after status other re
   caused = caused;
   fair = λ fair. up;
   faulted = talked.faulted;
+  dealt = dealt_as (meeting_of device slots talked.wishes) status other report talked.line.answered up stands free over talked.dealt;
   stopped = talked.stopped;
   left = talked.left;
   shows = shows;
@@ -85,7 +89,8 @@ done_refused (Ok user) None other is = tt
 
 pub talked_memory : (run : Run) (rules : List RuleValue) (device : Device) (slots : List SlotValue) (palm palm_after desk desk_after : FolderTold) (status : Status) (report : Report) → Talked run rules device slots palm palm_after desk desk_after status report
     → Talked run rules device slots palm palm_after desk desk_after NoMemory report
-talked_memory run rules device slots palm palm_after desk desk_after status report talked = talked_as run rules device slots palm palm_after desk desk_after status NoMemory report talked tt tt (λ is. is) tt
+talked_memory run rules device slots palm palm_after desk desk_after status report talked =
+    talked_as run rules device slots palm palm_after desk desk_after status NoMemory report talked tt tt (λ is. is) (λ is. is) (λ is. is) (inr refl) tt
     (memory_refused (status_refused (seat_of (meeting_of device slots talked.wishes)) (first_over (meeting_of device slots talked.wishes))))
 
 talked_done : (run : Run) (rules : List RuleValue) (device : Device) (slots : List SlotValue) (palm palm_after desk desk_after : FolderTold) (status : Status) (report : Report) → status ≡ Done → Talked run rules device slots palm palm_after desk desk_after status report → report.end ≡ Ended
@@ -94,14 +99,16 @@ talked_done run rules device slots palm palm_after desk desk_after status report
 pub talked_untold : (run : Run) (rules : List RuleValue) (device : Device) (slots : List SlotValue) (palm palm_after desk desk_after : FolderTold) (status : Status) (report : Report) → status ≡ Done → Talked run rules device slots palm palm_after desk desk_after status report
     → Talked run rules device slots palm palm_after desk desk_after TraceWrite report
 talked_untold run rules device slots palm palm_after desk desk_after status report done talked =
-    talked_as run rules device slots palm palm_after desk desk_after status TraceWrite report talked (talked_done run rules device slots palm palm_after desk desk_after status report done talked) tt (λ is. is) tt
+    let ended = talked_done run rules device slots palm palm_after desk desk_after status report done talked in
+    talked_as run rules device slots palm palm_after desk desk_after status TraceWrite report talked ended tt (λ is. is) (λ is. is) (λ is. is) (inl ended) tt
     (done_refused (seat_of (meeting_of device slots talked.wishes)) (first_over (meeting_of device slots talked.wishes)) TraceWrite
     (subst (IsToldRefusal (meeting_of device slots talked.wishes)) done talked.refused))
 
 pub talked_unsaid : (run : Run) (rules : List RuleValue) (device : Device) (slots : List SlotValue) (palm palm_after desk desk_after : FolderTold) (status : Status) (report : Report) → status ≡ Done → Talked run rules device slots palm palm_after desk desk_after status report
     → Talked run rules device slots palm palm_after desk desk_after OutWrite report
 talked_unsaid run rules device slots palm palm_after desk desk_after status report done talked =
-    talked_as run rules device slots palm palm_after desk desk_after status OutWrite report talked (talked_done run rules device slots palm palm_after desk desk_after status report done talked) tt (λ is. is) tt
+    let ended = talked_done run rules device slots palm palm_after desk desk_after status report done talked in
+    talked_as run rules device slots palm palm_after desk desk_after status OutWrite report talked ended tt (λ is. is) (λ is. is) (λ is. is) (inl ended) tt
     (done_refused (seat_of (meeting_of device slots talked.wishes)) (first_over (meeting_of device slots talked.wishes)) OutWrite
     (subst (IsToldRefusal (meeting_of device slots talked.wishes)) done talked.refused))
 

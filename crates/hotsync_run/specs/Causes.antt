@@ -75,6 +75,15 @@ abbrev pub IsLineDown : Status → Type 0
 IsLineDown (LineDown end) = ⊤
 IsLineDown other = ⊥
 
+-- the line is down, or the handheld's folder failed
+abbrev pub IsFallen : Status → Type 0
+IsFallen (LineDown end) = ⊤
+IsFallen (Unplugged number) = ⊤
+IsFallen (Aborted number) = ⊤
+IsFallen (Undetected number) = ⊤
+IsFallen HandheldFolder = ⊤
+IsFallen other = ⊥
+
 -- neither the trace nor standard output is blamed yet
 abbrev pub IsUnsaid : Status → Type 0
 IsUnsaid TraceWrite = ⊥

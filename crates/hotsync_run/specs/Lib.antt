@@ -19,4 +19,5 @@ pub mod Told
 pub mod Traces
 pub mod Undisturbed
 pub mod Views
+pub mod Whole
 pub mod Wishes

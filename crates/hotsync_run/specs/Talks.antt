@@ -28,6 +28,7 @@ use Rattle.hotsync_run.specs.Ends.{IsToldRefusal, SessionLeft, StandsAtFront, St
 use Rattle.hotsync_run.specs.LineRuns.{LineRan, frames_in}
 use Rattle.hotsync_run.specs.Reports.{IsNotStarted}
 use Rattle.hotsync_run.specs.Told.{FolderTold}
+use Rattle.hotsync_run.specs.Whole.{DealtWith}
 use Rattle.hotsync_run.specs.Wishes.{AsksFor}
 use Rattle.hotsync_run.specs.declared.left.Left.{Left}
 use Rattle.hotsync_run.specs.declared.report.Report.{Report}
@@ -75,9 +76,9 @@ abbrev pub NamesFaults : Report → Type 0
 NamesFaults report =
     (report.faulted.items ≡ []) ⊎ ((end : End) × BearsOut (Some (down.LineDown end report.faulted.items)) (frames_in report))
 
--- A session that began: what the words ask of it, what went over the line, and its cause where it stopped. Where the script is fair up to the
--- last frame no line goes down. Databases are told where it ended. What it left of both sides is that of the session of both, and the
--- handheld stands at a front of that, as its folder did at each moment.
+-- A session that began: what the words ask of it, what went over the line and how far it was dealt with, and its cause where it stopped. Where the
+-- script is fair up to the last frame no line goes down. Databases are told where it ended. What it left of both sides is that of the session of both,
+-- and the handheld stands at a front of that, as its folder did at each moment.
 pub record Talked (run : Run) (rules : List RuleValue) (device : Device) (slots : List SlotValue) (palm palm_after desk desk_after : FolderTold) (status : Status) (report : Report) : Type 0 where
   pub wishes : Wishes
   pub asked : AsksFor run wishes
@@ -86,6 +87,7 @@ pub record Talked (run : Run) (rules : List RuleValue) (device : Device) (slots 
   pub caused : BearsOut (cause_in status report.faulted.items) (frames_in report)
   pub fair : IsFairUpTo (length (frames_in report)) (fate_by rules) → ¬ IsLineDown status
   pub faulted : NamesFaults report
+  pub dealt : DealtWith (meeting_of device slots wishes) status report line.answered
   pub stopped : report.end ≡ Stopped → report.databases.items ≡ []
   pub left : SessionLeft (meeting_of device slots wishes) palm_after desk desk_after report
   pub shows : StatusShows (meeting_of device slots wishes) report status

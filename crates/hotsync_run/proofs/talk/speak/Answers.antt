@@ -17,7 +17,7 @@ returns g c =
     rw (made.ensures.folder)
     (spoke g.H.Folder.contents g.H.Folder.moments g.H.Folder.paths g.H.Folder.faults g.D.Folder.contents g.D.Folder.moments g.D.Folder.paths g.D.Folder.faults (λ world. world.fault) (λ world. downs_of world.fault)
     (run_view c.args.words.now) c.args.wishes.now c.args.desk.slots c.args.world c.args.desk.folder outcome.result (option_copied c.cause.result) left.result made.result.0
-    c.requires.asked c.requires.stands c.requires.silent c.requires.cause outcome.ensures.link.later outcome.ensures.folder c.cause.ensures.cause c.cause.ensures.borne_out c.cause.ensures.fair
+    c.requires.asked c.requires.stands c.requires.silent c.requires.cause outcome.ensures.link.later outcome.ensures.folder c.cause.ensures.cause c.cause.ensures.caused c.cause.ensures.borne_out c.cause.ensures.fair
     (sound_meeting c.args.world.server.device c.args.desk.slots c.args.wishes.now rests c.requires.bounded c.requires.date)
     (outcome.ensures.ends (world_talk c.args.world) c.requires.ordered refl rests)
     left.ensures made.ensures.tells made.ensures.end (ap (λ v. v.items) made.ensures.databases) (ap (λ v. v.items) made.ensures.faulted))
