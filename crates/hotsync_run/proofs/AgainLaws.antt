@@ -1,26 +1,21 @@
 -- What a stopped run left is what the next one meets: so the last one takes up all that stopped.
-use Rattle.std.proofs.Common.{◌≡◌, ◌⊎◌, ◌∙◌, ◌+◌, ◌≤◌, ◌<◌, ap, refl, sym, subst, arith, inl, inr, ℕ, zero, suc, Bool, true, false, List, [], ◌∷◌, ◌++◌, length, map}
+use Rattle.std.proofs.Common.{◌≡◌, ◌⊎◌, ◌∙◌, ◌≤◌, ◌<◌, ap, refl, sym, subst, arith, inl, inr, ℕ, suc, Bool, true, false, List, [], ◌∷◌, length, map}
 use Rattle.std.specs.Prelude.{Option, Some, None, IfSome, IsSome, filter, if◌then◌else◌, replicate}
-use Rattle.std.specs.FinMap as finmap
 use Rattle.std.specs.Option.{option_map}
 use Rattle.std.proofs.lemmas.List.{length-append, map-append}
 use Rattle.hs_folders.specs.FileMaps.{FileMap}
 use Rattle.pdb_values.specs.declared.user.UserInfo.{UserInfo}
-use Rattle.palm_device.specs.Devices.{Device}
-use Rattle.palm_device.specs.Handles.{no_handles}
-use Rattle.conduit_rules.specs.declared.action.Action.{Action}
 use Rattle.dlp_commands.specs.Changes.{changes}
 use Rattle.dlp_commands.proofs.StepLaws.{changes-text}
 use Rattle.handheld_files.specs.Openings.{HoldsAll, Stands}
-use Rattle.desk_journal.specs.Overlays.{StandsAs, finished, overlay}
-use Rattle.desk_store.specs.Desks.{IsDesk, IsDeskOf}
-use Rattle.desk_store.specs.Shelves.{AreInOrder, SlotValue, slot_at}
+use Rattle.desk_journal.specs.Overlays.{StandsAs, finished}
+use Rattle.desk_store.specs.Desks.{IsDesk}
+use Rattle.desk_store.specs.Shelves.{slot_at}
 use Rattle.desk_store.proofs.OpenLaws.{picked_number}
 use Rattle.desktop_session.specs.Acts.{text}
 use Rattle.desktop_session.specs.Says.{IsPrefix}
 use Rattle.line_script.specs.Rules.{RuleValue}
 use Rattle.run_words.specs.Actions.{action_for}
-use Rattle.run_words.specs.Runs.{Run}
 use Rattle.sync_session.specs.Choosing.{action_or_sync}
 use Rattle.sync_session.specs.Fronts.{Front}
 use Rattle.sync_session.specs.Limits.{first_over}
@@ -30,84 +25,32 @@ use Rattle.sync_session.specs.Outcomes.{StandsForSlots}
 use Rattle.sync_session.specs.Sessions.{adds_of, after_commit, before_commit, before_writes, requests, writes_before_commit}
 use Rattle.sync_session.specs.Skips.{active}
 use Rattle.sync_session.specs.Tasks.{Meeting, action_of_word, meeting_of, place_for, slot_of}
-use Rattle.sync_session.specs.Users.{agreed_user, begin_mark, begun_user}
+use Rattle.sync_session.specs.Users.{agreed_user, begin_mark}
 use Rattle.sync_session.proofs.QuietLaws.{quiet-before_writes}
-use Rattle.session_laws.specs.Meetings.{AsksTheSame, IsActive, action_at, found_of, holding_after, ids_at}
-use Rattle.session_laws.specs.Renaming.{SameEnds}
+use Rattle.session_laws.specs.Meetings.{AsksTheSame, IsActive, action_at, found_of, ids_at}
 use Rattle.session_laws.specs.Repeats.{GotAllIds}
 use Rattle.session_fronts.specs.Again.{AllRunAgain, HasSlot, Later, RunsAgain, last_run}
 use Rattle.session_fronts.specs.Stops.{StandsAmongNews, StandsBehindCommit}
 use Rattle.session_fronts.proofs.FrontLaws.{front-among, front-behind}
 use Rattle.session_fronts.proofs.ManyLaws.{all-run_again}
 use Rattle.session_fronts.proofs.StopLaws.{active-among, active-behind}
-use Rattle.hotsync_run.specs.Again.{AllMeet, AllRan, AreOfOneKind, AreTold, CanGive, DidRun, EndsAsOne, IsRepeat, Meets, RunCall, TakesUp, last_call}
+use Rattle.hotsync_run.specs.Again.{AllMeet, AllRan, AreTold, DidRun, EndsAsOne, Meets, RunCall, TakesUp, last_call}
 use Rattle.hotsync_run.specs.Causes.{ByEnd}
 use Rattle.hotsync_run.specs.Ends.{EndedSession, SessionLeft, StoppedBefore, StoppedBehind}
 use Rattle.hotsync_run.specs.LineRuns.{LineRan, log_in, write_count}
-use Rattle.hotsync_run.specs.Runs.{IsRun, SentNothing, SessionRan}
-use Rattle.hotsync_run.specs.Told.{CallTold, FolderTold, SinkTold}
-use Rattle.hotsync_run.specs.Wishes.{AsksFor, actions_by}
+use Rattle.hotsync_run.specs.Runs.{SentNothing, SessionRan}
+use Rattle.hotsync_run.specs.Told.{CallTold}
+use Rattle.hotsync_run.specs.Wishes.{actions_by}
 use Rattle.hotsync_run.specs.declared.report.Report.{Report}
 use Rattle.hotsync_run.specs.declared.report.SessionEnd.{SessionEnd}
 use Rattle.hotsync_run.specs.declared.report.SessionEnd.TheVariants.{Ended, Stopped}
-use Rattle.hotsync_run.specs.declared.status.Status.{Status}
-use Rattle.hotsync_run.proofs.EndLaws.{count-append, performed-prefix, prefix-count, same_some}
+use Rattle.hotsync_run.proofs.EndLaws.{count-append, performed-prefix, prefix-count}
 use Rattle.hotsync_run.proofs.FrontLaws.{front_of}
 use Rattle.hotsync_run.proofs.LeftLaws.{no-limit, parts-are, writes-before}
-use Rattle.hotsync_run.proofs.OneLaws.{IsOne, desk-overlay, one-desktop, one-handheld}
+use Rattle.hotsync_run.proofs.OneLaws.{IsOne, merged_met, same_handheld, same_slots}
 use Rattle.hotsync_run.proofs.OverLaws.{MeetsTheSame, over-same}
 use Rattle.hotsync_run.proofs.QuietRuns.{IsKept, quiet-run}
 use Rattle.hotsync_run.proofs.SlotLaws.{merged-ordered, merged-picked, merged-place, picked-near, same-place}
-
--- ---- what folders stand for
-
-same_handheld : (told : Option FileMap) (last device : Device) → IsSome told → Stands told last.databases last.user
-    → IfSome told (λ held. HoldsAll held device.databases device.user) → IsOne device.databases last.databases device.user last.user
-same_handheld None last device there stands holds = absurd (let no : ⊥ = cc in no)
-same_handheld (Some held) last device there stands holds =
-    one-handheld (finmap.get held) device.databases last.databases device.user last.user holds.stands stands
-
-one_told : (told : Option FileMap) (one other : Device) → IsSome told → IfSome told (λ held. HoldsAll held one.databases one.user)
-    → IfSome told (λ held. HoldsAll held other.databases other.user) → IsOne other.databases one.databases other.user one.user
-one_told None one other there first second = absurd (let no : ⊥ = cc in no)
-one_told (Some held) one other there first second =
-    one-handheld (finmap.get held) other.databases one.databases other.user one.user second.stands first.stands
-
--- a folder that stands for what it stood for has the slots that it had
-same_slots : (first last : Option FileMap) (slots next : List SlotValue) → IsSome first → IsSome last → StandsAs first last
-    → IsDesk (option_map finished first) slots → IsDesk (option_map finished last) next → next ≡ slots
-same_slots None last slots next there there' stands old new = absurd (let no : ⊥ = cc in no)
-same_slots (Some a) None slots next there there' stands old new = absurd (let no : ⊥ = cc in no)
-same_slots (Some a) (Some b) slots next there there' stands old new =
-    let same : overlay b ≡ overlay a = same_some (overlay b) (overlay a) stands in
-    one-desktop (overlay a) next slots new.ordered old.ordered (subst (λ files. IsDeskOf files next) same (desk-overlay b next new.stands)) (desk-overlay a slots old.stands)
-
--- one that stands for the merge has its slots
-merged_met : (last : Option FileMap) (merged next : List SlotValue) → IsSome last → StandsForSlots merged last → AreInOrder merged
-    → IsDesk (option_map finished last) next → next ≡ merged
-merged_met None merged next there stands order new = absurd (let no : ⊥ = cc in no)
-merged_met (Some b) merged next there stands order new = one-desktop (overlay b) next merged new.ordered order (desk-overlay b next new.stands) stands
-
-told_slots : (told : Option FileMap) (one other : List SlotValue) → IsSome told → IsDesk (option_map finished told) one
-    → IsDesk (option_map finished told) other → other ≡ one
-told_slots told one other there first second = same_slots told told one other there there refl first second
-
-pub one-meeting : (run : Run) (before : CallTold) (meeting other : Meeting) → AreTold before → Meets run before meeting → Meets run before other
-    → AreOfOneKind meeting other
-one-meeting run before meeting other told first second =
-    let held = one_told before.palm.contents meeting.device other.device told.palm first.handheld second.handheld in
-    let device : other.device ≡ meeting.device = (λ k. record {
-      databases = held.databases k;
-      user = held.user_is k;
-      handles = (second.closed ∙ sym first.closed) k;
-    }) in
-    let slots : other.slots ≡ meeting.slots = told_slots before.desk.contents meeting.slots other.slots told.desk first.desktop second.desktop in
-    let add : other.wishes.add_user ≡ meeting.wishes.add_user = second.asked.add_user ∙ sym first.asked.add_user in
-    record {
-      device = device;
-      slots = slots;
-      picked = second.picked ∙ (λ k. place_for (device k) (slots k) (add k)) ∙ sym first.picked;
-    }
 
 -- ---- a session
 
@@ -133,7 +76,8 @@ some_writes : (m : Meeting) → 1 ≤ writes_before_commit m
 unfolding writes_before_commit before_commit text
 some_writes m =
     let news = map text (all_news m (active m) (replicate (adds_of m) 0)) in
-    let parts = ap (λ (l : List (List ℕ)). length (filter changes l)) (map-append text (before_writes m) (begin_mark m ∷ all_news m (active m) (replicate (adds_of m) 0)))
+    let parts =
+    ap (λ (l : List (List ℕ)). length (filter changes l)) (map-append text (before_writes m) (begin_mark m ∷ all_news m (active m) (replicate (adds_of m) 0)))
     ∙ count-append (map text (before_writes m)) (text (begin_mark m) ∷ news) in
     let one = by news (changes (text (begin_mark m))) (changes-text (begin_mark m).asks) in
     omega (arith, parts, one)
@@ -147,7 +91,9 @@ some_writes m =
 none-over : (ran : Ran) → EndedSession ran.meeting ran.after.palm ran.after.desk ran.report → first_over ran.meeting ≡ None
 none-over ran ended =
     let none : List ℕ = replicate (adds_of ran.meeting) 0 in
-    let parts = ap length (ended.issued ∙ sym (parts-are ran.meeting none)) ∙ length-append (map text (before_commit ran.meeting none)) (map text (after_commit ran.meeting)) in
+    let parts =
+    ap length (ended.issued ∙ sym (parts-are ran.meeting none))
+    ∙ length-append (map text (before_commit ran.meeting none)) (map text (after_commit ran.meeting)) in
     no-limit ran.meeting none (log_in ran.report).issued (first_over ran.meeting) (omega (arith, parts)) ran.left.over
 
 all-written : (ran : Ran) → EndedSession ran.meeting ran.after.palm ran.after.desk ran.report → writes_before_commit ran.meeting ≤ ran.report.writes
@@ -155,8 +101,11 @@ unfolding write_count
 all-written ran ended =
     let m : Meeting = ran.meeting in
     let none : List ℕ = replicate (adds_of m) 0 in
-    let counted : ran.report.writes ≡ length (filter changes (requests m)) = ran.line.writes ∙ ap (λ (l : List (List ℕ)). length (filter changes l)) ended.performed in
-    let parts = ap (λ (l : List (List ℕ)). length (filter changes l)) (sym (parts-are m none)) ∙ count-append (map text (before_commit m none)) (map text (after_commit m)) in
+    let counted : ran.report.writes ≡ length (filter changes (requests m)) =
+    ran.line.writes ∙ ap (λ (l : List (List ℕ)). length (filter changes l)) ended.performed in
+    let parts =
+    ap (λ (l : List (List ℕ)). length (filter changes l)) (sym (parts-are m none))
+    ∙ count-append (map text (before_commit m none)) (map text (after_commit m)) in
     omega (arith, counted, parts, writes-before m none)
 
 -- ---- a limit
@@ -176,7 +125,8 @@ unfolding write_count
 wrote_none ran over =
     let m : Meeting = ran.meeting in
     let log = log_in ran.report in
-    let begins : IsPrefix log.performed (map text (before_writes m)) = performed-prefix log ran.line.answered (map text (before_writes m)) ran.line.log (ran.left.over over) in
+    let begins : IsPrefix log.performed (map text (before_writes m)) =
+    performed-prefix log ran.line.answered (map text (before_writes m)) ran.line.log (ran.left.over over) in
     let few = prefix-count log.performed (map text (before_writes m)) begins in
     let count : length (filter changes (map text (before_writes m))) ≡ 0 = ap length (quiet-before_writes m) in
     let none : filter changes log.performed ≡ [] = no_items (filter changes log.performed) (omega (arith, few, count)) in
@@ -214,12 +164,14 @@ met-front ran next is =
     }
 
 -- before the commit the slots are as they were, and behind it they are merged
-slots-before : (ran next : Ran) → Precedes ran next → StoppedBefore ran.meeting ran.before.desk ran.after.desk ran.report → next.meeting.slots ≡ ran.meeting.slots
+slots-before : (ran next : Ran) → Precedes ran next → StoppedBefore ran.meeting ran.before.desk ran.after.desk ran.report
+    → next.meeting.slots ≡ ran.meeting.slots
 slots-before ran next is b =
     same_slots ran.before.desk.contents next.before.desk.contents ran.meeting.slots next.meeting.slots ran.told.desk next.told.desk
     (subst (λ (told : Option FileMap). StandsAs ran.before.desk.contents told) (sym is.desk) b.stands) ran.desktop next.desktop
 
-slots-behind : (ran next : Ran) → Precedes ran next → StoppedBehind ran.meeting ran.after.desk ran.report → next.meeting.slots ≡ merged_slots ran.meeting (given_in ran)
+slots-behind : (ran next : Ran) → Precedes ran next → StoppedBehind ran.meeting ran.after.desk ran.report
+    → next.meeting.slots ≡ merged_slots ran.meeting (given_in ran)
 slots-behind ran next is b =
     merged_met next.before.desk.contents (merged_slots ran.meeting (given_in ran)) next.meeting.slots next.told.desk
     (subst (λ (told : Option FileMap). StandsForSlots (merged_slots ran.meeting (given_in ran)) told) (sym is.desk) b.stands)
@@ -391,7 +343,8 @@ taken-up ran later all =
       each = λ name new active fresh can.
           (all-run_again ran.meeting (laters ran later) given new name ran.left.sound (runs-all ran later all) active fresh
           (subst (λ (m : Meeting). GotAllIds (action_at ran.meeting name) (found_of m name) (ids_at m given name)) now
-          (subst (λ a. GotAllIds a (found_of last.meeting name) (ids_at last.meeting given name)) (on.action name) (got-of last ended name (on.kept name active))))
+          (subst (λ a. GotAllIds a (found_of last.meeting name) (ids_at last.meeting given name)) (on.action name)
+          (got-of last ended name (on.kept name active))))
           can.got can.unknown).1;
     }
 
@@ -400,7 +353,9 @@ taken-up ran later all =
 session_in : (call : RunCall) (end : SessionEnd) → call.report.end ≡ end → DidRun call
     → ByEnd end (SentNothing call.run call.before call.after call.status call.report) (SessionRan call.run call.before call.after call.status call.report)
 session_in call end is did =
-    subst (λ e. ByEnd e (SentNothing call.run call.before call.after call.status call.report) (SessionRan call.run call.before call.after call.status call.report)) is did.1.ran.shown
+    subst
+    (λ e. ByEnd e (SentNothing call.run call.before call.after call.status call.report)
+    (SessionRan call.run call.before call.after call.status call.report)) is did.1.ran.shown
 
 abbrev ran-of : (call : RunCall) → SessionRan call.run call.before call.after call.status call.report → AreTold call.before → Ran
 ran-of call ran told = record {
@@ -482,7 +437,11 @@ end-as_one call later all =
       meets = sessions.meets;
       others = laters sessions.ran sessions.others;
       meet = sessions.meet;
-      takes_up = subst (λ (after : CallTold). TakesUp sessions.ran.meeting (laters sessions.ran sessions.others) (log_in (last_call call later).report).given after) sessions.last_after
-          (subst (λ (given : List ℕ). TakesUp sessions.ran.meeting (laters sessions.ran sessions.others) given (last_ran sessions.ran sessions.others).after) sessions.last_given
+      takes_up = subst
+          (λ (after : CallTold). TakesUp sessions.ran.meeting (laters sessions.ran sessions.others)
+          (log_in (last_call call later).report).given after) sessions.last_after
+          (subst
+          (λ (given : List ℕ). TakesUp sessions.ran.meeting (laters sessions.ran sessions.others) given
+          (last_ran sessions.ran sessions.others).after) sessions.last_given
           (taken-up sessions.ran sessions.others sessions.precede));
     }

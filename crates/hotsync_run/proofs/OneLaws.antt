@@ -1,8 +1,8 @@
 -- A folder stands for one handheld only, and for the slots of one desktop.
-use Rattle.std.proofs.Common.{◌≡◌, ◌∙◌, ◌<◌, ◌≤◌, ap, refl, sym, subst, arith, ℕ, zero, suc, Bool, true, false, List, [], ◌∷◌, length, get_or, map}
-use Rattle.std.specs.Prelude.{Option, Some, None, IfSome, Result, Ok, is_some, if◌then◌else◌}
+use Rattle.std.proofs.Common.{◌≡◌, ◌∙◌, ◌<◌, ap, refl, sym, subst, arith, ℕ, zero, suc, List, [], ◌∷◌, length, get_or}
+use Rattle.std.specs.Prelude.{Option, Some, None, IfSome, IsSome, Result, Ok, is_some, if◌then◌else◌}
+use Rattle.std.specs.Option.{option_map}
 use Rattle.std.specs.FinMap as finmap
-use Rattle.std.specs.List.{AllByRecursion}
 use Rattle.hs_folders.specs.FileMaps.{FileMap}
 use Rattle.pdb_values.specs.Databases.{DatabaseValue}
 use Rattle.pdb_values.specs.NamedDatabases.{database_of}
@@ -10,23 +10,31 @@ use Rattle.pdb_values.specs.declared.head.DbHead.{DbHead}
 use Rattle.pdb_values.specs.declared.user.Marks.{Marks}
 use Rattle.pdb_values.specs.declared.user.UserInfo.{UserInfo}
 use Rattle.pdb_values.proofs.NamedLaws.{database_of-name, database_of-same}
+use Rattle.palm_device.specs.Devices.{Device}
 use Rattle.pdb_files.proofs.FileLaws.{one_database}
 use Rattle.folder_files.specs.FileNames.{database_file, device_info_file, journal_file}
-use Rattle.folder_files.specs.InfoFiles.{IsDeviceFile, device_in}
+use Rattle.folder_files.specs.InfoFiles.{IsDeviceFile}
 use Rattle.folder_files.specs.declared.bad_line.BadLine.{BadLine}
 use Rattle.folder_files.proofs.InfoLaws.{device_only}
-use Rattle.handheld_files.specs.Handhelds.{Files, HasFile, IsUserOf, StandFor}
+use Rattle.handheld_files.specs.Handhelds.{Files, IsUserOf, StandFor}
+use Rattle.handheld_files.specs.Openings.{HoldsAll, Stands}
 use Rattle.handheld_files.specs.Settled.{as_opened}
 use Rattle.handheld_files.proofs.ChangeLaws.{database_file_is}
 use Rattle.handheld_files.proofs.StandLaws.{as_opened-head}
-use Rattle.desk_journal.specs.Overlays.{HasNoJournal, bad_of, finished, overlay}
+use Rattle.desk_journal.specs.Overlays.{HasNoJournal, StandsAs, bad_of, finished, overlay}
 use Rattle.desk_journal.specs.declared.bad_journal.BadJournal.{BadJournal}
-use Rattle.desk_store.specs.Desks.{IsDeskOf}
-use Rattle.desk_store.specs.Shelves.{AreInOrder, AreOrdered, ShelvesValue, SlotValue, database_at, marks_of, new_slot, number_of, shelf_at, slot_at}
+use Rattle.desk_store.specs.Desks.{IsDesk, IsDeskOf}
+use Rattle.desk_store.specs.Shelves.{AreInOrder, SlotValue, database_at, marks_of, new_slot, number_of, shelf_at, slot_at}
 use Rattle.desk_store.specs.declared.role.Role.{Role}
 use Rattle.desk_store.specs.declared.role.Role.TheVariants.{Rows, Base, Archive}
 use Rattle.desk_store.proofs.OrderLaws.{rising}
 use Rattle.desk_store.proofs.SlotListLaws.{marks-length, ordered_at, slot_at-any}
+use Rattle.run_words.specs.Runs.{Run}
+use Rattle.sync_session.specs.Outcomes.{StandsForSlots}
+use Rattle.sync_session.specs.Tasks.{Meeting, place_for}
+use Rattle.hotsync_run.specs.Again.{AreOfOneKind, AreTold, Meets}
+use Rattle.hotsync_run.specs.Told.{CallTold}
+use Rattle.hotsync_run.proofs.EndLaws.{same_some}
 
 -- ---- a handheld
 
@@ -47,11 +55,13 @@ found_there files one other user user' first second name database found =
     let same : held.stored ≡ has.stored = one_database has.bytes held.stored has.stored held.file.text has.text in
     let opened : as_opened held.stored ≡ database = ap as_opened same ∙ sym has.is in
     let named : held.stored.head.name ≡ name =
-    ap (λ (d : DatabaseValue). d.head.name) same ∙ sym (ap (λ (h : DbHead). h.name) (as_opened-head has.stored)) ∙ sym (ap (λ (d : DatabaseValue). d.head.name) has.is)
+    ap (λ (d : DatabaseValue). d.head.name) same ∙ sym (ap (λ (h : DbHead). h.name) (as_opened-head has.stored))
+    ∙ sym (ap (λ (d : DatabaseValue). d.head.name) has.is)
     ∙ database_of-name name one database found in
     sym (ap (λ n. database_of n other) named) ∙ held.held ∙ ap (λ (d : DatabaseValue). Some d) opened
 
-same_found : (one other : Option DatabaseValue) → ((d : DatabaseValue) → one ≡ Some d → other ≡ Some d) → ((d : DatabaseValue) → other ≡ Some d → one ≡ Some d) → one ≡ other
+same_found : (one other : Option DatabaseValue) → ((d : DatabaseValue) → one ≡ Some d → other ≡ Some d)
+    → ((d : DatabaseValue) → other ≡ Some d → one ≡ Some d) → one ≡ other
 same_found (Some d) other front back = sym (front d refl)
 same_found None (Some d) front back = back d refl
 same_found None None front back = refl
@@ -61,10 +71,12 @@ pub record IsOne (one other : List DatabaseValue) (user user' : UserInfo) : Type
   pub databases : one ≡ other
   pub user_is : user ≡ user'
 
-pub one-handheld : (files : Files) (one other : List DatabaseValue) (user user' : UserInfo) → StandFor files one user → StandFor files other user' → IsOne one other user user'
+pub one-handheld : (files : Files) (one other : List DatabaseValue) (user user' : UserInfo) → StandFor files one user → StandFor files other user'
+    → IsOne one other user user'
 one-handheld files one other user user' first second = record {
   databases = database_of-same one other first.order second.order
-      (λ name. same_found (database_of name one) (database_of name other) (found_there files one other user user' first second name) (found_there files other one user' user second first name));
+      (λ name. same_found (database_of name one) (database_of name other) (found_there files one other user user' first second name)
+      (found_there files other one user' user second first name));
   user_is = same_user (files device_info_file) user user' first.owner second.owner;
 }
 
@@ -83,11 +95,13 @@ finished-overlay held none = finished_by held (finmap.get held journal_file) ref
 pub desk-overlay : (held : FileMap) (slots : List SlotValue) → IsDeskOf (finished held) slots → IsDeskOf (overlay held) slots
 desk-overlay held slots is = subst (λ files. IsDeskOf files slots) (finished-overlay held is.no_journal) is
 
-same_slot : (one other : SlotValue) → one.marks ≡ other.marks → one.shelves.rows ≡ other.shelves.rows → one.shelves.bases ≡ other.shelves.bases → one.shelves.archives ≡ other.shelves.archives → one ≡ other
+same_slot : (one other : SlotValue) → one.marks ≡ other.marks → one.shelves.rows ≡ other.shelves.rows → one.shelves.bases ≡ other.shelves.bases
+    → one.shelves.archives ≡ other.shelves.archives → one ≡ other
 same_slot one other marks rows bases archives k = record { marks = marks k; shelves = record { rows = rows k; bases = bases k; archives = archives k } }
 
 -- lists that agree at each place are one
-same_at : (one other : List SlotValue) (d : SlotValue) → length one ≡ length other → ((k : ℕ) → k < length one → get_or one k d ≡ get_or other k d) → one ≡ other
+same_at : (one other : List SlotValue) (d : SlotValue) → length one ≡ length other → ((k : ℕ) → k < length one → get_or one k d ≡ get_or other k d)
+    → one ≡ other
 same_at [] [] d count each = refl
 same_at [] (y ∷ other) d count each = absurd (omega (arith, count))
 same_at (x ∷ one) [] d count each = absurd (omega (arith, count))
@@ -115,8 +129,10 @@ one-desktop held one other order order' first second = same_at one other behind 
 
     shelf : (k : ℕ) → k < length one → (role : Role) → shelf_at one k role ≡ shelf_at other k role
     shelf k less role =
-        database_of-same (shelf_at one k role) (shelf_at other k role) (rising (slot_at one k).shelves (ordered_at one k order) role) (rising (slot_at other k).shelves (ordered_at other k order') role)
-        (λ name. first.shelved k role name less ∙ ap (λ n. database_at held n k role name) count ∙ sym (second.shelved k role name (subst (λ n. k < n) count less)))
+        database_of-same (shelf_at one k role) (shelf_at other k role) (rising (slot_at one k).shelves (ordered_at one k order) role)
+        (rising (slot_at other k).shelves (ordered_at other k order') role)
+        (λ name. first.shelved k role name less ∙ ap (λ n. database_at held n k role name) count
+        ∙ sym (second.shelved k role name (subst (λ n. k < n) count less)))
 
     there : (k : ℕ) → k < length one → slot_at other k ≡ get_or other k behind
     there k less = slot_at-any other k (new_slot (number_of other)) behind (subst (λ n. k < n) count less)
@@ -124,6 +140,58 @@ one-desktop held one other order order' first second = same_at one other behind 
     each : (k : ℕ) → k < length one → get_or one k behind ≡ get_or other k behind
     each k less =
         same_slot (slot_at one k) (slot_at other k)
-        (sym (marks_at one k behind) ∙ ap (λ (ms : List Marks). get_or ms k behind.marks) marked ∙ marks_at other k behind ∙ ap (λ (s : SlotValue). s.marks) (sym (there k less)))
+        (sym (marks_at one k behind) ∙ ap (λ (ms : List Marks). get_or ms k behind.marks) marked ∙ marks_at other k behind ∙ ap (λ (s : SlotValue). s.marks)
+        (sym (there k less)))
         (shelf k less Rows) (shelf k less Base) (shelf k less Archive)
         ∙ there k less
+
+-- ---- what folders tell
+
+pub same_handheld : (told : Option FileMap) (last device : Device) → IsSome told → Stands told last.databases last.user
+    → IfSome told (λ held. HoldsAll held device.databases device.user) → IsOne device.databases last.databases device.user last.user
+same_handheld None last device there stands holds = absurd (let no : ⊥ = cc in no)
+same_handheld (Some held) last device there stands holds =
+    one-handheld (finmap.get held) device.databases last.databases device.user last.user holds.stands stands
+
+one_told : (told : Option FileMap) (one other : Device) → IsSome told → IfSome told (λ held. HoldsAll held one.databases one.user)
+    → IfSome told (λ held. HoldsAll held other.databases other.user) → IsOne other.databases one.databases other.user one.user
+one_told None one other there first second = absurd (let no : ⊥ = cc in no)
+one_told (Some held) one other there first second =
+    one-handheld (finmap.get held) other.databases one.databases other.user one.user second.stands first.stands
+
+-- a folder that stands for what it stood for has the slots that it had
+pub same_slots : (first last : Option FileMap) (slots next : List SlotValue) → IsSome first → IsSome last → StandsAs first last
+    → IsDesk (option_map finished first) slots → IsDesk (option_map finished last) next → next ≡ slots
+same_slots None last slots next there there' stands old new = absurd (let no : ⊥ = cc in no)
+same_slots (Some a) None slots next there there' stands old new = absurd (let no : ⊥ = cc in no)
+same_slots (Some a) (Some b) slots next there there' stands old new =
+    let same : overlay b ≡ overlay a = same_some (overlay b) (overlay a) stands in
+    one-desktop (overlay a) next slots new.ordered old.ordered (subst (λ files. IsDeskOf files next) same (desk-overlay b next new.stands))
+    (desk-overlay a slots old.stands)
+
+-- one that stands for the merge has its slots
+pub merged_met : (last : Option FileMap) (merged next : List SlotValue) → IsSome last → StandsForSlots merged last → AreInOrder merged
+    → IsDesk (option_map finished last) next → next ≡ merged
+merged_met None merged next there stands order new = absurd (let no : ⊥ = cc in no)
+merged_met (Some b) merged next there stands order new = one-desktop (overlay b) next merged new.ordered order (desk-overlay b next new.stands) stands
+
+told_slots : (told : Option FileMap) (one other : List SlotValue) → IsSome told → IsDesk (option_map finished told) one
+    → IsDesk (option_map finished told) other → other ≡ one
+told_slots told one other there first second = same_slots told told one other there there refl first second
+
+pub one-meeting : (run : Run) (before : CallTold) (meeting other : Meeting) → AreTold before → Meets run before meeting → Meets run before other
+    → AreOfOneKind meeting other
+one-meeting run before meeting other told first second =
+    let held = one_told before.palm.contents meeting.device other.device told.palm first.handheld second.handheld in
+    let device : other.device ≡ meeting.device = (λ k. record {
+      databases = held.databases k;
+      user = held.user_is k;
+      handles = (second.closed ∙ sym first.closed) k;
+    }) in
+    let slots : other.slots ≡ meeting.slots = told_slots before.desk.contents meeting.slots other.slots told.desk first.desktop second.desktop in
+    let add : other.wishes.add_user ≡ meeting.wishes.add_user = second.asked.add_user ∙ sym first.asked.add_user in
+    record {
+      device = device;
+      slots = slots;
+      picked = second.picked ∙ (λ k. place_for (device k) (slots k) (add k)) ∙ sym first.picked;
+    }

@@ -1,8 +1,7 @@
 -- Whether a limit would be passed depends on both sides and on what is asked, not on the date.
-use Rattle.std.proofs.Common.{◌≡◌, ◌∙◌, refl, ap, sym, ℕ, Bool, true, false, List, [], ◌∷◌, length, map, if◌then◌else◌}
-use Rattle.std.specs.Prelude.{Option, Some, None, filter, is_none, sum_by}
+use Rattle.std.proofs.Common.{◌≡◌, ◌∙◌, refl, sym, ℕ, Bool, false, List, [], ◌∷◌, length, map, if◌then◌else◌}
+use Rattle.std.specs.Prelude.{Some, filter, is_none}
 use Rattle.std.specs.Global.{Vec}
-use Rattle.pdb_values.specs.Databases.{DatabaseValue}
 use Rattle.pdb_values.specs.NamedDatabases.{database_of}
 use Rattle.pdb_values.specs.declared.user.UserInfo.{UserInfo}
 use Rattle.palm_device.specs.Handles.{no_handles}
@@ -14,8 +13,7 @@ use Rattle.sync_session.specs.Choosing.{agrees, choice, is_fast, sides, view}
 use Rattle.sync_session.specs.Limits.{first_behind, first_over, sizes_of, with_one}
 use Rattle.sync_session.specs.Sizes.{is_over}
 use Rattle.sync_session.specs.Skips.{active, skip_of}
-use Rattle.sync_session.specs.Tasks.{Meeting, Task, action_of_word, names_of, slot_of, task_of, tasks, with_names}
-use Rattle.sync_session.specs.declared.sizes.Sizes.{Sizes}
+use Rattle.sync_session.specs.Tasks.{Meeting, Task, action_of_word, names_of, tasks, with_names}
 
 -- two meetings of the same sides, which ask the same but for the date and whether a user may be added
 pub record MeetsTheSame (meeting next : Meeting) : Type 0 where

@@ -1,19 +1,19 @@
 -- The place of a user's slot: once the slot there has the user, that place is found again.
-use Rattle.std.proofs.Common.{◌≡◌, ◌⊎◌, ◌∙◌, ◌<◌, ◌≤◌, ◌+◌, ap, refl, sym, subst, inl, inr, arith, ℕ, zero, suc, Bool, true, false, cond, eqb, ltb, List, [], ◌∷◌, ◌++◌, length, get_or, set}
+use Rattle.std.proofs.Common.{◌≡◌, ◌⊎◌, ◌∙◌, ◌<◌, ◌≤◌, ap, refl, sym, subst, inl, inr, arith, ℕ, zero, suc, Bool, true, false, cond, List, [], ◌∷◌, ◌++◌, length, get_or, set}
 use Rattle.std.specs.Prelude.{Option, Some, None, position, ◌==◌, ◌&&◌, not, nat_lt, if◌then◌else◌}
 use Rattle.std.specs.Option.{option_map}
-use Rattle.std.proofs.lemmas.Bool.{ltb-false, ltb-true, lt-ltb, le-ltb, eq-eqb}
+use Rattle.std.proofs.lemmas.Bool.{lt-ltb, le-ltb, eq-eqb}
 use Rattle.std.proofs.lemmas.List.{length-append}
 use Rattle.std.proofs.lemmas.List.Quantifiers.{position-Some}
 use Rattle.pdb_values.specs.Slots.{is_unclaimed, most_slots, newcomer, slot_at, slot_for}
-use Rattle.pdb_values.specs.declared.slot.Slot.{Slot}
 use Rattle.pdb_values.specs.declared.slot.Slot.TheVariants.{Old, New, Refused, Full}
 use Rattle.desk_store.specs.Desks.{place_of}
 use Rattle.pdb_values.proofs.PlaceLaws.{position-cons}
 
 -- ---- the first place that passes
 
-no_place : {X : Type 0} (test : X → Bool) (x : X) (xs : List X) → (b : Bool) → test x ≡ b → (o : Option ℕ) → cond b (Some 0) (option_map (λ place. suc place) o) ≡ None → (b ≡ false) × (o ≡ None)
+no_place : {X : Type 0} (test : X → Bool) (x : X) (xs : List X) → (b : Bool) → test x ≡ b → (o : Option ℕ)
+    → cond b (Some 0) (option_map (λ place. suc place) o) ≡ None → (b ≡ false) × (o ≡ None)
 no_place test x xs true is o none = absurd (cc)
 no_place test x xs false is None none = (refl, refl)
 no_place test x xs false is (Some place) none = absurd (cc)
@@ -28,12 +28,14 @@ position-none test (x ∷ xs) d none (suc i) less =
     position-none test xs d both.1 i (omega (arith, less))
 
 -- what is put at a place passes, and nothing before it does
-position-set : {X : Type 0} (test : X → Bool) (xs : List X) (k : ℕ) (x d : X) → test x ≡ true → k < length xs → ((i : ℕ) → i < k → test (get_or xs i d) ≡ false) → position test (set xs k x) ≡ Some k
+position-set : {X : Type 0} (test : X → Bool) (xs : List X) (k : ℕ) (x d : X) → test x ≡ true → k < length xs
+    → ((i : ℕ) → i < k → test (get_or xs i d) ≡ false) → position test (set xs k x) ≡ Some k
 position-set test [] k x d is less before = absurd (omega (arith, less))
 position-set test (y ∷ ys) zero x d is less before = position-cons test x ys ∙ ap (λ b. cond b (Some 0) (option_map (λ place. suc place) (position test ys))) is
 position-set test (y ∷ ys) (suc k) x d is less before =
     position-cons test y (set ys k x) ∙ ap (λ b. cond b (Some 0) (option_map (λ place. suc place) (position test (set ys k x)))) (before 0 (omega arith))
-    ∙ ap (λ (o : Option ℕ). option_map (λ place. suc place) o) (position-set test ys k x d is (omega (arith, less)) (λ i lt. before (suc i) (omega (arith, lt))))
+    ∙ ap (λ (o : Option ℕ). option_map (λ place. suc place) o)
+    (position-set test ys k x d is (omega (arith, less)) (λ i lt. before (suc i) (omega (arith, lt))))
 
 -- ---- the place of a user
 
@@ -45,11 +47,13 @@ abbrev pub placed : List ℕ → ℕ → ℕ → List ℕ
 placed users place user = set (if nat_lt place (length users) then users else users ++ 0 ∷ []) place user
 
 newcomer_first : (users : List ℕ) (add : Bool) (n : ℕ) → is_unclaimed users ≡ true → place_of n (newcomer users add) ≡ 0
-newcomer_first users add n is = ap (λ b. place_of n (if b then Old 0 else (if add then (if nat_lt (length users) most_slots then New else Full) else Refused))) is
+newcomer_first users add n is =
+    ap (λ b. place_of n (if b then Old 0 else (if add then (if nat_lt (length users) most_slots then New else Full) else Refused))) is
 
 newcomer_last : (users : List ℕ) (add : Bool) (n : ℕ) → is_unclaimed users ≡ false → place_of n (newcomer users add) ≡ n
 newcomer_last users add n is =
-    ap (λ b. place_of n (if b then Old 0 else (if add then (if nat_lt (length users) most_slots then New else Full) else Refused))) is ∙ by add (nat_lt (length users) most_slots)
+    ap (λ b. place_of n (if b then Old 0 else (if add then (if nat_lt (length users) most_slots then New else Full) else Refused))) is
+    ∙ by add (nat_lt (length users) most_slots)
   where
     by : (a b : Bool) → place_of n (if a then (if b then New else Full) else Refused) ≡ n
     by true true = refl
@@ -60,12 +64,14 @@ newcomer_last users add n is =
 place-none : (users : List ℕ) (user : ℕ) (add : Bool) → (user == 0) ≡ true → place_in users user add ≡ 0
 place-none users user add is = ap (λ b. place_of (length users) (if b then Old 0 else slot_at (position (λ other. other == user) users) users add)) is
 
-place-some : (users : List ℕ) (user : ℕ) (add : Bool) (k : ℕ) → (user == 0) ≡ false → position (λ other. other == user) users ≡ Some k → place_in users user add ≡ k
+place-some : (users : List ℕ) (user : ℕ) (add : Bool) (k : ℕ) → (user == 0) ≡ false → position (λ other. other == user) users ≡ Some k
+    → place_in users user add ≡ k
 place-some users user add k is there =
     ap (λ b. place_of (length users) (if b then Old 0 else slot_at (position (λ other. other == user) users) users add)) is
     ∙ ap (λ (o : Option ℕ). place_of (length users) (slot_at o users add)) there
 
-place-new : (users : List ℕ) (user : ℕ) (add : Bool) → (user == 0) ≡ false → position (λ other. other == user) users ≡ None → place_in users user add ≡ place_of (length users) (newcomer users add)
+place-new : (users : List ℕ) (user : ℕ) (add : Bool) → (user == 0) ≡ false → position (λ other. other == user) users ≡ None
+    → place_in users user add ≡ place_of (length users) (newcomer users add)
 place-new users user add is none =
     ap (λ b. place_of (length users) (if b then Old 0 else slot_at (position (λ other. other == user) users) users add)) is
     ∙ ap (λ (o : Option ℕ). place_of (length users) (slot_at o users add)) none
@@ -80,7 +86,8 @@ data Picks (users : List ℕ) (user place : ℕ) : Type 0 where
 picks : (users : List ℕ) (user : ℕ) (add : Bool) → Picks users user (place_in users user add)
 picks users user add = by (user == 0) refl (position (λ other. other == user) users) refl (is_unclaimed users) refl
   where
-    by : (a : Bool) → (user == 0) ≡ a → (o : Option ℕ) → position (λ other. other == user) users ≡ o → (b : Bool) → is_unclaimed users ≡ b → Picks users user (place_in users user add)
+    by : (a : Bool) → (user == 0) ≡ a → (o : Option ℕ) → position (λ other. other == user) users ≡ o → (b : Bool) → is_unclaimed users ≡ b
+        → Picks users user (place_in users user add)
     by true is o there b claims_is = without is (place-none users user add is)
     by false is (Some k) there b claims_is = known is (there ∙ ap (λ (n : ℕ). Some n) (sym (place-some users user add k is there)))
     by false is None there true claims_is = claims is there (place-new users user add is there ∙ newcomer_first users add (length users) claims_is)
@@ -90,7 +97,8 @@ picks users user add = by (user == 0) refl (position (λ other. other == user) u
 pub place-any : (users : List ℕ) (user : ℕ) (add other : Bool) → place_in users user add ≡ place_in users user other
 place-any users user add other = by (user == 0) refl (position (λ other. other == user) users) refl (is_unclaimed users) refl
   where
-    by : (a : Bool) → (user == 0) ≡ a → (o : Option ℕ) → position (λ other. other == user) users ≡ o → (b : Bool) → is_unclaimed users ≡ b → place_in users user add ≡ place_in users user other
+    by : (a : Bool) → (user == 0) ≡ a → (o : Option ℕ) → position (λ other. other == user) users ≡ o → (b : Bool) → is_unclaimed users ≡ b
+        → place_in users user add ≡ place_in users user other
     by true is o there b claims_is = place-none users user add is ∙ sym (place-none users user other is)
     by false is (Some k) there b claims_is = place-some users user add k is there ∙ sym (place-some users user other k is there)
     by false is None there true claims_is =
@@ -127,7 +135,8 @@ get-front (x ∷ xs) ys zero d less = refl
 get-front (x ∷ xs) ys (suc i) d less = get-front xs ys i d (omega (arith, less))
 
 -- where it was picked for a user, it is picked for that user again
-found-again : (users : List ℕ) (user place : ℕ) → (user == 0) ≡ false → Picks users user place → position (λ other. other == user) (placed users place user) ≡ Some place
+found-again : (users : List ℕ) (user place : ℕ) → (user == 0) ≡ false → Picks users user place
+    → position (λ other. other == user) (placed users place user) ≡ Some place
 found-again users user place some (without is first) = absurd (let no : true ≡ false = sym is ∙ some in cc)
 found-again users user place some (known is there) =
     let at = position-Some (λ other. other == user) users place 0 there in
@@ -137,13 +146,16 @@ found-again users user place some (claims is none first) =
     subst (λ n. position (λ other. other == user) (placed users n user) ≡ Some n) (sym first) (first-set users user)
 found-again users user place some (follows is none last) =
     subst (λ n. position (λ other. other == user) (placed users n user) ≡ Some n) (sym last)
-    (ap (λ b. position (λ other. other == user) (set (if b then users else users ++ 0 ∷ []) (length users) user)) (le-ltb (length users) (length users) (omega arith))
+    (ap (λ b. position (λ other. other == user) (set (if b then users else users ++ 0 ∷ []) (length users) user))
+    (le-ltb (length users) (length users) (omega arith))
     ∙ position-set (λ other. other == user) (users ++ 0 ∷ []) (length users) user 0 (same_user user) (omega (arith, length-append users (0 ∷ [])))
     (λ i less. ap (λ (n : ℕ). n == user) (get-front users (0 ∷ []) i 0 less) ∙ position-none (λ other. other == user) users 0 none i less))
 
-pub user-again : (users : List ℕ) (user : ℕ) (add other : Bool) → (user == 0) ≡ false → place_in (placed users (place_in users user add) user) user other ≡ place_in users user add
+pub user-again : (users : List ℕ) (user : ℕ) (add other : Bool) → (user == 0) ≡ false
+    → place_in (placed users (place_in users user add) user) user other ≡ place_in users user add
 user-again users user add other some =
-    place-some (placed users (place_in users user add) user) user other (place_in users user add) some (found-again users user (place_in users user add) some (picks users user add))
+    place-some (placed users (place_in users user add) user) user other (place_in users user add) some
+    (found-again users user (place_in users user add) some (picks users user add))
 
 -- a handheld without a user finds slot 0, and with the user of slot 0 too
 pub none-again : (users : List ℕ) (user : ℕ) (add : Bool) → place_in (placed users 0 user) user add ≡ 0

@@ -1,10 +1,9 @@
 -- What requests that change nothing leave of a handheld.
-use Rattle.std.proofs.Common.{◌≡◌, ◌∙◌, refl, ap, sym, ℕ, Bool, true, false, cond, List, [], ◌∷◌}
+use Rattle.std.proofs.Common.{◌≡◌, ◌∙◌, refl, ap, ℕ, Bool, true, false, cond, List, [], ◌∷◌}
 use Rattle.std.specs.Prelude.{filter}
 use Rattle.palm_device.specs.Devices.{Device}
 use Rattle.dlp_commands.specs.Changes.{changes}
 use Rattle.dlp_commands.specs.DeviceRuns.{Ran, exchanged}
-use Rattle.dlp_commands.specs.DeviceSteps.{DeviceStep}
 use Rattle.dlp_commands.proofs.StepLaws.{stepped, store_kept}
 
 pub record IsKept (old new : Device) : Type 0 where

@@ -1,5 +1,5 @@
 -- The slots once the picked one is merged: they are in order, and it is picked again.
-use Rattle.std.proofs.Common.{◌≡◌, ◌⊎◌, ◌∙◌, ◌<◌, ◌≤◌, refl, ap, sym, subst, inl, inr, arith, ℕ, Bool, true, false, List, [], ◌∷◌, ◌++◌, length, map, set, take, drop, if◌then◌else◌}
+use Rattle.std.proofs.Common.{◌≡◌, ◌⊎◌, ◌∙◌, ◌≤◌, refl, ap, sym, arith, ℕ, Bool, true, false, List, [], ◌∷◌, ◌++◌, length, set, take, drop, if◌then◌else◌}
 use Rattle.std.specs.Prelude.{Option, Some, None, nat_lt}
 use Rattle.std.proofs.lemmas.List.{length-map, map-append, map-set}
 use Rattle.pdb_values.specs.Databases.{DatabaseValue}
@@ -11,7 +11,7 @@ use Rattle.palm_device.specs.Devices.{Device}
 use Rattle.desk_store.specs.Desks.{place_of}
 use Rattle.desk_store.specs.Shelves.{AreInOrder, AreOrdered, ShelvesValue, SlotValue, marks_of, new_slot, number_of, slot_at, with_place}
 use Rattle.desk_store.proofs.SlotListLaws.{each-set, ordered_at, place_there, slot_at-set_same, with_place-cases}
-use Rattle.sync_session.specs.Merges.{Merged, merged_of, merged_shelves, merged_slot, merged_slots, put_archive, rows_before, shelve, shelved}
+use Rattle.sync_session.specs.Merges.{merged_of, merged_shelves, merged_slot, merged_slots, rows_before, shelve, shelved}
 use Rattle.sync_session.specs.News.{add_count}
 use Rattle.sync_session.specs.Skips.{active}
 use Rattle.sync_session.specs.Tasks.{Meeting, Task, place_for, slot_of}
@@ -22,16 +22,19 @@ use Rattle.hotsync_run.proofs.PickLaws.{agreed, both-again, place-any, place-nea
 
 archive_ordered : (o : Option DatabaseValue) (shelves : ShelvesValue) (rows base : DatabaseValue) → AreOrdered shelves
     → AreOrdered (shelved (record { rows = rows; base = base; archive = o }) shelves)
-archive_ordered None shelves rows base is = record { rows = NamesRise-with_put rows shelves.rows is.rows; bases = NamesRise-with_put base shelves.bases is.bases; archives = is.archives }
+archive_ordered None shelves rows base is =
+    record { rows = NamesRise-with_put rows shelves.rows is.rows; bases = NamesRise-with_put base shelves.bases is.bases; archives = is.archives }
 archive_ordered (Some archive) shelves rows base is = record {
   rows = NamesRise-with_put rows shelves.rows is.rows;
   bases = NamesRise-with_put base shelves.bases is.bases;
   archives = NamesRise-with_put archive shelves.archives is.archives;
 }
 
-shelve_ordered : (m : Meeting) (t : Task) (given : List ℕ) (o : Option DatabaseValue) (shelves : ShelvesValue) → AreOrdered shelves → AreOrdered (shelve m t given o shelves)
+shelve_ordered : (m : Meeting) (t : Task) (given : List ℕ) (o : Option DatabaseValue) (shelves : ShelvesValue) → AreOrdered shelves
+    → AreOrdered (shelve m t given o shelves)
 shelve_ordered m t given None shelves is = is
-shelve_ordered m t given (Some rows) shelves is = archive_ordered (merged_of m t given rows).archive shelves (merged_of m t given rows).rows (merged_of m t given rows).base is
+shelve_ordered m t given (Some rows) shelves is =
+    archive_ordered (merged_of m t given rows).archive shelves (merged_of m t given rows).rows (merged_of m t given rows).base is
 
 shelves_ordered : (m : Meeting) (ts : List Task) (given : List ℕ) (shelves : ShelvesValue) → AreOrdered shelves → AreOrdered (merged_shelves m ts given shelves)
 unfolding merged_shelves
@@ -46,7 +49,8 @@ push_ordered (x ∷ slots) slot is last = (is.0, push_ordered slots slot is.1 la
 
 place_ordered : (slots : List SlotValue) (place : ℕ) → place ≤ length slots → AreInOrder slots → AreInOrder (with_place slots place)
 place_ordered slots place near is =
-    with_place-cases AreInOrder slots place near (λ _. is) (λ _. push_ordered slots (new_slot (number_of slots)) is (record { rows = tt; bases = tt; archives = tt }))
+    with_place-cases AreInOrder slots place near (λ _. is)
+    (λ _. push_ordered slots (new_slot (number_of slots)) is (record { rows = tt; bases = tt; archives = tt }))
 
 pub merged-ordered : (m : Meeting) (given : List ℕ) → m.picked ≤ length m.slots → AreInOrder m.slots → AreInOrder (merged_slots m given)
 unfolding merged_slots merged_slot
@@ -99,13 +103,15 @@ same-place m next add other picked next_picked slots user =
     ∙ place-any (users_in m.slots) m.device.user.user other add ∙ sym (place-users m.device m.slots add) ∙ sym picked
 
 -- the merged slots, and the user of before or the agreed one
-pub merged-place : (m next : Meeting) (given : List ℕ) (add other : Bool) → m.picked ≡ place_for m.device m.slots add → next.picked ≡ place_for next.device next.slots other
+pub merged-place : (m next : Meeting) (given : List ℕ) (add other : Bool) → m.picked ≡ place_for m.device m.slots add
+    → next.picked ≡ place_for next.device next.slots other
     → next.slots ≡ merged_slots m given
     → (next.device.user.user ≡ m.device.user.user) ⊎ (next.device.user.user ≡ agreed_user m.device.user (slot_of m).marks) → next.picked ≡ m.picked
 merged-place m next given add other picked next_picked slots user =
     next_picked ∙ place-users next.device next.slots other
     ∙ ap (λ us. place_in us next.device.user.user other) (ap users_in slots ∙ users-merged m given)
-    ∙ both-again (users_in m.slots) m.device.user.user (slot_of m).marks.user next.device.user.user m.picked add other (picked ∙ place-users m.device m.slots add) user
+    ∙ both-again (users_in m.slots) m.device.user.user (slot_of m).marks.user next.device.user.user m.picked add other
+    (picked ∙ place-users m.device m.slots add) user
 
 pub merged-picked : (m : Meeting) (given : List ℕ) → m.picked ≤ length m.slots → slot_at (merged_slots m given) m.picked ≡ merged_slot m given
 unfolding merged_slots

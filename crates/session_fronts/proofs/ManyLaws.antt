@@ -7,8 +7,7 @@ use Rattle.pdb_values.specs.declared.record.Record.{Record}
 use Rattle.conduit_rules.specs.ById.{at}
 use Rattle.conduit_rules.specs.Choices.{Choice}
 use Rattle.conduit_rules.specs.Plans.{gone_rows, replaced_rows}
-use Rattle.conduit_rules.specs.States.{Held, base_at, held, no_base, nothing}
-use Rattle.conduit_rules.specs.Views.{IsHonest}
+use Rattle.conduit_rules.specs.States.{Held, base_at, held, no_base}
 use Rattle.conduit_rules.specs.declared.action.Action.{Action}
 use Rattle.conduit_rules.specs.declared.action.Action.TheVariants.{Sync, Handheld, Desktop}
 use Rattle.conduit_rules.proofs.ActionLaws.{handheld-is}
@@ -63,7 +62,8 @@ none_gone false None None h is = tt
 none_gone false None (Some c) h is = is
 
 -- where both sides are merged, no record has the id of a gone row
-merged-gone : (a : Action) (y : Found) (given : List ℕ) (g : Bool) → IsRead y → GotIds a y given → NoneUnderGone g (ended a y given).base (ended a y given).records
+merged-gone : (a : Action) (y : Found) (given : List ℕ) (g : Bool) → IsRead y → GotIds a y given
+    → NoneUnderGone g (ended a y given).base (ended a y given).records
 merged-gone a y given true read got = tt
 merged-gone a y given false read got = λ i.
     (let ch : Choice = chosen a y in
@@ -93,7 +93,8 @@ no_ids (i ∷ ids) few = absurd (omega (arith, few))
 adds-left : (a : Action) (y : Found) (place : Place) → IsRead y → MayStop a y place → (chosen a y).adds ≡ [] → (chosen a (left a y place)).adds ≡ []
 adds-left a y before_mark read may none = none
 adds-left Sync y (among_news given n) read may none =
-    no_items (chosen Sync (left Sync y (among_news given n))).adds (length given) (news-adds y given n may (read-news Sync y given n read may.got) ∙ ap length none)
+    no_items (chosen Sync (left Sync y (among_news given n))).adds (length given)
+    (news-adds y given n may (read-news Sync y given n read may.got) ∙ ap length none)
 adds-left Handheld y (among_news given n) read may none = ap (λ (c : Choice). c.adds) (handheld-is (sides (left Handheld y (among_news given n))))
 adds-left Desktop y (among_news given n) read may none = ap (λ (c : Choice). c.adds) (chosen-again y given n) ∙ none
 adds-left a y (behind_commit given n) read may none = adds-behind a y given n read may.got
@@ -141,7 +142,8 @@ no_given (suc n) (r ∷ rows) = no_given n rows
 ids-none : (a : Action) (y : Found) (ids : List ℕ) (n : ℕ) → (chosen a y).adds ≡ [] → given_by (news_done a y ids n) ≡ ids → ids ≡ []
 ids-none a y ids n none all =
     let rows : List (ℕ × ContentValue) = replaced_rows (chosen a y).keep (shown y) in
-    sym all ∙ ap (λ (es : List (ℕ × ContentValue)). given_by (take n (replaces rows ++ adding es))) (ap (λ (cs : List ContentValue). numbered ids cs) none ∙ no_contents ids)
+    sym all ∙ ap (λ (es : List (ℕ × ContentValue)). given_by (take n (replaces rows ++ adding es)))
+    (ap (λ (cs : List ContentValue). numbered ids cs) none ∙ no_contents ids)
     ∙ no_given n rows
 
 -- where one more stopped, as the next one finds it
@@ -219,8 +221,10 @@ chain : (x : Found) (a : Action) (meeting : Meeting) (es : List Later) (later na
 chain x a meeting [] later name same runs is ready fresh =
     record { steps = []; last = refl; follows = tt; stops = tt; active = is; ready = ready; fresh = fresh; stay = λ ids un. un }
 chain x a meeting (e ∷ es) later name same runs is ready fresh =
-    let t = take-step x meeting e.next e.writes e.given name runs.0 runs.1 runs.2 is (subst (λ b. IsReady b x (found_of meeting name)) (sym same) ready) fresh.0 in
-    let rest = chain x a e.next es later name (t.follows.action ∙ same) runs.3 t.active (subst (λ b. IsReady b x (found_of e.next name)) same t.ready) fresh.1 in
+    let t =
+    take-step x meeting e.next e.writes e.given name runs.0 runs.1 runs.2 is (subst (λ b. IsReady b x (found_of meeting name)) (sym same) ready) fresh.0 in
+    let rest =
+    chain x a e.next es later name (t.follows.action ∙ same) runs.3 t.active (subst (λ b. IsReady b x (found_of e.next name)) same t.ready) fresh.1 in
     record {
       steps = (e.next, t.place) ∷ rest.steps;
       last = rest.last;

@@ -1,4 +1,4 @@
-use Rattle.hotsync_run.proofs.AgainLaws.{one-meeting}
+use Rattle.hotsync_run.proofs.OneLaws.{one-meeting}
 use Rattle.hotsync_run.proofs.laws.folders_make_one_meeting.Goals as goal
 
 pub returns : goal.returns
