@@ -171,12 +171,16 @@ limit-prefix : {F : Type 0} (contents : F → Option FileMap) (moments : F → M
 limit-prefix contents moments paths faults fault downs meeting old new desk desk_after answer silent is ends some = issued_begins old new (map text (before_writes meeting)) silent is (ends.over some).only
 
 -- a user without a slot is all that is asked for
-unseated-prefix : {F : Type 0} (contents : F → Option FileMap) (moments : F → Moments) (paths : F → Option (List (List ℕ))) (faults : F → ℕ) (fault : WorldValue F → Option LinkFault) (downs : WorldValue F → ℕ)
-    (meeting : Meeting) (old new : WorldValue F) (desk desk_after : FolderTold) (report : Report) (answer : Result (Vec DbReport) Stop) → old.log ≡ no_log → IsLog new.log new.answered → (log_in report).issued ≡ new.log.issued
-    → EndsOver contents moments paths faults fault downs meeting old new desk desk_after answer → IsErr (seat_of meeting) → IsPrefix (log_in report).issued (text reading_user ∷ [])
+unseated-prefix : {F : Type 0} (contents : F → Option FileMap) (moments : F → Moments) (paths : F → Option (List (List ℕ))) (faults : F → ℕ)
+    (fault : WorldValue F → Option LinkFault) (downs : WorldValue F → ℕ)
+    (meeting : Meeting) (old new : WorldValue F) (desk desk_after : FolderTold) (report : Report) (answer : Result (Vec DbReport) Stop) → old.log ≡ no_log
+    → IsLog new.log new.answered → (log_in report).issued ≡ new.log.issued
+    → EndsOver contents moments paths faults fault downs meeting old new desk desk_after answer → IsErr (seat_of meeting) → IsPrefix (log_in report).issued
+    (text reading_user ∷ [])
 unseated-prefix contents moments paths faults fault downs meeting old new desk desk_after report answer silent is same ends unseated =
     let why = the_error (seat_of meeting) unseated in
-    subst (λ (l : List (List ℕ)). IsPrefix l (text reading_user ∷ [])) (sym same) (issued_begins old new (text reading_user ∷ []) silent is ((ends.unseated why.0 why.1).0).only)
+    subst (λ (l : List (List ℕ)). IsPrefix l (text reading_user ∷ [])) (sym same) (issued_begins old new (text reading_user ∷ []) silent is
+    ((ends.unseated why.0 why.1).0).only)
   where
     the_error : (seat : Result UserInfo SessionFault) → IsErr seat → (why : SessionFault) × (seat ≡ Err why)
     the_error (Ok user) unseated = absurd (let never : ⊥ = cc in never)
