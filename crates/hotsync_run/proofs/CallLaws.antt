@@ -14,6 +14,7 @@ use Rattle.hotsync_run.specs.declared.report.Report.{Report}
 use Rattle.hotsync_run.specs.declared.status.Status.{Status}
 use Rattle.hotsync_run.specs.declared.status.Status.TheVariants.{NoMemory}
 use Rattle.hotsync_run.proofs.LookLaws.{look_refused, memory_shows}
+use Rattle.hotsync_run.proofs.MakeLaws.{unread_make}
 use Rattle.hotsync_run.proofs.PrintedLaws.{printed_weaken}
 use Rattle.hotsync_run.proofs.RunLaws.{unread_run}
 
@@ -39,4 +40,5 @@ unread_call (Some (Scan bytes)) before out out_after report is printed = record 
   printed = printed_weaken (λ text. ⊥) (ShowsPackets (scan bytes)) out out_after NoMemory (λ text no. absurd no) printed;
   complete = λ free. inr refl;
 }
-unread_call (Some (Make seed count)) before out out_after report is printed = record { ended = inr refl; printed = printed }
+unread_call (Some (Make seed count)) before out out_after report is printed =
+    unread_make seed count out out_after report is (printed_weaken (λ text. ⊥) (λ text. text ≡ done_lines report.databases.items) out out_after NoMemory (λ text no. absurd no) printed)

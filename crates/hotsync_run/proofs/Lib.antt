@@ -6,6 +6,14 @@ pub mod FrontMoments
 pub mod LeftLaws
 pub mod LineLaws
 pub mod LookLaws
+pub mod MadeItems
+pub mod MadeLimits
+pub mod MadeReports
+pub mod MadeSides
+pub mod MakeLaws
+pub mod MakeLines
+pub mod MakeScripts
+pub mod MakeWords
 pub mod OneLaws
 pub mod OverLaws
 pub mod PickLaws

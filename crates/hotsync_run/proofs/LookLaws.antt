@@ -12,7 +12,7 @@ use Rattle.hotsync_run.specs.Told.{SinkTold, SourceTold}
 use Rattle.run_words.specs.declared.command.Look.{Look}
 use Rattle.hotsync_run.specs.declared.status.FileSide.TheVariants.{Source}
 use Rattle.hotsync_run.specs.declared.status.Status.{Status}
-use Rattle.hotsync_run.specs.declared.status.Status.TheVariants.{Done, Usage, BadScript, TooLong, BadFile, TooMany, HandheldFolder, DesktopFolder, SourceRead, TraceWrite, OutWrite, NoMemory, LineDown, Unplugged, Aborted, Undetected, OtherUser, TooManyUsers, Limit, NotYet}
+use Rattle.hotsync_run.specs.declared.status.Status.TheVariants.{Done, Usage, BadScript, TooLong, BadFile, TooMany, HandheldFolder, DesktopFolder, SourceRead, TraceWrite, OutWrite, NoMemory, LineDown, Unplugged, Aborted, Undetected, OtherUser, TooManyUsers, Limit}
 
 -- a database's file breaks no rule
 readable_not_broken : (bytes : List ℕ) (kind : BadKind) (place : ℕ) → IsReadable bytes → IsBroken bytes kind place → ⊥
@@ -50,7 +50,6 @@ look_too_long file bytes (Undetected _) Failed shows failed long none = absurd s
 look_too_long file bytes (OtherUser _ _) Failed shows failed long none = absurd shows
 look_too_long file bytes TooManyUsers Failed shows failed long none = absurd shows
 look_too_long file bytes (Limit _) Failed shows failed long none = absurd shows
-look_too_long file bytes NotYet Failed shows failed long none = absurd shows
 
 look_bad_file : (file bytes : List ℕ) (status : Status) (Failed : Type 0) → SourceShows file status bytes → (status ≡ SourceRead → Failed) → (kind : BadKind) (place : ℕ) → IsBroken bytes kind place → ¬ Failed → IsBadStatus Source file kind place status
 look_bad_file file bytes Done Failed shows failed kind place broken none = readable_not_broken bytes kind place shows broken
@@ -74,7 +73,6 @@ look_bad_file file bytes (Undetected _) Failed shows failed kind place broken no
 look_bad_file file bytes (OtherUser _ _) Failed shows failed kind place broken none = shows
 look_bad_file file bytes TooManyUsers Failed shows failed kind place broken none = shows
 look_bad_file file bytes (Limit _) Failed shows failed kind place broken none = shows
-look_bad_file file bytes NotYet Failed shows failed kind place broken none = shows
 
 look_complete : (file bytes : List ℕ) (status : Status) (Failed Out : Type 0) → SourceShows file status bytes → (status ≡ SourceRead → Failed) → (status ≡ OutWrite → Out) → IsReadable bytes → ¬ Failed → ¬ Out → (status ≡ Done) ⊎ (status ≡ NoMemory)
 look_complete file bytes Done Failed Out shows failed out readable none free = inl refl
@@ -96,7 +94,6 @@ look_complete file bytes (Undetected _) Failed Out shows failed out readable non
 look_complete file bytes (OtherUser _ _) Failed Out shows failed out readable none free = absurd shows
 look_complete file bytes TooManyUsers Failed Out shows failed out readable none free = absurd shows
 look_complete file bytes (Limit _) Failed Out shows failed out readable none free = absurd shows
-look_complete file bytes NotYet Failed Out shows failed out readable none free = absurd shows
 
 some_weaken : (P Q : List ℕ → Type 0) (left : Option (List ℕ)) → ((bytes : List ℕ) → P bytes → Q bytes) → IfSome left P → IfSome left Q
 some_weaken P Q None leads p = tt

@@ -41,7 +41,7 @@ use Rattle.hotsync_run.specs.declared.report.Report.{Report}
 use Rattle.hotsync_run.specs.declared.report.SessionEnd.{SessionEnd}
 use Rattle.hotsync_run.specs.declared.report.SessionEnd.TheVariants.{NotStarted, Ended, Stopped}
 use Rattle.hotsync_run.specs.declared.status.Status.{Status}
-use Rattle.hotsync_run.specs.declared.status.Status.TheVariants.{Done, Usage, BadScript, TooLong, BadFile, TooMany, HandheldFolder, DesktopFolder, SourceRead, TraceWrite, OutWrite, NoMemory, LineDown, Unplugged, Aborted, Undetected, OtherUser, TooManyUsers, Limit, NotYet}
+use Rattle.hotsync_run.specs.declared.status.Status.TheVariants.{Done, Usage, BadScript, TooLong, BadFile, TooMany, HandheldFolder, DesktopFolder, SourceRead, TraceWrite, OutWrite, NoMemory, LineDown, Unplugged, Aborted, Undetected, OtherUser, TooManyUsers, Limit}
 
 none_holds : (A : Type 0) → IsSome {T = A} None → ⊥
 none_holds A e = cc
@@ -172,7 +172,6 @@ ends_well meeting TooLong report ran = absurd ran.ends
 ends_well meeting (BadFile side name kind place) report ran = absurd ran.ends
 ends_well meeting (TooMany end) report ran = absurd ran.ends
 ends_well meeting SourceRead report ran = absurd ran.ends
-ends_well meeting NotYet report ran = absurd ran.ends
 
 session_ends_well : (run : Run) (before after : CallTold) (out out_after : SinkTold) (status : Status) (report : Report) → IsUndisturbed run before after out out_after report → BlamesNone status
     → SessionRan run before after status report → EndsWell status report

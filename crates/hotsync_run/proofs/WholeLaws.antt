@@ -52,7 +52,7 @@ use Rattle.hotsync_run.specs.declared.left.Left.{Left}
 use Rattle.hotsync_run.specs.declared.report.Report.{Report}
 use Rattle.hotsync_run.specs.declared.report.SessionEnd.TheVariants.{Ended}
 use Rattle.hotsync_run.specs.declared.status.Status.{Status}
-use Rattle.hotsync_run.specs.declared.status.Status.TheVariants.{Done, Usage, BadScript, TooLong, BadFile, TooMany, HandheldFolder, DesktopFolder, SourceRead, TraceWrite, OutWrite, NoMemory, LineDown, Unplugged, Aborted, Undetected, OtherUser, TooManyUsers, Limit, NotYet}
+use Rattle.hotsync_run.specs.declared.status.Status.TheVariants.{Done, Usage, BadScript, TooLong, BadFile, TooMany, HandheldFolder, DesktopFolder, SourceRead, TraceWrite, OutWrite, NoMemory, LineDown, Unplugged, Aborted, Undetected, OtherUser, TooManyUsers, Limit}
 
 -- ---- the frames tell one story
 
@@ -266,7 +266,6 @@ whole_over meeting TooLong report answered over short whole = absurd over.ends
 whole_over meeting (BadFile a b c d) report answered over short whole = absurd over.ends
 whole_over meeting (TooMany side) report answered over short whole = absurd over.ends
 whole_over meeting SourceRead report answered over short whole = absurd over.ends
-whole_over meeting NotYet report answered over short whole = absurd over.ends
 whole_over meeting (OtherUser handheld desktop) report answered over short whole = absurd (stopped_short meeting report whole (short tt))
 whole_over meeting TooManyUsers report answered over short whole = absurd (stopped_short meeting report whole (short tt))
 whole_over meeting (Limit name) report answered over short whole = absurd (stopped_short meeting report whole (short tt))
@@ -291,7 +290,6 @@ cut_short TooLong report answered ends all few = absurd ends
 cut_short (BadFile a b c d) report answered ends all few = absurd ends
 cut_short (TooMany side) report answered ends all few = absurd ends
 cut_short SourceRead report answered ends all few = absurd ends
-cut_short NotYet report answered ends all few = absurd ends
 cut_short (OtherUser handheld desktop) report answered ends all few = absurd (omega (arith, all (inr tt), few))
 cut_short TooManyUsers report answered ends all few = absurd (omega (arith, all (inr tt), few))
 cut_short (Limit name) report answered ends all few = absurd (omega (arith, all (inr tt), few))

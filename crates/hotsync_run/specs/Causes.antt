@@ -9,7 +9,7 @@ use Rattle.sync_session.specs.declared.stop.Stop.TheVariants as stop
 use Rattle.hotsync_run.specs.declared.report.SessionEnd.{SessionEnd}
 use Rattle.hotsync_run.specs.declared.report.SessionEnd.TheVariants.{NotStarted, Ended, Stopped}
 use Rattle.hotsync_run.specs.declared.status.Status.{Status}
-use Rattle.hotsync_run.specs.declared.status.Status.TheVariants.{Done, Usage, BadScript, TooLong, BadFile, TooMany, HandheldFolder, DesktopFolder, SourceRead, TraceWrite, OutWrite, NoMemory, LineDown, Unplugged, Aborted, Undetected, OtherUser, TooManyUsers, Limit, NotYet}
+use Rattle.hotsync_run.specs.declared.status.Status.TheVariants.{Done, Usage, BadScript, TooLong, BadFile, TooMany, HandheldFolder, DesktopFolder, SourceRead, TraceWrite, OutWrite, NoMemory, LineDown, Unplugged, Aborted, Undetected, OtherUser, TooManyUsers, Limit}
 
 -- ---- the status of a session
 
@@ -59,7 +59,6 @@ EndsAs TooLong end = ⊥
 EndsAs (BadFile _ _ _ _) end = ⊥
 EndsAs (TooMany _) end = ⊥
 EndsAs SourceRead end = ⊥
-EndsAs NotYet end = ⊥
 EndsAs other end = end ≡ Stopped
 
 -- why the line is down, with the frames that the report names

@@ -1,7 +1,7 @@
 -- The exit status of the program.
 use Rattle.std.specs.Prelude.{ℕ}
 use Rattle.hotsync_run.specs.declared.status.Status.{Status}
-use Rattle.hotsync_run.specs.declared.status.Status.TheVariants.{Done, Usage, BadScript, TooLong, BadFile, TooMany, HandheldFolder, DesktopFolder, SourceRead, TraceWrite, OutWrite, NoMemory, LineDown, Unplugged, Aborted, Undetected, OtherUser, TooManyUsers, Limit, NotYet}
+use Rattle.hotsync_run.specs.declared.status.Status.TheVariants.{Done, Usage, BadScript, TooLong, BadFile, TooMany, HandheldFolder, DesktopFolder, SourceRead, TraceWrite, OutWrite, NoMemory, LineDown, Unplugged, Aborted, Undetected, OtherUser, TooManyUsers, Limit}
 
 -- the exit status for each status of a call
 abbrev pub code_of : Status → ℕ
@@ -24,4 +24,3 @@ code_of (Undetected _) = 6
 code_of (OtherUser _ _) = 7
 code_of TooManyUsers = 7
 code_of (Limit _) = 7
-code_of NotYet = 8

@@ -7,6 +7,7 @@ pub mod Ends
 pub mod LineRuns
 pub mod Lines
 pub mod Looks
+pub mod Makes
 pub mod Opening
 pub mod Printed
 pub mod Refusals

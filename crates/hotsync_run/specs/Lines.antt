@@ -11,7 +11,7 @@ use Rattle.pdb_files.specs.declared.bad_kind.BadKind.{BadKind}
 use Rattle.hotsync_run.specs.declared.status.FileSide.{FileSide}
 use Rattle.hotsync_run.specs.declared.status.FileSide.TheVariants.{Handheld, Desktop, Source}
 use Rattle.hotsync_run.specs.declared.status.Status.{Status}
-use Rattle.hotsync_run.specs.declared.status.Status.TheVariants.{Done, Usage, BadScript, TooLong, BadFile, TooMany, HandheldFolder, DesktopFolder, SourceRead, TraceWrite, OutWrite, NoMemory, LineDown, Unplugged, Aborted, Undetected, OtherUser, TooManyUsers, Limit, NotYet}
+use Rattle.hotsync_run.specs.declared.status.Status.TheVariants.{Done, Usage, BadScript, TooLong, BadFile, TooMany, HandheldFolder, DesktopFolder, SourceRead, TraceWrite, OutWrite, NoMemory, LineDown, Unplugged, Aborted, Undetected, OtherUser, TooManyUsers, Limit}
 use Rattle.sync_session.specs.declared.report.Counts.{Counts}
 use Rattle.sync_session.specs.declared.report.DbReport.{DbReport}
 use Rattle.sync_session.specs.declared.report.Did.{Did}
@@ -88,7 +88,6 @@ refusal_line (Undetected number) = number_line (codes "undetected ") number
 refusal_line (OtherUser handheld desktop) = users_line handheld desktop
 refusal_line TooManyUsers = codes "too many users" ++ line_feed
 refusal_line (Limit name) = word_line (codes "limit ") (stem_of name)
-refusal_line NotYet = codes "not yet" ++ line_feed
 
 -- how the handheld's database was read
 abbrev pub mode_word : Bool → List ℕ

@@ -1,6 +1,6 @@
 // The top call.
 ghost use Rattle.std.specs.Prelude.{◌≡◌, map, string_bytes};
-ghost use Rattle.hotsync_run.specs.Calls.{IsCall, IsSync, ReadsSource, WritesTrace};
+ghost use Rattle.hotsync_run.specs.Calls.{HasSession, IsCall, IsSync, ReadsSource, WritesTrace};
 ghost use Rattle.hotsync_run.specs.Refusals.{BlamesHandheld, BlamesScript};
 ghost use Rattle.hotsync_run.specs.Reports.{IsNotStarted};
 ghost use Rattle.hotsync_run.specs.Told.{folder_told, sink_told, source_told};
@@ -8,6 +8,7 @@ ghost use Rattle.run_words.specs.Commands.{task_of};
 
 use crate::answer::Answer;
 use crate::look::look_at;
+use crate::make::make;
 use crate::packets::print_packets;
 use crate::printing::print_refusal;
 use crate::report::SessionEnd;
@@ -46,8 +47,9 @@ pub fn hotsync<H: Folder, D: Folder, S: Source, T: Sink, O: Sink>(
         (sink_told O.taken O.paths O.faults out.new)
         result.status result.report }
 
-    // Nothing goes over a line but in a run.
-    ensures report { ¬ IsSync (task_of (map string_bytes words.now)) → IsNotStarted result.report }
+    // Nothing goes over a line but in a session.
+    ensures report { ¬ HasSession (task_of (map string_bytes words.now))
+        → IsNotStarted result.report }
 
     // What is judged later is not touched: the folders where the script is blamed, the desktop's where the handheld's is.
     ensures script_first { IsSync (task_of (map string_bytes words.now))
@@ -72,9 +74,14 @@ pub fn hotsync<H: Folder, D: Folder, S: Source, T: Sink, O: Sink>(
             let status = print_packets(alloc, packet.hex, out);
             Answer::not_started(alloc, status, device, desk)
         }
-        Ok(Command::Make(_)) => {
-            let status = print_refusal(alloc, Status::NotYet, out);
-            Answer::not_started(alloc, status, device, desk)
+        Ok(Command::Make(words)) => {
+            let (status, report) = make(alloc, words.seed, words.count, out);
+            Answer {
+                status,
+                report,
+                device,
+                desk,
+            }
         }
         Err(WordsFault::Usage) => {
             let status = print_refusal(alloc, Status::Usage, out);

@@ -3,7 +3,8 @@
 //!
 //! A run judges the line's script, the handheld's folder and the desktop's, in this order, and opens the
 //! trace. Then both sides have a whole session over a line that does with each frame what the script says.
-//! Beside it, a database file is counted or shown, and so are the packets in captured bytes.
+//! Beside it, a database file is counted or shown, so are the packets in captured bytes, and a session is had between
+//! folders that are made in memory.
 #![tactic(auto)]
 
 mod answer;
@@ -12,6 +13,7 @@ mod command;
 pub mod laws;
 mod left;
 mod look;
+mod make;
 mod packets;
 mod printing;
 mod program;
@@ -22,6 +24,7 @@ mod script;
 mod sides;
 mod source;
 mod status;
+mod steady;
 mod talk;
 mod tracing;
 mod wishes;

@@ -240,7 +240,6 @@ fn refusal_line(alloc: Global, refusal: &Status) -> Result<String, AllocError>
         Status::OtherUser { handheld, desktop } => users_line(alloc, *handheld, *desktop),
         Status::TooManyUsers => String::from_str(alloc, "too many users\n"),
         Status::Limit(name) => limit_line(alloc, name),
-        Status::NotYet => String::from_str(alloc, "not yet\n"),
     }
 }
 

@@ -68,8 +68,6 @@ pub enum Status {
     TooManyUsers,
     /// The session would make more of this database than a side can hold.
     Limit(DbName),
-    /// The program does not do this yet.
-    NotYet,
 }
 
 impl From<AllocError> for Status {
@@ -156,7 +154,6 @@ impl Status {
             | Status::Aborted(_)
             | Status::Undetected(_) => 6,
             Status::OtherUser { .. } | Status::TooManyUsers | Status::Limit(_) => 7,
-            Status::NotYet => 8,
         }
     }
 }

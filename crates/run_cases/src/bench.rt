@@ -42,7 +42,8 @@ impl Bench {
                 *self = Bench::new(self.alloc);
                 return Ok(format!(in self.alloc; "{line}\n")?);
             }
-            "call" => return self.call(rest),
+            "call" => return self.call(rest, true),
+            "print" => return self.call(rest, false),
             "names" => return self.shown(false),
             "files" => return self.shown(true),
             "trace" => return Ok(trace_lines(self.alloc, &self.trace, rest)?),
@@ -130,7 +131,8 @@ impl Bench {
         format!(in self.alloc; "palm {palm}, desk {desk}\n")
     }
 
-    fn call(&mut self, rest: &str) -> io::Result<String> {
+    // Calls with these words, and tells what the session did where that is asked for.
+    fn call(&mut self, rest: &str, whole: bool) -> io::Result<String> {
         let alloc = self.alloc;
         let mut args = vec![in alloc; String::from_str(alloc, "hotsync")?]?;
         for word in rest.split(' ').filter(|word| *word != "-") {
@@ -158,7 +160,11 @@ impl Bench {
         self.desk.fail_calls(Vec::new(alloc));
         self.trace = Vec::from_slice(alloc, trace.bytes())?;
         let printed = String::from_utf8_lossy(alloc, out.bytes())?;
-        let did = report_text(alloc, &report)?;
+        let did = if whole {
+            report_text(alloc, &report)?
+        } else {
+            String::new(alloc)
+        };
         Ok(format!(in alloc; "status {code}\n{printed}{did}")?)
     }
 

@@ -10,6 +10,7 @@
 //! - `call WORDS` calls with these words, one space between two of them, and prints the exit status, what was printed and what
 //!   the session did: the number of its requests, writes and frames, the bytes and the packets that the reader of each end took,
 //!   the ids that new records got, and the frames that were harmed where the line is down.
+//! - `print WORDS` calls likewise, and prints the exit status and what was printed alone.
 //! - `names` and `files` print what the folders then hold, `trace` the trace, or its lines of the numbers behind it.
 //! - `moments` prints how often each folder changed, and `at palm N` takes it as it was after N changes.
 #![tactic(auto)]

@@ -1,8 +1,17 @@
-use Rattle.std.specs.Prelude.{map, string_bytes}
+use Rattle.std.proofs.Common.{◌∙◌, ap}
+use Rattle.std.specs.Prelude.{Some, map, string_bytes}
 use Rattle.run_words.specs.Commands.{task_of}
+use Rattle.run_words.specs.Views.{task_view}
+use Rattle.run_words.specs.declared.command.Command.{Command}
 use Rattle.hotsync_run.specs.Told.{CallTold, SinkTold, folder_told, sink_told, source_told}
 use Rattle.hotsync_run.proofs.CallLaws.{only_memory, unread_call}
+use Rattle.hotsync_run.proofs.MakeWords.{few_asked}
 use Rattle.hotsync_run.proofs.command.hotsync.Goals as goal
+
+pub make-status-requires : goal.make-status-requires
+make-status-requires g c =
+    few_asked (map string_bytes c.args.words.now) c.in-Ok-Make.words.seed c.in-Ok-Make.words.count
+    (c.in-Ok-Make.ensures.command ∙ ap (λ (command : Command). Some (task_view command)) c.in-Ok-Make.field-0-is)
 
 pub returns-in-Err-NoMemory-clause-run : goal.returns-in-Err-NoMemory-clause-run
 returns-in-Err-NoMemory-clause-run g c =
