@@ -1,5 +1,6 @@
 pub mod AgainLaws
 pub mod CallLaws
+pub mod CleanLaws
 pub mod EndLaws
 pub mod FrontLaws
 pub mod FrontMoments

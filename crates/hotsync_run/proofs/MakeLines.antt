@@ -12,6 +12,7 @@ use Rattle.trace_text.specs.Proper.{AreNumbered}
 use Rattle.trace_text.specs.Tallies.{IsFairUpTo, faults_from}
 use Rattle.trace_text.specs.TraceLines.{FrameValue}
 use Rattle.hotsync_run.specs.Makes.{losses, made_script}
+use Rattle.hotsync_run.proofs.UndisturbedLaws.{last_fate}
 
 -- ---- what becomes of a frame
 
@@ -95,11 +96,8 @@ made_fair last number count some short near =
 
 -- ---- no frame ends the run
 
-last_fate : (number : ℕ) (script : ℕ → FateValue) (before : List FrameValue) (last : FrameValue) → AreNumbered number script (before ++ last ∷ []) → (n : ℕ) × (last.fate ≡ script n)
-last_fate number script [] last are = (number, are.1)
-last_fate number script (frame ∷ before) last are = last_fate (number + 1) script before last are.3
-
-no_stop : (given : FateValue) (bytes : List ℕ) (why : Stop) → (given ≡ Untouched) ⊎ (given ≡ Lost) → StopsBy given bytes (Some why) → ⊥
+-- one that is lost or goes through does not
+pub no_stop : (given : FateValue) (bytes : List ℕ) (why : Stop) → (given ≡ Untouched) ⊎ (given ≡ Lost) → StopsBy given bytes (Some why) → ⊥
 no_stop given bytes stop.Unplugged (inl is) stops = cc
 no_stop given bytes stop.Unplugged (inr is) stops = cc
 no_stop given bytes stop.Aborted (inl is) stops = cc

@@ -25,6 +25,7 @@ use Rattle.sync_session.specs.Merges.{merged_slots}
 use Rattle.sync_session.specs.Outcomes.{StandsForSlots}
 use Rattle.sync_session.specs.Tasks.{Meeting, meeting_of}
 use Rattle.hotsync_run.specs.Causes.{ByEnd, HasBegun}
+use Rattle.hotsync_run.specs.Clean.{IsLineStop}
 use Rattle.hotsync_run.specs.Ends.{SessionLeft, StandsAtFront}
 use Rattle.hotsync_run.specs.LineRuns.{LineRan, exchanges_in, frames_in}
 use Rattle.hotsync_run.specs.Opening.{Opens, OpensAtMost, OpensGiven, OpensGivenAtMost}
@@ -40,7 +41,7 @@ use Rattle.hotsync_run.proofs.TraceLaws.{by_end_then, talk_not_script, talked_me
 use Rattle.hotsync_run.specs.declared.report.Report.{Report}
 use Rattle.hotsync_run.specs.declared.report.SessionEnd.{SessionEnd}
 use Rattle.hotsync_run.specs.declared.status.Status.{Status}
-use Rattle.hotsync_run.specs.declared.status.Status.TheVariants.{Done, HandheldFolder, DesktopFolder, SourceRead, TraceWrite, OutWrite, NoMemory}
+use Rattle.hotsync_run.specs.declared.status.Status.TheVariants.{Done, BadScript, TooLong, HandheldFolder, DesktopFolder, SourceRead, TraceWrite, OutWrite, NoMemory}
 
 -- a refusal of a script is no other one
 pub record IsScriptAlone (refusal : Status) : Type 0 where
@@ -417,6 +418,33 @@ refused_not_done run before status (inl script) = (script_alone status script.is
 refused_not_done run before status (inr (_, inl handheld)) = (handheld_alone before.palm.contents status handheld).done
 refused_not_done run before status (inr (_, inr (_, inl desktop))) = (desktop_alone before.desk.contents status desktop).done
 refused_not_done run before status (inr (_, inr (_, inr (_, trace)))) = (trace_alone status trace.is).done
+
+-- nor one that the line stopped
+script_not_stopped : (refusal : Status) → IsScriptRefusal refusal → ¬ IsLineStop refusal
+script_not_stopped SourceRead is = λ no. no
+script_not_stopped TooLong is = λ no. no
+script_not_stopped (BadScript line) is = λ no. no
+script_not_stopped NoMemory is = λ no. no
+script_not_stopped _ is = absurd is
+
+handheld_not_stopped : (fault : OpenFault) → ¬ IsLineStop (handheld_status fault)
+handheld_not_stopped opening.Keeper = λ no. no
+handheld_not_stopped opening.TooMany = λ no. no
+handheld_not_stopped (opening.BadFile name kind place) = λ no. no
+handheld_not_stopped opening.NoMemory = λ no. no
+
+desktop_not_stopped : (fault : DeskOpenFault) → ¬ IsLineStop (desktop_status fault)
+desktop_not_stopped desk_opening.DeskFault = λ no. no
+desktop_not_stopped desk_opening.TooMany = λ no. no
+desktop_not_stopped (desk_opening.BadFile name kind place) = λ no. no
+desktop_not_stopped desk_opening.NoMemory = λ no. no
+
+pub refused_not_stopped : (run : Run) (before : CallTold) (status : Status) → IsRefused run before status → ¬ IsLineStop status
+refused_not_stopped run before status (inl script) = script_not_stopped status script.is
+refused_not_stopped run before status (inr (_, inl handheld)) = subst (λ (s : Status). ¬ IsLineStop s) (sym handheld.is) (handheld_not_stopped handheld.fault)
+refused_not_stopped run before status (inr (_, inr (_, inl desktop))) = subst (λ (s : Status). ¬ IsLineStop s) (sym desktop.is) (desktop_not_stopped desktop.fault)
+refused_not_stopped run before status (inr (_, inr (_, inr (_, trace)))) =
+    elim trace.is [ inl is ↦ subst (λ (s : Status). ¬ IsLineStop s) (sym is) (λ no. no) | inr is ↦ subst (λ (s : Status). ¬ IsLineStop s) (sym is) (λ no. no) ]
 
 sent_not_done : (run : Run) (before : CallTold) (status : Status) → (status ≡ NoMemory) ⊎ IsRefused run before status → status ≡ Done → ⊥
 sent_not_done run before status (inl memory) done = cc

@@ -124,7 +124,7 @@ judged run before after out out_after status report calm blames (inr (_, inr (_,
 -- ---- a session
 
 -- the last frame has a fate of the script
-last_fate : (number : ℕ) (script : ℕ → FateValue) (before : List FrameValue) (last : FrameValue) → AreNumbered number script (before ++ last ∷ []) → (m : ℕ) × (last.fate ≡ script m)
+pub last_fate : (number : ℕ) (script : ℕ → FateValue) (before : List FrameValue) (last : FrameValue) → AreNumbered number script (before ++ last ∷ []) → (m : ℕ) × (last.fate ≡ script m)
 last_fate number script [] last are = (number, are.1)
 last_fate number script (frame ∷ before) last are = last_fate (number + 1) script before last are.3
 

@@ -2,6 +2,7 @@ pub mod Again
 pub mod BadFiles
 pub mod Calls
 pub mod Causes
+pub mod Clean
 pub mod Codes
 pub mod Ends
 pub mod LineRuns

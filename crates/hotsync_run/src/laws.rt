@@ -1,9 +1,13 @@
-//! What holds of several calls. Each function here does nothing: its contract is the law.
-ghost use Rattle.std.specs.Prelude.{List};
+//! What holds of calls, one or several. Each function here does nothing: its contract is the law.
+ghost use Rattle.std.specs.Prelude.{◌≡◌, List, None};
 ghost use Rattle.run_words.specs.Runs.{Run};
 ghost use Rattle.sync_session.specs.Tasks.{Meeting};
 ghost use Rattle.hotsync_run.specs.Again.{AllRan, AreOfOneKind, AreTold, EndsAsOne, Meets, RunCall};
-ghost use Rattle.hotsync_run.specs.Told.{CallTold};
+ghost use Rattle.hotsync_run.specs.Clean.{GoesThrough};
+ghost use Rattle.hotsync_run.specs.Runs.{IsRun};
+ghost use Rattle.hotsync_run.specs.Told.{CallTold, SinkTold};
+ghost use Rattle.hotsync_run.specs.declared.report.Report.{Report};
+ghost use Rattle.hotsync_run.specs.declared.status.Status.{Status};
 
 /// Folders that are told stand for one handheld and one desktop: whatever meets them meets the same.
 pub fn folders_make_one_meeting()
@@ -15,4 +19,11 @@ pub fn folders_make_one_meeting()
 /// on both sides what one whole session would have left, up to the ids of new records.
 pub fn stopped_runs_end_as_one()
     ensures { (call : RunCall) (later : List RunCall) → AllRan call later → EndsAsOne call later }
+{}
+
+/// A run without a script: neither end says anything twice, and the line stops nothing.
+pub fn a_line_without_harm_repeats_nothing()
+    ensures { (run : Run) (before after : CallTold) (out out_after : SinkTold) (status : Status)
+        (report : Report) → run.script ≡ None
+        → IsRun run before after out out_after status report → GoesThrough status report }
 {}

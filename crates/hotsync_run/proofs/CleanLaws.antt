@@ -1,0 +1,107 @@
+-- A run without a script: each frame goes through, so nothing is said twice and the line stops nothing.
+use Rattle.std.proofs.Common.{◌≡◌, ◌≢◌, ◌⊎◌, ◌∙◌, ◌+◌, ◌≤◌, ℕ, zero, suc, Bool, true, false, List, [], ◌∷◌, ◌++◌, length, inl, inr, refl, sym, subst, ap, arith}
+use Rattle.std.specs.Prelude.{◌<◌, map, Option, None, Some, if◌then◌else◌}
+use Rattle.std.specs.List.{AllByRecursion}
+use Rattle.trace_text.specs.declared.frame.End.{End}
+use Rattle.trace_text.specs.Fates.{FateValue, Untouched}
+use Rattle.trace_text.specs.Faults.{RepeatsHaveFaults, faulted, is_faulty, newest}
+use Rattle.trace_text.specs.Frames.{add_frame, course_of, fragment_in, is_abort, past_behind, past_of, sent_in}
+use Rattle.trace_text.specs.Past.{Sent, is_repeat}
+use Rattle.trace_text.specs.Proper.{AreNumbered, IsProper}
+use Rattle.trace_text.specs.Tallies.{IsFairUpTo, faults_from}
+use Rattle.trace_text.specs.TraceLines.{FrameValue, frame_value}
+use Rattle.trace_text.specs.declared.frame.Frame.{Frame}
+use Rattle.line_script.specs.Rules.{RuleValue}
+use Rattle.line_script.specs.Scripts.{fate_by}
+use Rattle.line_steps.specs.declared.harm.Stop.{Stop}
+use Rattle.line_steps.specs.declared.harm.Stop.TheVariants as stop
+use Rattle.line_world.specs.Causes.{BearsOut, EndsBy}
+use Rattle.run_words.specs.Runs.{Run}
+use Rattle.hotsync_run.specs.Causes.{IsLineDown, cause_in}
+use Rattle.hotsync_run.specs.Clean.{AreSaidOnce, GoesThrough, IsLineStop}
+use Rattle.hotsync_run.specs.LineRuns.{frames_in}
+use Rattle.hotsync_run.specs.Refusals.{IsRefused}
+use Rattle.hotsync_run.specs.Runs.{HasRun, SentNothing, SessionRan}
+use Rattle.hotsync_run.specs.Scripts.{IsScripted}
+use Rattle.hotsync_run.specs.Told.{CallTold}
+use Rattle.hotsync_run.specs.declared.report.Report.{Report}
+use Rattle.hotsync_run.specs.declared.status.Status.{Status}
+use Rattle.hotsync_run.specs.declared.status.Status.TheVariants.{LineDown, Unplugged, Aborted, Undetected, NoMemory}
+use Rattle.hotsync_run.proofs.MakeLines.{no_stop}
+use Rattle.hotsync_run.proofs.RunLaws.{refused_not_stopped}
+use Rattle.hotsync_run.proofs.TraceLaws.{by_end_both}
+use Rattle.hotsync_run.proofs.UndisturbedLaws.{last_fate}
+
+-- ---- nothing is said twice
+
+go_through : (number : ℕ) (frames : List FrameValue) → AreNumbered number (fate_by []) frames → AllByRecursion (λ (frame : FrameValue). frame.fate ≡ Untouched) frames
+go_through number [] are = tt
+go_through number (frame ∷ later) are = (are.1, go_through (number + 1) later are.3)
+
+abbrev IsWell : Sent → Type 0
+IsWell frame = faulted frame ≡ false
+
+past_is_well : (past : List Sent) (frames : List FrameValue) → AllByRecursion IsWell past → AllByRecursion (λ (frame : FrameValue). frame.fate ≡ Untouched) frames → AllByRecursion IsWell (past_behind past frames)
+past_is_well past [] well through = well
+past_is_well past (frame ∷ later) well through = past_is_well (add_frame frame past) later (by (is_abort (fragment_in frame).kind)) through.1
+  where
+    by : (b : Bool) → AllByRecursion IsWell (if b then past else sent_in frame ∷ past)
+    by true = well
+    by false = (ap (λ (f : FateValue). is_faulty (course_of f)) through.0, well)
+
+none_faulted : (past : List Sent) → AllByRecursion IsWell past → newest faulted past ≡ 0
+none_faulted [] well = refl
+none_faulted (frame ∷ past) well = ap (λ (b : Bool). if b then length past + 1 else newest faulted past) well.0 ∙ none_faulted past well.1
+
+said_once : (past : List Sent) → AllByRecursion IsWell past → RepeatsHaveFaults past → AreSaidOnce past
+said_once [] well repeats = tt
+said_once (frame ∷ past) well repeats = (λ X. by X (is_repeat X frame past) refl, said_once past well.1 repeats.1)
+  where
+    by : (X : End) (b : Bool) → is_repeat X frame past ≡ b → b ≡ false
+    by X true is = (let some = (repeats.0 X is).0 in let none = none_faulted past well.1 in absurd (omega (arith, some, none)))
+    by X false is = refl
+
+-- ---- the line stops nothing
+
+no_faults : (number count : ℕ) → faults_from (fate_by []) number count ≡ 0
+no_faults number zero = refl
+no_faults number (suc count) = let rest = no_faults (number + 1) count in omega (arith, rest)
+
+always_fair : (last : ℕ) → IsFairUpTo last (fate_by [])
+always_fair last number count some short near = let none = no_faults number count in omega (arith, none)
+
+none_ends : (why : Stop) (frames : List FrameValue) → AreNumbered 1 (fate_by []) frames → EndsBy why frames → ⊥
+none_ends why frames are ends =
+    let found = last_fate 1 (fate_by []) ends.before ends.last (subst (AreNumbered 1 (fate_by [])) ends.is are) in
+    no_stop ends.last.fate ends.last.bytes why (inl found.1) ends.stops
+
+stands : (status : Status) (numbers : List ℕ) (frames : List FrameValue) → ¬ IsLineDown status → BearsOut (cause_in status numbers) frames → AreNumbered 1 (fate_by []) frames → ¬ IsLineStop status
+stands (LineDown end) numbers frames up caused are = λ is. up tt
+stands (Unplugged number) numbers frames up caused are = λ is. none_ends stop.Unplugged frames are caused.1
+stands (Aborted number) numbers frames up caused are = λ is. none_ends stop.Aborted frames are caused.1
+stands (Undetected number) numbers frames up caused are = λ is. none_ends stop.Undetected frames are caused.1
+stands _ numbers frames up caused are = λ is. is
+
+-- ---- a run
+
+session_through : (run : Run) (before after : CallTold) (status : Status) (report : Report) → run.script ≡ None → SessionRan run before after status report → GoesThrough status report
+session_through run before after status report without ran =
+    let none : ran.rules ≡ [] = subst (λ (o : Option (List ℕ)). IsScripted o before.source.left ran.rules) without ran.scripted in
+    let line = ran.talked.line in
+    let numbered : AreNumbered 1 (fate_by []) (frames_in report) = subst (λ (rules : List RuleValue). AreNumbered 1 (fate_by rules) (frames_in report)) none line.proper.numbered in
+    let fair : IsFairUpTo (length (frames_in report)) (fate_by ran.rules) = subst (λ (rules : List RuleValue). IsFairUpTo (length (frames_in report)) (fate_by rules)) (sym none) (always_fair (length (frames_in report))) in
+    record {
+      once = said_once (past_of (frames_in report)) (past_is_well [] (frames_in report) tt (go_through 1 (frames_in report) numbered)) line.proper.faults;
+      stands = stands status report.faulted.items (frames_in report) (ran.talked.fair fair) ran.talked.caused numbered;
+    }
+
+silent_through : (run : Run) (before after : CallTold) (status : Status) (report : Report) → SentNothing run before after status report → GoesThrough status report
+silent_through run before after status report sent = record {
+  once = subst (λ (frames : List Frame). AreSaidOnce (past_of (map frame_value frames))) (sym sent.report_is.frames) tt;
+  stands = elim sent.judged [ inl memory ↦ subst (λ (s : Status). ¬ IsLineStop s) (sym memory) (λ is. is) | inr refused ↦ refused_not_stopped run before status refused ];
+}
+
+pub goes_through_whole : (run : Run) (before after : CallTold) (status : Status) (report : Report) → run.script ≡ None → HasRun run before after status report → GoesThrough status report
+goes_through_whole run before after status report without has =
+    by_end_both report.end {A = SentNothing run before after status report} {B = SessionRan run before after status report} {C = GoesThrough status report}
+    (silent_through run before after status report) (session_through run before after status report without) has.shown

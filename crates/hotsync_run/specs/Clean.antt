@@ -1,0 +1,27 @@
+-- A run over a line that does no frame harm.
+use Rattle.std.specs.Prelude.{◌≡◌, ⊤, false, List, [], ◌∷◌}
+use Rattle.trace_text.specs.declared.frame.End.{End}
+use Rattle.trace_text.specs.Frames.{past_of}
+use Rattle.trace_text.specs.Past.{Sent, is_repeat}
+use Rattle.hotsync_run.specs.LineRuns.{frames_in}
+use Rattle.hotsync_run.specs.declared.report.Report.{Report}
+use Rattle.hotsync_run.specs.declared.status.Status.{Status}
+use Rattle.hotsync_run.specs.declared.status.Status.TheVariants.{LineDown, Unplugged, Aborted, Undetected}
+
+-- no data frame has the key of the same end's data frame before it
+abbrev pub AreSaidOnce : List Sent → Type 0
+AreSaidOnce [] = ⊤
+AreSaidOnce (frame ∷ past) = ((X : End) → is_repeat X frame past ≡ false) × AreSaidOnce past
+
+-- the line stopped the run
+abbrev pub IsLineStop : Status → Type 0
+IsLineStop (LineDown end) = ⊤
+IsLineStop (Unplugged number) = ⊤
+IsLineStop (Aborted number) = ⊤
+IsLineStop (Undetected number) = ⊤
+IsLineStop other = ⊥
+
+-- neither end said anything twice, and the line stopped nothing
+pub record GoesThrough (status : Status) (report : Report) : Type 0 where
+  pub once : AreSaidOnce (past_of (frames_in report))
+  pub stands : ¬ IsLineStop status
