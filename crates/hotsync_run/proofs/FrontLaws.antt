@@ -4,6 +4,7 @@ use Rattle.std.specs.Prelude.{Option, Some, None, filter, map, slice_get}
 use Rattle.std.specs.List.{flat_map}
 use Rattle.std.specs.Option.{option_to_list}
 use Rattle.std.proofs.lemmas.List.{length-take, take-append-le}
+use Rattle.palm_device.specs.Devices.{Device}
 use Rattle.dlp_commands.specs.Changes.{changes, given_in}
 use Rattle.dlp_commands.specs.DeviceRuns.{DeviceRun, Exchange, exchanged}
 use Rattle.dlp_commands.specs.Talks.{issued}
@@ -64,17 +65,21 @@ issued_begins old new whole silent is begins =
 
 -- ---- a report
 
-performed-begins : (meeting : Meeting) (rules : List RuleValue) (before after : FolderTold) (report : Report) → LineRan rules meeting.device before after report → IsPrefix (log_in report).issued (requests meeting)
-    → (log_in report).performed ≡ take (length (log_in report).replies) (requests meeting)
-performed-begins meeting rules before after report line prefix =
-    line.log.performed_is ∙ sym (ap (λ (l : List (List ℕ)). take (length (log_in report).replies) l) (sym prefix.is) ∙ take-append-le (length (log_in report).replies) (log_in report).issued prefix.rest line.log.performed_few)
+-- what was performed begins these requests where what was issued does
+pub performed-begins : (whole : List (List ℕ)) (rules : List RuleValue) (device : Device) (before after : FolderTold) (report : Report)
+    → LineRan rules device before after report → IsPrefix (log_in report).issued whole
+    → (log_in report).performed ≡ take (length (log_in report).replies) whole
+performed-begins whole rules device before after report line prefix =
+    line.log.performed_is
+    ∙ sym (ap (λ (l : List (List ℕ)). take (length (log_in report).replies) l) (sym prefix.is)
+    ∙ take-append-le (length (log_in report).replies) (log_in report).issued prefix.rest line.log.performed_few)
 
 -- the handheld stands where a beginning of the session's requests leads it
 pub front_of : (meeting : Meeting) (rules : List RuleValue) (before after : FolderTold) (report : Report) (line : LineRan rules meeting.device before after report) → IsPrefix (log_in report).issued (requests meeting)
     → Front meeting report.writes report.given.items line.last
 unfolding write_count
 front_of meeting rules before after report line prefix =
-    let is = performed-begins meeting rules before after report line prefix in
+    let is = performed-begins (requests meeting) rules meeting.device before after report line prefix in
     record {
       count = length (log_in report).replies;
       replies = (log_in report).replies;

@@ -1,7 +1,6 @@
 -- What a session left of both sides, from what its call answered over a world.
 use Rattle.std.proofs.Common.{◌≡◌, ◌⊎◌, ◌∙◌, ◌+◌, ◌^◌, ◌≤◌, ◌<◌, ap, append_assoc, refl, sym, subst, arith, inl, inr, ℕ, List, [], ◌∷◌, ◌++◌, length}
 use Rattle.std.specs.Prelude.{Option, Some, None, IsErr, IsSome, Result, Ok, Err, filter, map, replicate}
-use Rattle.std.specs.FinMap as finmap
 use Rattle.std.specs.Global.{Vec}
 use Rattle.std.specs.List.{AllByRecursion, flat_map}
 use Rattle.std.proofs.lemmas.List.{append-nil, length-append, map-append}

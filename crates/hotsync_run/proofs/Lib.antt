@@ -1,4 +1,5 @@
 pub mod AgainLaws
+pub mod AnsweredRuns
 pub mod CallLaws
 pub mod CleanLaws
 pub mod EndLaws

@@ -1,6 +1,6 @@
 -- What is known of a run at each of its ends.
 use Rattle.std.proofs.Common.{◌≡◌, ◌≢◌, ◌⊎◌, ◌∙◌, ◌+◌, ◌-◌, ◌^◌, ◌≤◌, ℕ, List, ◌++◌, inl, inr, refl, sym, subst, ap, arith}
-use Rattle.std.specs.Prelude.{IfSome, IsSome, Option, min}
+use Rattle.std.specs.Prelude.{IfSome, Option, min}
 use Rattle.std.specs.Option.{option_map}
 use Rattle.hs_folders.specs.Appends.{AppendsPrefix}
 use Rattle.hs_folders.specs.Causes.{Rose}

@@ -1,6 +1,6 @@
 -- What a session's status says, by how it ended.
 use Rattle.std.proofs.Common.{◌≡◌, ◌⊎◌, ◌∙◌, ap, inl, inr, refl, sym, subst, ℕ, List, [], length}
-use Rattle.std.specs.Prelude.{IsSome, Option, None, Some, Result, Ok, Err, IsErrOf, OnOk}
+use Rattle.std.specs.Prelude.{Option, None, Some, Result, Ok, Err, IsErrOf, OnOk}
 use Rattle.std.specs.Global.{Vec}
 use Rattle.std.specs.Option.{option_map}
 use Rattle.hs_folders.specs.FileMaps.{FileMap}
@@ -34,7 +34,7 @@ use Rattle.dlp_commands.specs.declared.link.LinkFault.{LinkFault}
 use Rattle.sync_session.specs.declared.stop.Stop.{Stop}
 use Rattle.sync_session.specs.declared.stop.Stop.TheVariants as stop
 use Rattle.hotsync_run.specs.Causes.{ByEnd, EndsAs, IsLineDown, IsUnsaid, cause_in, down_status, fault_status, numbers_by, stop_status}
-use Rattle.hotsync_run.specs.Ends.{SessionLeft, StatusShows}
+use Rattle.hotsync_run.specs.Ends.{SessionLeft}
 use Rattle.hotsync_run.specs.LineRuns.{TellsWorld, frames_in}
 use Rattle.hotsync_run.specs.Reports.{IsNotStarted}
 use Rattle.hotsync_run.specs.Talks.{ChangedOnce, IsLeft, IsTalk, KeptSilent, Talked, left_databases, left_end}

@@ -1,7 +1,7 @@
 -- What is known of a session stays, whatever becomes of its trace.
 use Rattle.std.proofs.Common.{◌≡◌, ◌⊎◌, ◌≤◌, ◌++◌, inl, inr, refl, sym, subst, ◌∙◌, List, [], ℕ}
 use Rattle.std.specs.Option.{option_map}
-use Rattle.std.specs.Prelude.{◌⊎◌, Option, None, Some, IfSome, IsSome, Result, Ok, Err}
+use Rattle.std.specs.Prelude.{◌⊎◌, Option, None, Some, IfSome, Result, Ok, Err}
 use Rattle.hs_folders.proofs.Prefixes.{all_taken}
 use Rattle.palm_device.specs.Devices.{Device}
 use Rattle.pdb_values.specs.declared.user.UserInfo.{UserInfo}

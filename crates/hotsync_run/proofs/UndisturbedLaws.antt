@@ -1,12 +1,8 @@
 -- A run that nothing disturbs is done whole.
-use Rattle.std.proofs.Common.{◌≡◌, ◌≢◌, ◌⊎◌, ◌∙◌, ◌+◌, ◌≤◌, ℕ, List, [], ◌∷◌, ◌++◌, inl, inr, refl, sym, subst, ap, arith, Ok, Err}
-use Rattle.std.specs.Prelude.{◌<◌, false, true, length, IfSome, IsSome, Option, None, Some, string_bytes}
+use Rattle.std.proofs.Common.{◌≡◌, ◌⊎◌, ◌∙◌, ◌+◌, ℕ, List, [], ◌∷◌, ◌++◌, inl, inr, refl, sym, subst, ap, arith, Ok, Err}
+use Rattle.std.specs.Prelude.{false, IfSome, IsSome, Option, None, Some, string_bytes}
 use Rattle.std.specs.declared.alloc.Global.{Global}
-use Rattle.std.specs.Option.{option_map}
-use Rattle.hs_folders.specs.Causes.{Rose}
 use Rattle.hs_folders.specs.FileMaps.{FileMap}
-use Rattle.pdb_values.specs.declared.slot.Slot.TheVariants.{Full, Refused}
-use Rattle.palm_device.specs.Devices.{Device}
 use Rattle.handheld_files.specs.Openings as handheld
 use Rattle.handheld_files.specs.declared.fault.OpenFault.{OpenFault}
 use Rattle.handheld_files.specs.declared.fault.OpenFault.TheVariants as opening
@@ -15,7 +11,7 @@ use Rattle.trace_text.specs.Fates as fate
 use Rattle.trace_text.specs.Proper.{AreNumbered}
 use Rattle.trace_text.specs.TraceLines.{FrameValue}
 use Rattle.line_script.specs.Rules.{RuleValue}
-use Rattle.line_script.specs.Scripts.{IsReading, fate_by}
+use Rattle.line_script.specs.Scripts.{fate_by}
 use Rattle.line_script.specs.declared.fault.ScriptFault.TheVariants as script
 use Rattle.line_script.proofs.ScriptLaws.{one_reading}
 use Rattle.line_steps.specs.declared.harm.Stop.TheVariants as stop
@@ -25,16 +21,14 @@ use Rattle.desk_store.specs.Desks as desktop
 use Rattle.desk_store.specs.declared.fault.DeskOpenFault.{DeskOpenFault}
 use Rattle.desk_store.specs.declared.fault.DeskOpenFault.TheVariants as desk_opening
 use Rattle.run_words.specs.Runs.{Run}
-use Rattle.sync_session.specs.Limits.{first_over}
-use Rattle.sync_session.specs.Outcomes.{slot_in}
 use Rattle.sync_session.specs.Tasks.{Meeting, meeting_of}
 use Rattle.hotsync_run.specs.Causes.{ByEnd, EndsAs, IsLineDown, cause_in}
 use Rattle.hotsync_run.specs.Ends.{StatusShows}
 use Rattle.hotsync_run.specs.LineRuns.{frames_in}
 use Rattle.hotsync_run.specs.Printed.{IsPrinted}
-use Rattle.hotsync_run.specs.Refusals.{DesktopRefuses, HandheldRefuses, IsRefused, TraceRefuses, desktop_status, handheld_status}
-use Rattle.hotsync_run.specs.Runs.{BlamesByCount, HasRun, SentNothing, SessionRan}
-use Rattle.hotsync_run.specs.Scripts.{IsScript, IsScriptRefusal, IsScripted, ScriptRefuses, ScriptShows}
+use Rattle.hotsync_run.specs.Refusals.{DesktopRefuses, HandheldRefuses, IsRefused, desktop_status, handheld_status}
+use Rattle.hotsync_run.specs.Runs.{HasRun, SentNothing, SessionRan}
+use Rattle.hotsync_run.specs.Scripts.{IsScript, IsScriptRefusal, ScriptRefuses, ScriptShows}
 use Rattle.hotsync_run.specs.Told.{CallTold, SinkTold}
 use Rattle.hotsync_run.specs.Undisturbed.{EndsWell, IsGoodDesktop, IsGoodHandheld, IsGoodScript, IsUndisturbed, MayMeet}
 use Rattle.hotsync_run.specs.declared.report.Report.{Report}

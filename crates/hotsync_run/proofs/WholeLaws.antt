@@ -4,8 +4,6 @@ use Rattle.std.specs.Prelude.{IsSome, Option, None, Some, Result, Ok, Err, map, 
 use Rattle.std.specs.Global.{Vec}
 use Rattle.std.specs.List.{flat_map}
 use Rattle.std.proofs.lemmas.List.{append_cancel_left, length-append, length-map, take_all}
-use Rattle.hs_folders.specs.FileMaps.{FileMap}
-use Rattle.hs_folders.specs.Moments.{Moments}
 use Rattle.padp_link.specs.declared.piece.Key.{Key}
 use Rattle.dlp_commands.specs.declared.link.LinkFault.{LinkFault}
 use Rattle.dlp_commands.specs.declared.link.LinkFault.TheVariants as link
@@ -47,7 +45,7 @@ use Rattle.hotsync_run.specs.Talks.{IsLeft, left_end, left_status}
 use Rattle.hotsync_run.specs.Told.{FolderTold}
 use Rattle.hotsync_run.specs.Whole.{DealtWith, StopsAnswered, TellsDone, WentWhole}
 use Rattle.hotsync_run.proofs.EndLaws.{all_answered, logged_all}
-use Rattle.hotsync_run.proofs.LeftLaws.{EndsOver, Tells, before-longer, parts-are}
+use Rattle.hotsync_run.proofs.LeftLaws.{Tells, before-longer, parts-are}
 use Rattle.hotsync_run.specs.declared.left.Left.{Left}
 use Rattle.hotsync_run.specs.declared.report.Report.{Report}
 use Rattle.hotsync_run.specs.declared.report.SessionEnd.TheVariants.{Ended}

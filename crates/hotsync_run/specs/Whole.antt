@@ -1,6 +1,5 @@
 -- How far what went over the line was dealt with, and a session that went over it whole.
-use Rattle.std.specs.Prelude.{◌≡◌, ◌⊎◌, ◌<◌, ⊤, ℕ, List, [], ◌∷◌, length, take, Option, IsSome}
-use Rattle.hs_folders.specs.FileMaps.{FileMap}
+use Rattle.std.specs.Prelude.{◌≡◌, ◌⊎◌, ◌<◌, ⊤, ℕ, List, [], ◌∷◌, length, take}
 use Rattle.trace_text.specs.TraceLines.{FrameValue}
 use Rattle.trace_text.specs.Stories.{IsStory}
 use Rattle.trace_text.specs.declared.frame.End.TheVariants.{Handheld, Desktop}

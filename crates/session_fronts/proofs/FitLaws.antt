@@ -231,7 +231,7 @@ fit-end m sound =
     mark_fits (done_user m.wishes.date m.device.user (slot_of m).marks) 0xF0 (user_of_both m sound) sound.device.bounded.user.viewer sound.slot.pc (lit< tt)
     name.0 name.1
 
-fit-before : (m : Meeting) → IsSoundMeeting m → Fit (before_writes m)
+pub fit-before : (m : Meeting) → IsSoundMeeting m → Fit (before_writes m)
 unfolding before_writes listing_all
 fit-before m sound =
     let count : ℕ = max 1 (length m.device.databases) in

@@ -29,20 +29,20 @@ use Rattle.session_fronts.proofs.RunLaws.{RunsBy, answers, answers-count, asks, 
 
 -- ---- the requests of a beginning
 
-take-map : {A B : Type 0} (f : A → B) (n : ℕ) (xs : List A) → take n (map f xs) ≡ map f (take n xs)
+pub take-map : {A B : Type 0} (f : A → B) (n : ℕ) (xs : List A) → take n (map f xs) ≡ map f (take n xs)
 take-map f zero xs = refl
 take-map f (suc n) [] = refl
 take-map {A} {B} f (suc n) (x ∷ xs) = ap (λ (ys : List B). f x ∷ ys) (take-map f n xs)
 
-all-take : {A : Type 0} (P : A → Type 0) (n : ℕ) (xs : List A) → AllByRecursion P xs → AllByRecursion P (take n xs)
+pub all-take : {A : Type 0} (P : A → Type 0) (n : ℕ) (xs : List A) → AllByRecursion P xs → AllByRecursion P (take n xs)
 all-take P zero xs all = tt
 all-take P (suc n) [] all = tt
 all-take P (suc n) (x ∷ xs) all = (all.0, all-take P n xs all.1)
 
-first_requests : (m : Meeting) (ids : List ℕ) (n : ℕ) → take n (requests m) ≡ map text (take n (session m ids))
+pub first_requests : (m : Meeting) (ids : List ℕ) (n : ℕ) → take n (requests m) ≡ map text (take n (session m ids))
 first_requests m ids n = ap (take n) (sym (text-session m ids)) ∙ take-map text n (session m ids)
 
-first_fit : (m : Meeting) → IsSoundMeeting m → (ids : List ℕ) (n : ℕ) → Fit (take n (session m ids))
+pub first_fit : (m : Meeting) → IsSoundMeeting m → (ids : List ℕ) (n : ℕ) → Fit (take n (session m ids))
 first_fit m sound ids n = all-take FitsOne n (session m ids) (fit-session m sound ids)
 
 pub first-said : (m : Meeting) (given : List ℕ) (n : ℕ) → IsSoundMeeting m → GetFreeIds (take n (session m given)) m.device

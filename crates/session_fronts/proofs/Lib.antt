@@ -10,6 +10,9 @@ pub mod ManyLaws
 pub mod MergeActs
 pub mod NameLaws
 pub mod OpenActs
+pub mod OrderActs
+pub mod OrderRuns
+pub mod OrderWrites
 pub mod PartActs
 pub mod PhaseActs
 pub mod PutActs

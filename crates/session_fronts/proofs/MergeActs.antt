@@ -57,7 +57,7 @@ before-same m sound =
 
 -- ---- the marks
 
-begin_is : (m : Meeting) → IsSoundMeeting m → IsMark (begun_user m.device.user)
+pub begin_is : (m : Meeting) → IsSoundMeeting m → IsMark (begun_user m.device.user)
 begin_is m sound = record {
   last = sound.device.bounded.user.last;
   short = sound.device.bounded.user.short;
@@ -77,7 +77,7 @@ name_of_both m sound = by (slots_user_stays m.device.user (slot_of m).marks)
     by true = (sound.slot.short, sound.slot.no_zero)
     by false = (sound.device.bounded.user.short, sound.device.bounded.user.no_zero)
 
-end_is : (m : Meeting) → IsSoundMeeting m → IsMark (done_user m.wishes.date m.device.user (slot_of m).marks)
+pub end_is : (m : Meeting) → IsSoundMeeting m → IsMark (done_user m.wishes.date m.device.user (slot_of m).marks)
 end_is m sound = record { last = sound.date; short = (name_of_both m sound).0; no_zero = (name_of_both m sound).1 }
 
 pub done : (m : Meeting) → IsSoundMeeting m → (databases : List DatabaseValue)

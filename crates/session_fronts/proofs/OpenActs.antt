@@ -103,7 +103,7 @@ pub count_same : (device : Device) → (acted (counting 1) device).1 ≡ device
 unfolding acted tried
 count_same device = reached_same device 0x2B 1 reading.EntryCount
 
-at_same : (index : ℕ) (device : Device) → (acted (reading_at 1 index) device).1 ≡ device
+pub at_same : (index : ℕ) (device : Device) → (acted (reading_at 1 index) device).1 ≡ device
 unfolding acted tried
 at_same index device = reached_same device 0x20 1 (reading.RecordAt index 0 65535)
 
@@ -111,7 +111,7 @@ pub of_same : (id : ℕ) (device : Device) → (acted (reading_of 1 id) device).
 unfolding acted tried
 of_same id device = reached_same device 0x20 1 (reading.RecordOfId id 0 65535)
 
-ids_same : (start : ℕ) (device : Device) → (acted (listing_ids 1 start) device).1 ≡ device
+pub ids_same : (start : ℕ) (device : Device) → (acted (listing_ids 1 start) device).1 ≡ device
 unfolding acted tried
 ids_same start device = reached_same device 0x31 1 (reading.RecordIds start 8000)
 

@@ -42,7 +42,7 @@ use Rattle.session_fronts.proofs.TaskActs.{AreGiven, HasRoom, IsReady, news_do, 
 abbrev pub Stand : List Task → List DatabaseValue → Type 0
 Stand ts databases = AllByRecursion (λ (t : Task). database_of t.name databases ≡ t.handheld) ts
 
-read_one : (m : Meeting) (t : Task) → IsReady m t → (databases : List DatabaseValue) (user : UserInfo) → database_of t.name databases ≡ t.handheld
+pub read_one : (m : Meeting) (t : Task) → IsReady m t → (databases : List DatabaseValue) (user : UserInfo) → database_of t.name databases ≡ t.handheld
     → device_after (read_acts m t) (all_closed databases user) ≡ all_closed databases user
 unfolding read_acts
 read_one m t is databases user here = by t.handheld refl
@@ -203,6 +203,16 @@ with_all m t ids b = with_records (after (whole (choice m t) (seen_held m t) ids
 pub all-keep : (m : Meeting) → KeepsName (with_all m)
 all-keep m t ids b = refl
 
+-- those of one database behind its news
+pub purge_one : (m : Meeting) (t : Task) (is : IsReady m t) (ids : List ℕ) (databases : List DatabaseValue) (user : UserInfo)
+    → database_of t.name databases ≡ Some (with_news m t ids is.b)
+    → device_after (purge_acts m t) (all_closed databases user) ≡ all_closed (put_at_task (with_all m) t ids databases) user
+purge_one m t is ids databases user here =
+    purged_does m t is (after (giving (choice m t) (seen_held m t) ids) is.b.records) databases user here
+    ∙ ap (λ (rs : List Record). all_closed (with_put (with_records rs is.b) databases) user)
+    (sym (after-append (giving (choice m t) (seen_held m t) ids) (clearing (choice m t) (seen_held m t)) is.b.records))
+    ∙ ap (λ (ds : List DatabaseValue). all_closed ds user) (sym (put-is m (with_all m) t is ids databases))
+
 pub purges_all : (m : Meeting) (ts : List Task) (ready : AreReady m ts) (given : List ℕ) (databases : List DatabaseValue) (user : UserInfo) → HaveNames ts
     → AreChanged m (with_news m) ts ready given databases
     → device_after (flat_map (purge_acts m) ts) (all_closed databases user) ≡ all_closed (put_each m (with_all m) ts given databases) user
@@ -211,15 +221,9 @@ purges_all m (t ∷ ts) ready given databases user names changed =
     let is : IsReady m t = ready.0 in
     let ids : List ℕ = take (add_count m t) given in
     let later : List ℕ = drop (add_count m t) given in
-    let news : List Record = after (giving (choice m t) (seen_held m t) ids) is.b.records in
     let now : List DatabaseValue = put_at_task (with_all m) t ids databases in
-    let does : device_after (purge_acts m t) (all_closed databases user) ≡ all_closed now user =
-    purged_does m t is news databases user changed.0
-    ∙ ap (λ (rs : List Record). all_closed (with_put (with_records rs is.b) databases) user)
-    (sym (after-append (giving (choice m t) (seen_held m t) ids) (clearing (choice m t) (seen_held m t)) is.b.records))
-    ∙ ap (λ (ds : List DatabaseValue). all_closed ds user) (sym (put-is m (with_all m) t is ids databases)) in
     after_append (purge_acts m t) (flat_map (purge_acts m) ts) (all_closed databases user)
-    ∙ ap (device_after (flat_map (purge_acts m) ts)) does
+    ∙ ap (device_after (flat_map (purge_acts m) ts)) (purge_one m t is ids databases user changed.0)
     ∙ purges_all m ts ready.1 later now user names.1
     (changed-other m (with_news m) (with_all m) (all-keep m) ts ready.1 later databases t is ids names.0 changed.1)
 

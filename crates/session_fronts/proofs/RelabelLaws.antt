@@ -39,7 +39,7 @@ none-append : (xs ys : List Act) → NoAsk xs → NoAsk ys → NoAsk (xs ++ ys)
 none-append [] ys first second = second
 none-append (x ∷ xs) ys first second = (first.0, none-append xs ys first.1 second)
 
-none-same : (ids : List ℕ) (acts : List Act) → NoAsk acts → relabel ids acts ≡ acts
+pub none-same : (ids : List ℕ) (acts : List Act) → NoAsk acts → relabel ids acts ≡ acts
 none-same ids [] none = refl
 none-same ids (act ∷ acts) none =
     ap (λ b. given_to b ids act ∷ relabel (ids_left b ids) acts) none.0 ∙ ap (λ (zs : List Act). act ∷ zs) (none-same ids acts none.1)
@@ -207,7 +207,7 @@ all-labelled m (t ∷ ts) ready ids =
     all-labelled m ts ready.1 (drop n ids) ∙ ap (λ k. relabel (drop k ids) rest) (sym one.count) in
     ap {A = List Act × List Act} (λ p. p.0 ++ p.1) (λ k. (own k, later k)) ∙ sym (relabel-append ids bare rest) ∙ ap (relabel ids) (sym start)
 
-none-quiet : (acts : List Act) → Quiet acts → NoAsk acts
+pub none-quiet : (acts : List Act) → Quiet acts → NoAsk acts
 none-quiet [] quiet = tt
 none-quiet (act ∷ acts) quiet = (form_asks act.asks.form act.asks.fields quiet.0, none-quiet acts quiet.1)
 

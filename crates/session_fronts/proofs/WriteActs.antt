@@ -172,7 +172,7 @@ reset_does o d databases user rs may =
     write_done o d databases user rs (reset_flags rs) 0 0x27 writing.ResetFlags reply.ResetSyncFlags may
     (let records = may.records in rw records refl)
 
-removes_do : (o : Opened) (d : DatabaseValue) (databases : List DatabaseValue) (user : UserInfo) (rs : List Record) (ids : List ℕ)
+pub removes_do : (o : Opened) (d : DatabaseValue) (databases : List DatabaseValue) (user : UserInfo) (rs : List Record) (ids : List ℕ)
     → MayWrite o d databases → device_after (map (removing 1) ids) (holding o d databases user rs) ≡ holding o d databases user (after (purges ids) rs)
 removes_do o d databases user rs [] may = refl
 removes_do o d databases user rs (id ∷ ids) may =

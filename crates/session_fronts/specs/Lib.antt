@@ -1,4 +1,5 @@
 pub mod Again
+pub mod Answered
 pub mod Given
 pub mod Sound
 pub mod Stops

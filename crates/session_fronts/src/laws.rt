@@ -1,22 +1,26 @@
 //! What a session makes of a handheld. Each function here does nothing: its contract is the law.
-ghost use Rattle.std.specs.Prelude.{◌≡◌, ◌≤◌, ℕ, List, [], None, filter, length, map, take};
+ghost use Rattle.std.specs.Prelude.{◌≡◌, ◌≤◌, ◌++◌, ℕ, List, [], ◌∷◌, None, filter, length, map, take};
 ghost use Rattle.std.specs.List.{AllByRecursion, flat_map};
 ghost use Rattle.palm_device.specs.Devices.{Device};
+ghost use Rattle.palm_device.specs.Handles.{no_handles};
 ghost use Rattle.dlp_commands.specs.Changes.{changes, given_in};
-ghost use Rattle.dlp_commands.specs.DeviceRuns.{Exchange};
+ghost use Rattle.dlp_commands.specs.DeviceRuns.{DeviceRun, Exchange, exchanged};
 ghost use Rattle.desktop_session.specs.Acts.{Act, text};
+ghost use Rattle.desktop_session.specs.Orders.{AreAnswered, AreInOrder};
+ghost use Rattle.desktop_session.specs.Requests.{ending};
 ghost use Rattle.desktop_session.specs.Tellings.{AreSayable, device_after, exchanges};
 ghost use Rattle.sync_session.specs.Fronts.{Front};
 ghost use Rattle.sync_session.specs.Limits.{first_over};
 ghost use Rattle.sync_session.specs.Merges.{merged_device};
-ghost use Rattle.sync_session.specs.Sessions.{adds_of, after_commit, before_commit, session};
-ghost use Rattle.sync_session.specs.Sessions.{writes_before_commit};
+ghost use Rattle.sync_session.specs.Sessions.{adds_of, after_commit, before_commit, before_writes, session};
+ghost use Rattle.sync_session.specs.Sessions.{requests, writes_before_commit};
 ghost use Rattle.sync_session.specs.Tasks.{Meeting};
 ghost use Rattle.session_laws.specs.Meetings.{IsActive, action_at, found_of, holding_after, ids_at};
 ghost use Rattle.session_laws.specs.Renaming.{AreUnknown, SameEnds};
 ghost use Rattle.session_laws.specs.Repeats.{GotAllIds};
 ghost use Rattle.session_fronts.specs.Again.{AllRunAgain, IsFresh, IsFreshBehind, Later};
 ghost use Rattle.session_fronts.specs.Again.{RunsAgain, last_run};
+ghost use Rattle.session_fronts.specs.Answered.{IsAnsweredExchange};
 ghost use Rattle.session_fronts.specs.Given.{GetFreeIds, ids_in};
 ghost use Rattle.session_fronts.specs.Sound.{IsSoundMeeting};
 ghost use Rattle.session_fronts.specs.Stops.{StandsAmongNews, StandsBehindCommit};
@@ -37,6 +41,43 @@ pub fn a_session_can_be_said()
         GetFreeIds acts meeting.device → AreSayable acts meeting.device }
     ensures free { (acts : List Act) (device : Device) → AreSayable acts device
         → GetFreeIds acts device }
+{}
+
+/// Each request of a session may be asked at its turn: what it names is there, of the right kind and open
+/// where it has to be. While nothing is written that is so whether or not a limit would be passed. So no
+/// reply of the handheld's is an error, but error 5 where the call has an answer of its own for it. A whole
+/// session closes what it opens before it asks for its end.
+pub fn a_session_keeps_its_order()
+    ensures read { (meeting : Meeting) (n : ℕ) → IsSoundMeeting meeting
+        → AreInOrder (take n (before_writes meeting)) meeting.device }
+    ensures whole { (meeting : Meeting) (given : List ℕ) (n : ℕ) → IsSoundMeeting meeting
+        → first_over meeting ≡ None
+        → let acts = take n (session meeting given) in
+        GetFreeIds acts meeting.device → AreInOrder acts meeting.device }
+    ensures answered { (meeting : Meeting) (given : List ℕ) (n : ℕ) → IsSoundMeeting meeting
+        → first_over meeting ≡ None
+        → let acts = take n (session meeting given) in
+        GetFreeIds acts meeting.device → AreAnswered acts meeting.device }
+    ensures closed { (meeting : Meeting) (given : List ℕ) → IsSoundMeeting meeting
+        → first_over meeting ≡ None → GetFreeIds (session meeting given) meeting.device
+        → (acts : List Act) × (session meeting given ≡ acts ++ ending ∷ [])
+        × ((device_after acts meeting.device).handles ≡ no_handles) }
+{}
+
+/// A handheld that runs by requests of a session, up to any of them, refuses none, whichever ids it gives:
+/// each reply is no error, but error 5 where the call has an answer of its own for it. While nothing is
+/// written that is so whether or not a limit would be passed.
+pub fn a_session_is_never_refused()
+    ensures read { (meeting : Meeting) (count : ℕ) (replies : List (List ℕ)) (reached : Device)
+        → IsSoundMeeting meeting
+        → let asked = take count (map text (before_writes meeting)) in
+        DeviceRun meeting.device asked replies reached
+        → AllByRecursion IsAnsweredExchange (exchanged asked replies) }
+    ensures whole { (meeting : Meeting) (count : ℕ) (replies : List (List ℕ)) (reached : Device)
+        → IsSoundMeeting meeting → first_over meeting ≡ None
+        → let asked = take count (requests meeting) in
+        DeviceRun meeting.device asked replies reached
+        → AllByRecursion IsAnsweredExchange (exchanged asked replies) }
 {}
 
 /// Any beginning of a session's acts leads to a front, which has as many writes as the acts have, and the
