@@ -8,6 +8,10 @@ use Rattle.desktop_session.specs.Acts.{text}
 use Rattle.desktop_session.specs.Says.{IsPrefix}
 use Rattle.line_script.specs.Rules.{RuleValue}
 use Rattle.line_world.specs.Logs.{texts}
+use Rattle.desk_store.specs.Shelves.{SlotValue}
+use Rattle.made_folders.specs.Items.{made}
+use Rattle.made_folders.specs.Sides.{desktop_files, handheld_files}
+use Rattle.made_folders.specs.declared.item.Item.{Item}
 use Rattle.run_words.specs.Runs.{Run}
 use Rattle.sync_session.specs.Limits.{first_over}
 use Rattle.sync_session.specs.Sessions.{before_writes, requests}
@@ -17,7 +21,10 @@ use Rattle.session_fronts.proofs.OrderRuns.{read-answered, whole-answered}
 use Rattle.hotsync_run.specs.Causes.{ByEnd}
 use Rattle.hotsync_run.specs.Ends.{SessionLeft}
 use Rattle.hotsync_run.specs.LineRuns.{LineRan, exchanges_in, log_in}
+use Rattle.hotsync_run.specs.Makes.{IsMake, MadeNothing, MadeRan, files_told, made_run, made_script}
+use Rattle.hotsync_run.specs.Reports.{IsNotStarted}
 use Rattle.hotsync_run.specs.Runs.{IsRun, SentNothing, SessionRan}
+use Rattle.hotsync_run.specs.Talks.{Talked}
 use Rattle.hotsync_run.specs.Told.{CallTold, FolderTold, SinkTold}
 use Rattle.hotsync_run.specs.declared.report.Report.{Report}
 use Rattle.hotsync_run.specs.declared.report.SessionEnd.{SessionEnd}
@@ -51,18 +58,42 @@ session_answered meeting rules before after desk desk_after report line left = b
         run_by (map text (before_writes meeting)) rules meeting.device before after report line (left.over (subst IsSome (sym over) refl))
         (λ count replies last run. read-answered meeting count replies last left.sound run)
 
+talked_answered : (run : Run) (rules : List RuleValue) (device : Device) (slots : List SlotValue) (palm palm_after desk desk_after : FolderTold)
+    (status : Status) (report : Report) → Talked run rules device slots palm palm_after desk desk_after status report → AreAnswered report
+talked_answered run rules device slots palm palm_after desk desk_after status report talked =
+    session_answered (meeting_of device slots talked.wishes) rules palm palm_after desk desk_after report talked.line talked.left
+
+not_started : (report : Report) → IsNotStarted report → AreAnswered report
+not_started report is =
+    subst (AllByRecursion IsAnsweredExchange) (sym (ap (λ items. exchanged (texts items) (texts report.replies.items)) is.performed)) tt
+
+-- ---- runs, and sessions between made folders
+
 pub run-answered : (run : Run) (before after : CallTold) (out out_after : SinkTold) (status : Status) (report : Report)
     → IsRun run before after out out_after status report → AllByRecursion IsAnsweredExchange (exchanges_in report)
 run-answered run before after out out_after status report is = by report.end is.ran.shown
   where
     session : SessionRan run before after status report → AreAnswered report
-    session ran =
-        session_answered (meeting_of ran.device ran.slots ran.talked.wishes) ran.rules before.palm after.palm before.desk after.desk report ran.talked.line
-        ran.talked.left
+    session ran = talked_answered run ran.rules ran.device ran.slots before.palm after.palm before.desk after.desk status report ran.talked
 
     by : (end : SessionEnd) → ByEnd end (SentNothing run before after status report) (SessionRan run before after status report) → AreAnswered report
-    by NotStarted sent =
-        subst (AllByRecursion IsAnsweredExchange)
-        (sym (ap (λ items. exchanged (texts items) (texts report.replies.items)) sent.report_is.performed)) tt
+    by NotStarted sent = not_started report sent.report_is
+    by Ended ran = session ran
+    by Stopped ran = session ran
+
+pub made-answered : (seed count : ℕ) (out out_after : SinkTold) (status : Status) (report : Report) → IsMake seed count out out_after status report
+    → AllByRecursion IsAnsweredExchange (exchanges_in report)
+made-answered seed count out out_after status report is = by report.end is.ran
+  where
+    items : List Item
+    items = made seed count
+
+    session : MadeRan items status report → AreAnswered report
+    session ran =
+        talked_answered made_run made_script ran.device ran.slots (files_told (handheld_files items)) ran.palm_after (files_told (desktop_files items))
+        ran.desk_after status report ran.talked
+
+    by : (end : SessionEnd) → ByEnd end (MadeNothing status report) (MadeRan items status report) → AreAnswered report
+    by NotStarted nothing = not_started report nothing.report_is
     by Ended ran = session ran
     by Stopped ran = session ran
