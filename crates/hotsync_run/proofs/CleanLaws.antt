@@ -1,13 +1,13 @@
 -- A run without a script: each frame goes through, so nothing is said twice and the line stops nothing.
-use Rattle.std.proofs.Common.{◌≡◌, ◌≢◌, ◌⊎◌, ◌∙◌, ◌+◌, ◌≤◌, ℕ, zero, suc, Bool, true, false, List, [], ◌∷◌, ◌++◌, length, inl, inr, refl, sym, subst, ap, arith}
-use Rattle.std.specs.Prelude.{◌<◌, map, Option, None, Some, if◌then◌else◌}
+use Rattle.std.proofs.Common.{◌≡◌, ◌∙◌, ◌+◌, ℕ, zero, suc, Bool, true, false, List, [], ◌∷◌, length, inl, inr, refl, sym, subst, ap, arith}
+use Rattle.std.specs.Prelude.{map, Option, None, if◌then◌else◌}
 use Rattle.std.specs.List.{AllByRecursion}
 use Rattle.trace_text.specs.declared.frame.End.{End}
 use Rattle.trace_text.specs.Fates.{FateValue, Untouched}
 use Rattle.trace_text.specs.Faults.{RepeatsHaveFaults, faulted, is_faulty, newest}
 use Rattle.trace_text.specs.Frames.{add_frame, course_of, fragment_in, is_abort, past_behind, past_of, sent_in}
 use Rattle.trace_text.specs.Past.{Sent, is_repeat}
-use Rattle.trace_text.specs.Proper.{AreNumbered, IsProper}
+use Rattle.trace_text.specs.Proper.{AreNumbered}
 use Rattle.trace_text.specs.Tallies.{IsFairUpTo, faults_from}
 use Rattle.trace_text.specs.TraceLines.{FrameValue, frame_value}
 use Rattle.trace_text.specs.declared.frame.Frame.{Frame}
@@ -20,13 +20,12 @@ use Rattle.run_words.specs.Runs.{Run}
 use Rattle.hotsync_run.specs.Causes.{IsLineDown, cause_in}
 use Rattle.hotsync_run.specs.Clean.{AreSaidOnce, GoesThrough, IsLineStop}
 use Rattle.hotsync_run.specs.LineRuns.{frames_in}
-use Rattle.hotsync_run.specs.Refusals.{IsRefused}
 use Rattle.hotsync_run.specs.Runs.{HasRun, SentNothing, SessionRan}
 use Rattle.hotsync_run.specs.Scripts.{IsScripted}
 use Rattle.hotsync_run.specs.Told.{CallTold}
 use Rattle.hotsync_run.specs.declared.report.Report.{Report}
 use Rattle.hotsync_run.specs.declared.status.Status.{Status}
-use Rattle.hotsync_run.specs.declared.status.Status.TheVariants.{LineDown, Unplugged, Aborted, Undetected, NoMemory}
+use Rattle.hotsync_run.specs.declared.status.Status.TheVariants.{LineDown, Unplugged, Aborted, Undetected}
 use Rattle.hotsync_run.proofs.MakeLines.{no_stop}
 use Rattle.hotsync_run.proofs.RunLaws.{refused_not_stopped}
 use Rattle.hotsync_run.proofs.TraceLaws.{by_end_both}

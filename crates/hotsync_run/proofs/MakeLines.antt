@@ -1,5 +1,5 @@
 -- The line of a session between made folders: its script is fair, and neither stops a run nor changes a byte.
-use Rattle.std.proofs.Common.{◌≡◌, ◌∙◌, ◌+◌, ◌*◌, ◌/◌, ◌%◌, ◌<◌, ◌≤◌, ◌⊎◌, inl, inr, ℕ, zero, suc, Bool, true, false, refl, sym, ap, subst, arith, ne_eqb, List, [], ◌∷◌, ◌++◌}
+use Rattle.std.proofs.Common.{◌≡◌, ◌∙◌, ◌+◌, ◌*◌, ◌/◌, ◌%◌, ◌<◌, ◌≤◌, ◌⊎◌, inl, inr, ℕ, zero, suc, Bool, true, false, refl, sym, ap, subst, arith, ne_eqb, List}
 use Rattle.std.specs.Prelude.{Some, cond, eqb}
 use Rattle.std.proofs.lemmas.Bool.{cases_lt}
 use Rattle.line_script.specs.Scripts.{fate_by}
