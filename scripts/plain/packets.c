@@ -1,4 +1,4 @@
-/* A plain reader of packets, to compare with: it takes 1,040 bytes again and again, as slp_bench does, looks for the
+/* A plain reader of packets, to compare with: it takes 1,040 bytes again and again, as hotsync_bench does, looks for the
  * signature, tests the sum of the header and the CRC by a table, and counts. */
 #include <stdint.h>
 #include <stdio.h>

@@ -1,7 +1,4 @@
-//! Says one request again and again over a line to a server, and prints how many frames that took. The words are how often, and
-//! `lost` where the line loses a frame in twenty: requests, replies, and acknowledgements of both.
-#![tactic(auto)]
-
+// Exchanges over a line.
 ghost use Rattle.std.specs.Prelude.{◌≡◌, true, false};
 
 use dlp_commands::{Link, Message};
@@ -12,24 +9,14 @@ use line_script::{Script, read_script};
 use line_world::World;
 use std::alloc::{AllocError, Global};
 use std::fmt::Write;
-use std::{env, io};
 
 /// ReadUserInfo.
 const REQUEST: [u8; 2] = [0x10, 0];
 
-fn main(rt: HostRuntime) -> io::Result<()> {
-    let mut words = env::args(&rt)?.skip(1);
-    let times = words.next().map_or(1, |word| number_in(word.as_str()));
-    let losing = words.next().is_some();
-    match frames_of(rt.alloc(), times, losing) {
-        Ok(frames) => println!(rt; "frames {frames}")?,
-        Err(AllocError) => println!(rt; "no memory")?,
-    }
-    Ok(())
-}
-
-fn number_in(word: &str) -> u16 {
-    word.parse().unwrap_or(1)
+/// Says a request so often over a line, and says how many frames that took.
+pub fn taken(alloc: Global, times: u16, losing: bool) -> Result<String, AllocError> {
+    let frames = frames_of(alloc, times, losing)?;
+    format!(in alloc; "frames {frames}")
 }
 
 // How many frames so many exchanges take.

@@ -1,5 +1,5 @@
 use Rattle.std.proofs.Common.{◌≡◌, true}
-use Rattle.line_bench.proofs.talk.Given as goal
+use Rattle.hotsync_bench.proofs.exchanges.talk.Given as goal
 
 abbrev pub invariant-loop-left : goal.invariant-loop-left
 invariant-loop-left g l = g.L.Link.begun l.link ≡ true

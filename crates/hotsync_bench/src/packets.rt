@@ -1,35 +1,25 @@
-//! Reads a stream of the longest packets, or of noise, and prints what was counted: `bytes N packets
-//! N`. The words are `packets` or `noise`, and how often 1,040 bytes are fed.
-#![tactic(auto)]
-
+// A packet reader, and what it is fed.
 use arrayvec::ArrayVec;
 use slp_frames::{MAX_BODY, MAX_PACKET, Packet, SlpReader, write_packet};
-use std::{env, io};
+use std::alloc::{AllocError, Global};
 
-fn main(rt: HostRuntime) -> io::Result<()> {
-    let mut words = env::args(&rt)?.skip(1);
-    let is_noise = words.next().is_some_and(|word| word.as_str() == "noise");
-    let times = words.next().map_or(1, |word| times_of(word.as_str()));
+/// Feeds 1,040 bytes so often, the longest packet or bytes without one, and says what was counted.
+pub fn fed(alloc: Global, is_noise: bool, times: u16) -> Result<String, AllocError> {
     let text = if is_noise { noise() } else { packet_text() };
     let mut reader = SlpReader::new();
     feed_often(&mut reader, text.as_slice(), times);
     let tally = reader.tally();
-    println!(rt; "bytes {} packets {}", tally.bytes(), tally.packets())?;
-    Ok(())
+    format!(in alloc; "bytes {} packets {}", tally.bytes(), tally.packets())
 }
 
-fn times_of(word: &str) -> u32 {
-    word.parse().unwrap_or(1)
-}
-
-fn feed_often(reader: &mut SlpReader, text: &[u8], times: u32) {
+fn feed_often(reader: &mut SlpReader, text: &[u8], times: u16) {
     for _ in 0..times {
         let _count = reader.feed(text);
         let _found = reader.next().is_some();
     }
 }
 
-/// The text of a packet with the longest body.
+// The text of a packet with the longest body.
 fn packet_text() -> ArrayVec<u8, MAX_PACKET> {
     let mut body = ArrayVec::new();
     for place in 0..MAX_BODY {
@@ -47,7 +37,7 @@ fn packet_text() -> ArrayVec<u8, MAX_PACKET> {
     text
 }
 
-/// Bytes without a packet.
+// Bytes without a packet.
 fn noise() -> ArrayVec<u8, MAX_PACKET> {
     let mut text = ArrayVec::new();
     for place in 0..MAX_PACKET {

@@ -1,8 +1,4 @@
-//! Answers one request again and again, on a server over a database of records of 100 bytes in a folder in memory, and
-//! prints how often it was answered. The words are what is asked, `id`, `index` or `write`, how many records there are, and
-//! how often it is asked.
-#![tactic(auto)]
-
+// A server over a database, and what it is asked.
 use dlp_commands::Message;
 use handheld_server::Server;
 use handheld_store::Store;
@@ -11,14 +7,13 @@ use palm_device::new_head;
 use pdb_files::write_database;
 use pdb_values::{Category, Content, Database, DbName, FourCc, Record, RecordId};
 use std::alloc::{AllocError, Global};
-use std::{env, io};
 
 /// OpenDB of the database `B`, for reading and writing.
 const OPEN: [u8; 8] = [0x17, 1, 0x20, 4, 0, 0xC0, b'B', 0];
 
 /// What is asked.
 #[derive(Clone, Copy)]
-enum Asked {
+pub enum Asked {
     /// ReadRecord by id.
     Id,
     /// ReadRecord by index.
@@ -27,30 +22,10 @@ enum Asked {
     Write,
 }
 
-fn main(rt: HostRuntime) -> io::Result<()> {
-    let mut words = env::args(&rt)?.skip(1);
-    let asked = words
-        .next()
-        .map_or(Asked::Id, |word| asked_by(word.as_str()));
-    let count = words.next().map_or(1, |word| number_in(word.as_str()));
-    let times = words.next().map_or(1, |word| number_in(word.as_str()));
-    match answer_often(rt.alloc(), asked, count, times) {
-        Ok(answered) => println!(rt; "answered {answered}")?,
-        Err(AllocError) => println!(rt; "no memory")?,
-    }
-    Ok(())
-}
-
-fn asked_by(word: &str) -> Asked {
-    match word {
-        "index" => Asked::Index,
-        "write" => Asked::Write,
-        _ => Asked::Id,
-    }
-}
-
-fn number_in(word: &str) -> u16 {
-    word.parse().unwrap_or(1)
+/// Asks so often of a database of so many records, and says how often that was answered.
+pub fn answered(alloc: Global, asked: Asked, count: u16, times: u16) -> Result<String, AllocError> {
+    let answered = answer_often(alloc, asked, count, times)?;
+    format!(in alloc; "answered {answered}")
 }
 
 // How often the request was answered without an error.
