@@ -1,5 +1,6 @@
 //! Calls the program with the words of each line of standard input, one space between two of them, over the folders beside it.
-//! Prints each line behind `$ `, and then what that call prints. These are the calls of the folder `examples`.
+//! Prints each line behind `$ `, and then what that call prints. These are the calls of the folder `examples`, and some over files
+//! that other software wrote.
 #![tactic(auto)]
 
 use hotsync_run::run_program;
