@@ -1,6 +1,8 @@
 -- What a folder stands for while its journal is carried out.
-use Rattle.std.proofs.Common.{◌≡◌, ◌+◌, ◌<◌, ◌≤◌, ℕ, zero, suc, Bool, true, false, cond, List, [], ◌∷◌, ◌++◌, length, take, get_or, Option, Some, None, Result, Ok, Err, refl, sym, ap, ◌∙◌, arith}
-use Rattle.std.specs.Prelude.{IfSome, IsSome, OnErr, is_some, bytes_eq}
+use Rattle.std.proofs.lemmas.Bool.Decides.{nat_tests}
+use Rattle.std.proofs.lemmas.Grind.{common_steps}
+use Rattle.std.proofs.Common.{◌≡◌, ◌+◌, ◌<◌, ℕ, zero, suc, Bool, true, false, cond, List, [], ◌∷◌, ◌++◌, length, take, get_or, Option, Some, None, Result, Ok, Err, refl, sym, ap, ◌∙◌, arith}
+use Rattle.std.specs.Prelude.{IfSome, IsSome, OnErr, bytes_eq}
 use Rattle.std.specs.FinMap as finmap
 use Rattle.std.specs.FinMap.{get-insert, get-remove, same_map, nat_cmp-IsAntisymmetric, slice_cmp-IsAntisymmetric}
 use Rattle.std.specs.Ordering.{nat_cmp, eq_by_cmp}
@@ -9,7 +11,6 @@ use Rattle.std.specs.Option.{option_map, option_or}
 use Rattle.std.proofs.lemmas.Map.Text.{is_eq-slice_cmp}
 use Rattle.std.proofs.lemmas.Slice.Eq.{bytes_eq-Decides}
 use Rattle.std.proofs.lemmas.List.{map_push, take-map, take_all, take_more}
-use Rattle.hs_folders.specs.Causes.{Rose}
 use Rattle.hs_folders.specs.FileMaps.{FileMap}
 use Rattle.folder_files.specs.FileNames.{is_kept_file, journal_file}
 use Rattle.desk_journal.specs.declared.bad_journal.BadJournal.{BadJournal}
@@ -32,14 +33,10 @@ same_name-refl : (a : List ℕ) → same_name a a ≡ true
 same_name-refl a = same_name-is a a ∙ grind (arith, bytes_eq-Decides a a)
 
 same_name-true : (a b : List ℕ) → same_name a b ≡ true → a ≡ b
-same_name-true a b e = let is : bytes_eq a b ≡ true = sym (same_name-is a b) ∙ e in grind (arith, is, bytes_eq-Decides a b)
+same_name-true a b e = grind (arith, same_name-is, bytes_eq-Decides)
 
 pub same_name-other : (a b : List ℕ) → (a ≡ b → ⊥) → same_name a b ≡ false
-same_name-other a b other = cases (same_name a b) refl
-  where
-    cases : (t : Bool) → same_name a b ≡ t → t ≡ false
-    cases true e = absurd (other (same_name-true a b e))
-    cases false e = refl
+same_name-other a b other = grind (arith, same_name, same_name-true)
 
 -- ---- files
 
@@ -57,16 +54,15 @@ abbrev pub last_of : List ℕ → List EntryValue → Option (List ℕ)
 last_of q [] = None
 last_of q (entry ∷ entries) = option_or (last_of q entries) (cond (same_name q entry.name) (Some entry.bytes) None)
 
-or_assoc : (o : Option (List ℕ)) (test : Bool) (x : List ℕ) (rest : Option (List ℕ)) → option_or o (cond test (Some x) rest) ≡ option_or (option_or o (cond test (Some x) None)) rest
-or_assoc (Some y) test x rest = refl
-or_assoc None true x rest = refl
-or_assoc None false x rest = refl
+or_assoc : (o : Option (List ℕ)) (test : Bool) (x : List ℕ) (rest : Option (List ℕ))
+    → option_or o (cond test (Some x) rest) ≡ option_or (option_or o (cond test (Some x) None)) rest
+or_assoc o test x rest = grind arith
 
-pub get-put_all : (entries : List EntryValue) (held : FileMap) (q : List ℕ) → finmap.get (put_all entries held) q ≡ option_or (last_of q entries) (finmap.get held q)
+pub get-put_all : (entries : List EntryValue) (held : FileMap) (q : List ℕ)
+    → finmap.get (put_all entries held) q ≡ option_or (last_of q entries) (finmap.get held q)
 get-put_all [] held q = refl
 get-put_all (entry ∷ entries) held q =
-    get-put_all entries (finmap.insert held entry.name entry.bytes) q
-    ∙ (ap (option_or (last_of q entries)) (get_put held entry.name entry.bytes q) ∙ or_assoc (last_of q entries) (same_name q entry.name) entry.bytes (finmap.get held q))
+    grind (arith, nat_tests, common_steps, get-put_all entries (finmap.insert held entry.name entry.bytes) q, last_of, get_put, or_assoc, same_name)
 
 -- ---- no entry is the journal
 
@@ -76,27 +72,25 @@ not_kept = refl
 no_entry : (before entries : List EntryValue) → AreEntries before entries → last_of journal_file entries ≡ None
 no_entry before [] form = refl
 no_entry before (entry ∷ entries) form =
-    let other : same_name journal_file entry.name ≡ false =
-    same_name-other journal_file entry.name (λ e. let is : is_kept_file journal_file ≡ true = ap is_kept_file e ∙ form.0.kept in cc (sym not_kept ∙ is)) in
-    rw (no_entry (before ++ entry ∷ []) entries form.2, other) refl
-
-none_before : (q : List ℕ) (count : ℕ) (entry : EntryValue) (entries : List EntryValue) → (o : Option (List ℕ)) (test : Bool) → last_of q entries ≡ o → same_name q entry.name ≡ test
-    → option_or o (cond test (Some entry.bytes) None) ≡ None → (last_of q entries ≡ None → last_of q (take count entries) ≡ None) → last_of q (take (suc count) (entry ∷ entries)) ≡ None
-none_before q count entry entries (Some x) test e t h later = absurd cc
-none_before q count entry entries None true e t h later = absurd cc
-none_before q count entry entries None false e t h later = rw (later e, t) refl
+    grind (
+      arith,
+      nat_tests,
+      common_steps,
+      same_name journal_file entry.name,
+      same_name-other journal_file entry.name,
+      entry.name,
+      form.0.kept,
+      no_entry (before ++ entry ∷ []) entries form.2,
+    )
 
 none_in_front : (q : List ℕ) (count : ℕ) (entries : List EntryValue) → last_of q entries ≡ None → last_of q (take count entries) ≡ None
 none_in_front q zero entries none = refl
 none_in_front q (suc count) [] none = refl
-none_in_front q (suc count) (entry ∷ entries) none = none_before q count entry entries (last_of q entries) (same_name q entry.name) refl refl none (none_in_front q count entries)
+none_in_front q (suc count) (entry ∷ entries) none = grind (arith, none_in_front q count entries)
 
-over_front : (q : List ℕ) (count : ℕ) (entries : List EntryValue) (rest : Option (List ℕ)) → option_or (last_of q entries) (option_or (last_of q (take count entries)) rest) ≡ option_or (last_of q entries) rest
-over_front q count entries rest = cases (last_of q entries) refl
-  where
-    cases : (o : Option (List ℕ)) → last_of q entries ≡ o → option_or (last_of q entries) (option_or (last_of q (take count entries)) rest) ≡ option_or (last_of q entries) rest
-    cases (Some x) e = rw e refl
-    cases None e = rw (e, none_in_front q count entries e) refl
+over_front : (q : List ℕ) (count : ℕ) (entries : List EntryValue) (rest : Option (List ℕ))
+    → option_or (last_of q entries) (option_or (last_of q (take count entries)) rest) ≡ option_or (last_of q entries) rest
+over_front q count entries rest = grind (arith, last_of, none_in_front)
 
 -- ---- overlays
 
@@ -105,29 +99,32 @@ pub record IsPending (entries : List EntryValue) (held : FileMap) : Type 0 where
   pub form : IsJournal entries
   pub written : finmap.get held journal_file ≡ Some (journal_text entries)
 
-pub pending_overlay : (entries : List EntryValue) (held : FileMap) → IsPending entries held → overlay held ≡ put_all entries (finmap.remove held journal_file)
-pending_overlay entries held is = rw (is.written, journal_only entries is.form) refl
+pub pending_overlay : {entries : List EntryValue} {held : FileMap} → IsPending entries held → overlay held ≡ put_all entries (finmap.remove held journal_file)
+pending_overlay {entries} is = rw (is.written, journal_only entries is.form) refl
 
-journal_stays : (entries : List EntryValue) (count : ℕ) (held : FileMap) → IsPending entries held → finmap.get (put_all (take count entries) held) journal_file ≡ finmap.get held journal_file
-journal_stays entries count held is =
-    get-put_all (take count entries) held journal_file
-    ∙ ap (λ (o : Option (List ℕ)). option_or o (finmap.get held journal_file)) (none_in_front journal_file count entries (no_entry [] entries is.form.1))
+journal_stays : {entries : List EntryValue} (count : ℕ) {held : FileMap} → IsPending entries held
+    → finmap.get (put_all (take count entries) held) journal_file ≡ finmap.get held journal_file
+journal_stays count is = grind (arith, get-put_all, none_in_front, no_entry)
 
 -- while the first so many files are replaced, the journal is there and the folder stands for the same
-pub pending_stays : (entries : List EntryValue) (count : ℕ) (held : FileMap) → IsPending entries held → IsPending entries (put_all (take count entries) held)
-pending_stays entries count held is = record { form = is.form; written = journal_stays entries count held is ∙ is.written }
+pub pending_stays : {entries : List EntryValue} (count : ℕ) {held : FileMap} → IsPending entries held → IsPending entries (put_all (take count entries) held)
+pending_stays count is = grind (arith, journal_stays)
 
-pub overlay_stays : (entries : List EntryValue) (count : ℕ) (held : FileMap) → IsPending entries held → overlay (put_all (take count entries) held) ≡ overlay held
-overlay_stays entries count held is =
-    pending_overlay entries (put_all (take count entries) held) (pending_stays entries count held is)
+pub overlay_stays : {entries : List EntryValue} (count : ℕ) {held : FileMap} → IsPending entries held
+    → overlay (put_all (take count entries) held) ≡ overlay held
+overlay_stays {entries} count {held} is =
+    pending_overlay (pending_stays count is)
     ∙ (same_files _ _ (λ q.
     get-put_all entries (finmap.remove (put_all (take count entries) held) journal_file) q
-    ∙ (ap (option_or (last_of q entries)) (get_without (put_all (take count entries) held) journal_file q ∙ ap (cond (same_name q journal_file) None) (get-put_all (take count entries) held q))
+    ∙ (ap (option_or (last_of q entries)) (get_without (put_all (take count entries) held) journal_file q ∙ ap (cond (same_name q journal_file) None)
+    (get-put_all (take count entries) held q))
     ∙ (by_name q (same_name q journal_file)
     ∙ sym (get-put_all entries (finmap.remove held journal_file) q ∙ ap (option_or (last_of q entries)) (get_without held journal_file q)))))
-    ∙ sym (pending_overlay entries held is))
+    ∙ sym (pending_overlay is))
   where
-    by_name : (q : List ℕ) (test : Bool) → option_or (last_of q entries) (cond test None (option_or (last_of q (take count entries)) (finmap.get held q))) ≡ option_or (last_of q entries) (cond test None (finmap.get held q))
+    by_name : (q : List ℕ) (test : Bool)
+        → option_or (last_of q entries) (cond test None (option_or (last_of q (take count entries)) (finmap.get held q)))
+        ≡ option_or (last_of q entries) (cond test None (finmap.get held q))
     by_name q true = refl
     by_name q false = over_front q count entries (finmap.get held q)
 
@@ -143,26 +140,24 @@ plain_overlay held none = rw none (without held none)
         cases q false e = refl
 
 -- once each file is replaced and the journal removed, the folder holds what it stood for
-pub removed : (entries : List EntryValue) (held : FileMap) → IsPending entries held → finmap.remove (put_all entries held) journal_file ≡ overlay held
-removed entries held is =
+pub removed : {entries : List EntryValue} {held : FileMap} → IsPending entries held → finmap.remove (put_all entries held) journal_file ≡ overlay held
+removed {entries} {held} is =
     same_files _ _ (λ q.
     get_without (put_all entries held) journal_file q
     ∙ (ap (cond (same_name q journal_file) None) (get-put_all entries held q)
-    ∙ (cases q (same_name q journal_file) refl ∙ sym (get-put_all entries (finmap.remove held journal_file) q ∙ ap (option_or (last_of q entries)) (get_without held journal_file q)))))
-    ∙ sym (pending_overlay entries held is)
+    ∙ (cases q (same_name q journal_file) refl ∙ sym (get-put_all entries (finmap.remove held journal_file) q ∙ ap (option_or (last_of q entries))
+    (get_without held journal_file q)))))
+    ∙ sym (pending_overlay is)
   where
-    cases : (q : List ℕ) (test : Bool) → same_name q journal_file ≡ test → cond test None (option_or (last_of q entries) (finmap.get held q)) ≡ option_or (last_of q entries) (cond test None (finmap.get held q))
-    cases q true e = let none : last_of q entries ≡ None = ap (λ (n : List ℕ). last_of n entries) (same_name-true q journal_file e) ∙ no_entry [] entries is.form.1 in rw none refl
+    cases : (q : List ℕ) (test : Bool) → same_name q journal_file ≡ test
+        → cond test None (option_or (last_of q entries) (finmap.get held q)) ≡ option_or (last_of q entries) (cond test None (finmap.get held q))
+    cases q true e = let none : last_of q entries ≡ None = ap (λ (n : List ℕ). last_of n entries) (same_name-true q journal_file e)
+        ∙ no_entry [] entries is.form.1 in rw none refl
     cases q false e = refl
 
-pub overlay_has_none : (held : FileMap) (entries : List EntryValue) → IsPending entries held → HasNoJournal (overlay held)
-overlay_has_none held entries is =
-    ap (λ (files : FileMap). finmap.get files journal_file) (sym (removed entries held is))
-    ∙ (get_without (put_all entries held) journal_file journal_file ∙ ap (λ (test : Bool). cond test None (finmap.get (put_all entries held) journal_file)) (same_name-refl journal_file))
-
--- and so it stands for it
-pub removed_overlay : (entries : List EntryValue) (held : FileMap) → IsPending entries held → overlay (finmap.remove (put_all entries held) journal_file) ≡ overlay held
-removed_overlay entries held is = ap overlay (removed entries held is) ∙ plain_overlay (overlay held) (overlay_has_none held entries is)
+pub overlay_has_none : {held : FileMap} {entries : List EntryValue} → IsPending entries held → HasNoJournal (overlay held)
+overlay_has_none {held} {entries} is =
+    grind (arith, nat_tests, common_steps, removed is, get_without (put_all entries held) journal_file journal_file, same_name-refl journal_file)
 
 -- ---- where contents are told or not
 
@@ -170,53 +165,49 @@ removed_overlay entries held is = ap overlay (removed entries held is) ∙ plain
 abbrev pub ArePending : List EntryValue → Option FileMap → Type 0
 ArePending entries told = IfSome told (λ held. finmap.get held journal_file ≡ Some (journal_text entries))
 
-pub told_stays : (entries : List EntryValue) (count : ℕ) (told : Option FileMap) → IsJournal entries → ArePending entries told → StandsAs told (option_map (put_all (take count entries)) told)
-told_stays entries count None form written = refl
-told_stays entries count (Some held) form written = ap Some (overlay_stays entries count held (record { form = form; written = written }))
+pub told_stays : (entries : List EntryValue) (count : ℕ) (told : Option FileMap) → IsJournal entries → ArePending entries told
+    → StandsAs told (option_map (put_all (take count entries)) told)
+told_stays entries count told form written = grind (arith, overlay_stays)
 
-pub told_there : (entries : List EntryValue) (told : Option FileMap) → IsJournal entries → ArePending entries told → IfSome (option_map (put_all entries) told) (λ held. IsSome (finmap.get held journal_file))
+pub told_there : (entries : List EntryValue) (told : Option FileMap) → IsJournal entries → ArePending entries told
+    → IfSome (option_map (put_all entries) told) (λ held. IsSome (finmap.get held journal_file))
 told_there entries None form written = tt
 told_there entries (Some held) form written =
-    let is : IsPending entries held = record { form = form; written = written } in
-    let all : take (length entries) entries ≡ entries = take_all (length entries) entries (omega arith) in
-    let there : finmap.get (put_all entries held) journal_file ≡ Some (journal_text entries) = ap (λ (es : List EntryValue). finmap.get (put_all es held) journal_file) (sym all) ∙ (pending_stays entries (length entries) held is).written in
-    rw there refl
+    grind (
+      arith,
+      nat_tests,
+      common_steps,
+      take_all (length entries) entries (omega arith),
+      pending_stays (length entries) (record { form = form; written = written }),
+    )
 
-pub told_removed : (entries : List EntryValue) (told : Option FileMap) → IsJournal entries → ArePending entries told → option_map (λ held. finmap.remove held journal_file) (option_map (put_all entries) told) ≡ option_map overlay told
-told_removed entries None form written = refl
-told_removed entries (Some held) form written = ap Some (removed entries held (record { form = form; written = written }))
+pub told_removed : (entries : List EntryValue) (told : Option FileMap) → IsJournal entries → ArePending entries told
+    → option_map (λ held. finmap.remove held journal_file) (option_map (put_all entries) told) ≡ option_map overlay told
+told_removed entries told form written = grind (arith, removed)
 
 pub told_overlaid : (entries : List EntryValue) (told : Option FileMap) → IsJournal entries → ArePending entries told → StandsAs told (option_map overlay told)
-told_overlaid entries None form written = refl
-told_overlaid entries (Some held) form written = let is : IsPending entries held = record { form = form; written = written } in ap Some (plain_overlay (overlay held) (overlay_has_none held entries is))
+told_overlaid entries told form written = grind (arith, plain_overlay, overlay_has_none)
 
-pub told_no_journal : (entries : List EntryValue) (told : Option FileMap) → IsJournal entries → ArePending entries told → IfSome (option_map overlay told) HasNoJournal
-told_no_journal entries None form written = tt
-told_no_journal entries (Some held) form written = overlay_has_none held entries (record { form = form; written = written })
+pub told_no_journal : (entries : List EntryValue) (told : Option FileMap) → IsJournal entries → ArePending entries told
+    → IfSome (option_map overlay told) HasNoJournal
+told_no_journal entries told form written = grind (arith, overlay_has_none)
 
 -- ---- counts
 
-pub rose_since : (before mid now : ℕ) → before ≤ mid → Rose mid now → Rose before now
-rose_since before mid now later rose = grind (arith, later, rose)
-
-pub rose_until : (before mid now : ℕ) → Rose before mid → mid ≤ now → Rose before now
-rose_until before mid now rose later = grind (arith, later, rose)
-
 -- ---- one entry more
 
-put_after : (entries : List EntryValue) (entry : EntryValue) (held : FileMap) → put_all (entries ++ entry ∷ []) held ≡ finmap.insert (put_all entries held) entry.name entry.bytes
+put_after : (entries : List EntryValue) (entry : EntryValue) (held : FileMap)
+    → put_all (entries ++ entry ∷ []) held ≡ finmap.insert (put_all entries held) entry.name entry.bytes
 put_after [] entry held = refl
 put_after (first ∷ entries) entry held = put_after entries entry (finmap.insert held first.name first.bytes)
 
-pub put_one_more : (entries : List EntryValue) (entry : EntryValue) (told : Option FileMap) → option_map (put_all (entries ++ entry ∷ [])) told ≡ option_map (λ held. finmap.insert held entry.name entry.bytes) (option_map (put_all entries) told)
-put_one_more entries entry None = refl
-put_one_more entries entry (Some held) = ap Some (put_after entries entry held)
+pub put_one_more : (entries : List EntryValue) (entry : EntryValue) (told : Option FileMap)
+    → option_map (put_all (entries ++ entry ∷ [])) told ≡ option_map (λ held. finmap.insert held entry.name entry.bytes) (option_map (put_all entries) told)
+put_one_more entries entry told = grind (arith, put_after)
 
-pub values_more : (entries : List Entry) (place : ℕ) (item : Entry) → place < length entries → item ≡ get_or entries place item → take (place + 1) (entry_values entries) ≡ take place (entry_values entries) ++ entry_value item ∷ []
-values_more entries place item less is =
-    take-map entry_value (place + 1) entries
-    ∙ (ap entry_values (take_more entries place item less ∙ ap (λ (x : Entry). take place entries ++ x ∷ []) (sym is))
-    ∙ (map_push entry_value (take place entries) item ∙ ap (λ (xs : List EntryValue). xs ++ entry_value item ∷ []) (sym (take-map entry_value place entries))))
+pub values_more : (entries : List Entry) (place : ℕ) {item : Entry} → place < length entries → item ≡ get_or entries place item
+    → take (place + 1) (entry_values entries) ≡ take place (entry_values entries) ++ entry_value item ∷ []
+values_more entries place less is = grind (arith, nat_tests, common_steps, take-map, take_more, map_push)
 
 -- ---- finishing
 
@@ -224,37 +215,35 @@ abbrev pub Journals : Option FileMap → List ℕ → Type 0
 Journals told bytes = IfSome told (λ held. finmap.get held journal_file ≡ Some bytes)
 
 pub finished_none : (told : Option FileMap) → IfSome told HasNoJournal → told ≡ option_map finished told
-finished_none None none = refl
-finished_none (Some held) none = ap Some (sym (ap (λ (o : Option (List ℕ)). cond (is_some (bad_of o)) held (overlay held)) none ∙ plain_overlay held none))
+finished_none told none = grind (arith, plain_overlay)
 
 pub bad_none : (told : Option FileMap) → IfSome told HasNoJournal → IfSome told (λ held. None ≡ bad_of (finmap.get held journal_file))
-bad_none None none = tt
-bad_none (Some held) none = sym (ap bad_of none)
+bad_none told none = grind arith
 
-bad_is : (held : FileMap) (bytes : List ℕ) (r : Result (List EntryValue) BadJournal) → finmap.get held journal_file ≡ Some bytes → journal_in bytes ≡ r → bad_of (finmap.get held journal_file) ≡ if_bad r
-bad_is held bytes r there is = ap bad_of there ∙ ap if_bad is
+bad_is : (held : FileMap) {bytes : List ℕ} {r : Result (List EntryValue) BadJournal} → finmap.get held journal_file ≡ Some bytes → journal_in bytes ≡ r
+    → bad_of (finmap.get held journal_file) ≡ if_bad r
+bad_is held there is = ap bad_of there ∙ ap if_bad is
 
-pub bad_told : (told : Option FileMap) (bytes : List ℕ) (bad : BadJournal) → Journals told bytes → journal_in bytes ≡ Err bad → IfSome told (λ held. Some bad ≡ bad_of (finmap.get held journal_file))
-bad_told None bytes bad there is = tt
-bad_told (Some held) bytes bad there is = sym (bad_is held bytes (Err bad) there is)
+pub bad_told : (told : Option FileMap) (bytes : List ℕ) {bad : BadJournal} → Journals told bytes → journal_in bytes ≡ Err bad
+    → IfSome told (λ held. Some bad ≡ bad_of (finmap.get held journal_file))
+bad_told told bytes there is = grind arith
 
-pub good_told : (told : Option FileMap) (bytes : List ℕ) (entries : List EntryValue) → Journals told bytes → journal_in bytes ≡ Ok entries → IfSome told (λ held. None ≡ bad_of (finmap.get held journal_file))
-good_told None bytes entries there is = tt
-good_told (Some held) bytes entries there is = sym (bad_is held bytes (Ok entries) there is)
+pub good_told : (told : Option FileMap) (bytes : List ℕ) {entries : List EntryValue} → Journals told bytes → journal_in bytes ≡ Ok entries
+    → IfSome told (λ held. None ≡ bad_of (finmap.get held journal_file))
+good_told told bytes there is = grind arith
 
-pub finished_bad : (told : Option FileMap) (bytes : List ℕ) (bad : BadJournal) → Journals told bytes → journal_in bytes ≡ Err bad → told ≡ option_map finished told
-finished_bad None bytes bad there is = refl
-finished_bad (Some held) bytes bad there is = ap Some (sym (ap (λ (o : Option BadJournal). cond (is_some o) held (overlay held)) (bad_is held bytes (Err bad) there is)))
+pub finished_bad : (told : Option FileMap) (bytes : List ℕ) {bad : BadJournal} → Journals told bytes → journal_in bytes ≡ Err bad
+    → told ≡ option_map finished told
+finished_bad told bytes there is = grind arith
 
-pub finished_good : (told : Option FileMap) (bytes : List ℕ) (entries : List EntryValue) → Journals told bytes → journal_in bytes ≡ Ok entries → option_map overlay told ≡ option_map finished told
-finished_good None bytes entries there is = refl
-finished_good (Some held) bytes entries there is = ap Some (sym (ap (λ (o : Option BadJournal). cond (is_some o) held (overlay held)) (bad_is held bytes (Ok entries) there is)))
+pub finished_good : (told : Option FileMap) (bytes : List ℕ) {entries : List EntryValue} → Journals told bytes → journal_in bytes ≡ Ok entries
+    → option_map overlay told ≡ option_map finished told
+finished_good told bytes there is = grind arith
 
 -- ---- committing
 
 pub written_there : (told : Option FileMap) (bytes : List ℕ) → Journals (option_map (λ held. finmap.insert held journal_file bytes) told) bytes
-written_there None bytes = tt
-written_there (Some held) bytes = get_put held journal_file bytes journal_file ∙ ap (λ (test : Bool). cond test (Some bytes) (finmap.get held journal_file)) (same_name-refl journal_file)
+written_there told bytes = grind (arith, get_put, same_name-refl)
 
 taken_back : (held : FileMap) (bytes : List ℕ) → HasNoJournal held → finmap.remove (finmap.insert held journal_file bytes) journal_file ≡ held
 taken_back held bytes none =
@@ -266,26 +255,31 @@ taken_back held bytes none =
     cases q true e = sym (ap (finmap.get held) (same_name-true q journal_file e) ∙ none)
     cases q false e = refl
 
-overlaid_after : (entries : List EntryValue) (held : FileMap) → IsJournal entries → HasNoJournal held → overlay (finmap.insert held journal_file (journal_text entries)) ≡ put_all entries held
+overlaid_after : (entries : List EntryValue) (held : FileMap) → IsJournal entries → HasNoJournal held
+    → overlay (finmap.insert held journal_file (journal_text entries)) ≡ put_all entries held
 overlaid_after entries held form none =
-    pending_overlay entries (finmap.insert held journal_file (journal_text entries)) (record { form = form; written = written_there (Some held) (journal_text entries) }) ∙ ap (put_all entries) (taken_back held (journal_text entries) none)
+    cc (
+      pending_overlay {entries = entries} {held = finmap.insert held journal_file (journal_text entries)}
+          (record { form = form; written = written_there (Some held) (journal_text entries) }),
+      taken_back held (journal_text entries) none,
+    )
 
 none_after : (entries : List EntryValue) (held : FileMap) → IsJournal entries → HasNoJournal held → HasNoJournal (put_all entries held)
-none_after entries held form none = get-put_all entries held journal_file ∙ (ap (λ (o : Option (List ℕ)). option_or o (finmap.get held journal_file)) (no_entry [] entries form.1) ∙ none)
+none_after entries held form none = grind (arith, get-put_all, no_entry)
 
-pub commit_done : (entries : List EntryValue) (told : Option FileMap) → IsJournal entries → IfSome told HasNoJournal → option_map overlay (option_map (λ held. finmap.insert held journal_file (journal_text entries)) told) ≡ option_map (put_all entries) told
-commit_done entries None form none = refl
-commit_done entries (Some held) form none = ap Some (overlaid_after entries held form none)
+pub commit_done : (entries : List EntryValue) (told : Option FileMap) → IsJournal entries → IfSome told HasNoJournal
+    → option_map overlay (option_map (λ held. finmap.insert held journal_file (journal_text entries)) told) ≡ option_map (put_all entries) told
+commit_done entries told form none = grind (arith, overlaid_after)
 
-after_plain : (entries : List EntryValue) (told : Option FileMap) → IsJournal entries → IfSome told HasNoJournal → option_map overlay (option_map (put_all entries) told) ≡ option_map (put_all entries) told
-after_plain entries None form none = refl
-after_plain entries (Some held) form none = ap Some (plain_overlay (put_all entries held) (none_after entries held form none))
+after_plain : (entries : List EntryValue) (told : Option FileMap) → IsJournal entries → IfSome told HasNoJournal
+    → option_map overlay (option_map (put_all entries) told) ≡ option_map (put_all entries) told
+after_plain entries told form none = grind (arith, plain_overlay, none_after)
 
-pub commit_stands : (entries : List EntryValue) (told : Option FileMap) → IsJournal entries → IfSome told HasNoJournal → StandsAs (option_map (put_all entries) told) (option_map (λ held. finmap.insert held journal_file (journal_text entries)) told)
-commit_stands entries told form none = commit_done entries told form none ∙ sym (after_plain entries told form none)
+pub commit_stands : (entries : List EntryValue) (told : Option FileMap) → IsJournal entries → IfSome told HasNoJournal
+    → StandsAs (option_map (put_all entries) told) (option_map (λ held. finmap.insert held journal_file (journal_text entries)) told)
+commit_stands entries told form none = grind (arith, commit_done, after_plain)
 
 -- ---- of an answer
 
 pub on_err_of : {A E P : Type 0} (answer : Result A E) → P → OnErr answer P
-on_err_of (Ok x) is = tt
-on_err_of (Err e) is = is
+on_err_of answer is = grind arith

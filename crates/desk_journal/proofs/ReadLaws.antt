@@ -1,4 +1,6 @@
 -- Journals: what is read has the bytes as its text, and each journal is read.
+use Rattle.std.proofs.lemmas.Bool.Decides.{nat_tests}
+use Rattle.std.proofs.lemmas.Grind.{common_steps}
 use Rattle.std.proofs.Common.{◌≡◌, ℕ, zero, suc, ◌+◌, ◌^◌, ◌<◌, ◌≤◌, Bool, true, false, cond, eqb, ltb, List, [], ◌∷◌, ◌++◌, length, take, drop, get_or, Option, Some, None, Result, Ok, Err, refl, sym, ap, subst, ◌∙◌, arith}
 use Rattle.std.specs.Prelude.{◌&&◌, ◌||◌, not, bytes_eq, option_and_then, IfOk}
 use Rattle.std.specs.Global.{Vec}
@@ -6,8 +8,8 @@ use Rattle.std.specs.Int.{w16, w32, from_be_bytes, to_be_bytes}
 use Rattle.std.specs.List.{flat_map, starts_with}
 use Rattle.std.specs.Option.{option_map}
 use Rattle.std.specs.Str.{IsUtf8, is_utf8}
-use Rattle.std.proofs.lemmas.Bool.{eqb-true, ltb-false, le-ltb}
-use Rattle.std.proofs.lemmas.List.{append_assoc, append-nil, drop-drop, nil_from_length, take_at, drop_at, take-append-drop, length-append, length-take, length-drop, get_or-drop}
+use Rattle.std.proofs.lemmas.Bool.{ltb-false, le-ltb}
+use Rattle.std.proofs.lemmas.List.{append_assoc, append-nil, drop-drop, drop_at, take-append-drop, length-append, length-take, length-drop, get_or-drop}
 use Rattle.std.proofs.lemmas.Nat.{be_bytes_2, be_bytes_4, from_be_bytes-to_be_bytes_2, from_be_bytes-to_be_bytes_4}
 use Rattle.std.proofs.lemmas.Str.{IsUtf8-from_is_utf8, is_utf8-from_IsUtf8}
 use Rattle.std.proofs.lemmas.Slice.Eq.{bytes_eq-Decides}
@@ -20,33 +22,26 @@ use Rattle.desk_journal.specs.Reading.{Reads, data_at, entries_at, entry_at, jou
 
 -- ---- steps that did not fail
 
-bind_some : {A B : Type 0} (o : Option A) (f : A → Option B) (y : B) → option_and_then f o ≡ Some y → (x : A) × (o ≡ Some x) × (f x ≡ Some y)
-bind_some (Some x) f y e = (x, refl, e)
-bind_some None f y e = absurd cc
+bind_some : {A B : Type 0} (o : Option A) (f : A → Option B) {y : B} → option_and_then f o ≡ Some y → (x : A) × (o ≡ Some x) × (f x ≡ Some y)
+bind_some o f e = grind arith
 
-map_some : {A B : Type 0} (o : Option A) (f : A → B) (y : B) → option_map f o ≡ Some y → (x : A) × (o ≡ Some x) × (f x ≡ y)
-map_some (Some x) f y e = (x, refl, cc)
-map_some None f y e = absurd cc
+map_some : {A B : Type 0} (o : Option A) (f : A → B) {y : B} → option_map f o ≡ Some y → (x : A) × (o ≡ Some x) × (f x ≡ y)
+map_some o f e = grind arith
 
-guard_some : {A : Type 0} (b : Bool) (o : Option A) (y : A) → cond b None o ≡ Some y → (b ≡ false) × (o ≡ Some y)
-guard_some true o y e = absurd cc
-guard_some false o y e = (refl, e)
+guard_some : {A : Type 0} (b : Bool) (o : Option A) {y : A} → cond b None o ≡ Some y → (b ≡ false) × (o ≡ Some y)
+guard_some b o e = grind arith
 
-test_some : {A : Type 0} (b : Bool) (o : Option A) (y : A) → cond b o None ≡ Some y → (b ≡ true) × (o ≡ Some y)
-test_some true o y e = (refl, e)
-test_some false o y e = absurd cc
+test_some : {A : Type 0} (b : Bool) (o : Option A) {y : A} → cond b o None ≡ Some y → (b ≡ true) × (o ≡ Some y)
+test_some b o e = grind arith
 
-some_is : {A : Type 0} (x y : A) → (let o : Option A = Some x in o) ≡ Some y → x ≡ y
-some_is x y e = cc
+some_is : {A : Type 0} (x : A) {y : A} → (let o : Option A = Some x in o) ≡ Some y → x ≡ y
+some_is x e = cc
 
 both_true : (a b : Bool) → (a && b) ≡ true → (a ≡ true) × (b ≡ true)
-both_true true b e = (refl, e)
-both_true false b e = absurd cc
+both_true a b e = grind arith
 
 neither : (a b : Bool) → (a || not b) ≡ false → (a ≡ false) × (b ≡ true)
-neither true b e = absurd cc
-neither false true e = (refl, refl)
-neither false false e = absurd cc
+neither a b e = grind arith
 
 bytes_is : (xs ys : List ℕ) → bytes_eq xs ys ≡ true → xs ≡ ys
 bytes_is xs ys e = grind (arith, e, bytes_eq-Decides xs ys)
@@ -64,45 +59,42 @@ in_front [] back fits i = omega arith
 in_front (b ∷ front) back fits zero = fits 0
 in_front (b ∷ front) back fits (suc i) = in_front front back (λ k. fits (suc k)) i
 
-some_found : (count : ℕ) (bytes : List ℕ) (parts : List ℕ × List ℕ) → some_at count bytes ≡ Some parts → (bytes ≡ parts.0 ++ parts.1) × (length parts.0 ≡ count)
+some_found : (count : ℕ) (bytes : List ℕ) {parts : List ℕ × List ℕ} → some_at count bytes ≡ Some parts → (bytes ≡ parts.0 ++ parts.1) × (length parts.0 ≡ count)
 unfolding some_at
-some_found count bytes parts e =
-    let g = guard_some (ltb (length bytes) count) _ parts e in
-    let long : count ≤ length bytes = ltb-false _ _ g.0 in
-    subst (λ (p : List ℕ × List ℕ). (bytes ≡ p.0 ++ p.1) × (length p.0 ≡ count)) (some_is _ parts g.1)
-    (sym (take-append-drop count bytes), omega (arith, length-take count bytes))
+some_found count bytes e = grind (arith, nat_tests, common_steps)
 
-some_only : (front back : List ℕ) (count : ℕ) → length front ≡ count → some_at count (front ++ back) ≡ Some (front, back)
+some_only : (front back : List ℕ) {count : ℕ} → length front ≡ count → some_at count (front ++ back) ≡ Some (front, back)
 unfolding some_at
-some_only front back count len =
-    let long : ltb (length (front ++ back)) count ≡ false = le-ltb _ _ (omega (arith, length-append front back)) in
-    rw (long, take_at front back count len, drop_at front back count len) refl
+some_only front back len = grind (arith, nat_tests, common_steps)
 
 -- ---- entries
 
-name_found : (bytes : List ℕ) (parts : List ℕ × List ℕ) → IsBytes bytes → name_at bytes ≡ Some parts → (bytes ≡ length parts.0 ∷ parts.0 ++ parts.1) × (length parts.0 < 2 ^ 8) × (is_utf8 parts.0 ≡ true) × (is_kept_file parts.0 ≡ true)
+name_found : (bytes : List ℕ) {parts : List ℕ × List ℕ} → IsBytes bytes → name_at bytes ≡ Some parts
+    → (bytes ≡ length parts.0 ∷ parts.0 ++ parts.1) × (length parts.0 < 2 ^ 8) × (is_utf8 parts.0 ≡ true) × (is_kept_file parts.0 ≡ true)
 unfolding name_at
-name_found [] parts fits e = absurd cc
-name_found (count ∷ bytes) parts fits e =
-    let some = bind_some (some_at count bytes) _ parts e in
-    let cut = some_found count bytes some.0 some.1 in
-    let name = map_some (kept_in some.0.0) _ parts some.2 in
-    let test = test_some (is_utf8 some.0.0 && is_kept_file some.0.0) (Some some.0.0) name.0 name.1 in
+name_found [] fits e = absurd cc
+name_found (count ∷ bytes) fits e =
+    let some = bind_some (some_at count bytes) _ e in
+    let cut = some_found count bytes some.1 in
+    let name = map_some (kept_in some.0.0) _ some.2 in
+    let test = test_some (is_utf8 some.0.0 && is_kept_file some.0.0) (Some some.0.0) name.1 in
     let is = both_true _ _ test.0 in
     let small : count < 256 = fits 0 in
-    subst (λ (p : List ℕ × List ℕ). (count ∷ bytes ≡ length p.0 ∷ p.0 ++ p.1) × (length p.0 < 2 ^ 8) × (is_utf8 p.0 ≡ true) × (is_kept_file p.0 ≡ true)) (ap (λ (n : List ℕ). (n, some.0.1)) (some_is some.0.0 name.0 test.1) ∙ name.2)
+    subst (λ (p : List ℕ × List ℕ). (count ∷ bytes ≡ length p.0 ∷ p.0 ++ p.1) × (length p.0 < 2 ^ 8) × (is_utf8 p.0 ≡ true) × (is_kept_file p.0 ≡ true))
+    (ap (λ (n : List ℕ). (n, some.0.1)) (some_is some.0.0 test.1) ∙ name.2)
     (ap (λ (xs : List ℕ). count ∷ xs) cut.0 ∙ ap (λ (n : ℕ). n ∷ some.0.0 ++ some.0.1) (sym cut.1), omega (arith, cut.1), is.0, is.1)
 
 name_only : (name rest : List ℕ) → is_utf8 name ≡ true → is_kept_file name ≡ true → name_at (length name ∷ name ++ rest) ≡ Some (name, rest)
 unfolding name_at
-name_only name rest utf8 kept = rw (some_only name rest (length name) refl, utf8, kept) refl
+name_only name rest utf8 kept = rw (some_only name rest {count = length name} refl, utf8, kept) refl
 
-data_found : (bytes : List ℕ) (parts : List ℕ × List ℕ) → IsBytes bytes → data_at bytes ≡ Some parts → (bytes ≡ to_be_bytes w32 (length parts.0) ++ (parts.0 ++ parts.1)) × (length parts.0 < 2 ^ 32)
+data_found : (bytes : List ℕ) {parts : List ℕ × List ℕ} → IsBytes bytes → data_at bytes ≡ Some parts
+    → (bytes ≡ to_be_bytes w32 (length parts.0) ++ (parts.0 ++ parts.1)) × (length parts.0 < 2 ^ 32)
 unfolding data_at
-data_found bytes parts fits e =
-    let size = bind_some (some_at 4 bytes) _ parts e in
-    let cut = some_found 4 bytes size.0 size.1 in
-    let some = some_found (from_be_bytes w32 size.0.0) size.0.1 parts size.2 in
+data_found bytes {parts} fits e =
+    let size = bind_some (some_at 4 bytes) _ e in
+    let cut = some_found 4 bytes size.1 in
+    let some = some_found (from_be_bytes w32 size.0.0) size.0.1 size.2 in
     let front : IsBytes size.0.0 = in_front size.0.0 size.0.1 (subst IsBytes cut.0 fits) in
     let back : to_be_bytes w32 (length parts.0) ≡ size.0.0 = be_bytes_4 size.0.0 (length parts.0) cut.1 front some.1 in
     let below : from_be_bytes w32 size.0.0 < 2 ^ 32 = omega (arith, front 0, front 1, front 2, front 3) in
@@ -111,35 +103,37 @@ data_found bytes parts fits e =
 data_only : (bytes rest : List ℕ) → length bytes < 2 ^ 32 → data_at (to_be_bytes w32 (length bytes) ++ (bytes ++ rest)) ≡ Some (bytes, rest)
 unfolding data_at
 data_only bytes rest small =
-    let size : some_at 4 (to_be_bytes w32 (length bytes) ++ (bytes ++ rest)) ≡ Some (to_be_bytes w32 (length bytes), bytes ++ rest) = some_only (to_be_bytes w32 (length bytes)) (bytes ++ rest) 4 refl in
-    rw (size, from_be_bytes-to_be_bytes_4 (length bytes) small) (some_only bytes rest (length bytes) refl)
+    cc (
+      some_only (to_be_bytes w32 (length bytes)) (bytes ++ rest) {count = 4} refl,
+      from_be_bytes-to_be_bytes_4 (length bytes) small,
+      some_only bytes rest {count = length bytes} refl,
+    )
 
-regroup : (entry : EntryValue) (rest : List ℕ) → length entry.name ∷ entry.name ++ (to_be_bytes w32 (length entry.bytes) ++ (entry.bytes ++ rest)) ≡ entry_text entry ++ rest
-regroup entry rest =
-    ap (λ (xs : List ℕ). length entry.name ∷ xs)
-    (ap (λ (xs : List ℕ). entry.name ++ xs) (sym (append_assoc (to_be_bytes w32 (length entry.bytes)) entry.bytes rest)) ∙ sym (append_assoc entry.name (to_be_bytes w32 (length entry.bytes) ++ entry.bytes) rest))
+regroup : (entry : EntryValue) (rest : List ℕ)
+    → length entry.name ∷ entry.name ++ (to_be_bytes w32 (length entry.bytes) ++ (entry.bytes ++ rest)) ≡ entry_text entry ++ rest
+regroup entry rest = grind (arith, append_assoc)
 
-entry_found : (before : List EntryValue) (bytes : List ℕ) (found : EntryValue × List ℕ) → IsBytes bytes → entry_at before bytes ≡ Some found → (bytes ≡ entry_text found.0 ++ found.1) × IsEntry found.0 × (is_named before found.0.name ≡ false)
+entry_found : (before : List EntryValue) (bytes : List ℕ) {found : EntryValue × List ℕ} → IsBytes bytes → entry_at before bytes ≡ Some found
+    → (bytes ≡ entry_text found.0 ++ found.1) × IsEntry found.0 × (is_named before found.0.name ≡ false)
 unfolding entry_at
-entry_found before bytes found fits e =
-    let name = bind_some (name_at bytes) _ found e in
-    let named = name_found bytes name.0 fits name.1 in
-    let held = bind_some (data_at name.0.1) _ found name.2 in
+entry_found before bytes fits e =
+    let name = bind_some (name_at bytes) _ e in
+    let named = name_found bytes fits name.1 in
+    let held = bind_some (data_at name.0.1) _ name.2 in
     let back : IsBytes name.0.1 = in_back (length name.0.0 ∷ name.0.0) name.0.1 (subst IsBytes named.0 fits) in
-    let holds = data_found name.0.1 held.0 back held.1 in
-    let other = guard_some (is_named before name.0.0) _ found held.2 in
+    let holds = data_found name.0.1 back held.1 in
+    let other = guard_some (is_named before name.0.0) _ held.2 in
     let entry : EntryValue = record { name = name.0.0; bytes = held.0.0 } in
-    subst (λ (f : EntryValue × List ℕ). (bytes ≡ entry_text f.0 ++ f.1) × IsEntry f.0 × (is_named before f.0.name ≡ false)) (some_is (entry, held.0.1) found other.1)
-    (named.0 ∙ (ap (λ (xs : List ℕ). length name.0.0 ∷ name.0.0 ++ xs) holds.0 ∙ regroup entry held.0.1), record { short_name = named.1; utf8 = named.2; kept = named.3; short_bytes = holds.1 }, other.0)
+    subst (λ (f : EntryValue × List ℕ). (bytes ≡ entry_text f.0 ++ f.1) × IsEntry f.0 × (is_named before f.0.name ≡ false)) (some_is (entry, held.0.1) other.1) (
+      named.0 ∙ (ap (λ (xs : List ℕ). length name.0.0 ∷ name.0.0 ++ xs) holds.0 ∙ regroup entry held.0.1),
+      record { short_name = named.1; utf8 = named.2; kept = named.3; short_bytes = holds.1 },
+      other.0,
+    )
 
-entry_only : (before : List EntryValue) (entry : EntryValue) (rest : List ℕ) → IsEntry entry → is_named before entry.name ≡ false → entry_at before (entry_text entry ++ rest) ≡ Some (entry, rest)
+entry_only : (before : List EntryValue) {entry : EntryValue} (rest : List ℕ) → IsEntry entry → is_named before entry.name ≡ false
+    → entry_at before (entry_text entry ++ rest) ≡ Some (entry, rest)
 unfolding entry_at
-entry_only before entry rest is new =
-    ap (entry_at before) (sym (regroup entry rest))
-    ∙ rw (name_only entry.name (to_be_bytes w32 (length entry.bytes) ++ (entry.bytes ++ rest)) is.utf8 is.kept, data_only entry.bytes rest is.short_bytes, new) refl
-
-all_is : (before all : List EntryValue) → (let r : Result (List EntryValue) ℕ = Ok before in r) ≡ Ok all → before ≡ all
-all_is before all e = cc
+entry_only before rest is new = grind (arith, nat_tests, common_steps, regroup, name_only, data_only)
 
 -- the entries behind those before
 pub record ReadsMore (count : ℕ) (before all : List EntryValue) (bytes : List ℕ) : Type 0 where
@@ -149,13 +143,14 @@ pub record ReadsMore (count : ℕ) (before all : List EntryValue) (bytes : List 
   pub number : length more ≡ count
   pub form : AreEntries before more
 
-next_found : (count : ℕ) (before : List EntryValue) (bytes : List ℕ) (all : List EntryValue) → IsBytes bytes → (o : Option (EntryValue × List ℕ)) → entry_at before bytes ≡ o
+next_found : (count : ℕ) (before : List EntryValue) (bytes : List ℕ) {all : List EntryValue} → IsBytes bytes → (o : Option (EntryValue × List ℕ))
+    → entry_at before bytes ≡ o
     → or_left bytes (λ f. entries_at count (before ++ f.0 ∷ []) f.1) o ≡ Ok all
     → ((f : EntryValue × List ℕ) → IsBytes f.1 → entries_at count (before ++ f.0 ∷ []) f.1 ≡ Ok all → ReadsMore count (before ++ f.0 ∷ []) all f.1)
     → ReadsMore (suc count) before all bytes
-next_found count before bytes all fits None is got later = absurd cc
-next_found count before bytes all fits (Some f) is got later =
-    let first = entry_found before bytes f fits is in
+next_found count before bytes fits None is got later = absurd cc
+next_found count before bytes fits (Some f) is got later =
+    let first = entry_found before bytes fits is in
     let more = later f (in_back (entry_text f.0) f.1 (subst IsBytes first.0 fits)) got in
     record {
       more = f.0 ∷ more.more;
@@ -165,81 +160,68 @@ next_found count before bytes all fits (Some f) is got later =
       form = (first.1, first.2, more.form);
     }
 
-entries_found : (count : ℕ) (before : List EntryValue) (bytes : List ℕ) (all : List EntryValue) → IsBytes bytes → entries_at count before bytes ≡ Ok all → ReadsMore count before all bytes
+entries_found : (count : ℕ) (before : List EntryValue) (bytes : List ℕ) {all : List EntryValue} → IsBytes bytes → entries_at count before bytes ≡ Ok all
+    → ReadsMore count before all bytes
 unfolding entries_at
-entries_found zero before bytes all fits e = done (eqb (length bytes) 0) refl e
-  where
-    done : (b : Bool) → eqb (length bytes) 0 ≡ b → cond {A = Result (List EntryValue) ℕ} b (Ok before) (Err (length bytes)) ≡ Ok all → ReadsMore 0 before all bytes
-    done true is got = record { more = []; is = sym (all_is before all got) ∙ sym (append-nil before); text = nil_from_length bytes (eqb-true _ _ is); number = refl; form = tt }
-    done false is got = absurd cc
-entries_found (suc count) before bytes all fits e = next_found count before bytes all fits (entry_at before bytes) refl e (λ f rest got. entries_found count (before ++ f.0 ∷ []) f.1 all rest got)
+entries_found zero before bytes {all} fits e = grind (arith, nat_tests, common_steps)
+entries_found (suc count) before bytes fits e = grind (arith, nat_tests, common_steps, entries_found count, next_found)
 
 entries_only : (more before : List EntryValue) → AreEntries before more → entries_at (length more) before (flat_map entry_text more) ≡ Ok (before ++ more)
 unfolding entries_at
 entries_only [] before form = ap Ok (sym (append-nil before))
-entries_only (entry ∷ more) before form =
-    rw (entry_only before entry (flat_map entry_text more) form.0 form.1) (entries_only more (before ++ entry ∷ []) form.2 ∙ ap Ok (append_assoc before (entry ∷ []) more))
+entries_only (entry ∷ more) before form = grind (arith, nat_tests, common_steps, entries_only more (before ++ entry ∷ []), entry_only, append_assoc)
 
 -- ---- journals
 
-placed_is : (bytes : List ℕ) (r : Result (List EntryValue) ℕ) (entries : List EntryValue) → placed bytes r ≡ Ok entries → r ≡ Ok entries
-placed_is bytes (Ok x) entries e = cc
-placed_is bytes (Err left) entries e = absurd cc
+placed_is : (bytes : List ℕ) (r : Result (List EntryValue) ℕ) {entries : List EntryValue} → placed bytes r ≡ Ok entries → r ≡ Ok entries
+placed_is bytes r e = grind arith
 
-front_is : (b : Bool) (bad : BadJournal) (r : Result (List EntryValue) BadJournal) (entries : List EntryValue) → cond b (Err bad) r ≡ Ok entries → (b ≡ false) × (r ≡ Ok entries)
-front_is true bad r entries e = absurd cc
-front_is false bad r entries e = (refl, e)
+front_is : (b : Bool) (bad : BadJournal) (r : Result (List EntryValue) BadJournal) {entries : List EntryValue} → cond b (Err bad) r ≡ Ok entries
+    → (b ≡ false) × (r ≡ Ok entries)
+front_is b bad r e = grind arith
 
-pub journal_found : (bytes : List ℕ) (entries : List EntryValue) → IsBytes bytes → journal_in bytes ≡ Ok entries → IsJournal entries × (bytes ≡ journal_text entries)
+pub journal_found : (bytes : List ℕ) {entries : List EntryValue} → IsBytes bytes → journal_in bytes ≡ Ok entries
+    → IsJournal entries × (bytes ≡ journal_text entries)
 unfolding journal_in
-journal_found bytes entries fits e =
-    let front = front_is _ _ _ entries e in
+journal_found bytes {entries} fits e =
+    let front = front_is _ _ _ e in
     let is = neither (ltb (length bytes) 6) (starts_with eqb bytes mark) front.0 in
     let long : 6 ≤ length bytes = ltb-false _ _ is.0 in
     let marked : mark ≡ take 4 bytes = bytes_is mark (take 4 bytes) is.1 in
     let number : List ℕ = take 2 (drop 4 bytes) in
     let two : length number ≡ 2 = omega (arith, length-take 2 (drop 4 bytes), length-drop 4 bytes) in
     let cut : bytes ≡ take 4 bytes ++ (number ++ drop 6 bytes) =
-    sym (take-append-drop 4 bytes) ∙ ap (λ (xs : List ℕ). take 4 bytes ++ xs) (sym (take-append-drop 2 (drop 4 bytes)) ∙ ap (λ (xs : List ℕ). number ++ xs) (drop-drop 2 4 bytes)) in
+    sym (take-append-drop 4 bytes) ∙ ap (λ (xs : List ℕ). take 4 bytes ++ xs)
+    (sym (take-append-drop 2 (drop 4 bytes)) ∙ ap (λ (xs : List ℕ). number ++ xs) (drop-drop 2 4 bytes)) in
     let behind : IsBytes (number ++ drop 6 bytes) = in_back (take 4 bytes) (number ++ drop 6 bytes) (subst IsBytes cut fits) in
-    let read = entries_found (from_be_bytes w16 number) [] (drop 6 bytes) entries (in_back number (drop 6 bytes) behind) (placed_is bytes _ entries front.1) in
+    let read = entries_found (from_be_bytes w16 number) [] (drop 6 bytes) (in_back number (drop 6 bytes) behind) (placed_is bytes _ front.1) in
     let digits : IsBytes number = in_front number (drop 6 bytes) behind in
     let count : to_be_bytes w16 (length entries) ≡ number = be_bytes_2 number (length entries) two digits (ap length read.is ∙ read.number) in
     let few : from_be_bytes w16 number < 2 ^ 16 = omega (arith, digits 0, digits 1) in (
       (omega (arith, ap length read.is, read.number), subst (AreEntries []) (sym read.is) read.form),
-      cut ∙ (ap (λ (xs : List ℕ). xs ++ (number ++ drop 6 bytes)) (sym marked) ∙ ap (λ (xs : List ℕ). mark ++ xs) (ap (λ (xs : List ℕ). xs ++ drop 6 bytes) (sym count) ∙ ap (λ (xs : List ℕ). to_be_bytes w16 (length entries) ++ xs) (read.text ∙ ap (flat_map entry_text) (sym read.is)))),
+      cut ∙ (ap (λ (xs : List ℕ). xs ++ (number ++ drop 6 bytes)) (sym marked) ∙ ap (λ (xs : List ℕ). mark ++ xs)
+          (ap (λ (xs : List ℕ). xs ++ drop 6 bytes) (sym count) ∙ ap (λ (xs : List ℕ). to_be_bytes w16 (length entries) ++ xs)
+          (read.text ∙ ap (flat_map entry_text) (sym read.is)))),
     )
 
 pub journal_only : (entries : List EntryValue) → IsJournal entries → journal_in (journal_text entries) ≡ Ok entries
 unfolding journal_in
-journal_only entries is =
-    let long : ltb (length (journal_text entries)) 6 ≡ false = le-ltb _ _ (omega (arith, length-append mark (to_be_bytes w16 (length entries) ++ flat_map entry_text entries), length-append (to_be_bytes w16 (length entries)) (flat_map entry_text entries))) in
-    rw (long, from_be_bytes-to_be_bytes_2 (length entries) is.0, entries_only entries [] is.1) refl
+journal_only entries is = grind (arith, le-ltb, length-append, from_be_bytes-to_be_bytes_2, entries_only)
 
 -- ---- of an answer
 
-pub found_of : (answer : Result (Vec Entry) JournalFault) (bytes : List ℕ) → IsBytes bytes → Reads answer (journal_in bytes) → IfOk answer (λ entries. IsJournal (entry_values entries.items) × (bytes ≡ journal_text (entry_values entries.items)))
-found_of (Ok entries) bytes fits reads = journal_found bytes (entry_values entries.items) fits reads
-found_of (Err fault) bytes fits reads = tt
+pub found_of : (answer : Result (Vec Entry) JournalFault) (bytes : List ℕ) → IsBytes bytes → Reads answer (journal_in bytes)
+    → IfOk answer (λ entries. IsJournal (entry_values entries.items) × (bytes ≡ journal_text (entry_values entries.items)))
+found_of answer bytes fits reads = grind (arith, journal_found)
 
-pub only_of : (answer : Result (Vec Entry) JournalFault) (bytes : List ℕ) (entries : List EntryValue) → Reads answer (journal_in bytes) → IsJournal entries → bytes ≡ journal_text entries → Reads answer (Ok entries)
-only_of answer bytes entries reads is text = subst (Reads answer) (ap journal_in text ∙ journal_only entries is) reads
+pub only_of : (answer : Result (Vec Entry) JournalFault) {bytes : List ℕ} (entries : List EntryValue) → Reads answer (journal_in bytes) → IsJournal entries
+    → bytes ≡ journal_text entries → Reads answer (Ok entries)
+only_of answer entries reads is text = grind (arith, journal_only)
 
 -- ---- names in UTF-8
 
 pub kept_when : (bytes : List ℕ) → IsUtf8 bytes → is_kept_file bytes ≡ true → kept_in bytes ≡ Some bytes
 kept_when bytes utf8 kept = rw (is_utf8-from_IsUtf8 bytes utf8, kept) refl
 
-pub kept_unless : (bytes : List ℕ) → is_kept_file bytes ≡ false → kept_in bytes ≡ None
-kept_unless bytes other = cases (is_utf8 bytes) refl
-  where
-    cases : (b : Bool) → is_utf8 bytes ≡ b → kept_in bytes ≡ None
-    cases true is = rw (is, other) refl
-    cases false is = rw is refl
-
 pub kept_not : (bytes : List ℕ) → ¬ (IsUtf8 bytes) → kept_in bytes ≡ None
-kept_not bytes other = cases (is_utf8 bytes) refl
-  where
-    cases : (b : Bool) → is_utf8 bytes ≡ b → kept_in bytes ≡ None
-    cases true is = absurd (other (IsUtf8-from_is_utf8 bytes is))
-    cases false is = rw is refl
+kept_not bytes other = grind (arith, IsUtf8-from_is_utf8)

@@ -1,8 +1,10 @@
 -- What is read is a text of these arguments, and each text of them is read.
-use Rattle.std.proofs.Common.{◌≡◌, ℕ, zero, suc, ◌+◌, ◌-◌, ◌^◌, ◌<◌, ◌≤◌, true, false, ltb, List, [], ◌∷◌, ◌++◌, length, take, drop, Result, Ok, Err, refl, sym, ap, subst, ◌∙◌, append_assoc, arith, inl, inr}
+use Rattle.std.proofs.lemmas.Bool.Decides.{nat_tests}
+use Rattle.std.proofs.lemmas.Grind.{common_steps}
+use Rattle.std.proofs.Common.{◌≡◌, ℕ, zero, suc, ◌+◌, ◌-◌, ◌^◌, ◌<◌, ◌≤◌, ltb, List, [], ◌∷◌, ◌++◌, length, take, drop, Result, Ok, refl, sym, ap, subst, ◌∙◌, append_assoc, arith, inl, inr}
 use Rattle.std.specs.Prelude.{IfOk}
 use Rattle.std.specs.Int.{w16, w32, from_be_bytes, to_be_bytes}
-use Rattle.std.proofs.lemmas.Bool.{cases_lt, ltb-true, ltb-false, lt-ltb, le-ltb}
+use Rattle.std.proofs.lemmas.Bool.{ltb-true, ltb-false, lt-ltb, le-ltb}
 use Rattle.std.specs.List.{AllByRecursion}
 use Rattle.std.proofs.lemmas.List.Concat.{flat_map-cons}
 use Rattle.std.proofs.lemmas.List.{take_at, drop_at, take-append-drop, length-append, length-take}
@@ -20,19 +22,19 @@ record Heads (bytes : List ℕ) (found : Header) : Type 0 where
   size : found.size ≤ greatest form
   rest : IsBytes found.rest
 
-short_takes : (place first any : ℕ) (rest : List ℕ) (found : Header) → 128 ≤ first → first < 192 → IsBytes rest → short_at place first rest ≡ Ok found
+short_takes : (place first any : ℕ) (rest : List ℕ) {found : Header} → 128 ≤ first → first < 192 → IsBytes rest → short_at place first rest ≡ Ok found
     → Heads (first ∷ any ∷ rest) found
 unfolding short_at
-short_takes place first any rest found least most fits e =
-    let long = guard_ok (ltb (length rest) 2) _ _ found e in
-    let id = guard_ok (ltb first 160) _ _ found long.1 in
+short_takes place first any rest {found} least most fits e =
+    let long = guard_ok (ltb (length rest) 2) _ _ e in
+    let id = guard_ok (ltb first 160) _ _ long.1 in
     let there : 2 ≤ length rest = ltb-false _ _ long.0 in
     let low : 160 ≤ first = ltb-false _ _ id.0 in
     let first-is : 128 + (first - 128) ≡ first = omega arith in
     subst (Heads (first ∷ any ∷ rest)) (ok_is _ found id.1) (record {
       form = Short any;
       parts = ap (λ (xs : List ℕ). first ∷ any ∷ xs) (sym (take-append-drop 2 rest))
-          ∙ ap (λ (xs : List ℕ). first ∷ any ∷ (xs ++ drop 2 rest)) (sym (front_bytes w16 (2 ^ 16) wide16 rest fits there))
+          ∙ ap (λ (xs : List ℕ). first ∷ any ∷ (xs ++ drop 2 rest)) (sym (front_bytes wide16 rest fits there))
           ∙ ap (λ (k : ℕ). k ∷ any ∷ (to_be_bytes w16 (from_be_bytes w16 (take 2 rest)) ++ drop 2 rest)) (sym first-is);
       low = omega arith;
       high = omega arith;
@@ -40,20 +42,20 @@ short_takes place first any rest found least most fits e =
       rest = IsBytes-drop 2 rest fits;
     })
 
-long_takes : (place first any : ℕ) (rest : List ℕ) (found : Header) → 64 ≤ first → first < 128 → IsBytes rest → long_at place first rest ≡ Ok found
+long_takes : (place first any : ℕ) (rest : List ℕ) {found : Header} → 64 ≤ first → first < 128 → IsBytes rest → long_at place first rest ≡ Ok found
     → Heads (first ∷ any ∷ rest) found
 unfolding long_at
-long_takes place first any rest found least most fits e =
-    let long = guard_ok (ltb (length rest) 4) _ _ found e in
-    let id = guard_ok (ltb first 96) _ _ found long.1 in
-    let size = guard_ok (ltb 65535 (from_be_bytes w32 (take 4 rest))) _ _ found id.1 in
+long_takes place first any rest {found} least most fits e =
+    let long = guard_ok (ltb (length rest) 4) _ _ e in
+    let id = guard_ok (ltb first 96) _ _ long.1 in
+    let size = guard_ok (ltb 65535 (from_be_bytes w32 (take 4 rest))) _ _ id.1 in
     let there : 4 ≤ length rest = ltb-false _ _ long.0 in
     let low : 96 ≤ first = ltb-false _ _ id.0 in
     let first-is : 64 + (first - 64) ≡ first = omega arith in
     subst (Heads (first ∷ any ∷ rest)) (ok_is _ found size.1) (record {
       form = Long any;
       parts = ap (λ (xs : List ℕ). first ∷ any ∷ xs) (sym (take-append-drop 4 rest))
-          ∙ ap (λ (xs : List ℕ). first ∷ any ∷ (xs ++ drop 4 rest)) (sym (front_bytes w32 (2 ^ 32) wide32 rest fits there))
+          ∙ ap (λ (xs : List ℕ). first ∷ any ∷ (xs ++ drop 4 rest)) (sym (front_bytes wide32 rest fits there))
           ∙ ap (λ (k : ℕ). k ∷ any ∷ (to_be_bytes w32 (from_be_bytes w32 (take 4 rest)) ++ drop 4 rest)) (sym first-is);
       low = omega arith;
       high = omega arith;
@@ -61,23 +63,24 @@ long_takes place first any rest found least most fits e =
       rest = IsBytes-drop 4 rest fits;
     })
 
-header_takes : (place : ℕ) (bytes : List ℕ) (found : Header) → IsBytes bytes → header_at place bytes ≡ Ok found → Heads bytes found
+header_takes : (place : ℕ) (bytes : List ℕ) {found : Header} → IsBytes bytes → header_at place bytes ≡ Ok found → Heads bytes found
 unfolding header_at
-header_takes place [] found fits e = absurd cc
-header_takes place (first ∷ []) found fits e = absurd cc
-header_takes place (first ∷ second ∷ rest) found fits e =
+header_takes place [] fits e = absurd cc
+header_takes place (first ∷ []) fits e = absurd cc
+header_takes place (first ∷ second ∷ rest) {found} fits e =
     let rest-fits = IsBytes-rest second rest (IsBytes-rest first (second ∷ rest) fits) in
-    let id = guard_ok (ltb first 32) _ _ found e in
+    let id = guard_ok (ltb first 32) _ _ e in
     let low : 32 ≤ first = ltb-false _ _ id.0 in
     elim (chosen (ltb first 64) _ _ (Ok found) id.1) [
       | inl tiny ↦
           let high : first < 64 = ltb-true _ _ tiny.0 in
           let second-fits : second < 256 = fits 1 in
-          subst (Heads (first ∷ second ∷ rest)) (ok_is _ found tiny.1) (record { form = Tiny; parts = refl; low = low; high = high; size = omega arith; rest = rest-fits })
+          subst (Heads (first ∷ second ∷ rest)) (ok_is _ found tiny.1)
+          (record { form = Tiny; parts = refl; low = low; high = high; size = omega arith; rest = rest-fits })
       | inr more ↦ elim (chosen (ltb first 128) _ _ (Ok found) more.1) [
-        | inl long ↦ long_takes place first second rest found (ltb-false _ _ more.0) (ltb-true _ _ long.0) rest-fits long.1
+        | inl long ↦ long_takes place first second rest (ltb-false _ _ more.0) (ltb-true _ _ long.0) rest-fits long.1
         | inr above ↦ elim (chosen (ltb first 192) _ _ (Ok found) above.1) [
-          | inl short ↦ short_takes place first second rest found (ltb-false _ _ above.0) (ltb-true _ _ short.0) rest-fits short.1
+          | inl short ↦ short_takes place first second rest (ltb-false _ _ above.0) (ltb-true _ _ short.0) rest-fits short.1
           | inr none ↦ let no = none.1 in absurd cc
         ]
       ]
@@ -95,10 +98,10 @@ pub argument_takes : (place : ℕ) (bytes : List ℕ) (argument : Argument) (res
     → Takes bytes argument rest
 unfolding argument_at
 argument_takes place bytes argument rest fits e =
-    let step = bind_ok (header_at place bytes) _ (argument, rest) e in
+    let step = bind_ok (header_at place bytes) _ e in
     let found = step.0 in
-    let head = header_takes place bytes found fits step.1 in
-    let long = guard_ok (ltb (length found.rest) found.size) _ _ (argument, rest) step.2 in
+    let head = header_takes place bytes fits step.1 in
+    let long = guard_ok (ltb (length found.rest) found.size) _ _ step.2 in
     let there : found.size ≤ length found.rest = ltb-false _ _ long.0 in
     let len : length (take found.size found.rest) ≡ found.size = omega (arith, length-take found.size found.rest) in
     let split : bytes ≡ (header head.form found.id found.size ++ take found.size found.rest) ++ drop found.size found.rest = head.parts
@@ -115,12 +118,12 @@ argument_takes place bytes argument rest fits e =
 pub arguments_take : (count place : ℕ) (bytes : List ℕ) (arguments : List Argument) → IsBytes bytes → arguments_at count place bytes ≡ Ok arguments
     → ArgTexts arguments bytes × (length arguments ≡ count)
 unfolding arguments_at
-arguments_take zero place [] arguments fits e = subst (λ (xs : List Argument). ArgTexts xs [] × (length xs ≡ 0)) (ok_is _ arguments e) (refl, refl)
+arguments_take zero place [] arguments fits e = grind (arith, nat_tests, common_steps)
 arguments_take zero place (byte ∷ bytes) arguments fits e = absurd cc
 arguments_take (suc count) place bytes arguments fits e =
-    let first = bind_ok (argument_at place bytes) _ arguments e in
+    let first = bind_ok (argument_at place bytes) _ e in
     let taken = argument_takes place bytes first.0.0 first.0.1 fits first.1 in
-    let others = bind_ok (arguments_at count (place + (length bytes - length first.0.1)) first.0.1) _ arguments first.2 in
+    let others = bind_ok (arguments_at count (place + (length bytes - length first.0.1)) first.0.1) _ first.2 in
     let more = arguments_take count (place + (length bytes - length first.0.1)) first.0.1 others.0 taken.rest_fits others.1 in
     subst (λ (xs : List Argument). ArgTexts xs bytes
     × (length xs ≡ suc count)) (ok_is _ arguments others.2) ((taken.form, taken.text, first.0.1, taken.is, taken.parts, more.0), ap suc more.1)
@@ -130,99 +133,43 @@ arguments_take (suc count) place bytes arguments fits e =
 short_again : (place id size : ℕ) (rest : List ℕ) → 32 ≤ id → id < 64 → size ≤ 65535
     → short_at place (128 + id) (to_be_bytes w16 size ++ rest) ≡ Ok (record { id = id; size = size; rest = rest })
 unfolding short_at
-short_again place id size rest low high fits =
-    let there : ltb (length (to_be_bytes w16 size ++ rest)) 2 ≡ false = le-ltb _ _ (omega (arith, length-append (to_be_bytes w16 size) rest)) in
-    let named : ltb (128 + id) 160 ≡ false = le-ltb _ _ (omega arith) in
-    let back : from_be_bytes w16 (to_be_bytes w16 size) ≡ size = wide16.again size (omega arith) in
-    let id-is : 128 + id - 128 ≡ id = omega arith in
-    let size-is : from_be_bytes w16 (take 2 (to_be_bytes w16 size ++ rest)) ≡ size = ap (from_be_bytes w16) (take_at (to_be_bytes w16 size) rest 2 refl)
-    ∙ back in
-    let rest-is : drop 2 (to_be_bytes w16 size ++ rest) ≡ rest = drop_at (to_be_bytes w16 size) rest 2 refl in
-    rw (there, named) (λ i. Ok (record { id = id-is i; size = size-is i; rest = rest-is i }))
+short_again place id size rest low high fits = grind arith
 
 long_again : (place id size : ℕ) (rest : List ℕ) → 32 ≤ id → id < 64 → size ≤ 65535
     → long_at place (64 + id) (to_be_bytes w32 size ++ rest) ≡ Ok (record { id = id; size = size; rest = rest })
 unfolding long_at
-long_again place id size rest low high fits =
-    let there : ltb (length (to_be_bytes w32 size ++ rest)) 4 ≡ false = le-ltb _ _ (omega (arith, length-append (to_be_bytes w32 size) rest)) in
-    let named : ltb (64 + id) 96 ≡ false = le-ltb _ _ (omega arith) in
-    let back : from_be_bytes w32 (to_be_bytes w32 size) ≡ size = wide32.again size (omega arith) in
-    let id-is : 64 + id - 64 ≡ id = omega arith in
-    let size-is : from_be_bytes w32 (take 4 (to_be_bytes w32 size ++ rest)) ≡ size = ap (from_be_bytes w32) (take_at (to_be_bytes w32 size) rest 4 refl)
-    ∙ back in
-    let rest-is : drop 4 (to_be_bytes w32 size ++ rest) ≡ rest = drop_at (to_be_bytes w32 size) rest 4 refl in
-    let bound : ltb 65535 (from_be_bytes w32 (take 4 (to_be_bytes w32 size ++ rest))) ≡ false = le-ltb _ _ (omega (arith, size-is)) in
-    rw (there, named, bound) (λ i. Ok (record { id = id-is i; size = size-is i; rest = rest-is i }))
+long_again place id size rest low high fits = grind arith
 
 header_again : (place : ℕ) (form : Form) (id size : ℕ) (rest : List ℕ) → 32 ≤ id → id < 64 → size ≤ greatest form
     → header_at place (header form id size ++ rest) ≡ Ok (record { id = id; size = size; rest = rest })
 unfolding header_at
-header_again place Tiny id size rest low high fits = rw (le-ltb id 32 low, lt-ltb id 64 high) refl
-header_again place (Short any) id size rest low high fits =
-    let l1 : ltb (128 + id) 32 ≡ false = le-ltb _ _ (omega arith) in
-    let l2 : ltb (128 + id) 64 ≡ false = le-ltb _ _ (omega arith) in
-    let l3 : ltb (128 + id) 128 ≡ false = le-ltb _ _ (omega arith) in
-    let l4 : ltb (128 + id) 192 ≡ true = lt-ltb _ _ (omega arith) in
-    rw (l1, l2, l3, l4) (short_again place id size rest low high fits)
-header_again place (Long any) id size rest low high fits =
-    let l1 : ltb (64 + id) 32 ≡ false = le-ltb _ _ (omega arith) in
-    let l2 : ltb (64 + id) 64 ≡ false = le-ltb _ _ (omega arith) in
-    let l3 : ltb (64 + id) 128 ≡ true = lt-ltb _ _ (omega arith) in
-    rw (l1, l2, l3) (long_again place id size rest low high fits)
+header_again place form id size rest low high fits = grind (arith, le-ltb, lt-ltb, short_again, long_again)
 
-pub argument_again : (place : ℕ) (form : Form) (argument : Argument) (text rest : List ℕ) → ArgText form argument text
+pub argument_again : (place : ℕ) {form : Form} {argument : Argument} {text : List ℕ} (rest : List ℕ) → ArgText form argument text
     → argument_at place (text ++ rest) ≡ Ok (argument, rest)
 unfolding argument_at
-argument_again place form argument text rest is =
-    let size = length argument.bytes in
-    let regrouped : text ++ rest ≡ header form argument.id size ++ (argument.bytes ++ rest) = ap (λ (xs : List ℕ). xs ++ rest) is.is
-    ∙ append_assoc (header form argument.id size) argument.bytes rest in
-    let there : ltb (length (argument.bytes ++ rest)) size ≡ false = le-ltb _ _ (omega (arith, length-append argument.bytes rest)) in
-    ap (argument_at place) regrouped
-    ∙ rw (
-      header_again place form argument.id size (argument.bytes ++ rest) is.low is.high is.size,
-      there,
-      take_at argument.bytes rest size refl,
-      drop_at argument.bytes rest size refl,
-    ) refl
+argument_again place {form} {argument} {text} rest is =
+    grind (arith, nat_tests, common_steps, append_assoc, le-ltb, length-append, header_again, take_at, drop_at)
 
 pub arguments_again : (arguments : List Argument) (place : ℕ) (bytes : List ℕ) → ArgTexts arguments bytes
     → arguments_at (length arguments) place bytes ≡ Ok arguments
 unfolding arguments_at
 arguments_again [] place bytes is = ap (arguments_at 0 place) is
 arguments_again (argument ∷ arguments) place bytes is =
-    let first : argument_at place bytes ≡ Ok (argument, is.2) = ap (argument_at place) is.4 ∙ argument_again place is.0 argument is.1 is.2 is.3 in
-    rw (first, arguments_again arguments (place + (length bytes - length is.2)) is.2 is.5) refl
+    grind (arith, nat_tests, common_steps, arguments_again arguments (place + (length bytes - length is.2)) is.2, argument_again)
 
 pub arguments_are : (count start : ℕ) (bytes : List ℕ) (r : Result (List Argument) ArgFault) → IsBytes bytes
     → r ≡ arguments_at count start (drop start bytes) → IfOk r (λ arguments. (length arguments ≡ count) × ArgTexts arguments (drop start bytes))
-arguments_are count start bytes (Ok arguments) fits e =
-    let t = arguments_take count start (drop start bytes) arguments (IsBytes-drop start bytes fits) (sym e) in
-    (t.1, t.0)
-arguments_are count start bytes (Err fault) fits e = tt
+arguments_are count start bytes r fits e = grind (arith, arguments_take, IsBytes-drop)
 
-pub arguments_only : (count start : ℕ) (bytes : List ℕ) (arguments : List Argument) → length arguments ≡ count → ArgTexts arguments (drop start bytes)
+pub arguments_only : {count : ℕ} (start : ℕ) (bytes : List ℕ) (arguments : List Argument) → length arguments ≡ count → ArgTexts arguments (drop start bytes)
     → arguments_at count start (drop start bytes) ≡ Ok arguments
-arguments_only count start bytes arguments len is = rw (← len) (arguments_again arguments start (drop start bytes) is)
-
-written_size : (size : ℕ) → size ≤ 65535 → size ≤ greatest (written_form size)
-written_size size fits =
-    elim (cases_lt size 255) [
-      | inl small ↦ rw (lt-ltb _ _ small) (omega arith)
-      | inr large ↦ rw (le-ltb _ _ large) fits
-    ]
+arguments_only start bytes arguments len is = rw (← len) (arguments_again arguments start (drop start bytes) is)
 
 -- what is written is a text
 pub written_text : (argument : Argument) → IsArgument argument → ArgText (written_form (length argument.bytes)) argument (arg_text argument)
-written_text argument is = record { low = is.low; high = is.high; size = written_size (length argument.bytes) is.size; is = refl }
+written_text argument is = grind arith
 
 pub written_texts : (arguments : List Argument) → AllByRecursion IsArgument arguments → ArgTexts arguments (arg_texts arguments)
 written_texts [] is = refl
-written_texts (argument ∷ arguments) is = (
-  written_form (length argument.bytes),
-  arg_text argument,
-  arg_texts arguments,
-  written_text argument is.0,
-  flat_map-cons arg_text argument arguments,
-  written_texts arguments is.1,
-)
+written_texts (argument ∷ arguments) is = grind (arith, nat_tests, common_steps, written_texts arguments, written_text, flat_map-cons)

@@ -1,6 +1,7 @@
 -- What a request that was not refused makes of a device, and its reply.
-use Rattle.std.proofs.Common.{◌≡◌, ◌+◌, ◌-◌, ◌<◌, ◌^◌, ℕ, zero, suc, Bool, true, false, cond, List, length, Option, Some, None, Result, Ok, Err, IfSome, refl, ap, subst, sym, ◌∙◌, arith, lit<, lit≤, slice_get}
-use Rattle.std.specs.Prelude.{is_none, option_and_then, position, replicate, ◌==◌}
+use Rattle.std.proofs.lemmas.Bool.Decides.{nat_tests}
+use Rattle.std.proofs.lemmas.Grind.{common_steps}
+use Rattle.std.proofs.Common.{◌≡◌, ◌+◌, ◌-◌, ◌<◌, ◌^◌, ℕ, Bool, true, false, cond, List, length, Option, Some, None, Result, Ok, Err, IfSome, refl, ap, sym, ◌∙◌, arith}
 use Rattle.std.specs.List.{AllByRecursion}
 use Rattle.std.specs.Option.{option_map}
 use Rattle.std.specs.Str.{bytes_eq}
@@ -11,28 +12,25 @@ use Rattle.pdb_values.specs.NamedDatabases.{database_of, with_new, without_named
 use Rattle.pdb_values.specs.declared.head.DbHead.{DbHead}
 use Rattle.pdb_values.specs.declared.user.UserInfo.{UserInfo}
 use Rattle.pdb_values.proofs.NamedLaws.{AllByRecursion-database_of, AllByRecursion-replaced, AllByRecursion-with_new, AllByRecursion-without_named, NamesRise-replaced, NamesRise-with_new, NamesRise-without_named, database_of-name, database_of-replaced, database_of-with_new, database_of-without_other, length-replaced, length-with_new, length-without_named}
-use Rattle.pdb_values.proofs.PlaceLaws.{position_found}
 use Rattle.dlp_args.specs.Fields.{FieldsFit}
 use Rattle.dlp_requests.specs.Forms as form
-use Rattle.dlp_requests.specs.Forms.{Form, kinds_of}
+use Rattle.dlp_requests.specs.Forms.{kinds_of}
 use Rattle.dlp_requests.specs.RequestValues.{RequestValue}
 use Rattle.dlp_replies.specs.ReplyValues as reply
 use Rattle.dlp_replies.specs.ReplyValues.{ReplyValue}
 use Rattle.palm_device.specs.Blocks.{empty_database}
 use Rattle.palm_device.specs.Bounds.{IsBounded, IsBoundedDatabase, IsBoundedHead, IsBoundedOpened, IsBoundedUser}
 use Rattle.palm_device.specs.Devices.{Device, with_database, with_handles}
-use Rattle.palm_device.specs.Handles.{Base, base_at, base_of, free_handle, is_writable, joined, opened_at, with_handle}
+use Rattle.palm_device.specs.Handles.{Base, base_at, free_handle, is_writable, joined, opened_at, with_handle}
 use Rattle.palm_device.specs.Soundness.{AreIds, IsDevice, ids_of}
 use Rattle.palm_device.specs.declared.opened.Opened.{Opened}
-use Rattle.palm_device.proofs.BoundLaws.{AllByRecursion-get, AllByRecursion-set, IsBoundedDatabase-empty}
+use Rattle.palm_device.proofs.BoundLaws.{AllByRecursion-get, IsBoundedDatabase-empty}
 use Rattle.dlp_commands.specs.Changes.{is_change}
 use Rattle.dlp_commands.specs.DeviceSteps.{function_number}
-use Rattle.dlp_commands.specs.Errors.{◌>>=◌, check}
-use Rattle.dlp_commands.specs.Holding.{on_records}
-use Rattle.dlp_commands.specs.Reached.{Tried, next_of, read_next_modified_rec, reads, reset_record_index, with_index, with_next, writes}
-use Rattle.dlp_commands.specs.Readings.{next_in, read_in, read_number}
+use Rattle.dlp_commands.specs.Reached.{read_next_modified_rec, reads, reset_record_index, with_next, writes}
+use Rattle.dlp_commands.specs.Readings.{next_in, read_number}
 use Rattle.dlp_commands.specs.Targets.{is_name, target, writable_name}
-use Rattle.dlp_commands.specs.Writings.{WritingValue, write_number, written_in}
+use Rattle.dlp_commands.specs.Writings.{WritingValue, write_number}
 use Rattle.dlp_commands.specs.declared.reading.Reading.{Reading}
 use Rattle.dlp_commands.proofs.ReplyLaws.{NextReplies, Replies, next_keeps, read_in_keeps}
 use Rattle.dlp_commands.proofs.TriedLaws.{Keeps, keeps_check, keeps_need, keeps_then}
@@ -57,45 +55,31 @@ pub record Done (old : Device) (value : RequestValue) (done : Device × ReplyVal
 -- ---- what may become of a device
 
 -- nothing
-pub same_done : (old : Device) (value : RequestValue) (answer : ReplyValue) → (IsDevice old → IsBounded old → Replies (function_number value) answer)
-    → Done old value (old, answer)
-same_done old value answer replies =
-    record { quiet = λ is. (refl, refl); others = λ name is. refl; sound = λ sound. sound; bounded = λ fits sound bounded. bounded; reply = replies }
+pub same_done : {old : Device} {value : RequestValue} {answer : ReplyValue}
+    → (IsDevice old → IsBounded old → Replies (function_number value) answer) → Done old value (old, answer)
+same_done replies = grind (arith, nat_tests, common_steps)
 
 -- other handles
-pub turned_done : (old : Device) (value : RequestValue) (handles : List (Option Opened)) (answer : ReplyValue)
+pub turned_done : {old : Device} {value : RequestValue} {handles : List (Option Opened)} {answer : ReplyValue}
     → (length old.handles ≡ 8 → length handles ≡ 8) → (RequestFits value → IsDevice old → IsBounded old → AllByRecursion IsBoundedSlot handles)
     → (IsDevice old → IsBounded old → Replies (function_number value) answer) → Done old value (with_handles old handles, answer)
-turned_done old value handles answer count each replies = record {
-  quiet = λ is. (refl, refl);
-  others = λ name is. refl;
-  sound = λ sound. record { names = sound.names; few = sound.few; ids = sound.ids; handles = count sound.handles };
-  bounded = λ fits sound bounded. record { databases = bounded.databases; user = bounded.user; handles = each fits sound bounded };
-  reply = replies;
-}
+turned_done count each replies = grind (arith, nat_tests, common_steps)
 
 no_false : (b : Bool) → b ≡ true → b ≡ false → ⊥
-no_false true is other = absurd cc
-no_false false is other = absurd cc
+no_false b is other = grind (arith, nat_tests, common_steps)
 
 -- another user
-pub marked_done : (old : Device) (value : RequestValue) (user : UserInfo) (answer : ReplyValue) → is_change (function_number value) ≡ true
+pub marked_done : {old : Device} {value : RequestValue} {user : UserInfo} {answer : ReplyValue} → is_change (function_number value) ≡ true
     → (RequestFits value → IsBounded old → IsBoundedUser user)
     → (IsDevice old → IsBounded old → Replies (function_number value) answer) → Done old value (record old { user = user }, answer)
-marked_done old value user answer changes fits replies = record {
-  quiet = λ is. absurd (no_false (is_change (function_number value)) changes is);
-  others = λ name is. refl;
-  sound = λ sound. record { names = sound.names; few = sound.few; ids = sound.ids; handles = sound.handles };
-  bounded = λ small sound bounded. record { databases = bounded.databases; user = fits small bounded; handles = bounded.handles };
-  reply = replies;
-}
+marked_done changes fits replies = grind (arith, nat_tests, common_steps)
 
 -- another value of a database
-edited_done : (old : Device) (value : RequestValue) (name : List ℕ) (database : DatabaseValue) (asked : WritingValue) (made : DatabaseValue
-    × ReplyValue) → is_change (function_number value) ≡ true → target old value ≡ Some name
+edited_done : {old : Device} {value : RequestValue} {name : List ℕ} {database : DatabaseValue} {asked : WritingValue}
+    {made : DatabaseValue × ReplyValue} → is_change (function_number value) ≡ true → target old value ≡ Some name
     → database_of name old.databases ≡ Some database → write_number asked ≡ function_number value → (RequestFits value → WritingFits asked)
     → Writes asked database made → Done old value (with_database old made.0, made.1)
-edited_done old value name database asked made changes names found number fits writes =
+edited_done {old} {value} {name} {database} {made} changes names found number fits writes =
     let named : made.0.head.name ≡ name = ap (λ (head : DbHead). head.name) writes.edits.head ∙ database_of-name name old.databases database found in
     let here : database_of made.0.head.name old.databases ≡ Some database = ap (λ n. database_of n old.databases) named ∙ found in
     record {
@@ -122,13 +106,13 @@ edited_done old value name database asked made changes names found number fits w
     }
 
 -- a new database, with other handles
-pub made_done : (old : Device) (value : RequestValue) (head : DbHead) (handles : List (Option Opened)) (answer : ReplyValue)
+pub made_done : {old : Device} {value : RequestValue} (head : DbHead) {handles : List (Option Opened)} {answer : ReplyValue}
     → is_change (function_number value) ≡ true → target old value ≡ Some head.name → database_of head.name old.databases ≡ None
     → length old.databases < 200 → (length old.handles ≡ 8 → length handles ≡ 8) → (RequestFits value → IsBoundedHead head)
     → (RequestFits value → IsDevice old → IsBounded old → AllByRecursion IsBoundedSlot handles)
     → (IsDevice old → IsBounded old → Replies (function_number value) answer)
     → Done old value (record old { databases = with_new (empty_database head) old.databases; handles = handles }, answer)
-made_done old value head handles answer changes names none room count fits each replies = record {
+made_done {old} {value} head changes names none room count fits each replies = record {
   quiet = λ is. absurd (no_false (is_change (function_number value)) changes is);
   others = λ other is. (
       let differ : bytes_eq head.name other ≡ false = sym (ap (is_name other) names) ∙ is in
@@ -150,59 +134,32 @@ made_done old value head handles answer changes names none room count fits each 
 }
 
 -- a database less
-pub removed_done : (old : Device) (value : RequestValue) (name : List ℕ) (answer : ReplyValue) → is_change (function_number value) ≡ true
+pub removed_done : {old : Device} {value : RequestValue} {name : List ℕ} {answer : ReplyValue} → is_change (function_number value) ≡ true
     → target old value ≡ Some name
     → (IsDevice old → IsBounded old → Replies (function_number value) answer)
     → Done old value (record old { databases = without_named name old.databases }, answer)
-removed_done old value name answer changes names replies = record {
-  quiet = λ is. absurd (no_false (is_change (function_number value)) changes is);
-  others = λ other is. database_of-without_other other name old.databases (sym (ap (is_name other) names) ∙ is);
-  sound = λ sound. record {
-    names = NamesRise-without_named name old.databases sound.names;
-    few = (let less = length-without_named name old.databases in let few = sound.few in omega arith);
-    ids = AllByRecursion-without_named (λ d. AreIds (ids_of d.records)) name old.databases sound.ids;
-    handles = sound.handles;
-  };
-  bounded = λ small sound bounded. record {
-    databases = AllByRecursion-without_named IsBoundedDatabase name old.databases bounded.databases;
-    user = bounded.user;
-    handles = bounded.handles;
-  };
-  reply = replies;
-}
+removed_done {old} {value} {name} changes names replies =
+    grind (arith, nat_tests, common_steps, no_false, database_of-without_other, NamesRise-without_named, length-without_named, AllByRecursion-without_named)
 
 -- ---- what a handle leads to
 
-then_some : {A B : Type 0} (f : A → Option B) (o : Option A) (y : B) → option_and_then f o ≡ Some y → (x : A) × (o ≡ Some x) × (f x ≡ Some y)
-then_some f (Some x) y is = (x, refl, is)
-then_some f None y is = absurd cc
-
 map_some : {A B : Type 0} (f : A → B) (o : Option A) (y : B) → option_map f o ≡ Some y → (x : A) × (o ≡ Some x) × (f x ≡ y)
-map_some f (Some x) y is = (x, refl, cc)
-map_some f None y is = absurd cc
+map_some f o y is = grind (arith, nat_tests, common_steps)
 
-base_found : (old : Device) (handle : ℕ) (base : Base) → base_at old handle ≡ Some base
+base_found : (old : Device) (handle : ℕ) {base : Base} → base_at old handle ≡ Some base
     → database_of base.opened.name old.databases ≡ Some base.database
-base_found old handle base is =
-    let opened = then_some (base_of old) (opened_at handle old.handles) base is in
-    let found = map_some (λ database. let b : Base = record { opened = opened.0; database = database } in b)
-    (database_of opened.0.name old.databases) base opened.2 in
-    subst (λ (b : Base). database_of b.opened.name old.databases ≡ Some b.database) found.2 found.1
+base_found old handle is = grind (arith, nat_tests, common_steps)
 
 -- what is open keeps its bounds
 slot_at : (b : Bool) (o : Option (Option Opened)) → ((slot : Option Opened) → o ≡ Some slot → IsBoundedSlot slot)
     → IsBoundedSlot (cond b None (joined o))
-slot_at true o each = tt
-slot_at false None each = tt
-slot_at false (Some slot) each = each slot refl
+slot_at b o each = grind (arith, nat_tests, common_steps)
 
 opened_bounded : (handle : ℕ) (handles : List (Option Opened)) → AllByRecursion IsBoundedSlot handles → IsBoundedSlot (opened_at handle handles)
-opened_bounded handle handles each =
-    slot_at (handle == 0) (slice_get handles (handle - 1)) (λ slot here. AllByRecursion-get IsBoundedSlot handles (handle - 1) slot each here)
+opened_bounded handle handles each = grind (arith, nat_tests, common_steps, slot_at, AllByRecursion-get)
 
 next_bounded : (next : ℕ) (slot : Option Opened) → next < 2 ^ 16 → IsBoundedSlot slot → IsBoundedSlot (option_map (with_next next) slot)
-next_bounded next None small bounded = tt
-next_bounded next (Some opened) small bounded = record { name = bounded.name; mode = bounded.mode; next = small }
+next_bounded next slot small bounded = grind (arith, nat_tests, common_steps)
 
 pub handle_count : (handles : List (Option Opened)) (handle : ℕ) (slot : Option Opened) → length handles ≡ 8
     → length (with_handle handle slot handles) ≡ 8
@@ -210,19 +167,11 @@ handle_count handles handle slot count = length-set handles (handle - 1) slot �
 
 pub handle_each : (handles : List (Option Opened)) (handle : ℕ) (slot : Option Opened) → IsBoundedSlot slot → AllByRecursion IsBoundedSlot handles
     → AllByRecursion IsBoundedSlot (with_handle handle slot handles)
-handle_each handles handle slot bounded each = AllByRecursion-set IsBoundedSlot handles (handle - 1) slot bounded each
-
-pub none_each : (n : ℕ) → AllByRecursion IsBoundedSlot (replicate n None)
-none_each zero = tt
-none_each (suc n) = (tt, none_each n)
+handle_each handles handle slot bounded each = grind (arith, nat_tests, common_steps)
 
 -- a free handle is one of eight
 pub free_few : (handles : List (Option Opened)) (handle : ℕ) → free_handle handles ≡ Some handle → length handles ≡ 8 → handle < 2 ^ 8
-free_few handles handle is count =
-    let place = map_some (λ place. place + 1) (position is_none handles) handle is in
-    let within = (position_found is_none handles place.0 place.1).1 in
-    let same = place.2 in
-    omega arith
+free_few handles handle is count = grind (arith, nat_tests, common_steps)
 
 -- ---- functions with a handle
 
@@ -232,13 +181,11 @@ named_writable o base is allowed = rw (is, allowed) refl
 pub reads_done : (old : Device) (value : RequestValue) (handle : ℕ) (asked : Reading) → read_number asked ≡ function_number value
     → Keeps (Done old value) (reads old handle asked)
 reads_done old value handle asked number =
-    let answered : Base → Tried = λ base. read_in asked base.database >>= λ answer. Ok (old, answer) in
-    keeps_need 6 (base_at old handle) answered (Done old value) (lit< tt, lit< tt) (λ base here.
-    keeps_then (read_in asked base.database) (λ answer. Ok (old, answer)) (λ answer. IsBoundedDatabase base.database
-    → Replies (read_number asked) answer) (Done old value) (read_in_keeps asked base.database) (λ answer replies.
-    same_done old value answer (λ sound bounded.
+    keeps_need 6 (base_at old handle) _ _ refl (λ base here.
+    keeps_then _ _ (λ answer. IsBoundedDatabase base.database → Replies (read_number asked) answer) _ (read_in_keeps asked base.database) (λ answer replies.
+    same_done (λ sound bounded.
     let is = replies (AllByRecursion-database_of IsBoundedDatabase base.opened.name old.databases base.database bounded.databases
-    (base_found old handle base here)) in
+    (base_found old handle here)) in
     record { is = is.is; function = is.function ∙ number })))
 
 pub writes_done : (free : ℕ) (old : Device) (value : RequestValue) (handle : ℕ) (asked : WritingValue) → is_change (function_number value) ≡ true
@@ -246,35 +193,25 @@ pub writes_done : (free : ℕ) (old : Device) (value : RequestValue) (handle : �
     → (RequestFits value → WritingFits asked) → ((base : Base) → base_at old handle ≡ Some base → GivesFree free asked base.database)
     → Keeps (Done old value) (writes free old handle asked)
 writes_done free old value handle asked changes names number fits gives =
-    let put : DatabaseValue × ReplyValue → Tried = λ changed. Ok (with_database old changed.0, changed.1) in
-    let done : Base → Tried = λ base. written_in free asked base.database >>= put in
-    keeps_need 6 (base_at old handle) (λ base. check 15 (is_writable base) >>= λ allowed. done base) (Done old value) (lit< tt, lit< tt) (λ base here.
-    keeps_check 15 (is_writable base) (λ allowed. done base) (Done old value) (lit< tt, lit< tt) (λ allowed.
-    keeps_then (written_in free asked base.database) put (Writes asked base.database) (Done old value)
-    (written_in_writes free asked base.database (gives base here)) (λ made writes.
-    edited_done old value base.opened.name base.database asked made changes (names ∙ named_writable (base_at old handle) base here allowed)
-    (base_found old handle base here) number fits writes)))
+    keeps_need 6 (base_at old handle) _ _ refl (λ base here.
+    keeps_check 15 _ _ _ refl (λ allowed.
+    keeps_then _ _ _ _ (written_in_writes free asked base.database (gives base here)) (λ made writes.
+    edited_done changes (names ∙ named_writable (base_at old handle) base here allowed) (base_found old handle here) number fits writes)))
 
 pub next_done : (old : Device) (handle : ℕ)
     → Keeps (Done old (record { form = form.ReadNextModifiedRec; fields = (handle, tt) })) (read_next_modified_rec old handle)
 unfolding read_next_modified_rec
 next_done old handle =
-    let value : RequestValue = record { form = form.ReadNextModifiedRec; fields = (handle, tt) } in
-    let moved : ℕ × ReplyValue → Tried = λ found. Ok (with_index old handle (found.0 + 1), found.1) in
-    keeps_then (next_of old handle) moved (λ found. (base : Base) × (base_at old handle ≡ Some base) × NextReplies base.database found)
-    (Done old value)
-    (keeps_need 6 (base_at old handle) (λ base. next_in base.opened.next base.database) _ (lit< tt, lit< tt)
-    (λ base here. with_base base here (next_in base.opened.next base.database) (next_keeps base.opened.next base.database)))
+    keeps_then _ _ (λ found. (base : Base) × (base_at old handle ≡ Some base) × NextReplies base.database found) _
+    (keeps_need 6 (base_at old handle) _ _ refl (λ base here. with_base base here (next_in base.opened.next base.database)
+    (next_keeps base.opened.next base.database)))
     (λ found next.
-    let bounded_base : IsBounded old
-    → IsBoundedDatabase next.0.database =
-    λ bounded. AllByRecursion-database_of IsBoundedDatabase next.0.opened.name old.databases next.0.database bounded.databases
-    (base_found old handle next.0 next.1) in
-    turned_done old value (with_handle handle (option_map (with_next (found.0 + 1)) (opened_at handle old.handles)) old.handles) found.1
-    (handle_count old.handles handle (option_map (with_next (found.0 + 1)) (opened_at handle old.handles)))
-    (λ fits sound bounded. handle_each old.handles handle (option_map (with_next (found.0 + 1)) (opened_at handle old.handles))
-    (next_bounded (found.0 + 1) (opened_at handle old.handles) (let within = next.2.within (bounded_base bounded) in omega arith)
-    (opened_bounded handle old.handles bounded.handles)) bounded.handles)
+    let bounded_base : IsBounded old → IsBoundedDatabase next.0.database = λ bounded. AllByRecursion-database_of IsBoundedDatabase next.0.opened.name
+    old.databases next.0.database bounded.databases
+    (base_found old handle next.1) in
+    turned_done (handle_count old.handles handle _)
+    (λ fits sound bounded. handle_each old.handles handle _ (next_bounded (found.0 + 1) (opened_at handle old.handles)
+    (let within = next.2.within (bounded_base bounded) in omega arith) (opened_bounded handle old.handles bounded.handles)) bounded.handles)
     (λ sound bounded. next.2.reply (bounded_base bounded)))
   where
     with_base : (base : Base) → base_at old handle ≡ Some base → (r : Result (ℕ × ReplyValue) ℕ) → Keeps (NextReplies base.database) r
@@ -286,13 +223,4 @@ pub reset_done : (old : Device) (handle : ℕ)
     → Keeps (Done old (record { form = form.ResetRecordIndex; fields = (handle, tt) })) (reset_record_index old handle)
 unfolding reset_record_index
 reset_done old handle =
-    let value : RequestValue = record { form = form.ResetRecordIndex; fields = (handle, tt) } in
-    let end : Tried = Ok (with_index old handle 0, reply.ResetRecordIndex) in
-    keeps_need 6 (base_at old handle) (λ base. check 13 (on_records base.database) >>= λ suited. end) (Done old value) (lit< tt, lit< tt)
-    (λ base here.
-    keeps_check 13 (on_records base.database) (λ suited. end) (Done old value) (lit< tt, lit< tt) (λ suited.
-    turned_done old value (with_handle handle (option_map (with_next 0) (opened_at handle old.handles)) old.handles) reply.ResetRecordIndex
-    (handle_count old.handles handle (option_map (with_next 0) (opened_at handle old.handles)))
-    (λ fits sound bounded. handle_each old.handles handle (option_map (with_next 0) (opened_at handle old.handles))
-    (next_bounded 0 (opened_at handle old.handles) (lit< tt) (opened_bounded handle old.handles bounded.handles)) bounded.handles)
-    (λ sound bounded. record { is = record { fields = tt; values = tt; fits = lit≤ tt }; function = refl })))
+    grind (arith, nat_tests, common_steps, keeps_need, keeps_check, turned_done, handle_count, handle_each, next_bounded, opened_bounded)

@@ -1,20 +1,21 @@
 -- A request bears the byte of its function, and fields within the bounds of its layout.
-use Rattle.std.proofs.Common.{◌≡◌, ◌∙◌, ℕ, Bool, true, false, cond, List, [], ◌∷◌, Option, Some, None, Result, Ok, Err, refl, ap, sym}
+use Rattle.std.proofs.lemmas.Bool.Decides.{nat_tests}
+use Rattle.std.proofs.lemmas.Grind.{common_steps}
+use Rattle.std.proofs.Common.{◌≡◌, ◌∙◌, ℕ, Bool, true, false, cond, List, [], ◌∷◌, Option, Some, None, Result, Ok, refl, ap, arith}
 use Rattle.std.specs.Prelude.{◌==◌}
 use Rattle.std.specs.Option.{option_map}
 use Rattle.dlp_args.specs.Arguments.{Argument}
 use Rattle.dlp_args.specs.Cells.{Cell, CellFits, IsCell, Kind, Byte, Half, Word, Pad, Run, Text, MaybeText, Rest, Counted, Whole, Names}
 use Rattle.dlp_args.specs.Fields.{AreFields, Fields, FieldsFit, fields_in}
 use Rattle.dlp_args.specs.Functions as functions
-use Rattle.dlp_args.specs.Functions.{function_of}
-use Rattle.dlp_args.specs.Reading.{◌>>=◌, arguments_at}
+use Rattle.dlp_args.specs.Reading.{◌>>=◌}
 use Rattle.dlp_args.specs.declared.function.Function.{Function}
 use Rattle.dlp_args.specs.declared.function.Function.TheVariants as function
 use Rattle.dlp_args.proofs.FunctionLaws.{number_is}
-use Rattle.dlp_requests.specs.Faults.{of_arguments, or_size}
+use Rattle.dlp_requests.specs.Faults.{or_size}
 use Rattle.dlp_requests.specs.Forms as form
 use Rattle.dlp_requests.specs.Forms.{Form, argument_of, kinds_of, number_of}
-use Rattle.dlp_requests.specs.RequestReading.{argument_bytes, by_id_21, first_id, known, request_at, request_by, request_in, request_of}
+use Rattle.dlp_requests.specs.RequestReading.{argument_bytes, by_id_21, known, request_at, request_by, request_in, request_of}
 use Rattle.dlp_requests.specs.RequestTexts.{request_text}
 use Rattle.dlp_requests.specs.RequestValues.{RequestValue}
 use Rattle.dlp_requests.specs.declared.fault.RequestFault.{RequestFault}
@@ -23,15 +24,11 @@ use Rattle.dlp_commands.specs.DeviceSteps.{first_byte, function_number}
 -- ---- the function's byte
 
 then_ok : {A B : Type 0} (r : Result A RequestFault) (f : A → Result B RequestFault) (y : B) → (r >>= f) ≡ Ok y → (x : A) × (r ≡ Ok x) × (f x ≡ Ok y)
-then_ok (Ok x) f y is = (x, refl, is)
-then_ok (Err fault) f y is = absurd cc
+then_ok r f y is = grind (arith, nat_tests, common_steps)
 
 or_size_form : (f : Form) (o : Option (Fields (kinds_of f))) (value : RequestValue)
     → or_size (option_map (λ fields. let v : RequestValue = record { form = f; fields = fields } in v) o) ≡ Ok value → value.form ≡ f
-or_size_form f None value is = absurd cc
-or_size_form f (Some fields) value is =
-    let same : (let v : RequestValue = record { form = f; fields = fields } in v) ≡ value = cc in
-    ap (λ (v : RequestValue). v.form) (sym same)
+or_size_form f o value is = grind (arith, nat_tests, common_steps)
 
 -- a request has the form that it was read by
 by_form : (f : Form) (arguments : List Argument) (value : RequestValue) → request_by f arguments ≡ Ok value → value.form ≡ f
@@ -67,12 +64,10 @@ of_number function.WriteAppBlock arguments value is = by_number form.WriteAppBlo
 of_number function.ReadSortBlock arguments value is = by_number form.ReadSortBlock _ arguments value refl is
 of_number function.WriteSortBlock arguments value is = by_number form.WriteSortBlock _ arguments value refl is
 of_number function.ReadNextModifiedRec arguments value is = by_number form.ReadNextModifiedRec _ arguments value refl is
-of_number function.ReadRecord arguments value is =
-    by_two form.ReadRecordByIndex form.ReadRecordById _ (first_id arguments) arguments value refl refl is
+of_number function.ReadRecord arguments value is = grind (arith, nat_tests, common_steps)
 of_number function.WriteRecord arguments value is = by_number form.WriteRecord _ arguments value refl is
 of_number function.DeleteRecord arguments value is = by_number form.DeleteRecord _ arguments value refl is
-of_number function.ReadResource arguments value is =
-    by_two form.ReadResourceByType form.ReadResourceByIndex _ (first_id arguments) arguments value refl refl is
+of_number function.ReadResource arguments value is = grind (arith, nat_tests, common_steps)
 of_number function.WriteResource arguments value is = by_number form.WriteResource _ arguments value refl is
 of_number function.DeleteResource arguments value is = by_number form.DeleteResource _ arguments value refl is
 of_number function.CleanUpDatabase arguments value is = by_number form.CleanUpDatabase _ arguments value refl is
@@ -86,19 +81,12 @@ of_number function.ResetRecordIndex arguments value is = by_number form.ResetRec
 of_number function.ReadRecordIdList arguments value is = by_number form.ReadRecordIdList _ arguments value refl is
 
 known_is : (number : ℕ) (o : Option Function) (f : Function) → known number o ≡ Ok f → o ≡ Some f
-known_is number None f is = absurd cc
-known_is number (Some found) f is = cc
+known_is number o f is = grind (arith, nat_tests, common_steps)
 
 -- bytes that are a request begin with the byte of its function
 pub function_number-first_byte : (bytes : List ℕ) (value : RequestValue) → request_at bytes ≡ Ok value → function_number value ≡ first_byte bytes
 unfolding request_at
-function_number-first_byte [] value is = absurd cc
-function_number-first_byte (number ∷ []) value is = let found = then_ok (known number (function_of number)) _ value is in let none = found.2 in
-    absurd cc
-function_number-first_byte (number ∷ count ∷ bytes) value is =
-    let found = then_ok (known number (function_of number)) _ value is in
-    let arguments = then_ok (of_arguments (arguments_at count 2 bytes)) _ value found.2 in
-    of_number found.0 arguments.0 value arguments.2 ∙ sym (number_is number found.0 (known_is number (function_of number) found.0 found.1))
+function_number-first_byte bytes value is = grind (arith, nat_tests, common_steps, then_ok, of_number, number_is, known_is)
 
 -- and so does the text that is written of a request
 pub first_byte-request_text : (value : RequestValue) → first_byte (request_text value) ≡ function_number value
@@ -108,8 +96,7 @@ first_byte-request_text value = refl
 -- ---- the fields
 
 maybe_fits : (limit : ℕ) (o : Option (List ℕ)) (text rest : List ℕ) → IsCell (MaybeText limit) o text rest → CellFits (MaybeText limit) o
-maybe_fits limit None text rest is = tt
-maybe_fits limit (Some found) text rest is = (is.0.0.1, is.0.1)
+maybe_fits limit o text rest is = grind (arith, nat_tests, common_steps)
 
 cell_fits : (k : Kind) (x : Cell k) (text rest : List ℕ) → IsCell k x text rest → CellFits k x
 cell_fits Byte x text rest is = is.1

@@ -1,5 +1,7 @@
 -- What a function with a handle comes to, by what its handle leads to.
-use Rattle.std.proofs.Common.{◌≡◌, ℕ, true, false, Some, None, Result, Ok, Err, refl, ◌∙◌}
+use Rattle.std.proofs.lemmas.Bool.Decides.{nat_tests}
+use Rattle.std.proofs.lemmas.Grind.{common_steps}
+use Rattle.std.proofs.Common.{◌≡◌, ℕ, true, false, Some, None, Result, Ok, Err, refl, ◌∙◌, arith}
 use Rattle.std.specs.Option.{option_map}
 use Rattle.pdb_values.specs.Databases.{DatabaseValue}
 use Rattle.pdb_values.specs.NamedDatabases.{database_of}
@@ -48,8 +50,7 @@ reads_none old number handle asked none = rw none refl
 
 replied_by : (old : Device) (number : ℕ) (found : Result ReplyValue ℕ)
     → outcome old number (found >>= λ value. Ok (old, value)) ≡ (answered number found, old)
-replied_by old number (Ok value) = refl
-replied_by old number (Err code) = refl
+replied_by old number found = grind (arith, nat_tests, common_steps)
 
 -- the reply is what the database has
 pub reads_some : (old : Device) (number handle : ℕ) (asked : Reading) (base : Base) → base_at old handle ≡ Some base

@@ -1,5 +1,7 @@
 -- Laws of steps and runs, by what a request made of the device.
-use Rattle.std.proofs.Common.{◌≡◌, ◌∙◌, ℕ, false, List, [], ◌∷◌, ◌++◌, Option, Some, None, Result, Ok, Err, refl, ap, sym, subst, lit<, append_assoc, append-nil}
+use Rattle.std.proofs.lemmas.Bool.Decides.{nat_tests}
+use Rattle.std.proofs.lemmas.Grind.{common_steps}
+use Rattle.std.proofs.Common.{◌≡◌, ◌∙◌, ℕ, false, List, [], ◌∷◌, ◌++◌, Some, Result, Ok, Err, refl, ap, sym, subst, arith}
 use Rattle.std.specs.List.{flat_map}
 use Rattle.pdb_values.specs.NamedDatabases.{database_of}
 use Rattle.dlp_args.proofs.NumberLaws.{IsBytes}
@@ -40,9 +42,7 @@ ran_joined old between new (exchange ∷ front) back first second = (first.0, fi
 pub ran_cut : (old new : Device) (front back : List Exchange) → Ran old (front ++ back) new → (between : Device) × Ran old front between
     × Ran between back new
 ran_cut old new [] back ran = (old, refl, ran)
-ran_cut old new (exchange ∷ front) back ran =
-    let rest = ran_cut ran.0 new front back ran.2 in
-    (rest.0, (ran.0, ran.1, rest.1), rest.2)
+ran_cut old new (exchange ∷ front) back ran = grind (arith, nat_tests, common_steps, ran_cut ran.0 new front back ran.2)
 
 -- ---- a step
 
@@ -53,12 +53,7 @@ pub data Stepped (old : Device) (bytes reply : List ℕ) (new : Device) : Type 0
       → Stepped old bytes reply new
 
 code_is : (found : RequestFault) → IsCode (fault_code found)
-code_is (fault.Illegal number) = (lit< tt, lit< tt)
-code_is (fault.Wrapper place) = (lit< tt, lit< tt)
-code_is (fault.BadId place) = (lit< tt, lit< tt)
-code_is (fault.BadSize place) = (lit< tt, lit< tt)
-code_is fault.Argument = (lit< tt, lit< tt)
-code_is fault.Size = (lit< tt, lit< tt)
+code_is found = grind (arith, nat_tests, common_steps)
 
 done_step : (old new : Device) (bytes reply : List ℕ) (value : RequestValue) (r : Tried) → request_at bytes ≡ Ok value → Keeps (Done old value) r
     → outcome old (function_number value) r ≡ (reply, new) → Stepped old bytes reply new
@@ -82,9 +77,6 @@ stepped old new bytes reply step = read_step old new bytes reply step.free (requ
 
 -- ---- what stays
 
-same_request : (bytes : List ℕ) (value other : RequestValue) → request_at bytes ≡ Ok value → request_at bytes ≡ Ok other → value ≡ other
-same_request bytes value other first second = let both : ◌≡◌ {A = Result RequestValue RequestFault} (Ok value) (Ok other) = sym first ∙ second in cc
-
 pub changes-request : (bytes : List ℕ) (value : RequestValue) → request_at bytes ≡ Ok value → changes bytes ≡ is_change (function_number value)
 unfolding changes
 changes-request bytes value read = ap is_change (sym (function_number-first_byte bytes value read))
@@ -95,31 +87,25 @@ changes-text value = ap is_change (first_byte-request_text value)
 
 pub store_kept : (old new : Device) (bytes reply : List ℕ) → changes bytes ≡ false → Stepped old bytes reply new → (new.databases ≡ old.databases)
     × (new.user ≡ old.user)
-store_kept old new bytes reply quiet (WasRefused code is same text) = (ap (λ (d : Device). d.databases) same, ap (λ (d : Device). d.user) same)
-store_kept old new bytes reply quiet (WasDone value read answer done text) = done.quiet (sym (changes-request bytes value read) ∙ quiet)
+store_kept old new bytes reply quiet stepped = grind (arith, nat_tests, common_steps, changes-request)
 
 pub reads_keep : (old new : Device) (bytes reply : List ℕ) (value : RequestValue) → request_at bytes ≡ Ok value
     → is_change (function_number value) ≡ false → Stepped old bytes reply new → (new.databases ≡ old.databases) × (new.user ≡ old.user)
-reads_keep old new bytes reply value read quiet step = store_kept old new bytes reply (changes-request bytes value read ∙ quiet) step
+reads_keep old new bytes reply value read quiet step = grind (arith, nat_tests, common_steps)
 
 pub target_keeps : (old new : Device) (bytes reply name : List ℕ) → Stepped old bytes reply new
     → is_name name (target_of old (request_at bytes)) ≡ false → database_of name new.databases ≡ database_of name old.databases
-target_keeps old new bytes reply name (WasRefused code is same text) differ = ap (λ (d : Device). database_of name d.databases) same
-target_keeps old new bytes reply name (WasDone value read answer done text) differ =
-    done.others name (sym (ap (λ (r : Result RequestValue RequestFault). is_name name (target_of old r)) read) ∙ differ)
+target_keeps old new bytes reply name stepped differ = grind (arith, nat_tests, common_steps)
 
 pub sound_stays : (old new : Device) (bytes reply : List ℕ) → IsDevice old → Stepped old bytes reply new → IsDevice new
-sound_stays old new bytes reply sound (WasRefused code is same text) = subst IsDevice (sym same) sound
-sound_stays old new bytes reply sound (WasDone value read answer done text) = done.sound sound
+sound_stays old new bytes reply sound stepped = grind (arith, nat_tests, common_steps)
 
 request_fits : (bytes : List ℕ) (value : RequestValue) → IsBytes bytes → request_at bytes ≡ Ok value → RequestFits value
 request_fits bytes value are read = let text = request_takes bytes value are read in FieldsFit-AreFields _ value.fields text.content text.fields_text
 
 pub bounded_stays : (old new : Device) (bytes reply : List ℕ) → IsBytes bytes → IsDevice old → IsBounded old → Stepped old bytes reply new
     → IsBounded new
-bounded_stays old new bytes reply are sound bounded (WasRefused code is same text) = subst IsBounded (sym same) bounded
-bounded_stays old new bytes reply are sound bounded (WasDone value read answer done text) =
-    done.bounded (request_fits bytes value are read) sound bounded
+bounded_stays old new bytes reply are sound bounded stepped = grind (arith, nat_tests, common_steps, request_fits)
 
 -- ---- replies
 
@@ -157,21 +143,8 @@ pub given-append : (front back : List Exchange)
     ≡ flat_map (λ (exchange : Exchange). given_in exchange.request exchange.reply) front
     ++ flat_map (λ (exchange : Exchange). given_in exchange.request exchange.reply) back
 given-append [] back = refl
-given-append (exchange ∷ front) back =
-    ap (λ ids. given_in exchange.request exchange.reply ++ ids) (given-append front back)
-    ∙ sym (append_assoc (given_in exchange.request exchange.reply)
-    (flat_map (λ (exchange : Exchange). given_in exchange.request exchange.reply) front)
-    (flat_map (λ (exchange : Exchange). given_in exchange.request exchange.reply) back))
+given-append (exchange ∷ front) back = grind (arith, nat_tests, common_steps, given-append front back)
 
 pub given-answered : (old new : Talk) (request reply : List ℕ) → WasAnswered old request reply (Some new) → given new ≡ given old
     ++ given_in request reply
-given-answered old new request reply was =
-    let exchange : Exchange = record { request = request; reply = reply } in
-    let now : new.exchanges ≡ old.exchanges ++ exchange ∷ [] =
-    (let same : new ≡ record { device = was.device; exchanges = old.exchanges ++ exchange ∷ []; left = None } = some_is _ _ was.is in
-    ap (λ (t : Talk). t.exchanges) same) in
-    ap (flat_map (λ (e : Exchange). given_in e.request e.reply)) now ∙ given-append old.exchanges (exchange ∷ [])
-    ∙ ap (λ ids. given old ++ ids) (append-nil (given_in request reply))
-  where
-    some_is : (one other : Talk) → ◌≡◌ {A = Option Talk} (Some one) (Some other) → one ≡ other
-    some_is one other is = cc
+given-answered old new request reply was = grind (arith, nat_tests, common_steps)

@@ -1,35 +1,27 @@
 -- What is read as entries is a text of them, and each text of entries is read.
-use Rattle.std.proofs.Common.{◌≡◌, ℕ, zero, suc, ◌≤◌, Bool, true, false, cond, eqb, ltb, List, [], ◌∷◌, ◌++◌, length, take, drop, Option, Some, None, refl, sym, ap, subst, ◌∙◌, arith}
-use Rattle.std.specs.Int.{w8, from_be_bytes}
-use Rattle.std.proofs.lemmas.Bool.{eqb-true, ltb-false, le-ltb}
-use Rattle.std.proofs.lemmas.List.{length-append, length-take, nil_from_length, take_at, drop_at, take-append-drop}
+use Rattle.std.proofs.lemmas.Bool.Decides.{nat_tests}
+use Rattle.std.proofs.lemmas.Grind.{common_steps}
+use Rattle.std.proofs.Common.{◌≡◌, ℕ, zero, suc, ◌≤◌, Bool, false, cond, ltb, List, [], ◌∷◌, ◌++◌, length, take, drop, Option, Some, None, refl, sym, ap, subst, ◌∙◌, arith}
+use Rattle.std.specs.Int.{w8}
+use Rattle.std.proofs.lemmas.Bool.{ltb-false, le-ltb}
+use Rattle.std.proofs.lemmas.List.{length-append, length-take, take_at, drop_at, take-append-drop}
 use Rattle.dlp_args.proofs.NumberLaws.{IsBytes, IsBytes-drop, IsBytes-take}
-use Rattle.dlp_args.specs.Cells.{Half, Word, Pad, Run, Text}
 use Rattle.dlp_args.specs.Fields.{fields_in, AreFields}
 use Rattle.dlp_args.specs.CellReading.{number_at, some_at}
 use Rattle.dlp_args.proofs.CellLaws.{bind_some, some_is, fields_take, fields_again}
 use Rattle.dlp_replies.specs.EntryLists.{entry, Row}
 use Rattle.dlp_replies.specs.EntryReading.{entry_at, rows_in, AreRows}
-use Rattle.dlp_replies.proofs.ListLaws.{kept}
 
 byte_at : (n : ℕ) (rest : List ℕ) → number_at w8 (n ∷ rest) ≡ Some (n, rest)
 unfolding number_at
-byte_at n rest =
-    let g : ltb (length (n ∷ rest)) 1 ≡ false = le-ltb _ _ (omega arith) in
-    let is : from_be_bytes w8 (n ∷ []) ≡ n = omega arith in
-    rw (g, is) refl
+byte_at n rest = grind arith
 
 no_guard : {A : Type 0} (b : Bool) (o : Option A) (y : A) → cond b None o ≡ Some y → (b ≡ false) × (o ≡ Some y)
-no_guard true o y e = absurd cc
-no_guard false o y e = (refl, e)
+no_guard b o y e = grind arith
 
 -- the first cell is the first byte
 first_cell : (byte : ℕ) (bytes : List ℕ) (row : Row) → fields_in entry (byte ∷ bytes) ≡ Some row → byte ≡ row.0
-first_cell byte bytes row e =
-    let first = bind_some (number_at w8 (byte ∷ bytes)) _ row e in
-    let others = bind_some (fields_in (Pad ∷ Half ∷ Run 4 ∷ Run 4 ∷ Half ∷ Word ∷ Run 8 ∷ Run 8 ∷ Run 8 ∷ Half ∷ Text ∷ []) first.0.1) _ row first.2 in
-    let byte-is : (byte, bytes) ≡ first.0 = some_is _ _ (sym (byte_at byte bytes) ∙ first.1) in
-    ap (λ (x : ℕ × List ℕ). x.0) byte-is ∙ ap (λ (x : Row). x.0) (some_is _ row others.2)
+first_cell byte bytes row e = grind (arith, nat_tests, common_steps, bind_some, some_is, byte_at)
 
 no_cells : (row : Row) → fields_in entry [] ≡ Some row → ⊥
 unfolding number_at
@@ -39,8 +31,7 @@ abbrev EntryTaken : List ℕ → Row × List ℕ → Type 0
 EntryTaken bytes x = (text : List ℕ) × (bytes ≡ text ++ x.1) × AreFields entry x.0 text × (x.0.0 ≡ length text) × IsBytes x.1
 
 sized_cells : (byte size : ℕ) (bytes : List ℕ) (row : Row) → size ≡ byte → fields_in entry (take size (byte ∷ bytes)) ≡ Some row → byte ≡ row.0
-sized_cells byte zero bytes row same e = absurd (no_cells row e)
-sized_cells byte (suc size) bytes row same e = first_cell byte (take size bytes) row e
+sized_cells byte size bytes row same e = grind (arith, nat_tests, common_steps, no_cells, first_cell)
 
 entry_takes : (bytes : List ℕ) (x : Row × List ℕ) → IsBytes bytes → entry_at bytes ≡ Some x → EntryTaken bytes x
 unfolding entry_at some_at number_at
@@ -81,9 +72,7 @@ entry_again row text rest is size =
 
 pub rows_take : (count : ℕ) (bytes : List ℕ) (rows : List Row) → IsBytes bytes → rows_in count bytes ≡ Some rows → (length rows ≡ count) × AreRows rows bytes
 unfolding rows_in
-rows_take zero bytes rows fits e =
-    let none = kept (eqb (length bytes) 0) [] rows e in
-    subst (λ (xs : List Row). (length xs ≡ 0) × AreRows xs bytes) none.1 (refl, nil_from_length bytes (eqb-true _ _ none.0))
+rows_take zero bytes rows fits e = grind (arith, nat_tests, common_steps)
 rows_take (suc count) bytes rows fits e =
     let first = bind_some (entry_at bytes) _ rows e in
     let others = bind_some (rows_in count first.0.1) _ rows first.2 in
@@ -95,6 +84,4 @@ rows_take (suc count) bytes rows fits e =
 pub rows_again : (rows : List Row) (bytes : List ℕ) → AreRows rows bytes → rows_in (length rows) bytes ≡ Some rows
 unfolding rows_in
 rows_again [] bytes is = rw is refl
-rows_again (row ∷ rows) bytes is =
-    let first : entry_at bytes ≡ Some (row, is.1) = ap entry_at is.2 ∙ entry_again row is.0 is.1 is.3 is.4 in
-    rw (first, rows_again rows is.1 is.5) refl
+rows_again (row ∷ rows) bytes is = grind (arith, nat_tests, common_steps, is.1, is.2, entry_again row is.0 is.1 is.3 is.4, rows_again rows is.1 is.5)

@@ -1,14 +1,14 @@
 -- Ids in bytes: the numbers of each four bytes, and their texts.
+use Rattle.std.proofs.lemmas.Bool.Decides.{nat_tests}
+use Rattle.std.proofs.lemmas.Grind.{common_steps}
 use Rattle.std.proofs.Common.{◌≡◌, ℕ, zero, suc, ◌+◌, ◌*◌, ◌/◌, ◌<◌, ◌≤◌, false, ltb, leb, List, [], ◌∷◌, ◌++◌, length, drop, Some, None, refl, sym, ap, ◌∙◌, arith}
 use Rattle.std.specs.List.{slice_get, AllByRecursion}
-use Rattle.std.specs.Int.{w32, from_be_bytes, to_be_bytes}
+use Rattle.std.specs.Int.{w32}
 use Rattle.std.proofs.lemmas.Bool.{leb-true, le-leb, lt-leb, le-ltb}
-use Rattle.std.proofs.lemmas.List.{length-append}
 use Rattle.std.proofs.lemmas.Nat.{from_be_bytes-to_be_bytes_4}
 use Rattle.std.proofs.lemmas.Option.{slice_get_past}
 use Rattle.dlp_args.proofs.NumberLaws.{IsBytes, IsBytes-drop, IsBytes-take, wide32}
 use Rattle.dlp_args.specs.CellReading.{number_at}
-use Rattle.dlp_args.proofs.CellLaws.{some_is}
 use Rattle.dlp_replies.specs.Checks.{first_bad}
 use Rattle.dlp_replies.specs.IdLists.{IsId, ids_text, words, ids_checks}
 use Rattle.dlp_replies.proofs.ListLaws.{at_place, past_place, test_passes}
@@ -18,21 +18,11 @@ enough a b c d bytes = le-ltb _ _ (omega arith)
 
 pub first_word : (bytes : List ℕ) (n : ℕ) (rest : List ℕ) → number_at w32 bytes ≡ Some (n, rest) → words bytes ≡ n ∷ words rest
 unfolding number_at words
-first_word [] n rest e = absurd cc
-first_word (a ∷ []) n rest e = absurd cc
-first_word (a ∷ b ∷ []) n rest e = absurd cc
-first_word (a ∷ b ∷ c ∷ []) n rest e = absurd cc
-first_word (a ∷ b ∷ c ∷ d ∷ bytes) n rest e =
-    let found = rw (enough a b c d bytes) at e in
-    ap (λ (x : ℕ × List ℕ). x.0 ∷ words x.1) (some_is (from_be_bytes w32 (a ∷ b ∷ c ∷ d ∷ []), bytes) (n, rest) found)
+first_word bytes n rest e = grind arith
 
 pub no_word : (bytes : List ℕ) → number_at w32 bytes ≡ None → words bytes ≡ []
 unfolding number_at words
-no_word [] e = refl
-no_word (a ∷ []) e = refl
-no_word (a ∷ b ∷ []) e = refl
-no_word (a ∷ b ∷ c ∷ []) e = refl
-no_word (a ∷ b ∷ c ∷ d ∷ bytes) e = let no = rw (enough a b c d bytes) at e in absurd cc
+no_word bytes e = grind arith
 
 pub words_len : (bytes : List ℕ) → length (words bytes) ≡ length bytes / 4
 unfolding words
@@ -58,7 +48,7 @@ pub word_past : (bytes : List ℕ) (place : ℕ) → length bytes / 4 ≤ place 
 word_past bytes place past = slice_get_past (words bytes) place (omega (arith, words_len bytes))
 
 pub word_at : (bytes : List ℕ) (place n : ℕ) (rest : List ℕ) → number_at w32 (drop (4 * place) bytes) ≡ Some (n, rest) → slice_get (words bytes) place ≡ Some n
-word_at bytes place n rest e = at_place (words bytes) place n (words rest) (sym (words_from place bytes) ∙ first_word (drop (4 * place) bytes) n rest e)
+word_at bytes place n rest e = grind (arith, nat_tests, common_steps, at_place, words_from, first_word)
 
 pub word_none : (bytes : List ℕ) (place : ℕ) → number_at w32 (drop (4 * place) bytes) ≡ None → slice_get (words bytes) place ≡ None
 word_none bytes place e = past_place (words bytes) place (sym (words_from place bytes) ∙ no_word (drop (4 * place) bytes) e)
@@ -83,7 +73,7 @@ ids_pass at (id ∷ ids) all = rw (le-leb id 16777215 all.0) (ids_pass (at + 4) 
 
 pub ids_text_len : (ids : List ℕ) → length (ids_text ids) ≡ 4 * length ids
 ids_text_len [] = refl
-ids_text_len (id ∷ ids) = omega (arith, length-append (to_be_bytes w32 id) (ids_text ids), ids_text_len ids)
+ids_text_len (id ∷ ids) = grind (arith, nat_tests, common_steps, ids_text_len ids)
 
 pub words_of_text : (ids : List ℕ) → AllByRecursion IsId ids → words (ids_text ids) ≡ ids
 unfolding words

@@ -1,8 +1,10 @@
 -- Places in lists, tests one after the other, and texts of lists.
+use Rattle.std.proofs.lemmas.Bool.Decides.{nat_tests}
+use Rattle.std.proofs.lemmas.Grind.{common_steps}
 use Rattle.std.proofs.Common.{◌≡◌, ℕ, zero, suc, ◌+◌, ◌≤◌, Bool, true, false, cond, List, [], ◌∷◌, ◌++◌, length, drop, Option, Some, None, refl, sym, ap, subst, ◌∙◌, append_assoc, add-one, arith}
 use Rattle.std.specs.List.{flat_map, slice_get, AllByRecursion}
 use Rattle.std.specs.Option.{SomeIff}
-use Rattle.std.proofs.lemmas.List.{append-nil, length-append, at_drop_all}
+use Rattle.std.proofs.lemmas.List.{length-append}
 use Rattle.dlp_replies.specs.Checks.{Checks, first_bad}
 
 -- ---- tests
@@ -18,8 +20,7 @@ tests_stop ((at, true) ∷ front) back place e = tests_stop front back place e
 tests_stop ((at, false) ∷ front) back place e = e
 
 pub test_passes : (ok : Bool) (o : Option ℕ) (place : ℕ) → cond ok o (Some place) ≡ None → (ok ≡ true) × (o ≡ None)
-test_passes true o place e = (refl, e)
-test_passes false o place e = absurd cc
+test_passes ok o place e = grind arith
 
 pub both_pass : (front back : Checks) → first_bad (front ++ back) ≡ None → (first_bad front ≡ None) × (first_bad back ≡ None)
 both_pass [] back e = (refl, e)
@@ -27,8 +28,7 @@ both_pass ((place, true) ∷ front) back e = both_pass front back e
 both_pass ((place, false) ∷ front) back e = absurd cc
 
 pub kept : {A : Type 0} (b : Bool) (x y : A) → cond b (Some x) None ≡ Some y → (b ≡ true) × (x ≡ y)
-kept true x y e = (refl, cc)
-kept false x y e = absurd cc
+kept b x y e = grind arith
 
 -- ---- places
 
@@ -38,8 +38,7 @@ from_place (y ∷ xs) zero x e = let is : y ≡ x = cc in ap (λ z. z ∷ xs) is
 from_place (y ∷ xs) (suc place) x e = rw add-one (let more = from_place xs place x e in rw add-one at more)
 
 drop_none : {A : Type 0} (place : ℕ) → (let none : List A = [] in drop place none) ≡ []
-drop_none zero = refl
-drop_none (suc place) = refl
+drop_none place = grind arith
 
 pub at_place : {A : Type 0} (xs : List A) (place : ℕ) (x : A) (rest : List A) → drop place xs ≡ x ∷ rest → slice_get xs place ≡ Some x
 at_place [] place x rest e = let none = sym (drop_none place) ∙ e in absurd cc
@@ -57,8 +56,7 @@ all_at P (y ∷ xs) zero x all e = let is : y ≡ x = cc in subst P is all.0
 all_at P (y ∷ xs) (suc place) x all e = all_at P xs place x all.1 e
 
 pub some_iff : {A : Type 0} (o : Option A) (P : Type 0) (x : A) → SomeIff o P x → P → o ≡ Some x
-some_iff None P x iff holds = absurd (iff holds)
-some_iff (Some y) P x iff holds = ap (λ z. Some z) iff.1
+some_iff o P x iff holds = grind arith
 
 -- ---- texts of lists
 
@@ -75,20 +73,20 @@ within_list (x ∷ xs) (suc place) e = omega (arith, within_list xs place e)
 -- one more text is written
 pub text_added : {A : Type 0} (f : A → List ℕ) (xs : List A) (place : ℕ) (x : A) (out all : List ℕ) → slice_get xs place ≡ Some x
     → out ++ flat_map f (drop place xs) ≡ all → (out ++ f x) ++ flat_map f (drop (place + 1) xs) ≡ all
-text_added f xs place x out all e is = rw append_assoc (ap (λ (rest : List ℕ). out ++ rest) (sym (texts_left f xs place x e)) ∙ is)
+text_added f xs place x out all e is = grind (arith, nat_tests, common_steps, append_assoc, texts_left)
 
 -- it fits where all of them do
 pub text_fits : {A : Type 0} (f : A → List ℕ) (xs : List A) (place : ℕ) (x : A) (out all : List ℕ) → slice_get xs place ≡ Some x
     → out ++ flat_map f (drop place xs) ≡ all → length out + length (f x) ≤ length all
 text_fits f xs place x out all e is =
-    let rest = flat_map f (drop (place + 1) xs) in
-    let len = ap length (text_added f xs place x out all e is) in
-    omega (arith, len, length-append (out ++ f x) rest, length-append out (f x))
-
--- nothing is left
-pub texts_done : {A : Type 0} (f : A → List ℕ) (xs : List A) (place : ℕ) (out all : List ℕ) → length xs ≤ place → out ++ flat_map f (drop place xs) ≡ all
-    → out ≡ all
-texts_done f xs place out all past is = sym (append-nil out) ∙ ap (λ (rest : List ℕ). out ++ rest) (sym (at_drop_all (flat_map f) xs place past)) ∙ is
+    grind (
+      arith,
+      nat_tests,
+      common_steps,
+      text_added f xs place x out all e is,
+      length-append (out ++ f x) (flat_map f (drop (place + 1) xs)),
+      length-append out (f x),
+    )
 
 -- the lengths of texts add up
 pub lengths_left : {A : Type 0} (f : A → List ℕ) (xs : List A) (place len : ℕ) (x : A) → slice_get xs place ≡ Some x
@@ -96,7 +94,3 @@ pub lengths_left : {A : Type 0} (f : A → List ℕ) (xs : List A) (place len : 
     → (len + length (f x)) + length (flat_map f (drop (place + 1) xs)) ≡ length (flat_map f xs)
 lengths_left f xs place len x e is = let more = ap length (texts_left f xs place x e) in
     omega (arith, more, length-append (f x) (flat_map f (drop (place + 1) xs)), is)
-
-pub lengths_done : {A : Type 0} (f : A → List ℕ) (xs : List A) (place len : ℕ) → length xs ≤ place
-    → len + length (flat_map f (drop place xs)) ≡ length (flat_map f xs) → len ≡ length (flat_map f xs)
-lengths_done f xs place len past is = let none = ap length (at_drop_all (flat_map f) xs place past) in omega (arith, none, is)

@@ -1,8 +1,10 @@
 -- What is read is a text of the reply, and each text of a reply is read.
-use Rattle.std.proofs.Common.{◌≡◌, ℕ, zero, suc, ◌^◌, ◌<◌, Bool, true, false, eqb, List, [], ◌∷◌, ◌++◌, length, Option, Some, None, Result, Ok, Err, refl, sym, ap, subst, ◌∙◌, arith, inl, inr}
+use Rattle.std.proofs.lemmas.Bool.Decides.{nat_tests}
+use Rattle.std.proofs.lemmas.Grind.{common_steps}
+use Rattle.std.proofs.Common.{◌≡◌, ℕ, zero, suc, ◌^◌, ◌<◌, Bool, true, false, eqb, List, [], ◌∷◌, ◌++◌, length, Option, Some, None, Result, Ok, refl, sym, ap, subst, ◌∙◌, arith, inl, inr}
 use Rattle.std.specs.Prelude.{IfOk}
 use Rattle.std.specs.Int.{w16, from_be_bytes, to_be_bytes}
-use Rattle.std.proofs.lemmas.Bool.{eqb-true, eqb-false, eq-eqb, ne_eqb}
+use Rattle.std.proofs.lemmas.Bool.{eqb-true, eqb-false, eq-eqb}
 use Rattle.std.proofs.lemmas.List.{append-nil, drop_at}
 use Rattle.dlp_args.specs.Arguments.{Argument, header, ArgText, ArgTexts}
 use Rattle.dlp_args.specs.Reading.{◌>>=◌, arguments_at}
@@ -13,7 +15,7 @@ use Rattle.dlp_args.proofs.ArgumentLaws.{arguments_take, arguments_again}
 use Rattle.dlp_args.specs.Functions.{function_of}
 use Rattle.dlp_args.specs.Cells.{Kind}
 use Rattle.dlp_args.specs.Fields.{Fields, fields_in}
-use Rattle.dlp_args.proofs.CellLaws.{bind_some, fields_take, fields_again}
+use Rattle.dlp_args.proofs.CellLaws.{fields_take, fields_again}
 use Rattle.dlp_replies.specs.declared.fault.ReplyFault.{ReplyFault}
 use Rattle.dlp_replies.specs.declared.reply.Reply.{Reply}
 use Rattle.dlp_replies.specs.Faults.{of_arguments, or_argument, or_size, or_value}
@@ -23,42 +25,32 @@ use Rattle.dlp_replies.specs.ReplyTexts.{IsShape, IsRefusal, ReplyText}
 use Rattle.dlp_replies.specs.ReplyValues.{ReplyValue, Refused}
 use Rattle.dlp_replies.specs.Shapes.{Shape, Unknown, Bare, One, shape_of}
 use Rattle.dlp_replies.specs.Views.{reply_value}
-use Rattle.dlp_replies.proofs.ListLaws.{kept}
 
 IsBytes-back : (front back : List ℕ) → IsBytes (front ++ back) → IsBytes back
 IsBytes-back front back fits = subst IsBytes (drop_at front back (length front) refl) (IsBytes-drop (length front) (front ++ back) fits)
 
 done : {A B : Type 0} (r : Result A ReplyFault) (f : A → Result B ReplyFault) (y : B) → (r >>= f) ≡ Ok y → (x : A) × (r ≡ Ok x) × (f x ≡ Ok y)
-done (Ok x) f y e = (x, refl, e)
-done (Err d) f y e = absurd cc
+done r f y e = grind arith
 
 or_size_is : {A : Type 0} (o : Option A) (y : A) → or_size o ≡ Ok y → o ≡ Some y
-or_size_is None y e = absurd cc
-or_size_is (Some x) y e = cc
+or_size_is o y e = grind arith
 
 or_argument_is : {A : Type 0} (o : Option A) (y : A) → or_argument o ≡ Ok y → o ≡ Some y
-or_argument_is None y e = absurd cc
-or_argument_is (Some x) y e = cc
+or_argument_is o y e = grind arith
 
 of_arguments_is : {A : Type 0} (r : Result A ArgFault) (y : A) → of_arguments r ≡ Ok y → r ≡ Ok y
-of_arguments_is (Ok x) y e = cc
-of_arguments_is (Err d) y e = absurd cc
+of_arguments_is r y e = grind arith
 
 or_value_is : {A : Type 0} (place : ℕ) (bad : Option ℕ) (x y : A) → or_value place bad x ≡ Ok y → (bad ≡ None) × (x ≡ y)
-or_value_is place None x y e = (refl, cc)
-or_value_is place (Some k) x y e = absurd cc
+or_value_is place bad x y e = grind arith
 
 measured_is : (kinds : List Kind) (sizes : Fields kinds → Bool) (content : List ℕ) (fields : Fields kinds) → measured_in kinds sizes content ≡ Some fields
     → (fields_in kinds content ≡ Some fields) × (sizes fields ≡ true)
-measured_is kinds sizes content fields e =
-    let found = bind_some (fields_in kinds content) _ fields e in
-    let same = kept (sizes found.0) found.0 fields found.2 in
-    (found.1 ∙ ap (λ (v : Fields kinds). Some v) same.1, ap sizes (sym same.1) ∙ same.0)
+measured_is kinds sizes content fields e = grind arith
 
 without_is : (value found : ReplyValue) (arguments : List Argument) (bytes : List ℕ) → ArgTexts arguments bytes → without value arguments ≡ Ok found
     → (found ≡ value) × (length arguments ≡ 0) × (bytes ≡ [])
-without_is value found [] bytes texts e = (sym (ok_is value found e), refl, texts)
-without_is value found (argument ∷ arguments) bytes texts e = absurd cc
+without_is value found arguments bytes texts e = grind arith
 
 -- what follows the function, the count and the error
 no_truth : true ≡ false → ⊥
@@ -68,9 +60,7 @@ pub shape_takes : (first : ℕ) (s : Shape) (end : ℕ) (arguments : List Argume
     → ArgTexts arguments bytes → reply_by s end arguments ≡ Ok value → IsShape first s value (first ∷ length arguments ∷ 0 ∷ 0 ∷ bytes)
 unfolding reply_by valid_in
 shape_takes first Unknown end arguments bytes found fits texts e = absurd cc
-shape_takes first (Bare value) end arguments bytes found fits texts e =
-    let w = without_is value found arguments bytes texts e in
-    (w.0, λ i. first ∷ w.1 i ∷ 0 ∷ 0 ∷ w.2 i)
+shape_takes first (Bare value) end arguments bytes found fits texts e = grind (arith, nat_tests, common_steps)
 shape_takes first (One kinds sizes checks make) end [] bytes found fits texts e = absurd cc
 shape_takes first (One kinds sizes checks make) end (argument ∷ []) bytes found fits texts e =
     let content = done (or_argument (only_content (argument ∷ []))) _ found e in
@@ -83,7 +73,8 @@ shape_takes first (One kinds sizes checks make) end (argument ∷ []) bytes foun
           let id-is : argument.id ≡ 0x20 = eqb-true _ _ this.0 in
           let content-is : argument.bytes ≡ content.0 = let s = this.1 in cc in
           let whole : bytes ≡ texts.1 = texts.4 ∙ ap (λ (xs : List ℕ). texts.1 ++ xs) texts.5 ∙ append-nil texts.1 in
-          let content-fits : IsBytes argument.bytes = IsBytes-back (header texts.0 argument.id (length argument.bytes)) argument.bytes (subst IsBytes texts.3.is (subst IsBytes whole fits)) in
+          let content-fits : IsBytes argument.bytes = IsBytes-back (header texts.0 argument.id (length argument.bytes)) argument.bytes
+          (subst IsBytes texts.3.is (subst IsBytes whole fits)) in
           record {
             fields = fields.0;
             form = texts.0;
@@ -105,8 +96,7 @@ pub shape_again : (first : ℕ) (s : Shape) (value : ReplyValue) (rest : List �
     × (reply_by s end arguments ≡ Ok value)
 unfolding reply_by valid_in
 shape_again first Unknown value rest end is = absurd (no_truth is)
-shape_again first (Bare done) value rest end is = let e = is.1 in let r : rest ≡ 0 ∷ 0 ∷ 0 ∷ [] = cc in
-    ([], [], r, refl, ap (λ (a : ReplyValue). Ok a) (sym is.0))
+shape_again first (Bare done) value rest end is = grind (arith, nat_tests, common_steps)
 shape_again first (One kinds sizes checks make) value rest end is =
     let e = is.is in
     let r : rest ≡ 1 ∷ 0 ∷ 0 ∷ is.text = cc in
@@ -140,7 +130,8 @@ reply_takes number (a ∷ b ∷ c ∷ []) value fits e = absurd cc
 reply_takes number (first ∷ count ∷ high ∷ low ∷ bytes) value fits e =
     let code = from_be_bytes w16 (high ∷ low ∷ []) in
     let end = length (first ∷ count ∷ high ∷ low ∷ bytes) in
-    let rest-fits = IsBytes-rest low bytes (IsBytes-rest high (low ∷ bytes) (IsBytes-rest count (high ∷ low ∷ bytes) (IsBytes-rest first (count ∷ high ∷ low ∷ bytes) fits))) in
+    let rest-fits = IsBytes-rest low bytes (IsBytes-rest high (low ∷ bytes)
+    (IsBytes-rest count (high ∷ low ∷ bytes) (IsBytes-rest first (count ∷ high ∷ low ∷ bytes) fits))) in
     elim (chosen (eqb first (reply_byte number)) _ _ (Ok value) e) [
       | inl this ↦
           let first-is : first ≡ reply_byte number = eqb-true _ _ this.0 in
@@ -150,7 +141,8 @@ reply_takes number (first ∷ count ∷ high ∷ low ∷ bytes) value fits e =
             | inl none ↦
                 let zeros = code_is high low (eqb-true _ _ none.0) in
                 let found = shape_takes first (shape_of (function_of number)) end arguments.0 bytes value rest-fits texts.0 none.1 in
-                let there : IsShape first (shape_of (function_of number)) value (first ∷ count ∷ high ∷ low ∷ bytes) = subst (IsShape first (shape_of (function_of number)) value) (λ i. first ∷ texts.1 i ∷ sym zeros.0 i ∷ sym zeros.1 i ∷ bytes) found in
+                let there : IsShape first (shape_of (function_of number)) value (first ∷ count ∷ high ∷ low ∷ bytes) = subst
+                (IsShape first (shape_of (function_of number)) value) (λ i. first ∷ texts.1 i ∷ sym zeros.0 i ∷ sym zeros.1 i ∷ bytes) found in
                 inr (subst (λ (n : ℕ). IsShape n (shape_of (function_of number)) value (first ∷ count ∷ high ∷ low ∷ bytes)) first-is there)
             | inr some ↦
                 let w = without_is (Refused number code) value arguments.0 bytes texts.0 some.1 in
@@ -165,18 +157,11 @@ reply_takes number (first ∷ count ∷ high ∷ low ∷ bytes) value fits e =
 
 refusal_again : (number : ℕ) (value : ReplyValue) (bytes : List ℕ) → IsRefusal number value bytes → reply_at number bytes ≡ Ok value
 unfolding reply_at arguments_at
-refusal_again number value bytes is =
-    let code = is.0 in
-    let same : eqb (reply_byte number) (reply_byte number) ≡ true = eq-eqb _ _ refl in
-    let back : from_be_bytes w16 (to_be_bytes w16 code) ≡ code = wide16.again code is.2 in
-    let some : eqb code 0 ≡ false = ne_eqb _ _ (λ e. omega (arith, is.1, e)) in
-    ap (reply_at number) is.4 ∙ rw (same, back, some) (ap (λ (v : ReplyValue). Ok v) (sym is.3))
+refusal_again number value bytes is = grind arith
 
 -- a text of a shape begins with its first byte
 starts : (first : ℕ) (s : Shape) (value : ReplyValue) (bytes : List ℕ) → IsShape first s value bytes → (rest : List ℕ) × (bytes ≡ first ∷ rest)
-starts first Unknown value bytes is = absurd (no_truth is)
-starts first (Bare done) value bytes is = (0 ∷ 0 ∷ 0 ∷ [], is.1)
-starts first (One kinds sizes checks make) value bytes is = (1 ∷ 0 ∷ 0 ∷ is.text, is.is)
+starts first s value bytes is = grind arith
 
 reply_by_again : (number : ℕ) (value : ReplyValue) (bytes : List ℕ) → IsShape (reply_byte number) (shape_of (function_of number)) value bytes
     → reply_at number bytes ≡ Ok value
@@ -199,5 +184,4 @@ reply_again number value bytes (inr is) = reply_by_again number value bytes is
 
 pub is_found : (number : ℕ) (bytes : List ℕ) (r : Result Reply ReplyFault) → IsBytes bytes → Gives reply_value r (reply_at number bytes)
     → IfOk r (λ reply. ReplyText number (reply_value reply) bytes)
-is_found number bytes (Ok reply) fits gives = reply_takes number bytes (reply_value reply) fits gives
-is_found number bytes (Err e) fits gives = tt
+is_found number bytes r fits gives = grind (arith, nat_tests, common_steps, reply_takes)

@@ -1,10 +1,12 @@
 -- What is written of a reply is one of its texts.
+use Rattle.std.proofs.lemmas.Bool.Decides.{nat_tests}
+use Rattle.std.proofs.lemmas.Grind.{common_steps}
 use Rattle.std.proofs.Common.{◌≡◌, ℕ, ◌≤◌, Bool, true, ◌&&◌, leb, List, [], ◌∷◌, ◌++◌, length, is_some, Some, None, refl, sym, ap, ◌∙◌, arith, inl, inr}
 use Rattle.std.proofs.lemmas.Bool.{le-leb, eq-eqb}
 use Rattle.std.proofs.lemmas.List.{length-append}
 use Rattle.pdb_values.specs.PalmDates.{wire_date}
 use Rattle.pdb_values.proofs.DateLaws.{read_wire_of_wire_date}
-use Rattle.dlp_args.specs.Arguments.{header, written_form, arg_text}
+use Rattle.dlp_args.specs.Arguments.{arg_text}
 use Rattle.dlp_args.proofs.ArgumentLaws.{written_text}
 use Rattle.dlp_args.specs.Functions.{function_of}
 use Rattle.dlp_args.specs.Cells.{Kind, HasNoZero}
@@ -14,7 +16,7 @@ use Rattle.dlp_replies.specs.EntryLists.{entries_text}
 use Rattle.dlp_replies.specs.IdLists.{ids_text, ids_checks}
 use Rattle.dlp_replies.specs.Frames.{name_text, frame, function_byte, reply_text, IsReply}
 use Rattle.dlp_replies.specs.Checks as checks
-use Rattle.dlp_replies.specs.Checks.{Checks, first_bad, user_name, date_or_zero, text_or_none}
+use Rattle.dlp_replies.specs.Checks.{Checks, first_bad, user_name}
 use Rattle.dlp_replies.specs.ReplyReading.{reply_byte}
 use Rattle.dlp_replies.specs.ReplyTexts.{IsOne, ReplyText}
 use Rattle.dlp_replies.specs.ReplyValues as values
@@ -27,25 +29,12 @@ with_written : (first : ℕ) (kinds : List Kind) (sizes : Fields kinds → Bool)
     → first_bad (checks fields) ≡ None → make fields ≡ value
     → length (first ∷ 1 ∷ 0 ∷ 0 ∷ arg_text (record { id = 0x20; bytes = fields_text kinds fields })) ≤ 65535
     → IsOne first kinds sizes checks make value (first ∷ 1 ∷ 0 ∷ 0 ∷ arg_text (record { id = 0x20; bytes = fields_text kinds fields }))
-with_written first kinds sizes checks make fields value ends fits measured valid made short =
-    let content = fields_text kinds fields in
-    let size : length content ≤ 65535 = omega (arith, length-append (header (written_form (length content)) 0x20 (length content)) content) in
-    record {
-      fields = fields;
-      form = written_form (length content);
-      content = content;
-      text = arg_text (record { id = 0x20; bytes = content });
-      argument = written_text (record { id = 0x20; bytes = content }) (record { low = omega arith; high = omega arith; size = size });
-      fields_text = fields_written kinds fields ends fits;
-      measured = measured;
-      valid = valid;
-      made = made;
-      is = refl;
-    }
+with_written first kinds sizes checks make fields value ends fits measured valid made short = grind
+    (arith, nat_tests, common_steps, length-append, written_text, fields_written)
 
 record_valid : (id category : ℕ) (bytes : List ℕ) → id ≤ 16777215 → category ≤ 15 → length bytes ≤ 65500
     → first_bad ((0, checks.is_id id) ∷ (9, checks.is_category category) ∷ (10, leb (length bytes) 65500) ∷ []) ≡ None
-record_valid id category bytes low kept short = rw (le-leb id 16777215 low, le-leb category 15 kept, le-leb (length bytes) 65500 short) refl
+record_valid id category bytes low kept short = grind arith
 
 id_valid : (id : ℕ) → id ≤ 16777215 → first_bad ((0, checks.is_id id) ∷ []) ≡ None
 id_valid id low = rw (le-leb id 16777215 low) refl
@@ -89,7 +78,8 @@ reply_written (values.ReadDbList last flags entries) is =
           ),
         ),
       ),
-    ) _ refl is.fields (rw rows refl) (rw rows (rows_pass 4 entries is.values)) (rw rows (ap (values.ReadDbList last flags) (items_again entries is.values))) is.fits)
+    ) _ refl is.fields (rw rows refl) (rw rows (rows_pass 4 entries is.values)) (rw rows (ap (values.ReadDbList last flags) (items_again entries is.values)))
+    is.fits)
 reply_written (values.OpenDb handle) is = inr (with_written _ _ _ _ _ (handle, tt) _ refl is.fields refl refl refl is.fits)
 reply_written (values.CreateDb handle) is = inr (with_written _ _ _ _ _ (handle, tt) _ refl is.fields refl refl refl is.fits)
 reply_written (values.ReadAppBlock bytes) is = inr (with_written _ _ _ _ _ (bytes, tt) _ refl is.fields refl refl refl is.fits)

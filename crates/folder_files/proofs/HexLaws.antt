@@ -1,40 +1,37 @@
 -- Bytes and their lower-case hexadecimal: what is read is written so, and what is written so is read.
-use Rattle.std.proofs.Common.{◌≡◌, ◌⊎◌, ℕ, suc, ◌+◌, ◌*◌, ◌/◌, ◌%◌, ◌<◌, ◌≤◌, Bool, true, false, cond, eqb, ltb, List, [], ◌∷◌, length, get_or, Option, Some, None, Result, Ok, Err, refl, sym, ap, subst, ◌∙◌, arith, inl, inr}
-use Rattle.std.specs.Prelude.{bytes_eq, codes, option_and_then}
+use Rattle.std.proofs.lemmas.Bool.Decides.{nat_tests}
+use Rattle.std.proofs.lemmas.Grind.{common_steps}
+use Rattle.std.proofs.Common.{◌≡◌, ◌⊎◌, ℕ, suc, ◌+◌, ◌*◌, ◌/◌, ◌%◌, ◌<◌, ◌≤◌, Bool, true, false, cond, eqb, List, [], ◌∷◌, length, get_or, Option, Some, None, Result, Ok, Err, refl, sym, ap, ◌∙◌, arith}
+use Rattle.std.specs.Prelude.{bytes_eq, option_and_then}
 use Rattle.std.specs.List.{position_or_len}
 use Rattle.std.specs.Option.{option_map}
 use Rattle.std.specs.Result.{result_ok}
 use Rattle.std.proofs.lemmas.Bool.{eqb-false, le-ltb, ne_eqb}
 use Rattle.std.proofs.lemmas.Slice.Eq.{bytes_eq-Decides}
-use Rattle.hex.specs.Hex.{IsBytes, decode_sized, encode_lower, encode_with, lower_digits, hex_digit_value}
+use Rattle.hex.specs.Hex.{IsBytes, decode_sized, encode_lower, encode_with, lower_digits}
 use Rattle.hex.specs.declared.error.FromHexError.{FromHexError}
-use Rattle.hex.proofs.HexLemmas.{IsDigits-lower_digits, decode_of-ok, decode_sized-encode_lower, decode_sized-ok, decode_sized-twice, length-encode_with}
+use Rattle.hex.proofs.HexLemmas.{decode_of-ok, decode_sized-encode_lower, decode_sized-ok, decode_sized-twice, length-encode_with}
 use Rattle.folder_files.specs.Hexadecimal.{bytes_in, bytes_text, few_bytes_in}
 
 -- ---- steps that did not fail
 
 pub bind_some : {A B : Type 0} (o : Option A) (f : A → Option B) (y : B) → option_and_then f o ≡ Some y → (x : A) × (o ≡ Some x) × (f x ≡ Some y)
-bind_some (Some x) f y e = (x, refl, e)
-bind_some None f y e = absurd cc
+bind_some o f y e = grind arith
 
 pub map_some : {A B : Type 0} (o : Option A) (f : A → B) (y : B) → option_map f o ≡ Some y → (x : A) × (o ≡ Some x) × (f x ≡ y)
-map_some (Some x) f y e = (x, refl, cc)
-map_some None f y e = absurd cc
+map_some o f y e = grind arith
 
 pub guard_some : {A : Type 0} (b : Bool) (o : Option A) (y : A) → cond b None o ≡ Some y → (b ≡ false) × (o ≡ Some y)
-guard_some true o y e = absurd cc
-guard_some false o y e = (refl, e)
+guard_some b o y e = grind arith
 
 pub test_some : {A : Type 0} (b : Bool) (o : Option A) (y : A) → cond b o None ≡ Some y → (b ≡ true) × (o ≡ Some y)
-test_some true o y e = (refl, e)
-test_some false o y e = absurd cc
+test_some b o y e = grind arith
 
 pub some_is : {A : Type 0} (x y : A) → (let o : Option A = Some x in o) ≡ Some y → x ≡ y
 some_is x y e = cc
 
 chosen : {A : Type 0} (b : Bool) (x y z : A) → cond b x y ≡ z → ((b ≡ true) × (x ≡ z)) ⊎ ((b ≡ false) × (y ≡ z))
-chosen true x y z e = inl (refl, e)
-chosen false x y z e = inr (refl, e)
+chosen b x y z e = grind arith
 
 -- ---- equal bytes
 
@@ -49,7 +46,9 @@ bytes_other xs ys other = grind (arith, other, bytes_eq-Decides xs ys)
 
 -- ---- exactly so many bytes
 
-spelled : (text : List ℕ) (r : Result (List ℕ) FromHexError) (bytes : List ℕ) → option_and_then (λ found. cond (bytes_eq (encode_lower found) text) (Some found) None) (result_ok r) ≡ Some bytes → (r ≡ Ok bytes) × (text ≡ encode_lower bytes)
+spelled : (text : List ℕ) (r : Result (List ℕ) FromHexError) (bytes : List ℕ)
+    → option_and_then (λ found. cond (bytes_eq (encode_lower found) text) (Some found) None) (result_ok r) ≡ Some bytes
+    → (r ≡ Ok bytes) × (text ≡ encode_lower bytes)
 spelled text (Err fault) bytes e = absurd cc
 spelled text (Ok found) bytes e =
     let test = test_some (bytes_eq (encode_lower found) text) (Some found) bytes e in
@@ -67,37 +66,22 @@ bytes_in-found count text bytes e =
 
 pub bytes_in-only : (bytes : List ℕ) (count : ℕ) → length bytes ≡ count → IsBytes bytes → bytes_in count (encode_lower bytes) ≡ Some bytes
 unfolding bytes_in
-bytes_in-only bytes count len fits = rw (decode_sized-encode_lower bytes count len fits, bytes_same (encode_lower bytes)) refl
+bytes_in-only bytes count len fits = grind (arith, nat_tests, common_steps, decode_sized-encode_lower, bytes_same)
 
 -- ---- none to 40 bytes
 
 text_of_some : (bytes : List ℕ) → 0 < length bytes → bytes_text bytes ≡ encode_lower bytes
-text_of_some [] some = absurd (omega arith)
-text_of_some (byte ∷ bytes) some = refl
+text_of_some bytes some = grind arith
 
 pub few_bytes_in-found : (text bytes : List ℕ) → few_bytes_in text ≡ Some bytes → (text ≡ bytes_text bytes) × IsBytes bytes
 unfolding few_bytes_in
 few_bytes_in-found text bytes e =
-    elim (chosen (bytes_eq text (codes "-")) (Some []) _ (Some bytes) e) [
-      | inl dash ↦ subst (λ (b : List ℕ). (text ≡ bytes_text b) × IsBytes b) (some_is [] bytes dash.1) (bytes_is text (codes "-") dash.0, λ i. omega arith)
-      | inr other ↦
-          let some = guard_some (eqb (length text) 0) _ bytes other.1 in
-          let few = guard_some (ltb 80 (length text)) _ bytes some.1 in
-          let found = bytes_in-found (length text / 2) text bytes few.1 in
-          let len : length text ≡ 2 * length bytes = ap length found.0 ∙ length-encode_with lower_digits bytes in
-          let written : length text ≡ 0 → ⊥ = eqb-false (length text) 0 some.0 in
-          (found.0 ∙ sym (text_of_some bytes (omega arith)), found.2)
-    ]
+    grind (arith, nat_tests, common_steps, chosen, some_is, bytes_is, guard_some, bytes_in-found, length-encode_with, eqb-false, text_of_some)
 
 pub few_bytes_in-only : (bytes : List ℕ) → length bytes ≤ 40 → IsBytes bytes → few_bytes_in (bytes_text bytes) ≡ Some bytes
 unfolding few_bytes_in
 few_bytes_in-only [] few fits = refl
-few_bytes_in-only (byte ∷ bytes) few fits =
-    let len : length (encode_lower (byte ∷ bytes)) ≡ 2 * suc (length bytes) = length-encode_with lower_digits (byte ∷ bytes) in
-    let other : bytes_eq (encode_lower (byte ∷ bytes)) (codes "-") ≡ false = bytes_other _ _ (λ e. let one : length (encode_lower (byte ∷ bytes)) ≡ 1 = ap length e in omega arith) in
-    let some : eqb (length (encode_lower (byte ∷ bytes))) 0 ≡ false = ne_eqb _ _ (λ e. omega arith) in
-    let short : ltb 80 (length (encode_lower (byte ∷ bytes))) ≡ false = le-ltb _ _ (omega arith) in
-    rw (other, some, short) (bytes_in-only (byte ∷ bytes) _ (omega arith) fits)
+few_bytes_in-only (byte ∷ bytes) few fits = grind (arith, nat_tests, common_steps, length-encode_with, bytes_other, ne_eqb, le-ltb, bytes_in-only)
 
 -- ---- no line feed
 
@@ -113,11 +97,7 @@ pub feed_past : (byte : ℕ) (bytes : List ℕ) → eqb byte 10 ≡ false → fe
 feed_past byte bytes other = rw other refl
 
 digit_is_no_feed : (digit : ℕ) → digit < 16 → eqb (get_or lower_digits digit 0) 10 ≡ false
-digit_is_no_feed digit small =
-    ne_eqb _ _ (λ e.
-    let value : hex_digit_value (get_or lower_digits digit 0) ≡ Some digit = IsDigits-lower_digits digit small in
-    let feed : hex_digit_value 10 ≡ None = refl in
-    absurd (cc (ap hex_digit_value e)))
+digit_is_no_feed digit small = grind arith
 
 pub encode_lower-no_feed : (bytes : List ℕ) → IsBytes bytes → HasNoFeed (encode_lower bytes)
 unfolding encode_with
@@ -126,8 +106,11 @@ encode_lower-no_feed (byte ∷ bytes) fits =
     let high = digit_is_no_feed (byte / 16) (omega (arith, fits 0)) in
     let low = digit_is_no_feed (byte % 16) (omega arith) in
     let more = encode_lower-no_feed bytes (λ i. fits (suc i)) in
-    omega (arith, feed_past (get_or lower_digits (byte / 16) 0) (get_or lower_digits (byte % 16) 0 ∷ encode_lower bytes) high, feed_past (get_or lower_digits (byte % 16) 0) (encode_lower bytes) low)
+    omega (
+      arith,
+      feed_past (get_or lower_digits (byte / 16) 0) (get_or lower_digits (byte % 16) 0 ∷ encode_lower bytes) high,
+      feed_past (get_or lower_digits (byte % 16) 0) (encode_lower bytes) low,
+    )
 
 pub bytes_text-no_feed : (bytes : List ℕ) → IsBytes bytes → HasNoFeed (bytes_text bytes)
-bytes_text-no_feed [] fits = refl
-bytes_text-no_feed (byte ∷ bytes) fits = encode_lower-no_feed (byte ∷ bytes) fits
+bytes_text-no_feed bytes fits = grind (arith, nat_tests, common_steps, encode_lower-no_feed)

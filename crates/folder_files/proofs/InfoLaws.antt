@@ -1,13 +1,14 @@
 -- Information files: what is read is one, each one is read, and what is written is one.
-use Rattle.std.proofs.Common.{◌≡◌, ℕ, suc, ◌<◌, ◌≤◌, Bool, true, false, cond, List, [], ◌∷◌, ◌++◌, length, Result, Ok, Err, refl, sym, ap, subst, ◌∙◌, arith, inl, inr}
-use Rattle.std.specs.Prelude.{IfOk, String, codes, string_bytes}
+use Rattle.std.proofs.lemmas.Bool.Decides.{nat_tests}
+use Rattle.std.proofs.lemmas.Grind.{common_steps}
+use Rattle.std.proofs.Common.{◌≡◌, ℕ, suc, ◌<◌, ◌≤◌, Bool, true, false, cond, List, [], ◌∷◌, length, Result, Ok, refl, sym, ap, subst, ◌∙◌, arith, inl, inr}
+use Rattle.std.specs.Prelude.{IfOk, String, string_bytes}
 use Rattle.std.specs.declared.alloc.Global.{Global}
 use Rattle.std.specs.Global.{Vec}
 use Rattle.std.specs.List.{AllByRecursion}
 use Rattle.pdb_values.specs.declared.user.Marks.{Marks}
 use Rattle.pdb_values.specs.declared.user.UserInfo.{UserInfo}
-use Rattle.folder_files.specs.InfoFiles.{AreSaid, IsDesktopFile, IsDeviceFile, IsSlotSaid, count_form, desktop_forms, desktop_in, desktop_text, desktop_values, device_forms, device_in, device_of, device_values, is_one_user, made, many_slots_at}
-use Rattle.folder_files.specs.InfoFiles.{one_slot_at, one_slot_of, one_user_forms, one_user_values, pc_form, slot_forms, slot_values, title_form}
+use Rattle.folder_files.specs.InfoFiles.{AreSaid, IsDesktopFile, IsDeviceFile, IsSlotSaid, count_form, desktop_forms, desktop_in, desktop_text, desktop_values, device_forms, device_in, device_of, device_values, is_one_user, made, many_slots_at, one_slot_at, one_slot_of, one_user_forms, one_user_values, pc_form, slot_forms, slot_values, title_form}
 use Rattle.folder_files.specs.Lines.{AreLines, Count, Positive, Says, Values}
 use Rattle.folder_files.specs.Reading.{◌>>=◌, line_at, lines_at}
 use Rattle.folder_files.specs.Slots.{AreSlots, AreUsers, pc_of, users_of}
@@ -19,8 +20,7 @@ use Rattle.folder_files.proofs.LineLaws.{AllSay, ArePlain, bind_ok, line_found, 
 use Rattle.folder_files.proofs.SlotLaws.{slots_found, slots_only}
 
 made_of : {A B : Type 0} (make : A → B) (bytes : List ℕ) (r : Result A Unread) (y : B) → made make bytes r ≡ Ok y → (x : A) × (r ≡ Ok x) × (make x ≡ y)
-made_of make bytes (Ok x) y e = (x, refl, cc)
-made_of make bytes (Err d) y e = absurd cc
+made_of make bytes r y e = grind arith
 
 device_plain : ArePlain device_forms
 device_plain = (refl, (refl, (refl, (refl, (refl, (refl, (refl, (refl, tt))))))))
@@ -36,12 +36,12 @@ device_found bytes info e =
 
 pub device_only : (bytes : List ℕ) (info : UserInfo) → IsDeviceFile info bytes → device_in bytes ≡ Ok info
 unfolding device_in
-device_only bytes info is = ap (made device_of bytes) (lines_only device_forms (device_values info) bytes device_plain is)
+device_only bytes info is = cc (lines_only device_forms (device_values info) bytes device_plain is)
 
 -- ---- a desktop with one user
 
 one_slot : (marks : Marks) → 0 < marks.pc → AreSlots (marks ∷ [])
-one_slot marks some = record { some = omega arith; few = omega arith; number = some; one_desktop = (refl, tt); users = λ i j less short. absurd (omega arith) }
+one_slot marks some = grind arith
 
 one_slot_found : (bytes : List ℕ) (slots : List Marks) → one_slot_at bytes ≡ Ok slots → IsDesktopFile slots bytes
 unfolding one_slot_at
@@ -49,14 +49,16 @@ one_slot_found bytes slots e =
     let is = bind_ok (lines_at one_user_forms bytes) (λ values. Ok (one_slot_of values)) slots e in
     let lines = lines_found one_user_forms bytes is.0 is.1 in
     let marks : Marks = record { pc = is.0.1.0; user = is.0.1.1.0; last = is.0.1.1.1.0; name = is.0.1.1.1.1.0 } in
-    subst (λ (s : List Marks). IsDesktopFile s bytes) (ok_is (one_slot_of is.0) slots is.2) (record { formed = one_slot marks lines.4.3.2; lines = inl (record { marks = marks; one = refl; lines = lines }) })
+    subst (λ (s : List Marks). IsDesktopFile s bytes) (ok_is (one_slot_of is.0) slots is.2)
+    (record { formed = one_slot marks lines.4.3.2; lines = inl (record { marks = marks; one = refl; lines = lines }) })
 
 one_slot_only : (bytes : List ℕ) (marks : Marks) → AreLines one_user_forms (one_user_values marks) bytes → one_slot_at bytes ≡ Ok (marks ∷ [])
 unfolding one_slot_at
-one_slot_only bytes marks is = ap (λ (r : Result (Values one_user_forms) Unread). r >>= λ values. Ok (one_slot_of values)) (lines_only one_user_forms (one_user_values marks) bytes one_user_plain is)
+one_slot_only bytes marks is = ap (λ (r : Result (Values one_user_forms) Unread). r >>= λ values. Ok (one_slot_of values))
+    (lines_only one_user_forms (one_user_values marks) bytes one_user_plain is)
 
 one_user_title : (bytes : List ℕ) (marks : Marks) → AreLines one_user_forms (one_user_values marks) bytes → is_one_user bytes ≡ true
-one_user_title bytes marks is = ap is_one_user (is.2 ∙ ap (λ (text : List ℕ). codes "hotsync-desktop 1" ++ (text ++ 10 ∷ is.1)) is.3)
+one_user_title bytes marks is = cc
 
 -- ---- a desktop with slots
 
@@ -99,21 +101,23 @@ many_slots_found bytes slots e =
     first_pc pc [] some one = absurd (omega arith)
     first_pc pc (marks ∷ more) some one = sym one.0
 
-many_slots_only : (bytes : List ℕ) (slots : List Marks) → AreSlots slots → AreLines (desktop_forms slots) (desktop_values slots) bytes → many_slots_at bytes ≡ Ok slots
+many_slots_only : (bytes : List ℕ) (slots : List Marks) → AreSlots slots → AreLines (desktop_forms slots) (desktop_values slots) bytes
+    → many_slots_at bytes ≡ Ok slots
 unfolding many_slots_at
 many_slots_only bytes slots formed is =
     let title : line_at title_form bytes ≡ Ok (tt, is.1) = ap (line_at title_form) is.2 ∙ line_only title_form tt is.0 is.1 refl is.3 in
     let pc : line_at pc_form is.1 ≡ Ok (pc_of slots, is.4.1) = ap (line_at pc_form) is.4.2 ∙ line_only pc_form (pc_of slots) is.4.0 is.4.1 refl is.4.3 in
-    let count : line_at count_form is.4.1 ≡ Ok (length slots, is.4.4.1) = ap (line_at count_form) is.4.4.2 ∙ line_only count_form (length slots) is.4.4.0 is.4.4.1 refl is.4.4.3 in
+    let count : line_at count_form is.4.1 ≡ Ok (length slots, is.4.4.1) = ap (line_at count_form) is.4.4.2 ∙ line_only count_form (length slots) is.4.4.0
+    is.4.4.1 refl is.4.4.3 in
     rw title (rw pc (rw count (slots_only (pc_of slots) [] slots is.4.4.1 formed.one_desktop (omega (arith, formed.few)) formed.users is.4.4.4)))
 
 many_slots_title : (bytes : List ℕ) (slots : List Marks) → AreLines (desktop_forms slots) (desktop_values slots) bytes → is_one_user bytes ≡ false
-many_slots_title bytes slots is = ap is_one_user (is.2 ∙ ap (λ (text : List ℕ). codes "hotsync-desktop 2" ++ (text ++ 10 ∷ is.1)) is.3)
+many_slots_title bytes slots is = cc
 
 -- ---- a desktop
 
 whole_of : (bytes : List ℕ) (r : Result (List Marks) Unread) (slots : List Marks) → made (λ s. s) bytes r ≡ Ok slots → r ≡ Ok slots
-whole_of bytes r slots e = let is = made_of (λ s. s) bytes r slots e in is.1 ∙ ap (λ (s : List Marks). let r : Result (List Marks) Unread = Ok s in r) is.2
+whole_of bytes r slots e = grind arith
 
 pub desktop_found : (bytes : List ℕ) (slots : List Marks) → desktop_in bytes ≡ Ok slots → IsDesktopFile slots bytes
 unfolding desktop_in
@@ -129,7 +133,8 @@ desktop_only bytes slots is =
     elim is.lines [
       | inl one ↦
           let here = one_user_title bytes one.marks one.lines in
-          rw here (ap (made (λ s. s) bytes) (one_slot_only bytes one.marks one.lines) ∙ ap (λ (s : List Marks). let r : Result (List Marks) BadLine = Ok s in r) (sym one.one))
+          rw here (ap (made (λ s. s) bytes) (one_slot_only bytes one.marks one.lines) ∙ ap (λ (s : List Marks). let r : Result (List Marks) BadLine = Ok s in r)
+          (sym one.one))
       | inr many ↦ let here = many_slots_title bytes slots many in rw here (ap (made (λ s. s) bytes) (many_slots_only bytes slots is.formed many))
     ]
 
@@ -137,7 +142,8 @@ desktop_only bytes slots is =
 pub desktop_written : (slots : List Marks) → AreSlots slots → AreSaid slots → IsDesktopFile slots (desktop_text slots)
 desktop_written slots formed said = record {
   formed = formed;
-  lines = inr (lines_written (desktop_forms slots) (desktop_values slots) (refl, ((said.number.0, said.number.1, formed.number), ((refl, formed.some, formed.few), said_from 0 slots said.each))));
+  lines = inr (lines_written (desktop_forms slots) (desktop_values slots)
+      (refl, ((said.number.0, said.number.1, formed.number), ((refl, formed.some, formed.few), said_from 0 slots said.each))));
 }
   where
     said_from : (number : ℕ) (slots : List Marks) → AllByRecursion IsSlotSaid slots → AllSay (slot_forms number slots) (slot_values number slots)
@@ -147,20 +153,20 @@ desktop_written slots formed said = record {
 -- ---- of an answer
 
 pub device_read : (answer : Result UserInfo BadLine) (bytes : List ℕ) → answer ≡ device_in bytes → IfOk answer (λ info. IsDeviceFile info bytes)
-device_read (Ok info) bytes is = device_found bytes info (sym is)
-device_read (Err bad) bytes is = tt
+device_read answer bytes is = grind (arith, nat_tests, common_steps, device_found)
 
-pub desktop_read : (answer : Result (Vec Marks) InfoFault) (bytes : List ℕ) → Reads answer (desktop_in bytes) → IfOk answer (λ slots. IsDesktopFile slots.items bytes)
-desktop_read (Ok slots) bytes is = desktop_found bytes slots.items is
-desktop_read (Err fault) bytes is = tt
+pub desktop_read : (answer : Result (Vec Marks) InfoFault) (bytes : List ℕ) → Reads answer (desktop_in bytes)
+    → IfOk answer (λ slots. IsDesktopFile slots.items bytes)
+desktop_read answer bytes is = grind (arith, nat_tests, common_steps, desktop_found)
 
-pub desktop_read_only : (answer : Result (Vec Marks) InfoFault) (bytes : List ℕ) (slots : List Marks) → Reads answer (desktop_in bytes) → IsDesktopFile slots bytes → Reads answer (Ok slots)
+pub desktop_read_only : (answer : Result (Vec Marks) InfoFault) (bytes : List ℕ) (slots : List Marks) → Reads answer (desktop_in bytes)
+    → IsDesktopFile slots bytes → Reads answer (Ok slots)
 desktop_read_only answer bytes slots read is = subst (Reads answer) (desktop_only bytes slots is) read
 
-pub desktop_file : {E : Type 0} (answer : Result (String Global) E) (slots : List Marks) → AreSlots slots → IfOk answer (λ text. string_bytes text ≡ desktop_text slots) → IfOk answer (λ _. AreSaid slots) → IfOk answer (λ text. IsDesktopFile slots (string_bytes text))
-desktop_file (Ok text) slots formed is said = subst (IsDesktopFile slots) (sym is) (desktop_written slots formed said)
-desktop_file (Err fault) slots formed is said = tt
+pub desktop_file : {E : Type 0} (answer : Result (String Global) E) (slots : List Marks) → AreSlots slots
+    → IfOk answer (λ text. string_bytes text ≡ desktop_text slots) → IfOk answer (λ _. AreSaid slots)
+    → IfOk answer (λ text. IsDesktopFile slots (string_bytes text))
+desktop_file answer slots formed is said = grind (arith, nat_tests, common_steps, desktop_written)
 
 pub if_ok_then : {A E : Type 0} (r : Result A E) (P Q : A → Type 0) → ((x : A) → P x → Q x) → IfOk r P → IfOk r Q
-if_ok_then (Ok x) P Q then is = then x is
-if_ok_then (Err e) P Q then is = is
+if_ok_then r P Q fact if_ok = grind arith

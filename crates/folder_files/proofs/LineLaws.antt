@@ -1,44 +1,30 @@
 -- Lines: what is read is lines of their forms, such lines are read, and what is written is such lines.
-use Rattle.std.proofs.Common.{◌≡◌, ℕ, suc, ◌+◌, ◌<◌, Bool, true, false, cond, eqb, ltb, List, [], ◌∷◌, ◌++◌, length, take, drop, Option, Some, None, Result, Ok, Err, refl, sym, ap, subst, ◌∙◌, arith, inl, inr}
+use Rattle.std.proofs.lemmas.Bool.Decides.{nat_tests}
+use Rattle.std.proofs.lemmas.Grind.{common_steps}
+use Rattle.std.proofs.Common.{◌≡◌, ℕ, ◌+◌, ◌<◌, true, eqb, ltb, List, [], ◌∷◌, ◌++◌, length, take, drop, Option, Some, Result, Ok, refl, sym, ap, subst, ◌∙◌, arith}
 use Rattle.std.specs.Prelude.{position}
-use Rattle.std.proofs.lemmas.Bool.{eqb-true, ltb-true, lt-ltb}
-use Rattle.std.proofs.lemmas.List.{append_assoc, nil_from_length, take_at, length-append}
+use Rattle.std.proofs.lemmas.Bool.{ltb-true, lt-ltb}
+use Rattle.std.proofs.lemmas.List.{append_assoc, take_at, length-append}
 use Rattle.folder_files.specs.Lines.{Form, Value, Says, Values, AreLines, text_of, lines_text}
 use Rattle.folder_files.specs.Reading.{◌>>=◌, behind, line_at, lines_at, or_unread, split_at_key, value_in}
 use Rattle.folder_files.specs.declared.unread.Unread.{Unread}
-use Rattle.folder_files.proofs.ValueLaws.{behind_found, behind_only, feed_is, no_feed_append, on_one_line, value_found, value_only}
-use Rattle.folder_files.proofs.HexLaws.{HasNoFeed, bind_some, feed_past, feed_place, map_some, some_is, test_some}
+use Rattle.folder_files.proofs.ValueLaws.{behind_found, behind_only, no_feed_append, on_one_line, value_found, value_only}
+use Rattle.folder_files.proofs.HexLaws.{HasNoFeed, bind_some, feed_place, map_some, some_is, test_some}
 
 -- ---- the line at the front
 
 -- the line before the first line feed, and what stands behind it
 cut_at_feed : (bytes : List ℕ) → feed_place bytes < length bytes → bytes ≡ take (feed_place bytes) bytes ++ 10 ∷ drop (feed_place bytes + 1) bytes
 cut_at_feed [] less = absurd (omega arith)
-cut_at_feed (byte ∷ bytes) less =
-    elim (feed_is byte) [
-      | inl here ↦
-          let at : feed_place (byte ∷ bytes) ≡ 0 = rw here.1 refl in
-          rw (at, here.0) refl
-      | inr other ↦
-          let at : feed_place (byte ∷ bytes) ≡ suc (feed_place bytes) = omega (arith, feed_past byte bytes other) in
-          let more = cut_at_feed bytes (omega arith) in
-          let next : suc (feed_place bytes) + 1 ≡ suc (feed_place bytes + 1) = omega arith in
-          rw (at, next) (ap (λ (xs : List ℕ). byte ∷ xs) more)
-    ]
+cut_at_feed (byte ∷ bytes) less = grind (arith, nat_tests, common_steps, cut_at_feed bytes)
 
 no_feed_front : (line rest : List ℕ) → HasNoFeed line → feed_place (line ++ 10 ∷ rest) ≡ length line
 no_feed_front [] rest none = refl
-no_feed_front (byte ∷ line) rest none =
-    elim (feed_is byte) [
-      | inl here ↦ let at : feed_place (byte ∷ line) ≡ 0 = rw here.1 refl in absurd (omega arith)
-      | inr other ↦
-          let more = no_feed_front line rest (omega (arith, feed_past byte line other)) in
-          omega (arith, feed_past byte (line ++ 10 ∷ rest) other)
-    ]
+no_feed_front (byte ∷ line) rest none = grind (arith, nat_tests, common_steps, no_feed_front line rest)
 
 drop_past : (line : List ℕ) (byte : ℕ) (rest : List ℕ) → drop (length line + 1) (line ++ byte ∷ rest) ≡ rest
 drop_past [] byte rest = refl
-drop_past (first ∷ line) byte rest = let at : length (first ∷ line) + 1 ≡ suc (length line + 1) = omega arith in rw at (drop_past line byte rest)
+drop_past (first ∷ line) byte rest = grind (arith, nat_tests, common_steps, drop_past line byte rest)
 
 split_found : (key bytes : List ℕ) (parts : List ℕ × List ℕ) → split_at_key key bytes ≡ Some parts → bytes ≡ key ++ (parts.0 ++ 10 ∷ parts.1)
 unfolding split_at_key
@@ -50,7 +36,8 @@ split_found key bytes parts e =
     let line : take place.0 bytes ≡ key ++ text.0 = behind_found key (take place.0 bytes) text.0 text.1 in
     let cut : bytes ≡ take (feed_place bytes) bytes ++ 10 ∷ drop (feed_place bytes + 1) bytes = cut_at_feed bytes (ltb-true _ _ there.0) in
     subst (λ (p : List ℕ × List ℕ). bytes ≡ key ++ (p.0 ++ 10 ∷ p.1)) text.2
-    (cut ∙ (ap (λ (k : ℕ). take k bytes ++ 10 ∷ drop (k + 1) bytes) at ∙ (ap (λ (xs : List ℕ). xs ++ 10 ∷ drop (place.0 + 1) bytes) line ∙ append_assoc key text.0 (10 ∷ drop (place.0 + 1) bytes))))
+    (cut ∙ (ap (λ (k : ℕ). take k bytes ++ 10 ∷ drop (k + 1) bytes) at
+    ∙ (ap (λ (xs : List ℕ). xs ++ 10 ∷ drop (place.0 + 1) bytes) line ∙ append_assoc key text.0 (10 ∷ drop (place.0 + 1) bytes))))
 
 split_only : (key text rest : List ℕ) → HasNoFeed key → HasNoFeed text → split_at_key key (key ++ (text ++ 10 ∷ rest)) ≡ Some (text, rest)
 unfolding split_at_key
@@ -66,33 +53,28 @@ split_only key text rest plain none =
 -- ---- lines
 
 unread_not : {A : Type 0} (bytes : List ℕ) (o : Option A) (x : A) → or_unread bytes o ≡ Ok x → o ≡ Some x
-unread_not bytes None x e = absurd cc
-unread_not bytes (Some y) x e = cc
+unread_not bytes o x e = grind arith
 
 pub bind_ok : {A B : Type 0} (r : Result A Unread) (f : A → Result B Unread) (y : B) → (r >>= f) ≡ Ok y → (x : A) × (r ≡ Ok x) × (f x ≡ Ok y)
-bind_ok (Ok x) f y e = (x, refl, e)
-bind_ok (Err d) f y e = absurd cc
+bind_ok r f y e = grind arith
 
 pub ok_is : {A : Type 0} (x y : A) → (let r : Result A Unread = Ok x in r) ≡ Ok y → x ≡ y
 ok_is x y e = cc
 
-pub line_found : (form : Form) (bytes : List ℕ) (found : Value form.kind × List ℕ) → line_at form bytes ≡ Ok found → (text : List ℕ) × (bytes ≡ form.key ++ (text ++ 10 ∷ found.1)) × Says form.kind found.0 text
+pub line_found : (form : Form) (bytes : List ℕ) (found : Value form.kind × List ℕ) → line_at form bytes ≡ Ok found
+    → (text : List ℕ) × (bytes ≡ form.key ++ (text ++ 10 ∷ found.1)) × Says form.kind found.0 text
 line_found form bytes found e =
     let parts = bind_some (split_at_key form.key bytes) _ found (unread_not bytes _ found e) in
     let value = map_some (value_in form.kind parts.0.0) _ found parts.2 in
     subst (λ (f : Value form.kind × List ℕ). (text : List ℕ) × (bytes ≡ form.key ++ (text ++ 10 ∷ f.1)) × Says form.kind f.0 text) value.2
     (parts.0.0, split_found form.key bytes parts.0 parts.1, value_found form.kind value.0 parts.0.0 value.1)
 
-pub line_only : (form : Form) (value : Value form.kind) (text rest : List ℕ) → HasNoFeed form.key → Says form.kind value text → line_at form (form.key ++ (text ++ 10 ∷ rest)) ≡ Ok (value, rest)
-line_only form value text rest plain says =
-    rw (split_only form.key text rest plain (on_one_line form.kind value text says), value_only form.kind value text says) refl
+pub line_only : (form : Form) (value : Value form.kind) (text rest : List ℕ) → HasNoFeed form.key → Says form.kind value text
+    → line_at form (form.key ++ (text ++ 10 ∷ rest)) ≡ Ok (value, rest)
+line_only form value text rest plain says = grind (arith, nat_tests, common_steps, split_only, on_one_line, value_only)
 
 pub lines_found : (forms : List Form) (bytes : List ℕ) (values : Values forms) → lines_at forms bytes ≡ Ok values → AreLines forms values bytes
-lines_found [] bytes values e = empty (eqb (length bytes) 0) refl e
-  where
-    empty : (b : Bool) → eqb (length bytes) 0 ≡ b → cond {A = Result (Unit {0}) Unread} b (Ok tt) (Err (record { 0 = length bytes })) ≡ Ok values → bytes ≡ []
-    empty true is e = nil_from_length bytes (eqb-true _ _ is)
-    empty false is e = absurd cc
+lines_found [] bytes values e = grind (arith, nat_tests, common_steps)
 lines_found (form ∷ forms) bytes values e =
     let first = bind_ok (line_at form bytes) _ values e in
     let others = bind_ok (lines_at forms first.0.1) _ values first.2 in
@@ -107,9 +89,7 @@ ArePlain (form ∷ forms) = HasNoFeed form.key × ArePlain forms
 
 pub lines_only : (forms : List Form) (values : Values forms) (bytes : List ℕ) → ArePlain forms → AreLines forms values bytes → lines_at forms bytes ≡ Ok values
 lines_only [] values bytes plain is = ap (lines_at []) is
-lines_only (form ∷ forms) values bytes plain is =
-    let front : line_at form bytes ≡ Ok (values.0, is.1) = ap (line_at form) is.2 ∙ line_only form values.0 is.0 is.1 plain.0 is.3 in
-    rw (front, lines_only forms values.1 is.1 plain.1 is.4) refl
+lines_only (form ∷ forms) values bytes plain is = grind (arith, nat_tests, common_steps, lines_only forms values.1 is.1, line_only)
 
 -- what is written says each value
 abbrev pub AllSay : (forms : List Form) → Values forms → Type 0
@@ -118,4 +98,4 @@ AllSay (form ∷ forms) values = Says form.kind values.0 (text_of form.kind valu
 
 pub lines_written : (forms : List Form) (values : Values forms) → AllSay forms values → AreLines forms values (lines_text forms values)
 lines_written [] values say = refl
-lines_written (form ∷ forms) values say = (text_of form.kind values.0, lines_text forms values.1, refl, say.0, lines_written forms values.1 say.1)
+lines_written (form ∷ forms) values say = grind (arith, nat_tests, common_steps, lines_written forms values.1)

@@ -1,12 +1,14 @@
 -- Texts behind keys: what is read is what they say, what they say is read, and they stand on one line.
-use Rattle.std.proofs.Common.{◌≡◌, ◌⊎◌, ℕ, ◌+◌, ◌-◌, ◌/◌, ◌%◌, ◌^◌, ◌<◌, ◌≤◌, Bool, true, false, cond, eqb, leb, ltb, List, [], ◌∷◌, ◌++◌, length, take, drop, Some, None, refl, sym, ap, subst, ◌∙◌, arith, inl, inr}
-use Rattle.std.specs.Prelude.{◌&&◌, ◌||◌, codes, option_and_then, slice_index}
+use Rattle.std.proofs.lemmas.Bool.Decides.{nat_tests}
+use Rattle.std.proofs.lemmas.Grind.{common_steps}
+use Rattle.std.proofs.Common.{◌≡◌, ℕ, ◌+◌, ◌-◌, ◌^◌, ◌<◌, ◌≤◌, Bool, true, false, cond, eqb, leb, List, [], ◌∷◌, ◌++◌, length, take, drop, Some, None, refl, sym, ap, subst, ◌∙◌, arith}
+use Rattle.std.specs.Prelude.{◌||◌, codes, option_and_then, slice_index}
 use Rattle.std.specs.Fmt.{decimal}
 use Rattle.std.specs.Int.{w32, from_be_bytes, to_be_bytes}
 use Rattle.std.specs.List.{list_any, starts_with}
 use Rattle.std.proofs.lemmas.Bool.{and_parts, cases_lt, eqb-true, eq-eqb, ne_eqb, ltb-false, le-ltb, eqb-false, le-leb, leb-true}
 use Rattle.std.proofs.lemmas.Fmt.{decimal_digit, decimal_step}
-use Rattle.std.proofs.lemmas.List.{nil_from_length, take_at, drop_at, take-append-drop, length-append}
+use Rattle.std.proofs.lemmas.List.{take_at, drop_at, take-append-drop, length-append}
 use Rattle.std.proofs.lemmas.Nat.{be_bytes_4, from_be_bytes-to_be_bytes_4}
 use Rattle.hex.specs.Hex.{IsBytes, encode_lower, lower_digits}
 use Rattle.hex.proofs.HexLemmas.{length-encode_with}
@@ -15,26 +17,13 @@ use Rattle.pdb_values.specs.Users.{password_of, user_name_of}
 use Rattle.folder_files.specs.Hexadecimal.{IsWireDate, bytes_in, bytes_text, date_in, few_bytes_in}
 use Rattle.folder_files.specs.Lines.{Kind, Title, Number, Positive, Date, Name, Password, Count, Slot, Value, Says, slot_text}
 use Rattle.folder_files.specs.Reading.{behind, count_in, field_at, if_positive, number_in, slot_in, value_in}
-use Rattle.folder_files.proofs.HexLaws.{HasNoFeed, bind_some, bytes_is, bytes_same, bytes_in-found, bytes_in-only, bytes_text-no_feed, encode_lower-no_feed, feed_past, feed_place, few_bytes_in-found, few_bytes_in-only, guard_some, map_some, some_is, test_some}
+use Rattle.folder_files.proofs.HexLaws.{HasNoFeed, bind_some, bytes_is, bytes_same, bytes_in-found, bytes_in-only, bytes_text-no_feed, encode_lower-no_feed, feed_past, few_bytes_in-found, few_bytes_in-only, guard_some, map_some, some_is, test_some}
 
 -- ---- line feeds and keys
 
-pub feed_is : (byte : ℕ) → ((byte ≡ 10) × (eqb byte 10 ≡ true)) ⊎ (eqb byte 10 ≡ false)
-feed_is byte = cases (eqb byte 10) refl
-  where
-    cases : (b : Bool) → eqb byte 10 ≡ b → ((byte ≡ 10) × (eqb byte 10 ≡ true)) ⊎ (eqb byte 10 ≡ false)
-    cases true e = inl (eqb-true byte 10 e, e)
-    cases false e = inr e
-
 pub no_feed_append : (front back : List ℕ) → HasNoFeed front → HasNoFeed back → HasNoFeed (front ++ back)
 no_feed_append [] back none more = more
-no_feed_append (byte ∷ front) back none more =
-    elim (feed_is byte) [
-      | inl here ↦ let at : feed_place (byte ∷ front) ≡ 0 = rw here.1 refl in absurd (omega arith)
-      | inr other ↦
-          let rest = no_feed_append front back (omega (arith, feed_past byte front other)) more in
-          omega (arith, feed_past byte (front ++ back) other)
-    ]
+no_feed_append (byte ∷ front) back none more = grind (arith, nat_tests, common_steps, no_feed_append front back)
 
 pub behind_found : (key line text : List ℕ) → behind key line ≡ Some text → line ≡ key ++ text
 unfolding behind
@@ -46,7 +35,7 @@ behind_found key line text e =
 
 pub behind_only : (key text : List ℕ) → behind key (key ++ text) ≡ Some text
 unfolding behind
-behind_only key text = rw (take_at key text (length key) refl, bytes_same key, drop_at key text (length key) refl) refl
+behind_only key text = grind (arith, nat_tests, common_steps, take_at, bytes_same, drop_at)
 
 -- ---- what a text says
 
@@ -58,9 +47,10 @@ number_found text number e =
     (is.0 ∙ ap encode_lower (sym back), subst (λ (n : ℕ). n < 2 ^ 32) got.2 (omega (arith, is.2 0, is.2 1, is.2 2, is.2 3)))
 
 number_only : (number : ℕ) → number < 2 ^ 32 → number_in (encode_lower (to_be_bytes w32 number)) ≡ Some number
-number_only number small = rw (bytes_in-only (to_be_bytes w32 number) 4 refl (λ i. grind arith), from_be_bytes-to_be_bytes_4 number small) refl
+number_only number small = grind (arith, nat_tests, common_steps, bytes_in-only, from_be_bytes-to_be_bytes_4)
 
-positive_found : (text : List ℕ) (number : ℕ) → option_and_then if_positive (number_in text) ≡ Some number → (text ≡ encode_lower (to_be_bytes w32 number)) × (number < 2 ^ 32) × (0 < number)
+positive_found : (text : List ℕ) (number : ℕ) → option_and_then if_positive (number_in text) ≡ Some number
+    → (text ≡ encode_lower (to_be_bytes w32 number)) × (number < 2 ^ 32) × (0 < number)
 positive_found text number e =
     let got = bind_some (number_in text) if_positive number e in
     let some = guard_some (eqb got.0 0) (Some got.0) number got.2 in
@@ -70,7 +60,7 @@ positive_found text number e =
     (found.0, found.1, omega arith)
 
 positive_only : (number : ℕ) → number < 2 ^ 32 → 0 < number → option_and_then if_positive (number_in (encode_lower (to_be_bytes w32 number))) ≡ Some number
-positive_only number small some = let other : eqb number 0 ≡ false = ne_eqb _ _ (λ e. omega arith) in rw (number_only number small, other) refl
+positive_only number small some = grind (arith, nat_tests, common_steps, ne_eqb, number_only)
 
 date_found : (text : List ℕ) (seconds : ℕ) → option_and_then date_in (bytes_in 8 text) ≡ Some seconds → Says Date seconds text
 date_found text seconds e =
@@ -80,15 +70,14 @@ date_found text seconds e =
     (got.0, is.0, record { eight = is.1; in_range = is.2; read = read.1; ended = eqb-true _ _ read.0 })
 
 date_only : (bytes : List ℕ) (seconds : ℕ) → IsWireDate seconds bytes → option_and_then date_in (bytes_in 8 (encode_lower bytes)) ≡ Some seconds
-date_only bytes seconds date = rw (bytes_in-only bytes 8 date.eight date.in_range, eq-eqb _ _ date.ended) date.read
+date_only bytes seconds date = grind (arith, nat_tests, common_steps, bytes_in-only, eq-eqb)
 
 -- what is taken as it is
 taken : {A : Type 0} (b : Bool) (x y : A) → cond b None (Some x) ≡ Some y → (b ≡ false) × (x ≡ y)
 taken b x y e = let g = guard_some b (Some x) y e in (g.0, some_is x y g.1)
 
 or_first : (a b : Bool) → (a || b) ≡ false → a ≡ false
-or_first true b e = e
-or_first false b e = refl
+or_first a b e = grind arith
 
 name_found : (text name : List ℕ) → option_and_then user_name_of (few_bytes_in text) ≡ Some name → Says Name name text
 name_found text name e =
@@ -98,9 +87,7 @@ name_found text name e =
     subst (λ (n : List ℕ). Says Name n text) same (is.0, is.1, got.2 ∙ ap (λ (n : List ℕ). Some n) (sym same))
 
 name_only : (name : List ℕ) → IsBytes name → user_name_of name ≡ Some name → option_and_then user_name_of (few_bytes_in (bytes_text name)) ≡ Some name
-name_only name fits is =
-    let few : length name ≤ 40 = ltb-false 40 (length name) (or_first _ _ (taken _ name name is).0) in
-    rw (few_bytes_in-only name few fits) is
+name_only name fits is = grind (arith, nat_tests, common_steps, ltb-false, or_first, taken, few_bytes_in-only)
 
 password_found : (text password : List ℕ) → option_and_then password_of (few_bytes_in text) ≡ Some password → Says Password password text
 password_found text password e =
@@ -109,45 +96,24 @@ password_found text password e =
     let same : got.0 ≡ password = (taken _ got.0 password got.2).1 in
     subst (λ (n : List ℕ). Says Password n text) same (is.0, is.1, got.2 ∙ ap (λ (n : List ℕ). Some n) (sym same))
 
-password_only : (password : List ℕ) → IsBytes password → password_of password ≡ Some password → option_and_then password_of (few_bytes_in (bytes_text password)) ≡ Some password
-password_only password fits is =
-    let few : length password ≤ 40 = ltb-false 40 (length password) (taken _ password password is).0 in
-    rw (few_bytes_in-only password few fits) is
+password_only : (password : List ℕ) → IsBytes password → password_of password ≡ Some password
+    → option_and_then password_of (few_bytes_in (bytes_text password)) ≡ Some password
+password_only password fits is = grind (arith, nat_tests, common_steps, ltb-false, taken, few_bytes_in-only)
 
 -- ---- the number of slots
 
 two_digits : (number : ℕ) → 10 ≤ number → number < 20 → decimal number ≡ 49 ∷ (38 + number) ∷ []
-two_digits number low high =
-    let ten : number / 10 ≡ 1 = omega arith in
-    let one : 48 + number % 10 ≡ 38 + number = omega arith in
-    decimal_step number low (omega arith)
-    ∙ (ap (λ (tens : ℕ). decimal tens ++ ((48 + number % 10) ∷ [])) ten
-    ∙ (ap (λ (digits : List ℕ). digits ++ ((48 + number % 10) ∷ [])) (decimal_digit 1 (omega arith)) ∙ ap (λ (digit : ℕ). 49 ∷ digit ∷ []) one))
+two_digits number low high = grind (arith, nat_tests, common_steps, decimal_step, decimal_digit)
 
 -- a number of slots is one digit or two
-pub count_cases : (P : List ℕ → Type 0) (number : ℕ) → number < 20 → (number < 10 → P ((48 + number) ∷ [])) → (10 ≤ number → P (49 ∷ (38 + number) ∷ [])) → P (decimal number)
-count_cases P number few one two =
-    elim (cases_lt number 10) [ inl less ↦ subst P (sym (decimal_digit number less)) (one less) | inr more ↦ subst P (sym (two_digits number more few)) (two more) ]
+pub count_cases : (P : List ℕ → Type 0) (number : ℕ) → number < 20 → (number < 10 → P ((48 + number) ∷ [])) → (10 ≤ number → P (49 ∷ (38 + number) ∷ []))
+    → P (decimal number)
+count_cases P number few one two = grind (arith, nat_tests, common_steps, cases_lt, decimal_digit, two_digits)
 
 count_found : (text : List ℕ) (number : ℕ) → count_in text ≡ Some number → Says Count number text
 count_found [] number e = absurd cc
-count_found (digit ∷ []) number e =
-    let test = test_some (leb 49 digit && leb digit 57) (Some (digit - 48)) number e in
-    let parts = and_parts (leb 49 digit) (leb digit 57) test.0 in
-    let low : 49 ≤ digit = leb-true _ _ parts.0 in
-    let high : digit ≤ 57 = leb-true _ _ parts.1 in
-    let is : digit - 48 ≡ number = some_is _ _ test.1 in
-    let digit_is : digit ≡ 48 + number = omega arith in
-    (ap (λ (d : ℕ). d ∷ []) digit_is ∙ sym (decimal_digit number (omega arith)), omega arith, omega arith)
-count_found (ten ∷ digit ∷ []) number e =
-    let test = test_some (eqb ten 49 && (leb 48 digit && leb digit 54)) (Some (digit - 38)) number e in
-    let tens = and_parts (eqb ten 49) (leb 48 digit && leb digit 54) test.0 in
-    let parts = and_parts (leb 48 digit) (leb digit 54) tens.1 in
-    let low : 48 ≤ digit = leb-true _ _ parts.0 in
-    let high : digit ≤ 54 = leb-true _ _ parts.1 in
-    let is : digit - 38 ≡ number = some_is _ _ test.1 in
-    let digit_is : digit ≡ 38 + number = omega arith in
-    (ap (λ (t : ℕ). t ∷ digit ∷ []) (eqb-true ten 49 tens.0) ∙ (ap (λ (d : ℕ). 49 ∷ d ∷ []) digit_is ∙ sym (two_digits number (omega arith) (omega arith))), omega arith, omega arith)
+count_found (digit ∷ []) number e = grind (arith, nat_tests, common_steps, test_some, and_parts, leb-true, some_is, decimal_digit)
+count_found (ten ∷ digit ∷ []) number e = grind (arith, nat_tests, common_steps, test_some, and_parts, leb-true, some_is, eqb-true, two_digits)
 count_found (ten ∷ digit ∷ more ∷ text) number e = absurd cc
 
 count_only : (number : ℕ) → 1 ≤ number → number ≤ 16 → count_in (decimal number) ≡ Some number
@@ -168,17 +134,11 @@ count_only number some few =
 
 field_found : (key : List ℕ) (size : ℕ) (text : List ℕ) (parts : List ℕ × List ℕ) → field_at key size text ≡ Some parts → text ≡ key ++ (parts.0 ++ parts.1)
 unfolding field_at
-field_found key size text parts e =
-    let got = bind_some (behind key text) _ parts e in
-    let found = guard_some (ltb (length got.0) size) (Some (take size got.0, drop size got.0)) parts got.2 in
-    let is : (take size got.0, drop size got.0) ≡ parts = some_is _ _ found.1 in
-    behind_found key text got.0 got.1 ∙ ap (λ (rest : List ℕ). key ++ rest) (sym (take-append-drop size got.0) ∙ ap (λ (p : List ℕ × List ℕ). p.0 ++ p.1) is)
+field_found key size text parts e = grind (arith, nat_tests, common_steps, bind_some, guard_some, some_is, behind_found, take-append-drop)
 
 field_only : (key front back : List ℕ) (size : ℕ) → length front ≡ size → field_at key size (key ++ (front ++ back)) ≡ Some (front, back)
 unfolding field_at
-field_only key front back size long =
-    let room : ltb (length (front ++ back)) size ≡ false = le-ltb _ _ (omega (arith, length-append front back)) in
-    rw (behind_only key (front ++ back), room, take_at front back size long, drop_at front back size long) refl
+field_only key front back size long = grind (arith, nat_tests, common_steps, le-ltb, length-append, behind_only, take_at, drop_at)
 
 slot_found : (text : List ℕ) (value : Value Slot) → slot_in text ≡ Some value → Says Slot value text
 unfolding slot_in
@@ -200,24 +160,28 @@ slot_found text value e =
 slot_only : (value : Value Slot) (text : List ℕ) → Says Slot value text → slot_in text ≡ Some value
 unfolding slot_in
 slot_only value text is =
-    let user = is.0 in
-    let last = is.1 in
-    let name = is.2 in
-    let eight : length user ≡ 8 = ap length is.4.0 ∙ length-encode_with lower_digits (to_be_bytes w32 value.0) in
-    let sixteen : length last ≡ 16 = omega (arith, ap length is.5.1, length-encode_with lower_digits is.5.0, is.5.2.eight) in
-    let front : field_at (codes "user ") 8 text ≡ Some (user, codes " last " ++ (last ++ (codes " name " ++ name))) =
-    ap (field_at (codes "user ") 8) is.3 ∙ field_only (codes "user ") user (codes " last " ++ (last ++ (codes " name " ++ name))) 8 eight in
-    let middle : field_at (codes " last ") 16 (codes " last " ++ (last ++ (codes " name " ++ name))) ≡ Some (last, codes " name " ++ name) = field_only (codes " last ") last (codes " name " ++ name) 16 sixteen in
-    let back : behind (codes " name ") (codes " name " ++ name) ≡ Some name = behind_only (codes " name ") name in
-    let number : number_in user ≡ Some value.0 = ap number_in is.4.0 ∙ number_only value.0 is.4.1 in
-    let seconds : option_and_then date_in (bytes_in 8 last) ≡ Some value.1 = ap (λ (t : List ℕ). option_and_then date_in (bytes_in 8 t)) is.5.1 ∙ date_only is.5.0 value.1 is.5.2 in
-    let bytes : option_and_then user_name_of (few_bytes_in name) ≡ Some value.2 = ap (λ (t : List ℕ). option_and_then user_name_of (few_bytes_in t)) is.6.0 ∙ name_only value.2 is.6.1 is.6.2 in
-    rw front (rw middle (rw back (rw number (rw seconds (rw bytes refl)))))
+    grind (
+      arith,
+      nat_tests,
+      common_steps,
+      is.3,
+      is.4.0,
+      is.5.1,
+      is.6.0,
+      field_only (codes "user ") is.0 (codes " last " ++ (is.1 ++ (codes " name " ++ is.2))) 8
+          (ap length is.4.0 ∙ length-encode_with lower_digits (to_be_bytes w32 value.0)),
+      field_only (codes " last ") is.1 (codes " name " ++ is.2) 16
+          (omega (arith, ap length is.5.1, length-encode_with lower_digits is.5.0, is.5.2.eight)),
+      behind_only (codes " name ") is.2,
+      number_only value.0 is.4.1,
+      date_only is.5.0 value.1 is.5.2,
+      name_only value.2 is.6.1 is.6.2,
+    )
 
 -- ---- any text
 
 pub value_found : (kind : Kind) (value : Value kind) (text : List ℕ) → value_in kind text ≡ Some value → Says kind value text
-value_found Title value text e = nil_from_length text (eqb-true _ _ (test_some (eqb (length text) 0) _ _ e).0)
+value_found Title value text e = grind (arith, nat_tests, common_steps)
 value_found Number value text e = number_found text value e
 value_found Positive value text e = positive_found text value e
 value_found Date value text e = date_found text value e
@@ -239,10 +203,10 @@ value_only Slot value text is = slot_only value text is
 -- ---- what is written of a name
 
 pub name_says : (name : List ℕ) → IsBytes name → length name ≤ 40 → list_any (λ byte. eqb byte 0) name ≡ false → Says Name name (bytes_text name)
-name_says name fits few nonzero = let short : ltb 40 (length name) ≡ false = le-ltb _ _ few in (refl, fits, rw (short, nonzero) refl)
+name_says name fits few nonzero = grind arith
 
 pub password_says : (password : List ℕ) → IsBytes password → length password ≤ 40 → Says Password password (bytes_text password)
-password_says password fits few = let short : ltb 40 (length password) ≡ false = le-ltb _ _ few in (refl, fits, rw short refl)
+password_says password fits few = grind arith
 
 -- ---- a text stands on one line
 
@@ -253,11 +217,14 @@ decimal-no_feed : (number : ℕ) → number < 20 → HasNoFeed (decimal number)
 decimal-no_feed number few =
     count_cases HasNoFeed number few
     (λ less. let other : eqb (48 + number) 10 ≡ false = ne_eqb _ _ (λ e. omega arith) in feed_past (48 + number) [] other)
-    (λ more. let other : eqb (38 + number) 10 ≡ false = ne_eqb _ _ (λ e. omega arith) in let digit : HasNoFeed ((38 + number) ∷ []) = feed_past (38 + number) [] other in omega (arith, feed_past 49 ((38 + number) ∷ []) refl))
+    (λ more.
+    let other : eqb (38 + number) 10 ≡ false = ne_eqb _ _ (λ e. omega arith) in
+    let digit : HasNoFeed ((38 + number) ∷ []) = feed_past (38 + number) [] other in
+    omega (arith, feed_past 49 ((38 + number) ∷ []) refl))
 
 -- the key of a slot's line
 pub slot_key-no_feed : (number : ℕ) → number < 20 → HasNoFeed (codes "slot " ++ (decimal number ++ codes " "))
-slot_key-no_feed number few = no_feed_append (codes "slot ") (decimal number ++ codes " ") refl (no_feed_append (decimal number) (codes " ") (decimal-no_feed number few) refl)
+slot_key-no_feed number few = grind (arith, nat_tests, common_steps, no_feed_append, decimal-no_feed)
 
 slot-no_feed : (value : Value Slot) (text : List ℕ) → Says Slot value text → HasNoFeed text
 slot-no_feed value text is =
@@ -265,7 +232,8 @@ slot-no_feed value text is =
     let last : HasNoFeed is.1 = subst HasNoFeed (sym is.5.1) (encode_lower-no_feed is.5.0 is.5.2.in_range) in
     let name : HasNoFeed is.2 = subst HasNoFeed (sym is.6.0) (bytes_text-no_feed value.2 is.6.1) in
     subst HasNoFeed (sym is.3)
-    (no_feed_append (codes "user ") _ refl (no_feed_append is.0 _ user (no_feed_append (codes " last ") _ refl (no_feed_append is.1 _ last (no_feed_append (codes " name ") is.2 refl name)))))
+    (no_feed_append (codes "user ") _ refl (no_feed_append is.0 _ user
+    (no_feed_append (codes " last ") _ refl (no_feed_append is.1 _ last (no_feed_append (codes " name ") is.2 refl name)))))
 
 pub on_one_line : (kind : Kind) (value : Value kind) (text : List ℕ) → Says kind value text → HasNoFeed text
 on_one_line Title value text is = subst HasNoFeed (sym is) refl
@@ -274,5 +242,5 @@ on_one_line Positive value text is = subst HasNoFeed (sym is.0) (encode_lower-no
 on_one_line Date value text is = subst HasNoFeed (sym is.1) (encode_lower-no_feed is.0 is.2.in_range)
 on_one_line Name value text is = subst HasNoFeed (sym is.0) (bytes_text-no_feed value is.1)
 on_one_line Password value text is = subst HasNoFeed (sym is.0) (bytes_text-no_feed value is.1)
-on_one_line Count value text is = subst HasNoFeed (sym is.0) (decimal-no_feed value (omega (arith, is.2)))
+on_one_line Count value text is = grind (arith, nat_tests, common_steps, decimal-no_feed)
 on_one_line Slot value text is = slot-no_feed value text is

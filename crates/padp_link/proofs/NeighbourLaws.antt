@@ -1,25 +1,14 @@
 -- Neighbouring pieces have different keys.
-use Rattle.std.proofs.Common.{◌≡◌, ℕ, zero, suc, ◌+◌, ◌*◌, ◌%◌, true, false, nat_eq, List, [], ◌∷◌, ◌++◌, map, refl, sym, ap, ◌∙◌, arith}
+use Rattle.std.proofs.Common.{◌≡◌, ℕ, zero, suc, ◌+◌, List, [], ◌∷◌, ◌++◌, map, refl, sym, ap, ◌∙◌, arith}
 use Rattle.std.specs.List.{range_with_len, AllByRecursion}
-use Rattle.std.proofs.lemmas.Bool.{ne_eqb, cond-false, both_ways}
 use Rattle.padp_link.specs.declared.piece.Key.{Key}
 use Rattle.padp_link.specs.declared.piece.Piece.{Piece}
-use Rattle.padp_link.specs.FragmentText.{has_flag}
-use Rattle.padp_link.specs.Pieces.{piece_count, piece_flags, piece_size, piece_of}
+use Rattle.padp_link.specs.Pieces.{piece_count, piece_of}
 use Rattle.padp_link.specs.Neighbours.{Chain, Neighbours, Outgoing, HaveDifferentIds, HaveDifferentKeys, all_pieces, session_id, session_from}
-use Rattle.padp_link.proofs.PieceLaws.{flag_first}
 
 -- a piece and the next one of the same message
 pub next_key_differs : (id length number : ℕ) → HaveDifferentKeys (piece_of id length number) (piece_of id length (number + 1))
-next_key_differs id length zero same =
-    let first : has_flag 128 (piece_flags length 0) ≡ true = flag_first true (nat_eq (0 + 1) (piece_count length)) in
-    let later : has_flag 128 (piece_flags length (0 + 1)) ≡ false = flag_first false (nat_eq (0 + 1 + 1) (piece_count length)) in
-    both_ways _ later (ap (λ (key : Key). has_flag 128 key.flags) (sym same) ∙ first)
-next_key_differs id length (suc number) same =
-    let here : piece_size length (suc number) ≡ 1024 * suc number = cond-false _ _ _ (ne_eqb (suc number) 0 (λ e. omega arith)) in
-    let next : piece_size length (suc number + 1) ≡ 1024 * (suc number + 1) = cond-false _ _ _ (ne_eqb (suc number + 1) 0 (λ e. omega arith)) in
-    let sizes : piece_size length (suc number) ≡ piece_size length (suc number + 1) = ap (λ (key : Key). key.size) same in
-    omega (arith, here, next, sizes)
+next_key_differs id length number = grind arith
 
 -- the pieces of one message from one on, behind the one before them
 within : (id length from count : ℕ) → Chain HaveDifferentKeys (piece_of id length from) (map (piece_of id length) (range_with_len (from + 1) count))
@@ -34,37 +23,43 @@ all_have_id id length from zero = tt
 all_have_id id length from (suc count) = (refl, all_have_id id length (from + 1) count)
 
 -- one chain behind another
-chain-append : {X : Type 0} (R : X → X → Type 0) (P : X → Type 0) (x : X) (xs ys : List X) → P x → AllByRecursion P xs → Chain R x xs → ((z : X) → P z → Chain R z ys) → Chain R x (xs ++ ys)
+chain-append : {X : Type 0} (R : X → X → Type 0) (P : X → Type 0) (x : X) (xs ys : List X) → P x → AllByRecursion P xs → Chain R x xs
+    → ((z : X) → P z → Chain R z ys) → Chain R x (xs ++ ys)
 chain-append R P x [] ys p all chain behind = behind x p
 chain-append R P x (z ∷ zs) ys p all chain behind = (chain.0, chain-append R P z zs ys all.0 all.1 chain.1 behind)
 
 -- the pieces of a message, and what stands behind its last one
-chain_of : (id length count : ℕ) (later : List Piece) → ((last : Piece) → HasId id last → Chain HaveDifferentKeys last later) → Chain HaveDifferentKeys (piece_of id length 0) (map (piece_of id length) (range_with_len 1 count) ++ later)
+chain_of : (id length count : ℕ) (later : List Piece) → ((last : Piece) → HasId id last → Chain HaveDifferentKeys last later)
+    → Chain HaveDifferentKeys (piece_of id length 0) (map (piece_of id length) (range_with_len 1 count) ++ later)
 chain_of id length count later behind =
-    chain-append HaveDifferentKeys (HasId id) (piece_of id length 0) (map (piece_of id length) (range_with_len 1 count)) later refl (all_have_id id length 1 count) (within id length 0 count) behind
+    chain-append HaveDifferentKeys (HasId id) (piece_of id length 0) (map (piece_of id length) (range_with_len 1 count)) later refl
+    (all_have_id id length 1 count) (within id length 0 count) behind
 
 -- the pieces of a message and those of the messages behind it
-behind_message : (message : Outgoing) (later : List Outgoing) → Chain HaveDifferentIds message later → (piece : Piece) → HasId message.id piece → Chain HaveDifferentKeys piece (all_pieces later)
+behind_message : (message : Outgoing) (later : List Outgoing) → Chain HaveDifferentIds message later → (piece : Piece) → HasId message.id piece
+    → Chain HaveDifferentKeys piece (all_pieces later)
 behind_message message [] chain piece has = tt
 behind_message message (next ∷ later) chain piece has = go (piece_count next.length) refl (behind_message next later chain.1) where
-  go : (count : ℕ) → piece_count next.length ≡ count → ((last : Piece) → HasId next.id last → Chain HaveDifferentKeys last (all_pieces later)) → Chain HaveDifferentKeys piece (map (piece_of next.id next.length) (range_with_len 0 count) ++ all_pieces later)
+  go : (count : ℕ) → piece_count next.length ≡ count → ((last : Piece) → HasId next.id last → Chain HaveDifferentKeys last (all_pieces later))
+      → Chain HaveDifferentKeys piece (map (piece_of next.id next.length) (range_with_len 0 count) ++ all_pieces later)
   go zero e behind = absurd (omega arith)
   go (suc count) e behind = (λ same. chain.0 (sym has ∙ ap (λ (key : Key). key.id) same), chain_of next.id next.length count (all_pieces later) behind)
 
 pub keys_differ : (messages : List Outgoing) → Neighbours HaveDifferentIds messages → Neighbours HaveDifferentKeys (all_pieces messages)
 keys_differ [] chain = tt
 keys_differ (message ∷ later) chain = go (piece_count message.length) refl where
-  go : (count : ℕ) → piece_count message.length ≡ count → Neighbours HaveDifferentKeys (map (piece_of message.id message.length) (range_with_len 0 count) ++ all_pieces later)
+  go : (count : ℕ) → piece_count message.length ≡ count
+      → Neighbours HaveDifferentKeys (map (piece_of message.id message.length) (range_with_len 0 count) ++ all_pieces later)
   go zero e = absurd (omega arith)
   go (suc count) e = chain_of message.id message.length count (all_pieces later) (behind_message message later chain)
 
 -- ---- the messages of a session
 
 pub next_id_differs : (number : ℕ) → session_id number ≡ session_id (number + 1) → ⊥
-next_id_differs zero same = omega arith
-next_id_differs (suc number) same = let e : suc number + 1 ≡ suc (suc number) = omega arith in let next : session_id (suc number + 1) ≡ suc number % 254 + 1 = ap session_id e in omega (arith, same, next)
+next_id_differs number same = grind arith
 
-session_ids_differ : (lengths : List ℕ) (number length : ℕ) → Chain HaveDifferentIds (record { id = session_id number; length = length }) (session_from (number + 1) lengths)
+session_ids_differ : (lengths : List ℕ) (number length : ℕ)
+    → Chain HaveDifferentIds (record { id = session_id number; length = length }) (session_from (number + 1) lengths)
 session_ids_differ [] number length = tt
 session_ids_differ (next ∷ later) number length = (next_id_differs number, session_ids_differ later (number + 1) next)
 

@@ -1,5 +1,7 @@
 -- Databases within their bounds stay so where their records, resources or blocks become others.
-use Rattle.std.proofs.Common.{◌≡◌, ◌<◌, ◌≤◌, ◌+◌, ◌^◌, length-append, ℕ, zero, suc, Bool, true, false, cond, List, [], ◌∷◌, map, drop, take, length, refl, ap, subst, ◌∙◌, arith, Option, Some, None, slice_get, slice_set, lit≤}
+use Rattle.std.proofs.lemmas.Bool.Decides.{nat_tests}
+use Rattle.std.proofs.lemmas.Grind.{common_steps}
+use Rattle.std.proofs.Common.{◌≡◌, ◌<◌, ◌≤◌, ◌+◌, ◌^◌, length-append, ℕ, zero, suc, Bool, true, false, List, [], ◌∷◌, map, drop, take, length, refl, ap, subst, ◌∙◌, arith, Option, Some, None, slice_get}
 use Rattle.std.specs.Prelude.{All, filter, position}
 use Rattle.std.specs.List.{AllByRecursion}
 use Rattle.std.proofs.lemmas.Bool.{both_ways}
@@ -8,15 +10,14 @@ use Rattle.pdb_values.specs.Blocks.{block_length}
 use Rattle.pdb_values.specs.Contents.{ContentValue}
 use Rattle.pdb_values.specs.Databases.{DatabaseValue, IsShortResource}
 use Rattle.pdb_values.specs.Heads.{holds_resources}
-use Rattle.pdb_values.specs.Resources.{with_bytes}
 use Rattle.pdb_values.specs.declared.head.DbHead.{DbHead}
 use Rattle.pdb_values.specs.declared.record.Record.{Record}
 use Rattle.pdb_values.specs.declared.resource.Resource.{Resource}
-use Rattle.palm_device.specs.Blocks.{block_or_none, empty_database, with_app, with_sort}
+use Rattle.palm_device.specs.Blocks.{block_or_none, empty_database}
 use Rattle.palm_device.specs.Bounds.{IsBoundedDatabase, IsBoundedHead, IsBoundedRecord, IsBoundedResource}
 use Rattle.palm_device.specs.Entries.{put_entry, without_entry}
-use Rattle.palm_device.specs.Records.{clean, has_id, is_in, moved, new_record, place_of_id, put_record, rewritten, with_records}
-use Rattle.palm_device.specs.Resources.{is_resource, new_resource, place_of_resource, put_resource, with_resources}
+use Rattle.palm_device.specs.Records.{clean, moved, place_of_id, put_record, with_records}
+use Rattle.palm_device.specs.Resources.{place_of_resource, put_resource, with_resources}
 use Rattle.palm_device.proofs.EntryLaws.{put_entry_at, put_entry_new}
 use Rattle.pdb_values.proofs.PlaceLaws.{position_within}
 
@@ -24,17 +25,13 @@ use Rattle.pdb_values.proofs.PlaceLaws.{position_within}
 
 pub AllByRecursion-filter : {X : Type 0} (P : X → Type 0) (keep : X → Bool) (xs : List X) → AllByRecursion P xs → AllByRecursion P (filter keep xs)
 AllByRecursion-filter P keep [] each = tt
-AllByRecursion-filter P keep (x ∷ xs) each =
-    let later : AllByRecursion P (filter keep xs) = AllByRecursion-filter P keep xs each.1 in
-    elim (keep x) as (λ b. AllByRecursion P (cond b (x ∷ filter keep xs) (filter keep xs))) [ true ↦ (each.0, later) | false ↦ later ]
+AllByRecursion-filter P keep (x ∷ xs) each = grind (arith, AllByRecursion-filter P keep xs)
 
 pub AllByRecursion-without : {X : Type 0} (P : X → Type 0) (test : X → Bool) (xs : List X) → AllByRecursion P xs
     → AllByRecursion P (without_entry test xs)
 unfolding without_entry
 AllByRecursion-without P test [] each = tt
-AllByRecursion-without P test (x ∷ xs) each =
-    let later : AllByRecursion P (without_entry test xs) = AllByRecursion-without P test xs each.1 in
-    elim (test x) as (λ b. AllByRecursion P (cond b xs (x ∷ without_entry test xs))) [ true ↦ each.1 | false ↦ (each.0, later) ]
+AllByRecursion-without P test (x ∷ xs) each = grind (arith, AllByRecursion-without P test xs)
 
 pub AllByRecursion-map : {X : Type 0} (P : X → Type 0) (change : X → X) (xs : List X) → ((x : X) → P x → P (change x)) → AllByRecursion P xs
     → AllByRecursion P (map change xs)
@@ -45,15 +42,7 @@ pub AllByRecursion-put : {X : Type 0} (P : X → Type 0) (test : X → Bool) (ch
     → P new → AllByRecursion P xs → AllByRecursion P (put_entry test change new xs)
 unfolding put_entry
 AllByRecursion-put P test change new [] keeps made each = (made, tt)
-AllByRecursion-put P test change new (x ∷ xs) keeps made each =
-    let later : AllByRecursion P (put_entry test change new xs) = AllByRecursion-put P test change new xs keeps made each.1 in
-    elim (test x) as (λ b. AllByRecursion P (cond b (change x ∷ xs) (x ∷ put_entry test change new xs)))
-    [ true ↦ (keeps x each.0, each.1) | false ↦ (each.0, later) ]
-
-pub AllByRecursion-set : {X : Type 0} (P : X → Type 0) (xs : List X) (k : ℕ) (x : X) → P x → AllByRecursion P xs → AllByRecursion P (slice_set xs k x)
-AllByRecursion-set P [] k x here each = tt
-AllByRecursion-set P (y ∷ ys) zero x here each = (here, each.1)
-AllByRecursion-set P (y ∷ ys) (suc k) x here each = (each.0, AllByRecursion-set P ys k x here each.1)
+AllByRecursion-put P test change new (x ∷ xs) keeps made each = grind (arith, AllByRecursion-put P test change new xs)
 
 pub AllByRecursion-get : {X : Type 0} (P : X → Type 0) (xs : List X) (k : ℕ) (x : X) → AllByRecursion P xs → slice_get xs k ≡ Some x → P x
 AllByRecursion-get P [] k x each here = absurd cc
@@ -78,14 +67,12 @@ slice_get-within (y ∷ ys) (suc k) x here = let later = slice_get-within ys k x
 
 pub length-filter : {X : Type 0} (keep : X → Bool) (xs : List X) → length (filter keep xs) ≤ length xs
 length-filter keep [] = omega arith
-length-filter keep (x ∷ xs) = let rest = length-filter keep xs in
-    elim (keep x) as (λ b. length (cond b (x ∷ filter keep xs) (filter keep xs)) ≤ length (x ∷ xs)) [ true ↦ omega arith | false ↦ omega arith ]
+length-filter keep (x ∷ xs) = grind (arith, nat_tests, common_steps, length-filter keep xs)
 
 pub length-without : {X : Type 0} (test : X → Bool) (xs : List X) → length (without_entry test xs) ≤ length xs
 unfolding without_entry
 length-without test [] = omega arith
-length-without test (x ∷ xs) = let rest = length-without test xs in
-    elim (test x) as (λ b. length (cond b xs (x ∷ without_entry test xs)) ≤ length (x ∷ xs)) [ true ↦ omega arith | false ↦ omega arith ]
+length-without test (x ∷ xs) = grind (arith, nat_tests, common_steps, length-without test xs)
 
 pub length-map : {X : Type 0} (change : X → X) (xs : List X) → length (map change xs) ≡ length xs
 length-map change [] = refl
@@ -99,7 +86,7 @@ length-put {X = X} test change new xs limit room few = by (position test xs) ref
     at : (k : ℕ) (o : Option X) → position test xs ≡ Some k → slice_get xs k ≡ o → length (put_entry test change new xs) ≤ limit
     at k None found here = absurd (position_within test xs k found here)
     at k (Some x) found here = let same : length (put_entry test change new xs) ≡ length xs =
-        ap length (put_entry_at test change new xs k x found here) ∙ length-set xs k (change x) in omega arith
+        ap length (put_entry_at test change new xs found here) ∙ length-set xs k (change x) in omega arith
 
     by : (o : Option ℕ) → position test xs ≡ o → length (put_entry test change new xs) ≤ limit
     by None none = let more : length (put_entry test change new xs) ≡ length xs + 1 = ap length (put_entry_new test change new xs none)
@@ -112,20 +99,7 @@ length-put {X = X} test change new xs limit room few = by (position test xs) ref
 pub IsBoundedDatabase-records : (items : List Record) (database : DatabaseValue) → holds_resources database.head.attributes ≡ false
     → length items ≤ 65535 → AllByRecursion IsBoundedRecord items → IsBoundedDatabase database
     → IsBoundedDatabase (with_records items database)
-IsBoundedDatabase-records items database holds few each bounded = record {
-  whole = record {
-    few_records = few;
-    few_resources = bounded.whole.few_resources;
-    no_records = λ other. absurd (both_ways (holds_resources database.head.attributes) holds other);
-    no_resources = bounded.whole.no_resources;
-    short_app = bounded.whole.short_app;
-    short_sort = bounded.whole.short_sort;
-    short_resources = bounded.whole.short_resources;
-  };
-  head = bounded.head;
-  records = each;
-  resources = bounded.resources;
-}
+IsBoundedDatabase-records items database holds few each bounded = grind arith
 
 all_short : (items : List Resource) → AllByRecursion IsBoundedResource items → All IsShortResource items
 all_short [] each k d within = absurd (omega arith)
@@ -136,107 +110,33 @@ all_short (x ∷ xs) each (suc k) d within = all_short xs each.1 k d (omega arit
 pub IsBoundedDatabase-resources : (items : List Resource) (database : DatabaseValue) → holds_resources database.head.attributes ≡ true
     → length items ≤ 65535 → AllByRecursion IsBoundedResource items → IsBoundedDatabase database
     → IsBoundedDatabase (with_resources items database)
-IsBoundedDatabase-resources items database holds few each bounded = record {
-  whole = record {
-    few_records = bounded.whole.few_records;
-    few_resources = few;
-    no_records = bounded.whole.no_records;
-    no_resources = λ other. absurd (both_ways (holds_resources database.head.attributes) other holds);
-    short_app = bounded.whole.short_app;
-    short_sort = bounded.whole.short_sort;
-    short_resources = all_short items each;
-  };
-  head = bounded.head;
-  records = bounded.records;
-  resources = each;
-}
+IsBoundedDatabase-resources items database holds few each bounded = grind (arith, both_ways, all_short)
 
 block_short : (bytes : List ℕ) → length bytes ≤ 65500 → block_length (block_or_none bytes) ≤ 65500
-block_short [] short = omega arith
-block_short (byte ∷ bytes) short = short
-
--- another block
-pub IsBoundedDatabase-app : (bytes : List ℕ) (database : DatabaseValue) → length bytes ≤ 65500 → IsBoundedDatabase database
-    → IsBoundedDatabase (with_app bytes database)
-IsBoundedDatabase-app bytes database short bounded = record {
-  whole = record {
-    few_records = bounded.whole.few_records;
-    few_resources = bounded.whole.few_resources;
-    no_records = bounded.whole.no_records;
-    no_resources = bounded.whole.no_resources;
-    short_app = block_short bytes short;
-    short_sort = bounded.whole.short_sort;
-    short_resources = bounded.whole.short_resources;
-  };
-  head = bounded.head;
-  records = bounded.records;
-  resources = bounded.resources;
-}
-
-pub IsBoundedDatabase-sort : (bytes : List ℕ) (database : DatabaseValue) → length bytes ≤ 65500 → IsBoundedDatabase database
-    → IsBoundedDatabase (with_sort bytes database)
-IsBoundedDatabase-sort bytes database short bounded = record {
-  whole = record {
-    few_records = bounded.whole.few_records;
-    few_resources = bounded.whole.few_resources;
-    no_records = bounded.whole.no_records;
-    no_resources = bounded.whole.no_resources;
-    short_app = bounded.whole.short_app;
-    short_sort = block_short bytes short;
-    short_resources = bounded.whole.short_resources;
-  };
-  head = bounded.head;
-  records = bounded.records;
-  resources = bounded.resources;
-}
+block_short bytes short = grind arith
 
 -- a database with nothing in it
 pub IsBoundedDatabase-empty : (head : DbHead) → IsBoundedHead head → IsBoundedDatabase (empty_database head)
-IsBoundedDatabase-empty head bounded = record {
-  whole = record {
-    few_records = lit≤ tt;
-    few_resources = lit≤ tt;
-    no_records = λ holds. refl;
-    no_resources = λ holds. refl;
-    short_app = lit≤ tt;
-    short_sort = lit≤ tt;
-    short_resources = all_short [] tt;
-  };
-  head = bounded;
-  records = tt;
-  resources = tt;
-}
+IsBoundedDatabase-empty head bounded = grind arith
 
 -- ---- edits of records and resources
 
 pub IsBoundedRecord-moved : (from to : ℕ) (item : Record) → to ≤ 15 → IsBoundedRecord item → IsBoundedRecord (moved from to item)
-IsBoundedRecord-moved from to item sorted bounded =
-    elim (is_in from item) as (λ b. IsBoundedRecord (cond b (record item { dirty = true; content = record item.content { category = to } }) item)) [
-      | true ↦ record { id = bounded.id; category = sorted; short = bounded.short }
-      | false ↦ bounded
-    ]
+IsBoundedRecord-moved from to item sorted bounded = grind arith
 
 pub IsBoundedRecord-clean : (item : Record) → IsBoundedRecord item → IsBoundedRecord (clean item)
-IsBoundedRecord-clean item bounded = record { id = bounded.id; category = bounded.category; short = bounded.short }
+IsBoundedRecord-clean item bounded = grind arith
 
 pub IsBoundedDatabase-put_record : (id : ℕ) (content : ContentValue) (database : DatabaseValue) → holds_resources database.head.attributes ≡ false
     → id ≤ 16777215 → content.category ≤ 15 → length content.bytes ≤ 65500
     → (place_of_id id database.records ≡ None → length database.records < 65535) → IsBoundedDatabase database
     → IsBoundedDatabase (with_records (put_record id content database.records) database)
-IsBoundedDatabase-put_record id content database holds small sorted short room bounded =
-    IsBoundedDatabase-records (put_record id content database.records) database holds
-    (length-put (has_id id) (rewritten content) (new_record id content) database.records 65535 room bounded.whole.few_records)
-    (AllByRecursion-put IsBoundedRecord (has_id id) (rewritten content) (new_record id content) database.records
-    (λ item was. record { id = was.id; category = sorted; short = short }) (record { id = small; category = sorted; short = short }) bounded.records)
-    bounded
+IsBoundedDatabase-put_record id content database holds small sorted short room bounded = grind
+    (arith, IsBoundedDatabase-records, length-put, AllByRecursion-put)
 
 pub IsBoundedDatabase-put_resource : (kind : List ℕ) (id : ℕ) (bytes : List ℕ) (database : DatabaseValue)
     → holds_resources database.head.attributes ≡ true → length kind ≡ 4 → id < 2 ^ 16 → length bytes ≤ 65500
     → (place_of_resource kind id database.resources ≡ None → length database.resources < 65535) → IsBoundedDatabase database
     → IsBoundedDatabase (with_resources (put_resource kind id bytes database.resources) database)
-IsBoundedDatabase-put_resource kind id bytes database holds four small short room bounded =
-    IsBoundedDatabase-resources (put_resource kind id bytes database.resources) database holds
-    (length-put (is_resource kind id) (with_bytes bytes) (new_resource kind id bytes) database.resources 65535 room bounded.whole.few_resources)
-    (AllByRecursion-put IsBoundedResource (is_resource kind id) (with_bytes bytes) (new_resource kind id bytes) database.resources
-    (λ resource was. record { kind = was.kind; id = was.id; short = short }) (record { kind = four; id = small; short = short }) bounded.resources)
-    bounded
+IsBoundedDatabase-put_resource kind id bytes database holds four small short room bounded = grind
+    (arith, IsBoundedDatabase-resources, length-put, AllByRecursion-put)

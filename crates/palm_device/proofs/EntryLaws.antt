@@ -1,38 +1,31 @@
 -- The first entry that passes a test, by its place.
-use Rattle.std.proofs.Common.{◌≡◌, ℕ, zero, suc, ◌+◌, ◌<◌, ◌≤◌, Bool, true, false, cond, List, [], ◌∷◌, ◌++◌, map, take, drop, length, refl, ap, ◌∙◌, arith, add-one, Some, None, slice_get, slice_set}
+use Rattle.std.proofs.lemmas.Bool.Decides.{nat_tests}
+use Rattle.std.proofs.lemmas.Grind.{common_steps}
+use Rattle.std.proofs.Common.{◌≡◌, ℕ, zero, suc, ◌+◌, ◌<◌, ◌≤◌, Bool, true, false, List, [], ◌∷◌, ◌++◌, map, take, drop, length, refl, arith, add-one, Some, None, slice_get, slice_set}
 use Rattle.std.specs.Prelude.{position, remove, filter}
 use Rattle.std.specs.List.{position_or_len, list_all}
-use Rattle.std.specs.Option.{option_map}
-use Rattle.std.proofs.lemmas.Bool.{and_parts}
-use Rattle.pdb_values.proofs.PlaceLaws.{first_here, first_later, past_later, position_found, position_none}
-use Rattle.palm_device.specs.Entries.{put_entry, without_entry, set_some, change_at}
+use Rattle.pdb_values.proofs.PlaceLaws.{first_here, position_found, position_none}
+use Rattle.palm_device.specs.Entries.{put_entry, without_entry, change_at}
 
 -- ---- a changed entry, and a new one
 
-put_first : {X : Type 0} (test : X → Bool) (change : X → X) (new : X) (xs : List X) (k : ℕ) (x : X) → position_or_len test xs ≡ k
+put_first : {X : Type 0} (test : X → Bool) (change : X → X) (new : X) (xs : List X) (k : ℕ) {x : X} → position_or_len test xs ≡ k
     → slice_get xs k ≡ Some x → put_entry test change new xs ≡ slice_set xs k (change x)
 unfolding put_entry
-put_first test change new [] k x first here = absurd cc
-put_first test change new (y ∷ ys) zero x first here =
-    let passes : test y ≡ true = first_here (test y) _ first in
-    let same : y ≡ x = cc in
-    rw (passes, same) refl
-put_first test change new (y ∷ ys) (suc k) x first here =
-    let later = first_later (test y) _ k first in
-    rw later.0 (ap (λ zs. y ∷ zs) (put_first test change new ys k x later.1 here))
+put_first test change new [] k first here = absurd cc
+put_first test change new (y ∷ ys) zero {x} first here = cc (first_here (test y) _ first)
+put_first test change new (y ∷ ys) (suc k) first here = grind (arith, put_first test change new ys k)
 
 -- where an entry passes the test, it changes in its place
-pub put_entry_at : {X : Type 0} (test : X → Bool) (change : X → X) (new : X) (xs : List X) (k : ℕ) (x : X) → position test xs ≡ Some k
+pub put_entry_at : {X : Type 0} (test : X → Bool) (change : X → X) (new : X) (xs : List X) {k : ℕ} {x : X} → position test xs ≡ Some k
     → slice_get xs k ≡ Some x → put_entry test change new xs ≡ slice_set xs k (change x)
-put_entry_at test change new xs k x found here = put_first test change new xs k x (position_found test xs k found).0 here
+put_entry_at test change new xs found here = grind (arith, put_first, position_found)
 
 put_past : {X : Type 0} (test : X → Bool) (change : X → X) (new : X) (xs : List X) → length xs ≤ position_or_len test xs
     → put_entry test change new xs ≡ xs ++ new ∷ []
 unfolding put_entry
 put_past test change new [] past = refl
-put_past test change new (y ∷ ys) past =
-    let later = past_later (test y) _ (length ys) past in
-    rw later.0 (ap (λ zs. y ∷ zs) (put_past test change new ys later.1))
+put_past test change new (y ∷ ys) past = grind (arith, put_past test change new ys)
 
 -- where none does, the new one stands behind the others
 pub put_entry_new : {X : Type 0} (test : X → Bool) (change : X → X) (new : X) (xs : List X) → position test xs ≡ None
@@ -46,20 +39,16 @@ without_first : {X : Type 0} (test : X → Bool) (xs : List X) (k : ℕ) → pos
 unfolding without_entry
 without_first test [] k first within = absurd (omega arith)
 without_first test (y ∷ ys) zero first within = rw (first_here (test y) _ first) refl
-without_first test (y ∷ ys) (suc k) first within =
-    let later = first_later (test y) _ k first in
-    rw later.0 (ap (λ zs. y ∷ zs) (without_first test ys k later.1 (omega arith)))
+without_first test (y ∷ ys) (suc k) first within = grind (arith, without_first test ys k)
 
 -- where an entry passes the test, it is taken out of its place
-pub without_entry_at : {X : Type 0} (test : X → Bool) (xs : List X) (k : ℕ) → position test xs ≡ Some k → without_entry test xs ≡ remove xs k
-without_entry_at test xs k found = let at = position_found test xs k found in without_first test xs k at.0 at.1
+pub without_entry_at : {X : Type 0} (test : X → Bool) (xs : List X) {k : ℕ} → position test xs ≡ Some k → without_entry test xs ≡ remove xs k
+without_entry_at test xs found = grind (arith, position_found, without_first)
 
 without_past : {X : Type 0} (test : X → Bool) (xs : List X) → length xs ≤ position_or_len test xs → without_entry test xs ≡ xs
 unfolding without_entry
 without_past test [] past = refl
-without_past test (y ∷ ys) past =
-    let later = past_later (test y) _ (length ys) past in
-    rw later.0 (ap (λ zs. y ∷ zs) (without_past test ys later.1))
+without_past test (y ∷ ys) past = grind (arith, without_past test ys)
 
 -- where none does, all stay
 pub without_entry_none : {X : Type 0} (test : X → Bool) (xs : List X) → position test xs ≡ None → without_entry test xs ≡ xs
@@ -68,17 +57,14 @@ without_entry_none test xs none = without_past test xs (position_none test xs no
 -- ---- a list whose entries are changed or left out one after the other
 
 change_later : {X : Type 0} (change : X → X) (y : X) (ys : List X) (k : ℕ) → change_at change (suc k) (y ∷ ys) ≡ y ∷ change_at change k ys
-change_later change y ys k =
-    elim (slice_get ys k) as (λ o. set_some (suc k) (y ∷ ys) (option_map change o) ≡ y ∷ set_some k ys (option_map change o))
-    [ None ↦ refl | Some x ↦ refl ]
+change_later change y ys k = grind arith
 
 map_next_suc : {X : Type 0} (change : X → X) (xs : List X) (k : ℕ)
     → change_at change k (map change (take k xs) ++ drop k xs) ≡ map change (take (suc k) xs) ++ drop (suc k) xs
 map_next_suc change [] zero = refl
 map_next_suc change [] (suc k) = refl
 map_next_suc change (y ∷ ys) zero = refl
-map_next_suc change (y ∷ ys) (suc k) = change_later change (change y) (map change (take k ys) ++ drop k ys) k
-    ∙ ap (λ zs. change y ∷ zs) (map_next_suc change ys k)
+map_next_suc change (y ∷ ys) (suc k) = grind (arith, nat_tests, common_steps, map_next_suc change ys k)
 
 -- the entry at a place is changed like those before it
 pub map_next : {X : Type 0} (change : X → X) (xs : List X) (k : ℕ)
@@ -86,27 +72,15 @@ pub map_next : {X : Type 0} (change : X → X) (xs : List X) (k : ℕ)
 map_next change xs k = rw add-one (map_next_suc change xs k)
 
 -- leaving out an entry that isn't kept keeps the same
-pub filter_out : {X : Type 0} (keep : X → Bool) (xs : List X) (k : ℕ) (x : X) → slice_get xs k ≡ Some x → keep x ≡ false
+pub filter_out : {X : Type 0} (keep : X → Bool) (xs : List X) (k : ℕ) {x : X} → slice_get xs k ≡ Some x → keep x ≡ false
     → filter keep (remove xs k) ≡ filter keep xs
-filter_out keep [] k x here lost = absurd cc
-filter_out keep (y ∷ ys) zero x here lost =
+filter_out keep [] k here lost = absurd cc
+filter_out keep (y ∷ ys) zero {x} here lost =
     let same : y ≡ x = cc in
     rw (same, lost) refl
-filter_out keep (y ∷ ys) (suc k) x here lost =
-    elim (keep y) as (λ b. cond b (y ∷ filter keep (remove ys k)) (filter keep (remove ys k)) ≡ cond b (y ∷ filter keep ys) (filter keep ys)) [
-      | true ↦ ap (λ zs. y ∷ zs) (filter_out keep ys k x here lost)
-      | false ↦ filter_out keep ys k x here lost
-    ]
+filter_out keep (y ∷ ys) (suc k) here lost = grind (arith, filter_out keep ys k)
 
 -- where each entry is kept, all are
 pub filter_all : {X : Type 0} (keep : X → Bool) (xs : List X) → list_all keep xs ≡ true → filter keep xs ≡ xs
 filter_all keep [] all = refl
-filter_all keep (y ∷ ys) all =
-    let both = and_parts (keep y) (list_all keep ys) all in
-    rw both.0 (ap (λ zs. y ∷ zs) (filter_all keep ys both.1))
-
--- what stands before a place stays when that place's entry is taken out
-pub take_remove : {X : Type 0} (xs : List X) (k : ℕ) → k < length xs → take k (remove xs k) ≡ take k xs
-take_remove [] k within = absurd (omega arith)
-take_remove (y ∷ ys) zero within = refl
-take_remove (y ∷ ys) (suc k) within = ap (λ zs. y ∷ zs) (take_remove ys k (omega arith))
+filter_all keep (y ∷ ys) all = grind (arith, filter_all keep ys)

@@ -1,5 +1,6 @@
 -- Ids that differ, and of which none is 0, stay so through each operation on records.
-use Rattle.std.proofs.Common.{◌≡◌, ℕ, ◌<◌, Bool, true, false, cond, List, [], ◌∷◌, map, refl, ap, arith}
+use Rattle.std.proofs.lemmas.Grind.{common_steps}
+use Rattle.std.proofs.Common.{◌≡◌, ℕ, ◌<◌, Bool, false, cond, List, [], ◌∷◌, map, refl, arith}
 use Rattle.std.specs.Prelude.{filter, ◌||◌, ◌==◌}
 use Rattle.std.proofs.lemmas.Bool.Decides.{nat_tests}
 use Rattle.pdb_values.specs.Contents.{ContentValue}
@@ -10,45 +11,29 @@ use Rattle.palm_device.specs.Records.{has_id, rewritten, put_record, without_rec
 use Rattle.palm_device.specs.Soundness.{ids_of, AreIds}
 
 or_false : (a b : Bool) → (a || b) ≡ false → (a ≡ false) × (b ≡ false)
-or_false true b none = absurd cc
-or_false false b none = (refl, none)
+or_false a b none = grind arith
 
 -- ---- records that are left out
 
 pub among_filter : (keep : Record → Bool) (id : ℕ) (items : List Record) → is_among id (ids_of items) ≡ false
     → is_among id (ids_of (filter keep items)) ≡ false
 among_filter keep id [] none = refl
-among_filter keep id (item ∷ items) none =
-    let both = or_false (item.id == id) (is_among id (ids_of items)) none in
-    let later : is_among id (ids_of (filter keep items)) ≡ false = among_filter keep id items both.1 in
-    elim (keep item) as (λ b. is_among id (ids_of (cond b (item ∷ filter keep items) (filter keep items))) ≡ false)
-    [ true ↦ rw both.0 later | false ↦ later ]
+among_filter keep id (item ∷ items) none = grind (arith, among_filter keep id items)
 
 pub AreIds-filter : (keep : Record → Bool) (items : List Record) → AreIds (ids_of items) → AreIds (ids_of (filter keep items))
 AreIds-filter keep [] ids = tt
-AreIds-filter keep (item ∷ items) ids =
-    let later : AreIds (ids_of (filter keep items)) = AreIds-filter keep items ids.2 in
-    let other : is_among item.id (ids_of (filter keep items)) ≡ false = among_filter keep item.id items ids.1 in
-    elim (keep item) as (λ b. AreIds (ids_of (cond b (item ∷ filter keep items) (filter keep items))))
-    [ true ↦ (ids.0, other, later) | false ↦ later ]
+AreIds-filter keep (item ∷ items) ids = grind (arith, nat_tests, common_steps, AreIds-filter keep items, among_filter)
 
 among_without : (test : Record → Bool) (id : ℕ) (items : List Record) → is_among id (ids_of items) ≡ false
     → is_among id (ids_of (without_entry test items)) ≡ false
 unfolding without_entry
 among_without test id [] none = refl
-among_without test id (item ∷ items) none =
-    let both = or_false (item.id == id) (is_among id (ids_of items)) none in
-    let later : is_among id (ids_of (without_entry test items)) ≡ false = among_without test id items both.1 in
-    elim (test item) as (λ b. is_among id (ids_of (cond b items (item ∷ without_entry test items))) ≡ false)
-    [ true ↦ both.1 | false ↦ rw both.0 later ]
+among_without test id (item ∷ items) none = grind (arith, among_without test id items)
 
 AreIds-without : (test : Record → Bool) (items : List Record) → AreIds (ids_of items) → AreIds (ids_of (without_entry test items))
 unfolding without_entry
 AreIds-without test [] ids = tt
-AreIds-without test (item ∷ items) ids =
-    let later : AreIds (ids_of (without_entry test items)) = AreIds-without test items ids.2 in
-    let other : is_among item.id (ids_of (without_entry test items)) ≡ false = among_without test item.id items ids.1 in
-    elim (test item) as (λ b. AreIds (ids_of (cond b items (item ∷ without_entry test items)))) [ true ↦ ids.2 | false ↦ (ids.0, other, later) ]
+AreIds-without test (item ∷ items) ids = grind (arith, nat_tests, common_steps, AreIds-without test items, among_without)
 
 pub AreIds-without_record : (id : ℕ) (items : List Record) → AreIds (ids_of items) → AreIds (ids_of (without_record id items))
 AreIds-without_record id items ids = AreIds-without (has_id id) items ids
@@ -58,7 +43,7 @@ AreIds-without_record id items ids = AreIds-without (has_id id) items ids
 pub ids_of-map : (change : Record → Record) (items : List Record) → ((item : Record) → (change item).id ≡ item.id)
     → ids_of (map change items) ≡ ids_of items
 ids_of-map change [] same = refl
-ids_of-map change (item ∷ items) same = rw (same item) (ap (λ (ids : List ℕ). item.id ∷ ids) (ids_of-map change items same))
+ids_of-map change (item ∷ items) same = grind (arith, ids_of-map change items)
 
 -- ---- a record that is put
 
@@ -69,19 +54,14 @@ among_put : (id : ℕ) (content : ContentValue) (other : ℕ) (items : List Reco
     → is_among other (ids_of (put_record id content items)) ≡ false
 unfolding put_entry
 among_put id content other [] differ none = rw differ refl
-among_put id content other (item ∷ items) differ none =
-    let both = or_false (item.id == other) (is_among other (ids_of items)) none in
-    let later : is_among other (ids_of (put_record id content items)) ≡ false = among_put id content other items differ both.1 in
-    elim (item.id == id) as (λ b. is_among other (ids_of (cond b (rewritten content item ∷ items) (item ∷ put_record id content items))) ≡ false)
-    [ true ↦ none | false ↦ rw both.0 later ]
+among_put id content other (item ∷ items) differ none = grind (arith, among_put id content other items)
 
 put_by : (id : ℕ) (content : ContentValue) (item : Record) (items : List Record) (b : Bool) → (item.id == id) ≡ b → AreIds (ids_of (item ∷ items))
     → AreIds (ids_of (put_record id content items)) → AreIds (ids_of (cond b (rewritten content item ∷ items) (item ∷ put_record id content items)))
-put_by id content item items true is ids later = ids
-put_by id content item items false is ids later = (ids.0, among_put id content item.id items (other_way item.id id is) ids.1, later)
+put_by id content item items b is ids later = grind (arith, among_put, other_way)
 
 pub AreIds-put : (id : ℕ) (content : ContentValue) (items : List Record) → 0 < id → AreIds (ids_of items)
     → AreIds (ids_of (put_record id content items))
 unfolding put_entry
 AreIds-put id content [] some ids = (some, refl, tt)
-AreIds-put id content (item ∷ items) some ids = put_by id content item items (item.id == id) refl ids (AreIds-put id content items some ids.2)
+AreIds-put id content (item ∷ items) some ids = grind (arith, nat_tests, common_steps, AreIds-put id content items, put_by)

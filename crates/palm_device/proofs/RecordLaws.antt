@@ -1,10 +1,9 @@
 -- A record that is put, by its place.
-use Rattle.std.proofs.Common.{◌≡◌, ℕ, List, [], ◌∷◌, ◌++◌, Option, Some, None, slice_get, slice_set, refl}
+use Rattle.std.proofs.Common.{◌≡◌, ℕ, List, [], ◌∷◌, ◌++◌, Some, None, slice_get, slice_set, arith}
 use Rattle.std.specs.Prelude.{remove}
-use Rattle.std.specs.Option.{option_map}
 use Rattle.pdb_values.specs.Contents.{ContentValue}
 use Rattle.pdb_values.specs.declared.record.Record.{Record}
-use Rattle.palm_device.specs.Entries.{change_at, set_some}
+use Rattle.palm_device.specs.Entries.{change_at}
 use Rattle.palm_device.specs.Records.{has_id, place_of_id, rewritten, new_record, put_record, without_record}
 use Rattle.pdb_values.proofs.PlaceLaws.{position_within}
 use Rattle.palm_device.proofs.EntryLaws.{put_entry_at, put_entry_new, without_entry_at, without_entry_none}
@@ -13,26 +12,22 @@ use Rattle.palm_device.proofs.EntryLaws.{put_entry_at, put_entry_new, without_en
 pub put_record_at : (id : ℕ) (content : ContentValue) (records : List Record) (place : ℕ) (item : Record) → place_of_id id records ≡ Some place
     → slice_get records place ≡ Some item → put_record id content records ≡ slice_set records place (rewritten content item)
 put_record_at id content records place item found here =
-    put_entry_at (has_id id) (rewritten content) (new_record id content) records place item found here
+    put_entry_at (has_id id) (rewritten content) (new_record id content) records found here
 
 -- the same as a change at its place
 pub put_record_placed : (id : ℕ) (content : ContentValue) (records : List Record) (place : ℕ) → place_of_id id records ≡ Some place
     → put_record id content records ≡ change_at (rewritten content) place records
-put_record_placed id content records place found = by (slice_get records place) refl
-  where
-    by : (o : Option Record) → slice_get records place ≡ o → put_record id content records ≡ set_some place records (option_map (rewritten content) o)
-    by None none = absurd (position_within (has_id id) records place found none)
-    by (Some item) here = put_record_at id content records place item found here
+put_record_placed id content records place found = grind (arith, position_within, put_record_at)
 
 -- a new last one
 pub put_record_new : (id : ℕ) (content : ContentValue) (records : List Record) → place_of_id id records ≡ None
     → put_record id content records ≡ records ++ new_record id content ∷ []
-put_record_new id content records none = put_entry_new (has_id id) (rewritten content) (new_record id content) records none
+put_record_new id content records none = grind (arith, put_entry_new)
 
 -- the record at its place is gone
 pub without_record_at : (id : ℕ) (records : List Record) (place : ℕ) → place_of_id id records ≡ Some place
     → without_record id records ≡ remove records place
-without_record_at id records place found = without_entry_at (has_id id) records place found
+without_record_at id records place found = without_entry_at (has_id id) records found
 
 -- where there is none, all stay
 pub without_record_none : (id : ℕ) (records : List Record) → place_of_id id records ≡ None → without_record id records ≡ records

@@ -1,11 +1,13 @@
 -- Databases by name: what a look-up finds once one is put or taken out, that names in byte order stay so, and that two lists
 -- in order that answer alike by name are equal.
-use Rattle.std.proofs.Common.{◌≡◌, ℕ, zero, suc, ◌+◌, Bool, true, false, cond, List, [], ◌∷◌, length, refl, ap, subst, sym, ◌∙◌, arith, one-add, Option, Some, None, slice_get}
-use Rattle.std.specs.Prelude.{All, find, insert, is_some, not, option_and_then}
+use Rattle.std.proofs.lemmas.Bool.Decides.{nat_tests}
+use Rattle.std.proofs.lemmas.Grind.{common_steps}
+use Rattle.std.proofs.Common.{◌≡◌, ℕ, zero, suc, ◌+◌, Bool, true, false, cond, List, [], ◌∷◌, length, refl, ap, subst, sym, ◌∙◌, arith, Option, Some, None, slice_get}
+use Rattle.std.specs.Prelude.{All, find, is_some}
 use Rattle.std.specs.List.{AllByRecursion, list_all}
 use Rattle.std.specs.Option.{option_map}
 use Rattle.std.specs.declared.cmp.Ordering.{Ordering}
-use Rattle.std.specs.declared.cmp.Ordering.TheVariants.{Less, Equal, Greater}
+use Rattle.std.specs.declared.cmp.Ordering.TheVariants.{Less}
 use Rattle.std.specs.Ordering.{is_eq, is_lt, nat_cmp, ordering_reverse}
 use Rattle.std.specs.Cmp.Lexicographic.{slice_cmp, nat_list_cmp_total}
 use Rattle.std.specs.Str.{bytes_eq}
@@ -14,7 +16,7 @@ use Rattle.std.proofs.lemmas.Map.Text.{is_eq-slice_cmp}
 use Rattle.std.proofs.lemmas.Slice.Eq.{bytes_eq-Decides}
 use Rattle.pdb_values.specs.Databases.{DatabaseValue}
 use Rattle.pdb_values.proofs.PlaceLaws.{find-position, is_some-position, position-cons}
-use Rattle.pdb_values.specs.NamedDatabases.{NamesRise, comes_before, database_of, is_named, place_for, place_of, put_at, remove_at, replaced, set_at, with_new, with_put, without_named}
+use Rattle.pdb_values.specs.NamedDatabases.{NamesRise, comes_before, database_of, is_named, place_of, remove_at, replaced, with_new, with_put, without_named}
 
 -- ---- names
 
@@ -28,19 +30,13 @@ pub bytes_eq-other : (a b : List ℕ) → (a ≡ b → ⊥) → bytes_eq a b ≡
 bytes_eq-other a b other = false_from_ne_true (bytes_eq a b) (λ same. other (bytes_eq-is a b same))
 
 less : (o : Ordering) → is_lt o ≡ true → o ≡ Less
-less Less is = refl
-less Equal is = absurd cc
-less Greater is = absurd cc
+less o is = grind arith
 
 less_differs : (o : Ordering) → is_lt o ≡ true → is_eq o ≡ false
-less_differs Less is = refl
-less_differs Equal is = absurd cc
-less_differs Greater is = refl
+less_differs o is = grind arith
 
 turned_less : (o : Ordering) → is_eq o ≡ false → is_lt (ordering_reverse o) ≡ false → is_lt o ≡ true
-turned_less Less differ not_before = refl
-turned_less Equal differ not_before = absurd cc
-turned_less Greater differ not_before = absurd cc
+turned_less o differ not_before = grind arith
 
 -- what stands before what stands before a third
 pub comes_before-trans : (a b c : List ℕ) → comes_before a b ≡ true → comes_before b c ≡ true → comes_before a c ≡ true
@@ -56,92 +52,42 @@ pub comes_before-differs : (a b : List ℕ) → comes_before a b ≡ true → by
 comes_before-differs a b first = sym (is_eq-slice_cmp a b) ∙ less_differs (slice_cmp nat_cmp a b) first
 
 pub comes_before-differs_from : (a b : List ℕ) → comes_before a b ≡ true → bytes_eq b a ≡ false
-comes_before-differs_from a b first =
-    bytes_eq-other b a (λ same. both_ways (bytes_eq a b) (comes_before-differs a b first) (subst (λ n. bytes_eq n b ≡ true) same (bytes_eq-own b)))
+comes_before-differs_from a b first = grind (arith, nat_tests, common_steps, bytes_eq-other, both_ways, comes_before-differs, bytes_eq-own)
 
 all_behind : (a b : List ℕ) (databases : List DatabaseValue) → comes_before a b ≡ true
     → list_all (λ later. comes_before b later.head.name) databases ≡ true → list_all (λ later. comes_before a later.head.name) databases ≡ true
 all_behind a b [] first all = refl
-all_behind a b (database ∷ databases) first all =
-    let both = and_parts (comes_before b database.head.name) (list_all (λ later. comes_before b later.head.name) databases) all in
-    rw (comes_before-trans a b database.head.name first both.0) (all_behind a b databases first both.1)
+all_behind a b (database ∷ databases) first all = grind (arith, nat_tests, common_steps, all_behind a b databases, and_parts, comes_before-trans)
 
 -- ---- places
 
 -- where no database has a name, the name has no place
 pub place_of-none : (name : List ℕ) (databases : List DatabaseValue) → database_of name databases ≡ None → place_of name databases ≡ None
-place_of-none name databases none = by (place_of name databases) (is_some-position (is_named name) databases ∙ ap is_some none)
-  where
-    by : (o : Option ℕ) → is_some o ≡ false → o ≡ None
-    by None e = refl
-    by (Some place) e = absurd cc
+place_of-none name databases none = grind (arith, nat_tests, common_steps, is_some-position (is_named name) databases)
 
 -- where a database has a name, it stands at its place
 pub place_of-some : (name : List ℕ) (databases : List DatabaseValue) (found : DatabaseValue) → database_of name databases ≡ Some found
     → (place : ℕ) × (place_of name databases ≡ Some place) × (slice_get databases place ≡ Some found)
-place_of-some name databases found is = by (place_of name databases) refl (sym (find-position (is_named name) databases) ∙ is)
-  where
-    by : (o : Option ℕ) → place_of name databases ≡ o → option_and_then (slice_get databases) o ≡ Some found → (place : ℕ)
-        × (place_of name databases ≡ Some place) × (slice_get databases place ≡ Some found)
-    by None at here = absurd cc
-    by (Some place) at here = (place, at, here)
+place_of-some name databases found is = grind (arith, nat_tests, common_steps, find-position)
 
 -- a database that was found has the name
 pub database_of-name : (name : List ℕ) (databases : List DatabaseValue) (found : DatabaseValue) → database_of name databases ≡ Some found
     → found.head.name ≡ name
 database_of-name name [] found is = absurd cc
-database_of-name name (database ∷ databases) found is = by (is_named name database) refl is (database_of-name name databases found)
-  where
-    by : (b : Bool) → is_named name database ≡ b → cond b (Some database) (database_of name databases) ≡ Some found
-        → (database_of name databases ≡ Some found → found.head.name ≡ name) → found.head.name ≡ name
-    by true named here later = let same : database ≡ found = cc in
-        subst (λ (d : DatabaseValue). d.head.name ≡ name) same (bytes_eq-is database.head.name name named)
-    by false named here later = later here
-
--- each place's database is found by its name
-pub place_of-at : (databases : List DatabaseValue) (place : ℕ) (database : DatabaseValue) → NamesRise databases
-    → slice_get databases place ≡ Some database → place_of database.head.name databases ≡ Some place
-place_of-at [] place database rise here = absurd cc
-place_of-at (first ∷ databases) zero database rise here =
-    let same : first ≡ database = cc in
-    rw position-cons (rw (same, bytes_eq-own database.head.name) refl)
-place_of-at (first ∷ databases) (suc place) database rise here =
-    let behind : comes_before first.head.name database.head.name ≡ true =
-    all_at (λ later. comes_before first.head.name later.head.name) databases place database rise.0 here in
-    rw position-cons (rw (comes_before-differs first.head.name database.head.name behind, place_of-at databases place database rise.1 here) refl)
-  where
-    all_at : (test : DatabaseValue → Bool) (others : List DatabaseValue) (k : ℕ) (d : DatabaseValue) → list_all test others ≡ true
-        → slice_get others k ≡ Some d → test d ≡ true
-    all_at test [] k d all there = absurd cc
-    all_at test (x ∷ xs) zero d all there = let same : x ≡ d = cc in
-        subst (λ (y : DatabaseValue). test y ≡ true) same (and_parts (test x) (list_all test xs) all).0
-    all_at test (x ∷ xs) (suc k) d all there = all_at test xs k d (and_parts (test x) (list_all test xs) all).1 there
-
-pub database_of-at : (databases : List DatabaseValue) (place : ℕ) (database : DatabaseValue) → NamesRise databases
-    → slice_get databases place ≡ Some database → database_of database.head.name databases ≡ Some database
-database_of-at databases place database rise here = find-position (is_named database.head.name) databases
-    ∙ rw (place_of-at databases place database rise here) here
+database_of-name name (database ∷ databases) found is = grind (arith, nat_tests, common_steps, database_of-name name databases found, bytes_eq-is)
 
 -- a look-up in what stands behind a name finds nothing of that name
 database_of-behind : (name : List ℕ) (databases : List DatabaseValue) → list_all (λ later. comes_before name later.head.name) databases ≡ true
     → database_of name databases ≡ None
 database_of-behind name [] all = refl
 database_of-behind name (database ∷ databases) all =
-    let both = and_parts (comes_before name database.head.name) (list_all (λ later. comes_before name later.head.name) databases) all in
-    rw (comes_before-differs_from name database.head.name both.0) (database_of-behind name databases both.1)
+    grind (arith, nat_tests, common_steps, database_of-behind name databases, and_parts, comes_before-differs_from)
 
 -- a database that is found passes each test that all pass
 found_passes : (test : DatabaseValue → Bool) (name : List ℕ) (databases : List DatabaseValue) (found : DatabaseValue)
     → list_all test databases ≡ true → database_of name databases ≡ Some found → test found ≡ true
 found_passes test name [] found all is = absurd cc
-found_passes test name (database ∷ databases) found all is =
-    let both = and_parts (test database) (list_all test databases) all in
-    by (is_named name database) is both.0 (found_passes test name databases found both.1)
-  where
-    by : (b : Bool) → cond b (Some database) (database_of name databases) ≡ Some found → test database ≡ true
-        → (database_of name databases ≡ Some found → test found ≡ true) → test found ≡ true
-    by true here passes later = let same : database ≡ found = cc in subst (λ (d : DatabaseValue). test d ≡ true) same passes
-    by false here passes later = later here
+found_passes test name (database ∷ databases) found all is = grind (arith, nat_tests, common_steps, found_passes test name databases found)
 
 -- ---- two lists
 
@@ -149,14 +95,8 @@ found_passes test name (database ∷ databases) found all is =
 pub database_of-same : (xs ys : List DatabaseValue) → NamesRise xs → NamesRise ys → ((name : List ℕ) → database_of name xs ≡ database_of name ys)
     → xs ≡ ys
 database_of-same [] [] rise rise' alike = refl
-database_of-same [] (y ∷ ys) rise rise' alike =
-    let none : None ≡ cond (bytes_eq y.head.name y.head.name) (Some y) (database_of y.head.name ys) = alike y.head.name in
-    let some : None ≡ Some y = none ∙ ap (λ b. cond b (Some y) (database_of y.head.name ys)) (bytes_eq-own y.head.name) in
-    absurd cc
-database_of-same (x ∷ xs) [] rise rise' alike =
-    let none : cond (bytes_eq x.head.name x.head.name) (Some x) (database_of x.head.name xs) ≡ None = alike x.head.name in
-    let some : Some x ≡ None = sym (ap (λ b. cond b (Some x) (database_of x.head.name xs)) (bytes_eq-own x.head.name)) ∙ none in
-    absurd cc
+database_of-same [] (y ∷ ys) rise rise' alike = grind (arith, nat_tests, common_steps, bytes_eq-own y.head.name)
+database_of-same (x ∷ xs) [] rise rise' alike = grind (arith, nat_tests, common_steps, bytes_eq-own x.head.name)
 database_of-same (x ∷ xs) (y ∷ ys) rise rise' alike =
     let first = first_same (bytes_eq y.head.name x.head.name) refl in
     let rest : xs ≡ ys = database_of-same xs ys rise.1 rise'.1 (λ name. behind first name (bytes_eq x.head.name name) refl) in
@@ -202,33 +142,12 @@ database_of-same (x ∷ xs) (y ∷ ys) rise rise' alike =
 -- it stands in front of the first greater name
 pub with_new-cons : (new x : DatabaseValue) (xs : List DatabaseValue)
     → with_new new (x ∷ xs) ≡ cond (comes_before new.head.name x.head.name) (new ∷ x ∷ xs) (x ∷ with_new new xs)
-with_new-cons new x xs = by (place_for new.head.name xs) (comes_before new.head.name x.head.name)
-  where
-    by : (n : ℕ) (b : Bool) → insert (x ∷ xs) (cond (not b) (1 + n) 0) new ≡ cond b (new ∷ x ∷ xs) (x ∷ insert xs n new)
-    by n true = refl
-    by n false = rw one-add refl
+with_new-cons new x xs = grind arith
 
 find-with_new : (test : DatabaseValue → Bool) (new : DatabaseValue) (xs : List DatabaseValue) → (test new ≡ true → find test xs ≡ None)
     → find test (with_new new xs) ≡ cond (test new) (Some new) (find test xs)
 find-with_new test new [] alone = refl
-find-with_new test new (x ∷ xs) alone =
-    rw with_new-cons (front (comes_before new.head.name x.head.name) (find-with_new test new xs (λ passes. (alone_in (test x) (alone passes)).1)))
-  where
-    alone_in : (b : Bool) → cond b (Some x) (find test xs) ≡ None → (b ≡ false) × (find test xs ≡ None)
-    alone_in true none = absurd cc
-    alone_in false none = (refl, none)
-
-    turn : (p n : Bool) (rest : Option DatabaseValue) → rest ≡ cond n (Some new) (find test xs) → (n ≡ true → p ≡ false)
-        → cond p (Some x) rest ≡ cond n (Some new) (cond p (Some x) (find test xs))
-    turn true true rest later apart = absurd (both_ways true (apart refl) refl)
-    turn true false rest later apart = refl
-    turn false true rest later apart = later
-    turn false false rest later apart = later
-
-    front : (b : Bool) → find test (with_new new xs) ≡ cond (test new) (Some new) (find test xs)
-        → find test (cond b (new ∷ x ∷ xs) (x ∷ with_new new xs)) ≡ cond (test new) (Some new) (cond (test x) (Some x) (find test xs))
-    front true later = refl
-    front false later = turn (test x) (test new) (find test (with_new new xs)) later (λ passes. (alone_in (test x) (alone passes)).0)
+find-with_new test new (x ∷ xs) alone = grind (arith, nat_tests, common_steps, find-with_new test new xs, with_new-cons, both_ways)
 
 -- what a look-up finds once there is one more
 pub database_of-with_new : (name : List ℕ) (new : DatabaseValue) (databases : List DatabaseValue) → database_of new.head.name databases ≡ None
@@ -240,22 +159,12 @@ database_of-with_new name new databases none =
 pub AllByRecursion-with_new : (P : DatabaseValue → Type 0) (new : DatabaseValue) (databases : List DatabaseValue) → P new
     → AllByRecursion P databases → AllByRecursion P (with_new new databases)
 AllByRecursion-with_new P new [] here each = (here, tt)
-AllByRecursion-with_new P new (x ∷ xs) here each =
-    rw with_new-cons (by (comes_before new.head.name x.head.name) (AllByRecursion-with_new P new xs here each.1))
-  where
-    by : (b : Bool) → AllByRecursion P (with_new new xs) → AllByRecursion P (cond b (new ∷ x ∷ xs) (x ∷ with_new new xs))
-    by true later = (here, each)
-    by false later = (each.0, later)
+AllByRecursion-with_new P new (x ∷ xs) here each = grind (arith, nat_tests, common_steps, AllByRecursion-with_new P new xs, with_new-cons)
 
 list_all-with_new : (test : DatabaseValue → Bool) (new : DatabaseValue) (databases : List DatabaseValue) → test new ≡ true
     → list_all test databases ≡ true → list_all test (with_new new databases) ≡ true
 list_all-with_new test new [] here all = rw here refl
-list_all-with_new test new (x ∷ xs) here all = let both = and_parts (test x) (list_all test xs) all in
-    rw with_new-cons (by (comes_before new.head.name x.head.name) both.0 (list_all-with_new test new xs here both.1))
-  where
-    by : (b : Bool) → test x ≡ true → list_all test (with_new new xs) ≡ true → list_all test (cond b (new ∷ x ∷ xs) (x ∷ with_new new xs)) ≡ true
-    by true first later = rw here all
-    by false first later = rw first later
+list_all-with_new test new (x ∷ xs) here all = grind (arith, nat_tests, common_steps, list_all-with_new test new xs, and_parts, with_new-cons)
 
 pub NamesRise-with_new : (new : DatabaseValue) (databases : List DatabaseValue) → database_of new.head.name databases ≡ None → NamesRise databases
     → NamesRise (with_new new databases)
@@ -275,23 +184,13 @@ NamesRise-with_new new (x ∷ xs) none rise =
 
 pub length-with_new : (new : DatabaseValue) (databases : List DatabaseValue) → length (with_new new databases) ≡ length databases + 1
 length-with_new new [] = omega arith
-length-with_new new (x ∷ xs) = rw with_new-cons (by (comes_before new.head.name x.head.name) (length-with_new new xs))
-  where
-    by : (b : Bool) → length (with_new new xs) ≡ length xs + 1 → length (cond b (new ∷ x ∷ xs) (x ∷ with_new new xs)) ≡ length (x ∷ xs) + 1
-    by true later = omega arith
-    by false later = omega arith
+length-with_new new (x ∷ xs) = grind (arith, nat_tests, common_steps, length-with_new new xs)
 
 -- ---- one in place of another
 
 pub replaced-cons : (new x : DatabaseValue) (xs : List DatabaseValue)
     → replaced new (x ∷ xs) ≡ cond (bytes_eq x.head.name new.head.name) (new ∷ xs) (x ∷ replaced new xs)
-replaced-cons new x xs = rw position-cons (by (bytes_eq x.head.name new.head.name) (place_of new.head.name xs))
-  where
-    by : (b : Bool) (o : Option ℕ)
-        → set_at (cond b (Some 0) (option_map (λ place. suc place) o)) new (x ∷ xs) ≡ cond b (new ∷ xs) (x ∷ set_at o new xs)
-    by true o = refl
-    by false None = refl
-    by false (Some place) = refl
+replaced-cons new x xs = grind arith
 
 -- where none has its name, all stay
 pub replaced-none : (new : DatabaseValue) (databases : List DatabaseValue) → database_of new.head.name databases ≡ None
@@ -302,39 +201,14 @@ replaced-none new databases none = rw (place_of-none new.head.name databases non
 pub replaced-own : (database : DatabaseValue) (databases : List DatabaseValue) → database_of database.head.name databases ≡ Some database
     → replaced database databases ≡ databases
 replaced-own database [] here = absurd cc
-replaced-own database (x ∷ xs) here = rw replaced-cons (by (bytes_eq x.head.name database.head.name) here (replaced-own database xs))
-  where
-    by : (b : Bool) → cond b (Some x) (database_of database.head.name xs) ≡ Some database
-        → (database_of database.head.name xs ≡ Some database → replaced database xs ≡ xs)
-        → cond b (database ∷ xs) (x ∷ replaced database xs) ≡ x ∷ xs
-    by true found later = let same : x ≡ database = cc in ap (λ (d : DatabaseValue). d ∷ xs) (sym same)
-    by false found later = ap (λ (ds : List DatabaseValue). x ∷ ds) (later found)
+replaced-own database (x ∷ xs) here = grind (arith, nat_tests, common_steps, replaced-own database xs)
 
 -- the last of two in one place counts
 pub replaced-replaced : (first last : DatabaseValue) (databases : List DatabaseValue) → first.head.name ≡ last.head.name
     → replaced last (replaced first databases) ≡ replaced last databases
 replaced-replaced first last [] same = refl
 replaced-replaced first last (x ∷ xs) same =
-    rw (replaced-cons first x xs) (by (bytes_eq x.head.name first.head.name) refl (replaced-replaced first last xs same))
-  where
-    by : (b : Bool) → bytes_eq x.head.name first.head.name ≡ b → replaced last (replaced first xs) ≡ replaced last xs
-        → replaced last (cond b (first ∷ xs) (x ∷ replaced first xs)) ≡ replaced last (x ∷ xs)
-    by true is later =
-        let here : bytes_eq first.head.name last.head.name ≡ true = ap (λ n. bytes_eq first.head.name n) (sym same) ∙ bytes_eq-own first.head.name in
-        let there : bytes_eq x.head.name last.head.name ≡ true = ap (λ n. bytes_eq x.head.name n) (sym same) ∙ is in
-        let inner : replaced last (first ∷ xs) ≡ last ∷ xs = replaced-cons last first xs
-        ∙ cond-true (bytes_eq first.head.name last.head.name) (last ∷ xs) (first ∷ replaced last xs) here in
-        let outer : replaced last (x ∷ xs) ≡ last ∷ xs = replaced-cons last x xs
-        ∙ cond-true (bytes_eq x.head.name last.head.name) (last ∷ xs) (x ∷ replaced last xs) there in
-        inner ∙ sym outer
-    by false is later =
-        let other : bytes_eq x.head.name last.head.name ≡ false = ap (λ n. bytes_eq x.head.name n) (sym same) ∙ is in
-        let inner : replaced last (x ∷ replaced first xs) ≡ x ∷ replaced last (replaced first xs) =
-        replaced-cons last x (replaced first xs)
-        ∙ cond-false (bytes_eq x.head.name last.head.name) (last ∷ replaced first xs) (x ∷ replaced last (replaced first xs)) other in
-        let outer : replaced last (x ∷ xs) ≡ x ∷ replaced last xs = replaced-cons last x xs
-        ∙ cond-false (bytes_eq x.head.name last.head.name) (last ∷ xs) (x ∷ replaced last xs) other in
-        inner ∙ ap (λ (ds : List DatabaseValue). x ∷ ds) later ∙ sym outer
+    grind (arith, nat_tests, common_steps, replaced-replaced first last xs, replaced-cons, bytes_eq-own, cond-true, cond-false)
 
 -- what a look-up finds
 pub database_of-replaced : (name : List ℕ) (new was : DatabaseValue) (databases : List DatabaseValue) → database_of new.head.name databases ≡ Some was
@@ -370,26 +244,13 @@ database_of-replaced name new was (x ∷ xs) here =
 pub AllByRecursion-replaced : (P : DatabaseValue → Type 0) (new : DatabaseValue) (databases : List DatabaseValue) → P new
     → AllByRecursion P databases → AllByRecursion P (replaced new databases)
 AllByRecursion-replaced P new [] here each = tt
-AllByRecursion-replaced P new (x ∷ xs) here each =
-    rw (replaced-cons new x xs) (by (bytes_eq x.head.name new.head.name) (AllByRecursion-replaced P new xs here each.1))
-  where
-    by : (b : Bool) → AllByRecursion P (replaced new xs) → AllByRecursion P (cond b (new ∷ xs) (x ∷ replaced new xs))
-    by true later = (here, each.1)
-    by false later = (each.0, later)
+AllByRecursion-replaced P new (x ∷ xs) here each = grind (arith, nat_tests, common_steps, AllByRecursion-replaced P new xs)
 
 -- a test by name
 all_replaced : (test : List ℕ → Bool) (new : DatabaseValue) (databases : List DatabaseValue)
     → list_all (λ later. test later.head.name) databases ≡ true → list_all (λ later. test later.head.name) (replaced new databases) ≡ true
 all_replaced test new [] all = refl
-all_replaced test new (x ∷ xs) all =
-    let both = and_parts (test x.head.name) (list_all (λ later. test later.head.name) xs) all in
-    rw (replaced-cons new x xs) (by (bytes_eq x.head.name new.head.name) refl both.0 both.1 (all_replaced test new xs both.1))
-  where
-    by : (b : Bool) → bytes_eq x.head.name new.head.name ≡ b → test x.head.name ≡ true → list_all (λ later. test later.head.name) xs ≡ true
-        → list_all (λ later. test later.head.name) (replaced new xs) ≡ true
-        → list_all (λ later. test later.head.name) (cond b (new ∷ xs) (x ∷ replaced new xs)) ≡ true
-    by true is first rest later = and_from _ _ (ap test (sym (bytes_eq-is x.head.name new.head.name is)) ∙ first) rest
-    by false is first rest later = and_from _ _ first later
+all_replaced test new (x ∷ xs) all = grind (arith, nat_tests, common_steps, all_replaced test new xs, and_parts, replaced-cons, and_from, bytes_eq-is)
 
 pub NamesRise-replaced : (new : DatabaseValue) (databases : List DatabaseValue) → NamesRise databases → NamesRise (replaced new databases)
 NamesRise-replaced new [] rise = tt
@@ -404,11 +265,7 @@ NamesRise-replaced new (x ∷ xs) rise = rw (replaced-cons new x xs) (by (bytes_
 
 pub length-replaced : (new : DatabaseValue) (databases : List DatabaseValue) → length (replaced new databases) ≡ length databases
 length-replaced new [] = refl
-length-replaced new (x ∷ xs) = rw (replaced-cons new x xs) (by (bytes_eq x.head.name new.head.name) (length-replaced new xs))
-  where
-    by : (b : Bool) → length (replaced new xs) ≡ length xs → length (cond b (new ∷ xs) (x ∷ replaced new xs)) ≡ length (x ∷ xs)
-    by true later = refl
-    by false later = ap suc later
+length-replaced new (x ∷ xs) = grind (arith, nat_tests, common_steps, length-replaced new xs)
 
 -- ---- one in place of another, or a new one
 
@@ -416,15 +273,7 @@ length-replaced new (x ∷ xs) = rw (replaced-cons new x xs) (by (bytes_eq x.hea
 pub with_put-cases : (P : List DatabaseValue → Type 0) (new : DatabaseValue) (databases : List DatabaseValue)
     → (database_of new.head.name databases ≡ None → P (with_new new databases))
     → ((was : DatabaseValue) → database_of new.head.name databases ≡ Some was → P (replaced new databases)) → P (with_put new databases)
-with_put-cases P new databases if_new if_there = by (database_of new.head.name databases) refl
-  where
-    by : (o : Option DatabaseValue) → database_of new.head.name databases ≡ o → P (with_put new databases)
-    by None none = rw (place_of-none new.head.name databases none) (if_new none)
-    by (Some was) here =
-        let at = place_of-some new.head.name databases was here in
-        let same : replaced new databases ≡ with_put new databases = ap (λ o. set_at o new databases) at.1
-        ∙ sym (ap (λ o. put_at o new databases) at.1) in
-        subst P same (if_there was here)
+with_put-cases P new databases if_new if_there = grind (arith, nat_tests, common_steps, place_of-none, place_of-some)
 
 -- what a look-up finds
 pub database_of-with_put : (name : List ℕ) (new : DatabaseValue) (databases : List DatabaseValue)
@@ -439,9 +288,7 @@ NamesRise-with_put new databases rise = with_put-cases NamesRise new databases (
 
 pub AllByRecursion-with_put : (P : DatabaseValue → Type 0) (new : DatabaseValue) (databases : List DatabaseValue) → P new
     → AllByRecursion P databases → AllByRecursion P (with_put new databases)
-AllByRecursion-with_put P new databases here each =
-    with_put-cases (AllByRecursion P) new databases (λ none. AllByRecursion-with_new P new databases here each)
-    (λ was there. AllByRecursion-replaced P new databases here each)
+AllByRecursion-with_put P new databases here each = grind (arith, nat_tests, common_steps)
 
 -- ---- one is taken out
 
@@ -454,19 +301,10 @@ without_named-cons name x xs = rw position-cons (by (bytes_eq x.head.name name) 
     by false None = refl
     by false (Some place) = refl
 
--- where none has the name, all stay
-pub without_named-none : (name : List ℕ) (databases : List DatabaseValue) → database_of name databases ≡ None
-    → without_named name databases ≡ databases
-without_named-none name databases none = rw (place_of-none name databases none) refl
-
 -- what a look-up finds
 pub database_of-without_named : (name gone : List ℕ) (databases : List DatabaseValue) → NamesRise databases
     → database_of name (without_named gone databases) ≡ cond (bytes_eq gone name) None (database_of name databases)
-database_of-without_named name gone [] rise = by (bytes_eq gone name)
-  where
-    by : (b : Bool) → ◌≡◌ {A = Option DatabaseValue} None (cond b None None)
-    by true = refl
-    by false = refl
+database_of-without_named name gone [] rise = grind (arith, nat_tests, common_steps)
 database_of-without_named name gone (x ∷ xs) rise =
     rw (without_named-cons gone x xs) (by (bytes_eq x.head.name gone) refl (database_of-without_named name gone xs rise.1))
   where
@@ -510,23 +348,21 @@ pub AllByRecursion-without_named : (P : DatabaseValue → Type 0) (name : List �
     → AllByRecursion P (without_named name databases)
 AllByRecursion-without_named P name [] each = tt
 AllByRecursion-without_named P name (x ∷ xs) each =
-    rw (without_named-cons name x xs) (by (bytes_eq x.head.name name) (AllByRecursion-without_named P name xs each.1))
-  where
-    by : (b : Bool) → AllByRecursion P (without_named name xs) → AllByRecursion P (cond b xs (x ∷ without_named name xs))
-    by true later = each.1
-    by false later = (each.0, later)
+    grind (arith, nat_tests, common_steps, without_named-cons name x xs, AllByRecursion-without_named P name xs each.1)
 
 list_all-without_named : (test : DatabaseValue → Bool) (name : List ℕ) (databases : List DatabaseValue) → list_all test databases ≡ true
     → list_all test (without_named name databases) ≡ true
 list_all-without_named test name [] all = refl
 list_all-without_named test name (x ∷ xs) all =
-    let both = and_parts (test x) (list_all test xs) all in
-    rw (without_named-cons name x xs) (by (bytes_eq x.head.name name) both.0 both.1 (list_all-without_named test name xs both.1))
-  where
-    by : (b : Bool) → test x ≡ true → list_all test xs ≡ true → list_all test (without_named name xs) ≡ true
-        → list_all test (cond b xs (x ∷ without_named name xs)) ≡ true
-    by true first rest later = rest
-    by false first rest later = and_from _ _ first later
+    grind (
+      arith,
+      nat_tests,
+      common_steps,
+      and_parts (test x) (list_all test xs) all,
+      without_named-cons name x xs,
+      x.head.name,
+      list_all-without_named test name xs (and_parts (test x) (list_all test xs) all).1,
+    )
 
 pub NamesRise-without_named : (name : List ℕ) (databases : List DatabaseValue) → NamesRise databases → NamesRise (without_named name databases)
 NamesRise-without_named name [] rise = tt
@@ -541,12 +377,7 @@ NamesRise-without_named name (x ∷ xs) rise =
 pub length-without_named : (name : List ℕ) (databases : List DatabaseValue)
     → length (without_named name databases) + cond (is_some (database_of name databases)) 1 0 ≡ length databases
 length-without_named name [] = refl
-length-without_named name (x ∷ xs) = rw (without_named-cons name x xs) (by (bytes_eq x.head.name name) (length-without_named name xs))
-  where
-    by : (b : Bool) → length (without_named name xs) + cond (is_some (database_of name xs)) 1 0 ≡ length xs
-        → length (cond b xs (x ∷ without_named name xs)) + cond (is_some (cond b (Some x) (database_of name xs))) 1 0 ≡ length (x ∷ xs)
-    by true later = omega arith
-    by false later = omega (arith, later)
+length-without_named name (x ∷ xs) = grind (arith, nat_tests, common_steps, length-without_named name xs)
 
 -- ---- what holds of each
 
@@ -554,16 +385,7 @@ length-without_named name (x ∷ xs) = rw (without_named-cons name x xs) (by (by
 pub AllByRecursion-database_of : (P : DatabaseValue → Type 0) (name : List ℕ) (databases : List DatabaseValue) (found : DatabaseValue)
     → AllByRecursion P databases → database_of name databases ≡ Some found → P found
 AllByRecursion-database_of P name [] found each is = absurd cc
-AllByRecursion-database_of P name (x ∷ xs) found each is = by (is_named name x) is (AllByRecursion-database_of P name xs found each.1)
-  where
-    by : (b : Bool) → cond b (Some x) (database_of name xs) ≡ Some found → (database_of name xs ≡ Some found → P found) → P found
-    by true here later = let same : x ≡ found = cc in subst P same each.0
-    by false here later = later here
-
--- what holds of each by its place holds of each in turn, and the other way round
-pub AllByRecursion-All : {X : Type 0} (P : X → Type 0) (xs : List X) → All P xs → AllByRecursion P xs
-AllByRecursion-All P [] all = tt
-AllByRecursion-All P (x ∷ xs) all = (all 0 x (omega arith), AllByRecursion-All P xs (λ k d within. all (suc k) d (omega arith)))
+AllByRecursion-database_of P name (x ∷ xs) found each is = grind (arith, nat_tests, common_steps, AllByRecursion-database_of P name xs found)
 
 pub All-AllByRecursion : {X : Type 0} (P : X → Type 0) (xs : List X) → AllByRecursion P xs → All P xs
 All-AllByRecursion P [] each k d within = absurd (omega arith)

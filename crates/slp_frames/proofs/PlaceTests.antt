@@ -1,36 +1,41 @@
 -- The tests by which the program tells what stands at a place.
-use Rattle.std.proofs.Common.{◌≡◌, ℕ, ◌+◌, ◌<◌, ◌≤◌, min, inr, Bool, true, false, cond, ◌&&◌, List, ◌++◌, length, take, drop, nat_eq, nat_lt, sym, ap, subst, ◌∙◌, arith}
+use Rattle.std.proofs.lemmas.Bool.Decides.{nat_tests}
+use Rattle.std.proofs.lemmas.Grind.{common_steps}
+use Rattle.std.proofs.Common.{◌≡◌, ℕ, ◌+◌, ◌<◌, ◌≤◌, min, Bool, true, false, cond, ◌&&◌, List, ◌++◌, length, take, drop, nat_eq, nat_lt, sym, ap, subst, ◌∙◌, arith}
 use Rattle.std.specs.List.{starts_with}
 use Rattle.std.proofs.Math.Seq.{take-append-add}
-use Rattle.std.proofs.lemmas.List.{append_assoc, length-append, length-take-le, length-drop, take_min, take-append-drop, drop_at}
+use Rattle.std.proofs.lemmas.List.{append_assoc, length-append, length-take-le, length-drop, take_min, take-append-drop}
 use Rattle.std.proofs.lemmas.Bool.{false_from_ne_true, both_ways, le-ltb, lt-ltb, cond-true, cond-false, and_left, and_right}
 use Rattle.byteorder.specs.Endian.{big_bytes}
 use Rattle.slp_frames.specs.Crc.{crc_of}
 use Rattle.slp_frames.specs.PacketText.{header_text, header_of, PacketValue, packet_text, text_len}
 use Rattle.slp_frames.specs.Places.{Begins}
-use Rattle.slp_frames.specs.PacketScan.{fields_at, packet_at, has_packet, has_header, is_open, Whole, Open, Dead, place_of}
+use Rattle.slp_frames.specs.PacketScan.{fields_at, packet_at, has_header, is_open, Whole, Open, Dead, place_of}
 use Rattle.slp_frames.specs.Numbers.{sync_bytes, header_len, max_body}
-use Rattle.slp_frames.proofs.PlaceLaws.{starts, starts_then, length-header_text, crc_bytes, packet_text-parts, length-behind, has_packet_stands, has_header-header_text, header_stands, place_of-packet, place_of-open}
+use Rattle.slp_frames.proofs.PlaceLaws.{starts_then, length-header_text, crc_bytes, packet_text-parts, length-behind, has_packet_stands, has_header-header_text, header_stands, place_of-packet, place_of-open}
 
 -- without a packet it is open or dead
 no_packet : (bytes : List ℕ) → (Begins (packet_at bytes) bytes → ⊥) → place_of bytes ≡ cond (is_open bytes) Open Dead
 unfolding place_of
-no_packet bytes none =
-    cond-false _ _ _ (false_from_ne_true (has_packet bytes) (λ test. none (has_packet_stands bytes test)))
+no_packet bytes none = grind (arith, cond-false, false_from_ne_true, has_packet_stands)
 
 -- fewer than ten bytes
-short : (bytes : List ℕ) (agrees : Bool) → length bytes < header_len → starts_with nat_eq sync_bytes (take (min 3 (length bytes)) bytes) ≡ agrees → place_of bytes ≡ cond agrees Open Dead
+short : (bytes : List ℕ) {agrees : Bool} → length bytes < header_len → starts_with nat_eq sync_bytes (take (min 3 (length bytes)) bytes) ≡ agrees
+    → place_of bytes ≡ cond agrees Open Dead
 unfolding is_open
-short bytes agrees few test =
-    let same : starts_with nat_eq sync_bytes (take 3 bytes) ≡ agrees = subst (λ (s : List ℕ). starts_with nat_eq sync_bytes s ≡ agrees) (take_min 3 bytes) test in
+short bytes {agrees} few test =
+    let same : starts_with nat_eq sync_bytes (take 3 bytes) ≡ agrees = subst (λ (s : List ℕ). starts_with nat_eq sync_bytes s ≡ agrees) (take_min 3 bytes)
+    test in
     let is : is_open bytes ≡ agrees = cond-true _ _ _ (lt-ltb (length bytes) header_len few) ∙ same in
-    no_packet bytes (λ begins. omega (arith, length-behind (packet_at bytes) bytes begins)) ∙ ap (λ (b : Bool). cond b Open Dead) is
+    no_packet bytes (λ begins. omega (arith, length-behind begins)) ∙ ap (λ (b : Bool). cond b Open Dead) is
 
-pub place_of_short : (bytes : List ℕ) → length bytes < header_len → starts_with nat_eq sync_bytes (take (min 3 (length bytes)) bytes) ≡ true → place_of bytes ≡ Open
-place_of_short bytes few test = short bytes true few test
+pub place_of_short : (bytes : List ℕ) → length bytes < header_len → starts_with nat_eq sync_bytes (take (min 3 (length bytes)) bytes) ≡ true
+    → place_of bytes ≡ Open
+place_of_short bytes few test = short bytes few test
 
-pub place_of_no_sync : (bytes : List ℕ) → length bytes < header_len → starts_with nat_eq sync_bytes (take (min 3 (length bytes)) bytes) ≡ false → place_of bytes ≡ Dead
-place_of_no_sync bytes few test = short bytes false few test
+pub place_of_no_sync : (bytes : List ℕ) → length bytes < header_len → starts_with nat_eq sync_bytes (take (min 3 (length bytes)) bytes) ≡ false
+    → place_of bytes ≡ Dead
+place_of_no_sync bytes few test = short bytes few test
 
 -- from ten bytes on
 open_by_header : (bytes : List ℕ) → header_len ≤ length bytes → is_open bytes ≡ (has_header bytes && nat_lt (length bytes) (text_len (fields_at bytes).size))
@@ -39,15 +44,10 @@ open_by_header bytes ten = cond-false _ _ _ (le-ltb (length bytes) header_len te
 
 pub place_of_no_header : (bytes : List ℕ) → header_len ≤ length bytes → has_header bytes ≡ false → place_of bytes ≡ Dead
 place_of_no_header bytes ten none =
-    let no_text : Begins (packet_at bytes) bytes → ⊥ = λ begins.
-    let parts = begins.is ∙ packet_text-parts (packet_at bytes) begins.rest in
-    both_ways _ none (has_header-header_text (header_of (packet_at bytes)) bytes ((packet_at bytes).body ++ (crc_bytes (packet_at bytes) ++ begins.rest)) begins.has_text parts).1 in
-    no_packet bytes no_text ∙ cond-false _ _ _ (open_by_header bytes ten ∙ and_left _ _ none)
+    grind (arith, nat_tests, common_steps, packet_text-parts, both_ways, has_header-header_text, crc_bytes, no_packet, cond-false, open_by_header, and_left)
 
 pub place_of_unfinished : (bytes : List ℕ) → has_header bytes ≡ true → length bytes < text_len (fields_at bytes).size → place_of bytes ≡ Open
-place_of_unfinished bytes test unfinished =
-    let stands = header_stands bytes test in
-    place_of-open bytes (inr (record { header = fields_at bytes; fits = stands.0; rest = drop 10 bytes; is = stands.1; unfinished = unfinished }))
+place_of_unfinished bytes test unfinished = grind (arith, header_stands, place_of-open)
 
 -- what the CRC of a packet is made of
 abbrev before_crc : PacketValue → List ℕ
@@ -61,27 +61,17 @@ record IsLongEnough (bytes : List ℕ) : Type 0 where
 
 long_enough : (bytes : List ℕ) → has_header bytes ≡ true → text_len (fields_at bytes).size ≤ length bytes → IsLongEnough bytes
 long_enough bytes test long =
-    let size = (fields_at bytes).size in
-    let header = header_text (fields_at bytes) in
-    let len : length (take size (drop 10 bytes)) ≡ size = length-take-le size (drop 10 bytes) (omega (arith, length-drop 10 bytes)) in
-    let same : header_text (header_of (packet_at bytes)) ≡ header = ap (λ (n : ℕ). header_text (record (fields_at bytes) { size = n })) len in
-    let front : take (10 + size) bytes ≡ header ++ take size (drop 10 bytes) =
-    ap (λ (s : List ℕ). take (10 + size) s) (header_stands bytes test).1
-    ∙ subst (λ (n : ℕ). take (n + size) (header ++ drop 10 bytes) ≡ header ++ take size (drop 10 bytes)) (length-header_text (fields_at bytes)) (take-append-add header (drop 10 bytes) size) in
-    record {
-      size = len;
-      front = front ∙ ap (λ (s : List ℕ). s ++ take size (drop 10 bytes)) (sym same);
-      front_len = length-append (header_text (header_of (packet_at bytes))) (packet_at bytes).body ∙ omega (arith, length-header_text (header_of (packet_at bytes)));
-    }
+    grind (arith, nat_tests, common_steps, length-take-le, length-drop, header_stands, length-header_text, take-append-add, length-append)
 
 -- behind so many bytes stands their CRC
 abbrev pub has_crc : ℕ → List ℕ → Bool
 has_crc count bytes = starts_with nat_eq (drop count bytes) (big_bytes 2 (crc_of (take count bytes)))
 
 -- behind what the CRC is made of stands the CRC
-begins_by_crc : (bytes : List ℕ) → IsLongEnough bytes → (fields_at bytes).size ≤ max_body → has_crc (header_len + (fields_at bytes).size) bytes ≡ true → Begins (packet_at bytes) bytes
+begins_by_crc : {bytes : List ℕ} → IsLongEnough bytes → (fields_at bytes).size ≤ max_body → has_crc (header_len + (fields_at bytes).size) bytes ≡ true
+    → Begins (packet_at bytes) bytes
 unfolding packet_text
-begins_by_crc bytes long fits test =
+begins_by_crc {bytes} long fits test =
     let packet = packet_at bytes in
     let count = header_len + (fields_at bytes).size in
     let crc : big_bytes 2 (crc_of (take count bytes)) ≡ crc_bytes packet = ap (λ (s : List ℕ). big_bytes 2 (crc_of s)) long.front in
@@ -90,26 +80,18 @@ begins_by_crc bytes long fits test =
     let is : bytes ≡ before_crc packet ++ (crc_bytes packet ++ rest) = sym (take-append-drop count bytes) ∙ cc (long.front, behind) in
     record { has_text = omega (arith, long.size); rest = rest; is = is ∙ sym (append_assoc (before_crc packet) (crc_bytes packet) rest) }
 
-crc_by_begins : (bytes : List ℕ) → IsLongEnough bytes → Begins (packet_at bytes) bytes → has_crc (header_len + (fields_at bytes).size) bytes ≡ true
+crc_by_begins : {bytes : List ℕ} → IsLongEnough bytes → Begins (packet_at bytes) bytes → has_crc (header_len + (fields_at bytes).size) bytes ≡ true
 unfolding packet_text
-crc_by_begins bytes long begins =
-    let packet = packet_at bytes in
-    let count = header_len + (fields_at bytes).size in
-    let is : bytes ≡ before_crc packet ++ (crc_bytes packet ++ begins.rest) = begins.is ∙ append_assoc (before_crc packet) (crc_bytes packet) begins.rest in
-    let behind : drop count bytes ≡ crc_bytes packet ++ begins.rest =
-    ap (λ (s : List ℕ). drop count s) is ∙ drop_at (before_crc packet) (crc_bytes packet ++ begins.rest) count long.front_len in
-    let crc : big_bytes 2 (crc_of (take count bytes)) ≡ crc_bytes packet = ap (λ (s : List ℕ). big_bytes 2 (crc_of s)) long.front in
-    subst (λ (s : List ℕ). starts_with nat_eq s (big_bytes 2 (crc_of (take count bytes))) ≡ true) (sym behind)
-    (subst (λ (mark : List ℕ). starts_with nat_eq (crc_bytes packet ++ begins.rest) mark ≡ true) (sym crc) (starts (crc_bytes packet) begins.rest))
+crc_by_begins long begins = grind (arith, nat_tests, common_steps)
 
-pub place_of_whole : (bytes : List ℕ) → has_header bytes ≡ true → text_len (fields_at bytes).size ≤ length bytes → has_crc (header_len + (fields_at bytes).size) bytes ≡ true → place_of bytes ≡ Whole (packet_at bytes)
-place_of_whole bytes test long crc =
-    place_of-packet (packet_at bytes) bytes (begins_by_crc bytes (long_enough bytes test long) (header_stands bytes test).0 crc)
+pub place_of_whole : (bytes : List ℕ) → has_header bytes ≡ true → text_len (fields_at bytes).size ≤ length bytes
+    → has_crc (header_len + (fields_at bytes).size) bytes ≡ true → place_of bytes ≡ Whole (packet_at bytes)
+place_of_whole bytes test long crc = grind (arith, place_of-packet, begins_by_crc, long_enough, header_stands)
 
-pub place_of_wrong_crc : (bytes : List ℕ) → has_header bytes ≡ true → text_len (fields_at bytes).size ≤ length bytes → has_crc (header_len + (fields_at bytes).size) bytes ≡ false → place_of bytes ≡ Dead
+pub place_of_wrong_crc : (bytes : List ℕ) → has_header bytes ≡ true → text_len (fields_at bytes).size ≤ length bytes
+    → has_crc (header_len + (fields_at bytes).size) bytes ≡ false → place_of bytes ≡ Dead
 place_of_wrong_crc bytes test long wrong =
-    let none = no_packet bytes (λ begins. both_ways _ wrong (crc_by_begins bytes (long_enough bytes test long) begins)) in
-    none ∙ cond-false _ _ _ (open_by_header bytes (omega arith) ∙ and_right _ _ (le-ltb (length bytes) (text_len (fields_at bytes).size) long))
+    grind (arith, nat_tests, common_steps, no_packet, both_ways, crc_by_begins, long_enough, cond-false, open_by_header, and_right, le-ltb)
 
 pub ruleset short_places = (place_of_short, place_of_no_sync)
 

@@ -1,4 +1,6 @@
 -- The packets of bytes that go on.
+use Rattle.std.proofs.lemmas.Bool.Decides.{nat_tests}
+use Rattle.std.proofs.lemmas.Grind.{common_steps}
 use Rattle.std.proofs.Common.{◌≡◌, ℕ, zero, suc, ◌+◌, ◌-◌, ◌<◌, ◌≤◌, inl, inr, List, [], ◌∷◌, ◌++◌, length, take, drop, refl, sym, ap, subst, ◌∙◌, arith}
 use Rattle.std.proofs.lemmas.List.{append_assoc, append-nil, length-append, take-append-drop, take_at, drop_at, drop_all, drop-drop, take-append-le}
 use Rattle.std.proofs.lemmas.Bool.{cases_lt}
@@ -15,25 +17,21 @@ use Rattle.slp_frames.proofs.PlaceLaws.{length-header_text, length-packet_text, 
 -- what begins a longer list and is long enough begins the shorter one
 front_stands : (bytes more front rest : List ℕ) → bytes ++ more ≡ front ++ rest → length front ≤ length bytes → bytes ≡ front ++ drop (length front) bytes
 front_stands bytes more front rest is fits =
-    let n = length front in
-    let same : take n bytes ≡ front = sym (take-append-le n bytes more fits) ∙ ap (λ (s : List ℕ). take n s) is ∙ take_at front rest n refl in
-    sym (take-append-drop n bytes) ∙ ap (λ (s : List ℕ). s ++ drop n bytes) same
+    cc (take-append-le (length front) bytes more fits, take_at front rest (length front) refl, take-append-drop (length front) bytes)
 
 -- the first n of a list begin with the first n of what begins it
 front-take : (n : ℕ) (bytes more : List ℕ) → (rest : List ℕ) × (take n (bytes ++ more) ≡ take n bytes ++ rest)
 front-take zero bytes more = ([], refl)
 front-take (suc n) [] more = (take (suc n) more, refl)
-front-take (suc n) (byte ∷ bytes) more =
-    let later = front-take n bytes more in
-    (later.0, ap (λ (s : List ℕ). byte ∷ s) later.1)
+front-take (suc n) (byte ∷ bytes) more = grind (arith, nat_tests, common_steps, front-take n bytes more)
 
 short_front : (bytes more rest : List ℕ) → length bytes < header_len → sync_bytes ≡ take 3 (bytes ++ more) ++ rest → IsHeaderFront bytes
 short_front bytes more rest few agrees =
-    let front = front-take 3 bytes more in
-    record { few = few; rest = front.0 ++ rest; agrees = agrees ∙ ap (λ (s : List ℕ). s ++ rest) front.1 ∙ append_assoc (take 3 bytes) front.0 rest }
+    grind (arith, nat_tests, common_steps, front-take 3 bytes more, append_assoc (take 3 bytes) (front-take 3 bytes more).0 rest)
 
 -- what a packet's header begins, or what begins it, is open while it is shorter than the packet
-open_front : (header : HeaderValue) (bytes more rest : List ℕ) → header.size ≤ max_body → bytes ++ more ≡ header_text header ++ rest → length bytes < text_len header.size → IsOpen bytes
+open_front : (header : HeaderValue) (bytes more rest : List ℕ) → header.size ≤ max_body → bytes ++ more ≡ header_text header ++ rest
+    → length bytes < text_len header.size → IsOpen bytes
 open_front header bytes more rest fits is unfinished =
     elim (cases_lt (length bytes) header_len) [
       | inl few ↦ inl (short_front bytes more [] few (sym (ap (λ (s : List ℕ). take 3 s ++ []) is ∙ header_stands_first header rest)))
@@ -56,7 +54,8 @@ IsDead-append bytes more dead = record { no_packet = no_packet; not_open = not_o
 
   not_open : IsOpen (bytes ++ more) → ⊥
   not_open (inl short) = dead.not_open (inl (short_front bytes more short.rest (omega (arith, short.few, length-append bytes more)) short.agrees))
-  not_open (inr begun) = dead.not_open (open_front begun.header bytes more begun.rest begun.fits begun.is (omega (arith, begun.unfinished, length-append bytes more)))
+  not_open (inr begun) = dead.not_open (open_front begun.header bytes more begun.rest begun.fits begun.is
+      (omega (arith, begun.unfinished, length-append bytes more)))
 
 -- ---- the scan, place by place
 
@@ -66,25 +65,27 @@ scan_behind-drop (suc count) [] = refl
 scan_behind-drop (suc count) (byte ∷ bytes) = scan_behind-drop count bytes
 
 pub scan-dead : (bytes : List ℕ) → place_of bytes ≡ Dead → scan bytes ≡ scan (drop 1 bytes)
-scan-dead [] dead = refl
-scan-dead (byte ∷ bytes) dead = rw dead refl
+scan-dead bytes dead = grind arith
 
 pub scan-open : (bytes : List ℕ) → place_of bytes ≡ Open → scan bytes ≡ []
 scan-open [] opens = refl
 scan-open (byte ∷ bytes) opens = rw opens refl
 
 -- the bytes behind a packet
-behind-packet : (packet : PacketValue) (bytes : List ℕ) → (begins : Begins packet bytes) → drop (text_len (length packet.body)) bytes ≡ begins.rest
-behind-packet packet bytes begins =
-    ap (λ (s : List ℕ). drop (text_len (length packet.body)) s) begins.is ∙ drop_at (packet_text packet) begins.rest (text_len (length packet.body)) (length-packet_text packet)
+behind-packet : {packet : PacketValue} {bytes : List ℕ} → (begins : Begins packet bytes) → drop (text_len (length packet.body)) bytes ≡ begins.rest
+behind-packet begins = grind (arith, drop_at, length-packet_text)
 
-pub scan-packet : (packet : PacketValue) (bytes : List ℕ) → Begins packet bytes → scan bytes ≡ packet ∷ scan (drop (text_len (length packet.body)) bytes)
-scan-packet packet [] begins = absurd (omega (arith, length-behind packet [] begins))
-scan-packet packet (byte ∷ bytes) begins =
-    let count : ℕ = text_len (length packet.body) - 1 in
-    let whole : text_len (length packet.body) ≡ suc count = omega arith in
-    rw (place_of-packet packet (byte ∷ bytes) begins)
-    (ap (λ (later : List PacketValue). packet ∷ later) (scan_behind-drop count bytes ∙ sym (ap (λ (n : ℕ). scan (drop n (byte ∷ bytes))) whole)))
+pub scan-packet : {packet : PacketValue} (bytes : List ℕ) → Begins packet bytes → scan bytes ≡ packet ∷ scan (drop (text_len (length packet.body)) bytes)
+scan-packet [] begins = absurd (omega (arith, length-behind begins))
+scan-packet {packet} (byte ∷ bytes) begins =
+    grind (
+      arith,
+      nat_tests,
+      common_steps,
+      packet.body,
+      place_of-packet packet (byte ∷ bytes) begins,
+      scan_behind-drop (text_len (length packet.body) - 1) bytes,
+    )
 
 -- ---- how a reader goes on
 
@@ -93,32 +94,22 @@ continues_start bytes = record { scans = λ more. refl }
 
 -- further bytes are taken
 pub continues_append : (taken more held : List ℕ) (handed : List PacketValue) → Continues taken handed held → Continues (taken ++ more) handed (held ++ more)
-continues_append taken more held handed before = record {
-  scans = λ later.
-      ap scan (append_assoc taken more later) ∙ before.scans (more ++ later)
-      ∙ ap (λ (s : List ℕ). handed ++ scan s) (sym (append_assoc held more later));
-}
+continues_append taken more held handed before = grind (arith, append_assoc)
 
 -- further packets are handed out
-pub continues_then : (taken held held' : List ℕ) (handed packets : List PacketValue) → Continues taken handed held → Continues held packets held' → Continues taken (handed ++ packets) held'
-continues_then taken held held' handed packets before step = record {
-  scans = λ later.
-      before.scans later ∙ ap (λ (ps : List PacketValue). handed ++ ps) (step.scans later)
-      ∙ sym (append_assoc handed packets (scan (held' ++ later)));
-}
+pub continues_then : {taken held held' : List ℕ} {handed packets : List PacketValue} → Continues taken handed held → Continues held packets held'
+    → Continues taken (handed ++ packets) held'
+continues_then before step = grind (arith, append_assoc)
 
 -- where nothing follows
 pub continues_now : (taken held : List ℕ) (handed : List PacketValue) → Continues taken handed held → scan taken ≡ handed ++ scan held
-continues_now taken held handed before =
-    ap scan (sym (append-nil taken)) ∙ before.scans [] ∙ ap (λ (s : List ℕ). handed ++ scan s) (append-nil held)
+continues_now taken held handed before = grind (arith, nat_tests, common_steps, append-nil taken, before.scans, append-nil held)
 
 pub continues_dead : (bytes : List ℕ) → place_of bytes ≡ Dead → Continues bytes [] (drop 1 bytes)
-continues_dead [] dead = record { scans = λ more. refl }
-continues_dead (byte ∷ bytes) dead = record {
-  scans = λ more. scan-dead (byte ∷ bytes ++ more) (place_of-dead (byte ∷ bytes ++ more) (IsDead-append (byte ∷ bytes) more (dead_stands (byte ∷ bytes) dead)));
-}
+continues_dead bytes dead = grind (arith, scan-dead, place_of-dead, IsDead-append, dead_stands)
 
-pub continues_packet : (packet : PacketValue) (bytes : List ℕ) → Begins packet bytes → Continues bytes (packet ∷ []) (drop (text_len (length packet.body)) bytes)
+pub continues_packet : (packet : PacketValue) (bytes : List ℕ) → Begins packet bytes
+    → Continues bytes (packet ∷ []) (drop (text_len (length packet.body)) bytes)
 continues_packet packet bytes begins = record {
   scans = λ more.
       let longer : Begins packet (bytes ++ more) = record {
@@ -126,19 +117,19 @@ continues_packet packet bytes begins = record {
         rest = begins.rest ++ more;
         is = ap (λ (s : List ℕ). s ++ more) begins.is ∙ append_assoc (packet_text packet) begins.rest more;
       } in
-      scan-packet packet (bytes ++ more) longer
-      ∙ ap (λ (s : List ℕ). packet ∷ scan s) (behind-packet packet (bytes ++ more) longer)
-      ∙ sym (ap (λ (s : List ℕ). packet ∷ scan (s ++ more)) (behind-packet packet bytes begins));
+      scan-packet (bytes ++ more) longer
+      ∙ ap (λ (s : List ℕ). packet ∷ scan s) (behind-packet longer)
+      ∙ sym (ap (λ (s : List ℕ). packet ∷ scan (s ++ more)) (behind-packet begins));
 }
 
 -- a reader passes a dead place, and one behind the other
-pub continues_past_dead : (bytes : List ℕ) (place : ℕ) → Continues bytes [] (drop place bytes) → place_of (drop place bytes) ≡ Dead → Continues bytes [] (drop (place + 1) bytes)
+pub continues_past_dead : (bytes : List ℕ) (place : ℕ) → Continues bytes [] (drop place bytes) → place_of (drop place bytes) ≡ Dead
+    → Continues bytes [] (drop (place + 1) bytes)
 continues_past_dead bytes place before dead =
-    subst (λ (held : List ℕ). Continues bytes [] held) (drop-drop 1 place bytes)
-    (continues_then bytes (drop place bytes) (drop 1 (drop place bytes)) [] [] before (continues_dead (drop place bytes) dead))
+    grind (arith, nat_tests, common_steps, drop-drop 1 place bytes, continues_then before (continues_dead (drop place bytes) dead))
 
 pub place_of_end : (bytes : List ℕ) → place_of (drop (length bytes) bytes) ≡ Open
-place_of_end bytes = rw (drop_all (length bytes) bytes (omega arith)) (place_of_short [] (omega arith) refl)
+place_of_end bytes = grind (arith, drop_all, place_of_short)
 
 pub ruleset passing = (continues_start, continues_past_dead, place_of_end)
 
@@ -148,18 +139,20 @@ scan_continues bytes = go bytes zero (omega arith) where
   Held : List ℕ → ℕ → Type 0
   Held bytes count = (held : List ℕ) × Continues (drop count bytes) (scan_behind count bytes) held
 
-  at : (byte : ℕ) (bytes : List ℕ) (place : Place) → place_of (byte ∷ bytes) ≡ place → ((count : ℕ) → count ≤ length bytes → Held bytes count) → (held : List ℕ) × Continues (byte ∷ bytes) (with_later place (λ count. scan_behind count bytes)) held
+  at : (byte : ℕ) (bytes : List ℕ) (place : Place) → place_of (byte ∷ bytes) ≡ place → ((count : ℕ) → count ≤ length bytes → Held bytes count)
+      → (held : List ℕ) × Continues (byte ∷ bytes) (with_later place (λ count. scan_behind count bytes)) held
   at byte bytes (Whole packet) e later =
-      let begins = packet_stands packet (byte ∷ bytes) e in
+      let begins = packet_stands (byte ∷ bytes) e in
       let count : ℕ = text_len (length packet.body) - 1 in
       let whole : text_len (length packet.body) ≡ suc count = omega arith in
-      let step : Continues (byte ∷ bytes) (packet ∷ []) (drop count bytes) = subst (λ (n : ℕ). Continues (byte ∷ bytes) (packet ∷ []) (drop n (byte ∷ bytes))) whole (continues_packet packet (byte ∷ bytes) begins) in
-      let rest = later count (omega (arith, length-behind packet (byte ∷ bytes) begins)) in
-      (rest.0, continues_then (byte ∷ bytes) (drop count bytes) rest.0 (packet ∷ []) (scan_behind count bytes) step rest.1)
+      let step : Continues (byte ∷ bytes) (packet ∷ []) (drop count bytes) = subst (λ (n : ℕ). Continues (byte ∷ bytes) (packet ∷ []) (drop n (byte ∷ bytes)))
+      whole (continues_packet packet (byte ∷ bytes) begins) in
+      let rest = later count (omega (arith, length-behind begins)) in
+      (rest.0, continues_then step rest.1)
   at byte bytes Open e later = (byte ∷ bytes, continues_start (byte ∷ bytes))
   at byte bytes Dead e later =
       let rest = later 0 (omega arith) in
-      (rest.0, continues_then (byte ∷ bytes) bytes rest.0 [] (scan_behind 0 bytes) (continues_dead (byte ∷ bytes) e) rest.1)
+      (rest.0, continues_then (continues_dead (byte ∷ bytes) e) rest.1)
 
   go : (bytes : List ℕ) (count : ℕ) → count ≤ length bytes → Held bytes count
   go [] zero fits = ([], record { scans = λ more. refl })
@@ -171,11 +164,14 @@ scan_continues bytes = go bytes zero (omega arith) where
 pub scan_packet_text : (packet : PacketValue) → HasText packet → scan (packet_text packet) ≡ packet ∷ []
 scan_packet_text packet fits =
     let begins : Begins packet (packet_text packet) = record { has_text = fits; rest = []; is = sym (append-nil (packet_text packet)) } in
-    scan-packet packet (packet_text packet) begins ∙ ap (λ (s : List ℕ). packet ∷ scan s) (behind-packet packet (packet_text packet) begins)
+    scan-packet (packet_text packet) begins ∙ ap (λ (s : List ℕ). packet ∷ scan s) (behind-packet begins)
 
 -- bytes that are cut off before the end of a packet's text hold no packet
-pub scan-cut : (packet : PacketValue) (bytes more : List ℕ) → HasText packet → bytes ++ more ≡ packet_text packet → length bytes < length (packet_text packet) → scan bytes ≡ []
+pub scan-cut : (packet : PacketValue) (bytes more : List ℕ) → HasText packet → bytes ++ more ≡ packet_text packet → length bytes < length (packet_text packet)
+    → scan bytes ≡ []
 scan-cut packet bytes more fits is cut =
-    let parts : packet_text packet ≡ header_text (header_of packet) ++ (packet.body ++ (crc_bytes packet ++ [])) = sym (append-nil (packet_text packet)) ∙ packet_text-parts packet [] in
+    let parts : packet_text packet ≡ header_text (header_of packet) ++ (packet.body ++ (crc_bytes packet ++ [])) = sym (append-nil (packet_text packet))
+    ∙ packet_text-parts packet [] in
     scan-open bytes
-    (place_of-open bytes (open_front (header_of packet) bytes more (packet.body ++ (crc_bytes packet ++ [])) fits (is ∙ parts) (omega (arith, length-packet_text packet, cut))))
+    (place_of-open bytes (open_front (header_of packet) bytes more (packet.body ++ (crc_bytes packet ++ [])) fits (is ∙ parts)
+    (omega (arith, length-packet_text packet, cut))))

@@ -26,7 +26,8 @@ returns-in_err-carry_out-clause-refused g c =
     let text : c.deref.result.now ≡ journal_text values = c.deref.ensures.value ∙ c.in-Ok.ensures in
     let written : g.F.Folder.contents c.replace.new.self ≡ option_map (λ (held : FileMap). finmap.insert held journal_file (journal_text values)) before =
     c.in_ok-replace.ensures.replaced ∙ ap (λ (bytes : List ℕ). option_map (λ (held : FileMap). finmap.insert held journal_file bytes) before) text in
-    let stands : StandsAs (option_map (put_all values) before) (g.F.Folder.contents c.replace.new.self) = ap (option_map overlay) written ∙ commit_stands values before c.requires.form c.requires.no_journal in
+    let stands : StandsAs (option_map (put_all values) before) (g.F.Folder.contents c.replace.new.self) = ap (option_map overlay) written
+    ∙ commit_stands values before c.requires.form c.requires.no_journal in
     on_err_of c.from_residual-in_err-carry_out.result (inr (c.carry_out.ensures.stands ∙ stands))
 
 pub returns-in_err-carry_out-clause-each_moment : goal.returns-in_err-carry_out-clause-each_moment
@@ -36,9 +37,12 @@ returns-in_err-carry_out-clause-each_moment g c =
     let text : c.deref.result.now ≡ journal_text values = c.deref.ensures.value ∙ c.in-Ok.ensures in
     let written : g.F.Folder.contents c.replace.new.self ≡ option_map (λ (held : FileMap). finmap.insert held journal_file (journal_text values)) before =
     c.in_ok-replace.ensures.replaced ∙ ap (λ (bytes : List ℕ). option_map (λ (held : FileMap). finmap.insert held journal_file bytes) before) text in
-    let stands : StandsAs (option_map (put_all values) before) (g.F.Folder.contents c.replace.new.self) = ap (option_map overlay) written ∙ commit_stands values before c.requires.form c.requires.no_journal in
-    moments_go_on (StandsAs (option_map (put_all values) before)) _ _ _ (one_moment (StandsAs (option_map (put_all values) before)) _ _ _ c.in_ok-replace.ensures.moment stands)
-    (moments_weaken (StandsAs (g.F.Folder.contents c.replace.new.self)) (StandsAs (option_map (put_all values) before)) _ _ c.carry_out.ensures.each_moment (λ told is. is ∙ stands))
+    let stands : StandsAs (option_map (put_all values) before) (g.F.Folder.contents c.replace.new.self) = ap (option_map overlay) written
+    ∙ commit_stands values before c.requires.form c.requires.no_journal in
+    moments_go_on (StandsAs (option_map (put_all values) before)) _ _ _
+    (one_moment (StandsAs (option_map (put_all values) before)) _ _ _ c.in_ok-replace.ensures.moment stands)
+    (moments_weaken (StandsAs (g.F.Folder.contents c.replace.new.self)) (StandsAs (option_map (put_all values) before)) _ _ c.carry_out.ensures.each_moment
+    (λ told is. is ∙ stands))
 
 pub returns-clause-done : goal.returns-clause-done
 returns-clause-done g c =
@@ -56,6 +60,9 @@ returns-clause-each_moment g c =
     let text : c.deref.result.now ≡ journal_text values = c.deref.ensures.value ∙ c.in-Ok.ensures in
     let written : g.F.Folder.contents c.replace.new.self ≡ option_map (λ (held : FileMap). finmap.insert held journal_file (journal_text values)) before =
     c.in_ok-replace.ensures.replaced ∙ ap (λ (bytes : List ℕ). option_map (λ (held : FileMap). finmap.insert held journal_file bytes) before) text in
-    let stands : StandsAs (option_map (put_all values) before) (g.F.Folder.contents c.replace.new.self) = ap (option_map overlay) written ∙ commit_stands values before c.requires.form c.requires.no_journal in
-    moments_go_on (StandsAs (option_map (put_all values) before)) _ _ _ (one_moment (StandsAs (option_map (put_all values) before)) _ _ _ c.in_ok-replace.ensures.moment stands)
-    (moments_weaken (StandsAs (g.F.Folder.contents c.replace.new.self)) (StandsAs (option_map (put_all values) before)) _ _ c.carry_out.ensures.each_moment (λ told is. is ∙ stands))
+    let stands : StandsAs (option_map (put_all values) before) (g.F.Folder.contents c.replace.new.self) = ap (option_map overlay) written
+    ∙ commit_stands values before c.requires.form c.requires.no_journal in
+    moments_go_on (StandsAs (option_map (put_all values) before)) _ _ _
+    (one_moment (StandsAs (option_map (put_all values) before)) _ _ _ c.in_ok-replace.ensures.moment stands)
+    (moments_weaken (StandsAs (g.F.Folder.contents c.replace.new.self)) (StandsAs (option_map (put_all values) before)) _ _ c.carry_out.ensures.each_moment
+    (λ told is. is ∙ stands))

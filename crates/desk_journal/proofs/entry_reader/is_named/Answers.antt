@@ -11,4 +11,5 @@ pub returns-then-eq : goal.returns-then-eq
 returns-then-eq c =
     let passes : bytes_eq (string_bytes c.entry-item.result.name) c.args.name.now ≡ true = cc in
     sym (list_any-map (λ (entry : EntryValue). bytes_eq entry.name c.args.name.now) entry_value c.args.entries.now
-    ∙ list_any_at (λ (entry : Entry). bytes_eq (string_bytes entry.name) c.args.name.now) c.args.entries.now c.loop-entry.entry-index c.entry-item.result c.loop-entry-test.true (rw (← c.entry-item.is) passes))
+    ∙ list_any_at (λ (entry : Entry). bytes_eq (string_bytes entry.name) c.args.name.now) c.args.entries.now c.loop-entry.entry-index c.entry-item.result
+    c.loop-entry-test.true (rw (← c.entry-item.is) passes))

@@ -12,42 +12,49 @@ use Rattle.desk_journal.proofs.OverlayLaws.{Journals, bad_none, bad_told, finish
 use Rattle.desk_journal.proofs.finish.finish_journal.Goals as goal
 
 pub returns-in-Err-Missing-clause-done : goal.returns-in-Err-Missing-clause-done
-returns-in-Err-Missing-clause-done g c = c.read.ensures.contents ∙ finished_none (g.F.Folder.contents c.args.folder.now) (c.in-Err-Missing.ensures.missing (ap Err c.in-Err-Missing.field-0-is))
+returns-in-Err-Missing-clause-done g c = c.read.ensures.contents ∙ finished_none (g.F.Folder.contents c.args.folder.now)
+    (c.in-Err-Missing.ensures.missing (ap Err c.in-Err-Missing.field-0-is))
 
 pub returns-in-Err-Missing-clause-bad : goal.returns-in-Err-Missing-clause-bad
 returns-in-Err-Missing-clause-bad g c = bad_none (g.F.Folder.contents c.args.folder.now) (c.in-Err-Missing.ensures.missing (ap Err c.in-Err-Missing.field-0-is))
 
 pub returns-in-Err-Bad-clause-done : goal.returns-in-Err-Bad-clause-done
 returns-in-Err-Bad-clause-done g c =
-    let bad : journal_in c.in-Ok.bytes.items ≡ Err c.in-Err-Bad.bad = rw (← c.deref.ensures.value) (subst (λ (fault : JournalFault). Reads (Err fault) (journal_in c.deref.result.now)) c.in-Err-Bad.field-0-is c.in-Err-Bad.ensures.exact) in
-    c.read.ensures.contents ∙ finished_bad (g.F.Folder.contents c.args.folder.now) c.in-Ok.bytes.items c.in-Err-Bad.bad c.in-Ok.ensures.bytes bad
+    let bad : journal_in c.in-Ok.bytes.items ≡ Err c.in-Err-Bad.bad = rw (← c.deref.ensures.value)
+    (subst (λ (fault : JournalFault). Reads (Err fault) (journal_in c.deref.result.now)) c.in-Err-Bad.field-0-is c.in-Err-Bad.ensures.exact) in
+    c.read.ensures.contents ∙ finished_bad (g.F.Folder.contents c.args.folder.now) c.in-Ok.bytes.items c.in-Ok.ensures.bytes bad
 
 pub returns-in-Err-Bad-clause-bad : goal.returns-in-Err-Bad-clause-bad
 returns-in-Err-Bad-clause-bad g c =
-    let bad : journal_in c.in-Ok.bytes.items ≡ Err c.in-Err-Bad.bad = rw (← c.deref.ensures.value) (subst (λ (fault : JournalFault). Reads (Err fault) (journal_in c.deref.result.now)) c.in-Err-Bad.field-0-is c.in-Err-Bad.ensures.exact) in
-    bad_told (g.F.Folder.contents c.args.folder.now) c.in-Ok.bytes.items c.in-Err-Bad.bad c.in-Ok.ensures.bytes bad
+    let bad : journal_in c.in-Ok.bytes.items ≡ Err c.in-Err-Bad.bad = rw (← c.deref.ensures.value)
+    (subst (λ (fault : JournalFault). Reads (Err fault) (journal_in c.deref.result.now)) c.in-Err-Bad.field-0-is c.in-Err-Bad.ensures.exact) in
+    bad_told (g.F.Folder.contents c.args.folder.now) c.in-Ok.bytes.items c.in-Ok.ensures.bytes bad
 
 pub carry_out-requires-clause-written : goal.carry_out-requires-clause-written
 carry_out-requires-clause-written g c =
     let text : c.in-Ok.bytes.items ≡ journal_text (entry_values c.deref-2.result.now) =
-    sym c.deref.ensures.value ∙ (c.in-Ok-read_journal.ensures.found.1 ∙ ap (λ (entries : List Entry). journal_text (entry_values entries)) (sym c.deref-2.ensures.value)) in
+    sym c.deref.ensures.value ∙ (c.in-Ok-read_journal.ensures.found.1 ∙ ap (λ (entries : List Entry). journal_text (entry_values entries))
+    (sym c.deref-2.ensures.value)) in
     let there = subst (Journals (g.F.Folder.contents c.args.folder.now)) text c.in-Ok.ensures.bytes in
     subst (λ (told : Option FileMap). Journals told (journal_text (entry_values c.deref-2.result.now))) (sym c.read.ensures.contents) there
 
 pub returns-clause-done : goal.returns-clause-done
 returns-clause-done g c =
-    let good : journal_in c.in-Ok.bytes.items ≡ Ok (entry_values c.in-Ok-read_journal.entries.items) = rw (← c.deref.ensures.value) c.in-Ok-read_journal.ensures.exact in
+    let good : journal_in c.in-Ok.bytes.items ≡ Ok (entry_values c.in-Ok-read_journal.entries.items) = rw (← c.deref.ensures.value)
+    c.in-Ok-read_journal.ensures.exact in
     c.in_ok-carry_out.ensures.done
-    ∙ (ap (option_map overlay) c.read.ensures.contents ∙ finished_good (g.F.Folder.contents c.args.folder.now) c.in-Ok.bytes.items (entry_values c.in-Ok-read_journal.entries.items) c.in-Ok.ensures.bytes good)
+    ∙ (ap (option_map overlay) c.read.ensures.contents ∙ finished_good (g.F.Folder.contents c.args.folder.now) c.in-Ok.bytes.items c.in-Ok.ensures.bytes good)
 
 pub returns-clause-bad : goal.returns-clause-bad
 returns-clause-bad g c =
-    let good : journal_in c.in-Ok.bytes.items ≡ Ok (entry_values c.in-Ok-read_journal.entries.items) = rw (← c.deref.ensures.value) c.in-Ok-read_journal.ensures.exact in
-    good_told (g.F.Folder.contents c.args.folder.now) c.in-Ok.bytes.items (entry_values c.in-Ok-read_journal.entries.items) c.in-Ok.ensures.bytes good
+    let good : journal_in c.in-Ok.bytes.items ≡ Ok (entry_values c.in-Ok-read_journal.entries.items) = rw (← c.deref.ensures.value)
+    c.in-Ok-read_journal.ensures.exact in
+    good_told (g.F.Folder.contents c.args.folder.now) c.in-Ok.bytes.items c.in-Ok.ensures.bytes good
 
 pub returns-in-Err-Missing-clause-no_journal : goal.returns-in-Err-Missing-clause-no_journal
 returns-in-Err-Missing-clause-no_journal g c =
-    λ finished. subst (λ (told : Option FileMap). IfSome told HasNoJournal) (sym c.read.ensures.contents) (c.in-Err-Missing.ensures.missing (ap Err c.in-Err-Missing.field-0-is))
+    λ finished. subst (λ (told : Option FileMap). IfSome told HasNoJournal) (sym c.read.ensures.contents)
+    (c.in-Err-Missing.ensures.missing (ap Err c.in-Err-Missing.field-0-is))
 
 pub returns-clause-no_journal : goal.returns-clause-no_journal
 returns-clause-no_journal g c =
@@ -55,4 +62,5 @@ returns-clause-no_journal g c =
     let text : c.in-Ok.bytes.items ≡ journal_text values = sym c.deref.ensures.value ∙ c.in-Ok-read_journal.ensures.found.1 in
     let there = subst (Journals (g.F.Folder.contents c.args.folder.now)) text c.in-Ok.ensures.bytes in
     let written = subst (λ (told : Option FileMap). Journals told (journal_text values)) (sym c.read.ensures.contents) there in
-    λ finished. subst (λ (told : Option FileMap). IfSome told HasNoJournal) (sym c.in_ok-carry_out.ensures.done) (told_no_journal values (g.F.Folder.contents c.read.new.self) c.in-Ok-read_journal.ensures.found.0 written)
+    λ finished. subst (λ (told : Option FileMap). IfSome told HasNoJournal) (sym c.in_ok-carry_out.ensures.done)
+    (told_no_journal values (g.F.Folder.contents c.read.new.self) c.in-Ok-read_journal.ensures.found.0 written)

@@ -14,19 +14,23 @@ use Rattle.desk_journal.proofs.folder.carry_out.Goals as goal
 pub remove_journal-requires : goal.remove_journal-requires
 remove_journal-requires g c =
     let there = told_there (entry_values c.args.entries.now) (g.F.Folder.contents c.args.folder.now) c.requires.form c.requires.written in
-    record { there = subst (λ (told : Option FileMap). IfSome told (λ held. IsSome (finmap.get held journal_file))) (sym c.in_ok-replace_all.ensures.done) there }
+    record {
+      there = subst (λ (told : Option FileMap). IfSome told (λ held. IsSome (finmap.get held journal_file))) (sym c.in_ok-replace_all.ensures.done) there;
+    }
 
 pub returns-in_err-remove_journal-clause-each_moment : goal.returns-in_err-remove_journal-clause-each_moment
 returns-in_err-remove_journal-clause-each_moment g c =
     let before = g.F.Folder.contents c.args.folder.now in
     let here = subst (StandsAs before) (sym c.in_err-remove_journal.ensures.contents) c.replace_all.ensures.stands in
     moments_go_on (StandsAs before) _ _ _ c.replace_all.ensures.each_moment
-    (moments_weaken (λ (told : Option FileMap). told ≡ g.F.Folder.contents c.remove_journal.new.folder) (StandsAs before) _ _ c.remove_journal.ensures.each_moment (λ told is. subst (StandsAs before) (sym is) here))
+    (moments_weaken (λ (told : Option FileMap). told ≡ g.F.Folder.contents c.remove_journal.new.folder) (StandsAs before) _ _
+    c.remove_journal.ensures.each_moment (λ told is. subst (StandsAs before) (sym is) here))
 
 pub returns-clause-done : goal.returns-clause-done
 returns-clause-done g c =
     c.in_ok-remove_journal.ensures.removed
-    ∙ (ap (option_map (λ (held : FileMap). finmap.remove held journal_file)) c.in_ok-replace_all.ensures.done ∙ told_removed (entry_values c.args.entries.now) (g.F.Folder.contents c.args.folder.now) c.requires.form c.requires.written)
+    ∙ (ap (option_map (λ (held : FileMap). finmap.remove held journal_file)) c.in_ok-replace_all.ensures.done ∙ told_removed (entry_values c.args.entries.now)
+    (g.F.Folder.contents c.args.folder.now) c.requires.form c.requires.written)
 
 pub returns-clause-stands : goal.returns-clause-stands
 returns-clause-stands g c =
@@ -37,4 +41,5 @@ pub returns-clause-each_moment : goal.returns-clause-each_moment
 returns-clause-each_moment g c =
     let before = g.F.Folder.contents c.args.folder.now in
     moments_go_on (StandsAs before) _ _ _ c.replace_all.ensures.each_moment
-    (moments_weaken (λ (told : Option FileMap). told ≡ g.F.Folder.contents c.remove_journal.new.folder) (StandsAs before) _ _ c.remove_journal.ensures.each_moment (λ told is. subst (StandsAs before) (sym is) (returns-clause-stands g c)))
+    (moments_weaken (λ (told : Option FileMap). told ≡ g.F.Folder.contents c.remove_journal.new.folder) (StandsAs before) _ _
+    c.remove_journal.ensures.each_moment (λ told is. subst (StandsAs before) (sym is) (returns-clause-stands g c)))

@@ -21,11 +21,12 @@ loop-entry-preserved g c =
     let put : contents c.replace.new.self ≡ option_map (put_all (take (place + 1) values)) before =
     here ∙ ap (option_map (λ (held : FileMap). finmap.insert held (string_bytes item.name) item.bytes.items)) c.loop-entry.invariant.put
     ∙ sym (put_one_more (take place values) (entry_value item) before)
-    ∙ ap (λ (all : List EntryValue). option_map (put_all all) before) (sym (values_more c.args.entries.now place item c.loop-entry-test.true c.entry-item.is)) in
+    ∙ ap (λ (all : List EntryValue). option_map (put_all all) before) (sym (values_more c.args.entries.now place c.loop-entry-test.true c.entry-item.is)) in
     record {
       put = put;
       moments = moments_go_on (StandsAs before) _ _ _ c.loop-entry.invariant.moments
-          (one_moment (StandsAs before) _ _ _ c.in_ok-replace.ensures.moment (subst (StandsAs before) (sym put) (told_stays values (place + 1) before c.requires.form c.requires.written)));
+          (one_moment (StandsAs before) _ _ _ c.in_ok-replace.ensures.moment
+          (subst (StandsAs before) (sym put) (told_stays values (place + 1) before c.requires.form c.requires.written)));
       paths = c.replace.ensures.paths ∙ c.loop-entry.invariant.paths;
       count = search rules;
     }
@@ -33,11 +34,13 @@ loop-entry-preserved g c =
 pub returns-in_err-replace-clause-stands : goal.returns-in_err-replace-clause-stands
 returns-in_err-replace-clause-stands g c =
     let before = g.F.Folder.contents c.args.folder.now in
-    subst (StandsAs before) (sym (c.in_err-replace.ensures.contents_stay ∙ c.loop-entry.invariant.put)) (told_stays (entry_values c.args.entries.now) c.loop-entry.entry-index before c.requires.form c.requires.written)
+    subst (StandsAs before) (sym (c.in_err-replace.ensures.contents_stay ∙ c.loop-entry.invariant.put))
+    (told_stays (entry_values c.args.entries.now) c.loop-entry.entry-index before c.requires.form c.requires.written)
 
 pub returns-in_err-replace-clause-each_moment : goal.returns-in_err-replace-clause-each_moment
 returns-in_err-replace-clause-each_moment g c =
-    moments_go_on (StandsAs (g.F.Folder.contents c.args.folder.now)) _ _ _ c.loop-entry.invariant.moments (no_moment (StandsAs (g.F.Folder.contents c.args.folder.now)) _ _ c.in_err-replace.ensures.moments_stay)
+    moments_go_on (StandsAs (g.F.Folder.contents c.args.folder.now)) _ _ _ c.loop-entry.invariant.moments
+    (no_moment (StandsAs (g.F.Folder.contents c.args.folder.now)) _ _ c.in_err-replace.ensures.moments_stay)
 
 pub returns-in_err-replace-clause-paths : goal.returns-in_err-replace-clause-paths
 returns-in_err-replace-clause-paths g c = c.replace.ensures.paths ∙ c.loop-entry.invariant.paths
@@ -45,4 +48,5 @@ returns-in_err-replace-clause-paths g c = c.replace.ensures.paths ∙ c.loop-ent
 pub returns-clause-stands : goal.returns-clause-stands
 returns-clause-stands g c =
     let before = g.F.Folder.contents c.args.folder.now in
-    subst (StandsAs before) (sym c.loop-entry.invariant.put) (told_stays (entry_values c.args.entries.now) c.loop-entry.entry-index before c.requires.form c.requires.written)
+    subst (StandsAs before) (sym c.loop-entry.invariant.put)
+    (told_stays (entry_values c.args.entries.now) c.loop-entry.entry-index before c.requires.form c.requires.written)

@@ -7,4 +7,4 @@ pub returns-clause-found : goal.returns-clause-found
 returns-clause-found c = found_of c.read.result c.args.bytes.now (λ i. omega (arith, c.type_inv.bytes i)) c.read.ensures
 
 pub returns-clause-only : goal.returns-clause-only
-returns-clause-only c = λ entries is text. only_of c.read.result c.args.bytes.now entries c.read.ensures is text
+returns-clause-only c = λ entries is text. only_of c.read.result entries c.read.ensures is text

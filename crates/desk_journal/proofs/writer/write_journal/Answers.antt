@@ -1,5 +1,5 @@
 -- Each entry is written behind those before it.
-use Rattle.std.proofs.Common.{◌≡◌, ◌+◌, ◌++◌, [], List, length, take, arith, ap, ◌∙◌}
+use Rattle.std.proofs.Common.{◌≡◌, ◌++◌, [], List, length, take, arith, ap, ◌∙◌}
 use Rattle.std.specs.Int.{w16, to_be_bytes}
 use Rattle.std.specs.List.{flat_map}
 use Rattle.std.proofs.lemmas.List.{length-map, take_all}
@@ -9,14 +9,14 @@ use Rattle.desk_journal.proofs.OverlayLaws.{values_more}
 use Rattle.desk_journal.proofs.writer.write_journal.Goals as goal
 
 pub put_entry-requires : goal.put_entry-requires
-put_entry-requires c = entry_is [] c.args.entries.now c.loop-entry.entry-index c.entry-item.result c.requires.1 c.loop-entry-test.true c.entry-item.is
+put_entry-requires c = entry_is [] c.args.entries.now c.loop-entry.entry-index c.requires.1 c.loop-entry-test.true c.entry-item.is
 
 pub loop-entry-preserved : goal.loop-entry-preserved
 loop-entry-preserved c =
     let values = entry_values c.args.entries.now in
     let place = c.loop-entry.entry-index in
-    text_more (mark ++ to_be_bytes w16 (length values)) c.loop-entry.bytes.items c.put_entry.new.out.items (take place values) (take (place + 1) values) (entry_value c.entry-item.result)
-    c.loop-entry.invariant c.in_ok-put_entry.ensures (values_more c.args.entries.now place c.entry-item.result c.loop-entry-test.true c.entry-item.is)
+    text_more (mark ++ to_be_bytes w16 (length values)) (take place values) (entry_value c.entry-item.result)
+    c.loop-entry.invariant c.in_ok-put_entry.ensures (values_more c.args.entries.now place c.loop-entry-test.true c.entry-item.is)
 
 pub returns : goal.returns
 returns c =

@@ -16,7 +16,8 @@ pub returns-in-Err-clause-bad : goal.returns-in-Err-clause-bad
 returns-in-Err-clause-bad c =
     let row = entry_row c.in_ok-cells.cells in
     let bad = or_place_err (first_bad (row_checks c.loop.place row)) (item_of row) c.in-Err.bad c.in-Err.ensures in
-    sym (c.loop.invariant.same ∙ values_end c.args.count c.loop.counter c.loop.place c.in-Err.bad c.loop.rest.now row c.in_ok-cells.after.now c.loop-test.true (sym c.in_ok-cells.ensures.entry) c.loop.invariant.all bad)
+    sym (c.loop.invariant.same ∙ values_end c.args.count c.loop.counter c.loop.place c.in-Err.bad c.loop.rest.now row c.in_ok-cells.after.now c.loop-test.true
+    (sym c.in_ok-cells.ensures.entry) c.loop.invariant.all bad)
 
 pub returns-in-Err-clause-bound : goal.returns-in-Err-clause-bound
 returns-in-Err-clause-bound c =
@@ -32,10 +33,13 @@ loop-preserved c =
     let size : c.from-place.result ≡ c.in_ok-cells.cells.size = c.from-place.ensures in
     record {
       near = omega (arith, c.loop.invariant.near, size, c.in_ok-cells.ensures.small);
-      all = sym (walk_on c.args.count c.loop.counter c.loop.rest.now row c.in_ok-cells.after.now c.loop-test.true (sym c.in_ok-cells.ensures.entry)) ∙ c.loop.invariant.all;
-      same = rw size (c.loop.invariant.same ∙ values_on c.args.count c.loop.counter c.loop.place c.loop.rest.now row c.in_ok-cells.after.now c.loop-test.true (sym c.in_ok-cells.ensures.entry) c.loop.invariant.all good.0);
+      all = sym (walk_on c.args.count c.loop.counter c.loop.rest.now row c.in_ok-cells.after.now c.loop-test.true (sym c.in_ok-cells.ensures.entry))
+          ∙ c.loop.invariant.all;
+      same = rw size (c.loop.invariant.same ∙ values_on c.args.count c.loop.counter c.loop.place c.loop.rest.now row c.in_ok-cells.after.now c.loop-test.true
+          (sym c.in_ok-cells.ensures.entry) c.loop.invariant.all good.0);
     }
 
 pub returns-clause-bad : goal.returns-clause-bad
 returns-clause-bad c =
-    sym (c.loop.invariant.same ∙ ap (λ (rows : List Row). first_bad (rows_checks c.loop.place rows)) (no_more_rows (c.args.count - c.loop.counter) c.loop.rest.now (omega (arith, c.loop-test.false))))
+    sym (c.loop.invariant.same ∙ ap (λ (rows : List Row). first_bad (rows_checks c.loop.place rows))
+    (no_more_rows (c.args.count - c.loop.counter) c.loop.rest.now (omega (arith, c.loop-test.false))))

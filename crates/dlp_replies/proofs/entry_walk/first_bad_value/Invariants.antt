@@ -7,5 +7,6 @@ abbrev pub invariant-loop : goal.invariant-loop
 invariant-loop l = record {
   near : l.place ≤ 4 + 255 * l.counter;
   all : is_some (rows_in (l.count - l.counter) l.rest) ≡ true;
-  same : first_bad (rows_checks 4 (rows_or_none (rows_in l.count l.bytes))) ≡ first_bad (rows_checks l.place (rows_or_none (rows_in (l.count - l.counter) l.rest)));
+  same : first_bad (rows_checks 4 (rows_or_none (rows_in l.count l.bytes)))
+      ≡ first_bad (rows_checks l.place (rows_or_none (rows_in (l.count - l.counter) l.rest)));
 }

@@ -9,12 +9,14 @@ loop-init c = record { near = refl; left = omega (arith, words_len c.args.bytes.
 
 pub returns-in_err-number-clause-bad : goal.returns-in_err-number-clause-bad
 returns-in_err-number-clause-bad c =
-    rw c.from_residual.ensures (sym (c.loop.invariant.same ∙ ap (λ (ids : List ℕ). first_bad (ids_checks c.loop.place ids)) (no_word c.loop.rest.now (sym c.in_err-number.ensures))))
+    rw c.from_residual.ensures (sym (c.loop.invariant.same ∙ ap (λ (ids : List ℕ). first_bad (ids_checks c.loop.place ids))
+    (no_word c.loop.rest.now (sym c.in_err-number.ensures))))
 
 pub returns-then-number-gt-GREATEST-clause-bad : goal.returns-then-number-gt-GREATEST-clause-bad
 returns-then-number-gt-GREATEST-clause-bad c =
     let first = first_word c.loop.rest.now c.in_ok-number.number c.in_ok-number.after.now (sym c.in_ok-number.ensures) in
-    sym (c.loop.invariant.same ∙ ap (λ (ids : List ℕ). first_bad (ids_checks c.loop.place ids)) first ∙ bad_first c.loop.place c.in_ok-number.number (words c.in_ok-number.after.now) c.if-number-gt-GREATEST.true)
+    sym (c.loop.invariant.same ∙ ap (λ (ids : List ℕ). first_bad (ids_checks c.loop.place ids)) first ∙ bad_first c.loop.place c.in_ok-number.number
+    (words c.in_ok-number.after.now) c.if-number-gt-GREATEST.true)
 
 pub loop-preserved : goal.loop-preserved
 loop-preserved c =
@@ -23,5 +25,6 @@ loop-preserved c =
     record {
       near = omega arith;
       left = omega (arith, len, c.loop.invariant.left);
-      same = c.loop.invariant.same ∙ ap (λ (ids : List ℕ). first_bad (ids_checks c.loop.place ids)) first ∙ good_first c.loop.place c.in_ok-number.number (words c.in_ok-number.after.now) c.if-number-gt-GREATEST.false;
+      same = c.loop.invariant.same ∙ ap (λ (ids : List ℕ). first_bad (ids_checks c.loop.place ids)) first ∙ good_first c.loop.place c.in_ok-number.number
+          (words c.in_ok-number.after.now) c.if-number-gt-GREATEST.false;
     }

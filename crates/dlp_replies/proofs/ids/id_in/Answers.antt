@@ -10,7 +10,8 @@ pub returns-in-Some : goal.returns-in-Some
 returns-in-Some c =
     let from : drop (4 * c.args.place) c.args.bytes.now ≡ c.split_at.result.1.now = search rules in
     let there = word_at c.args.bytes.now c.args.place c.in-Some.number c.in-Some.field-0-1.now (ap (number_at w32) from ∙ sym c.in-Some.ensures) in
-    some_iff c.new.result (c.in-Some.number ≤ 16777215) c.in-Some.number c.new.ensures (all_at IsId (words c.args.bytes.now) c.args.place c.in-Some.number c.requires there) ∙ sym there
+    some_iff c.new.result (c.in-Some.number ≤ 16777215) c.in-Some.number c.new.ensures
+    (all_at IsId (words c.args.bytes.now) c.args.place c.in-Some.number c.requires there) ∙ sym there
 
 pub returns-in-None : goal.returns-in-None
 returns-in-None c =

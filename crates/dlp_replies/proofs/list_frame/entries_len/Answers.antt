@@ -8,7 +8,8 @@ pub loop-place-preserved : goal.loop-place-preserved
 loop-place-preserved c =
     elim c.match-get.branch [
       | in-Some w ↦
-          let more = lengths_left entry_text c.args.entries.now c.loop-place.place c.loop-place.len (w.in-Some.field-0-0, w.in-Some.head) (sym c.get.ensures ∙ w.in-Some.is) c.loop-place.invariant.left in
+          let more = lengths_left entry_text c.args.entries.now c.loop-place.place c.loop-place.len (w.in-Some.field-0-0, w.in-Some.head)
+          (sym c.get.ensures ∙ w.in-Some.is) c.loop-place.invariant.left in
           record {
             near = omega (arith, c.loop-place.invariant.near, w.entry_len-len.ensures.small, w.len-is);
             left = omega (arith, more, w.entry_len-len.ensures.len w.in-Some.field-0-0, w.len-is);

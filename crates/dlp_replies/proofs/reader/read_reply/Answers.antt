@@ -11,7 +11,9 @@ pub returns-clause-found : goal.returns-clause-found
 returns-clause-found c = is_found c.args.function c.args.bytes.now c.take_reply.result (λ i. omega (arith, c.type_inv.bytes i)) c.take_reply.ensures
 
 pub returns-clause-only : goal.returns-clause-only
-returns-clause-only c = λ value is. subst (λ (r : Result ReplyValue ReplyFault). Gives reply_value c.take_reply.result r) (reply_again c.args.function value c.args.bytes.now is) c.take_reply.ensures
+returns-clause-only c = λ value is. subst (λ (r : Result ReplyValue ReplyFault). Gives reply_value c.take_reply.result r)
+    (reply_again c.args.function value c.args.bytes.now is) c.take_reply.ensures
 
 pub returns-clause-own : goal.returns-clause-own
-returns-clause-own c = reply_owns c.args.function c.args.bytes.now c.take_reply.result (is_found c.args.function c.args.bytes.now c.take_reply.result (λ i. omega (arith, c.type_inv.bytes i)) c.take_reply.ensures)
+returns-clause-own c = reply_owns c.args.function c.args.bytes.now c.take_reply.result
+    (is_found c.args.function c.args.bytes.now c.take_reply.result (λ i. omega (arith, c.type_inv.bytes i)) c.take_reply.ensures)

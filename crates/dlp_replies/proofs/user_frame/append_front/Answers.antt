@@ -9,5 +9,16 @@ returns-clause-len c = omega (arith, length-append (wire_date c.args.good) (wire
 
 pub returns-clause-bytes : goal.returns-clause-bytes
 returns-clause-bytes c =
-    rw (c.append-5.ensures, c.append-4.ensures, c.append-3.ensures, c.append-2.ensures, c.append.ensures, c.to_be_bytes.ensures, c.to_be_bytes-2.ensures, c.to_be_bytes-3.ensures, c.to_wire.ensures.wire, c.to_wire-2.ensures.wire)
+    rw (
+      c.append-5.ensures,
+      c.append-4.ensures,
+      c.append-3.ensures,
+      c.append-2.ensures,
+      c.append.ensures,
+      c.to_be_bytes.ensures,
+      c.to_be_bytes-2.ensures,
+      c.to_be_bytes-3.ensures,
+      c.to_wire.ensures.wire,
+      c.to_wire-2.ensures.wire,
+    )
     (simp append_assoc)

@@ -25,8 +25,22 @@ returns-in_err-name c = rw (c.in_ok-title.ensures, c.in_ok-pc.ensures, c.in_ok-u
 
 pub returns-in_err-end : goal.returns-in_err-end
 unfolding one_slot_at
-returns-in_err-end c = rw (c.in_ok-title.ensures, c.in_ok-pc.ensures, c.in_ok-user.ensures, c.in_ok-last.ensures, c.in_ok-name.ensures, sym c.end.ensures ∙ c.in_err-end.was) (search rules)
+returns-in_err-end c = rw (
+  c.in_ok-title.ensures,
+  c.in_ok-pc.ensures,
+  c.in_ok-user.ensures,
+  c.in_ok-last.ensures,
+  c.in_ok-name.ensures,
+  sym c.end.ensures ∙ c.in_err-end.was,
+) (search rules)
 
 pub returns : goal.returns
 unfolding one_slot_at
-returns c = rw (c.in_ok-title.ensures, c.in_ok-pc.ensures, c.in_ok-user.ensures, c.in_ok-last.ensures, c.in_ok-name.ensures, sym c.end.ensures ∙ c.in_ok-end.was) (search rules)
+returns c = rw (
+  c.in_ok-title.ensures,
+  c.in_ok-pc.ensures,
+  c.in_ok-user.ensures,
+  c.in_ok-last.ensures,
+  c.in_ok-name.ensures,
+  sym c.end.ensures ∙ c.in_ok-end.was,
+) (search rules)

@@ -12,9 +12,13 @@ loop-number-preserved c =
     let marks = c.index-slots-number.result in
     let front = string_bytes c.in_ok-text.text in
     record {
-      text = c.in_ok-push_str.ensures.bytes ∙ (ap (λ (line : List ℕ). string_bytes c.loop-number.text ++ line) (c.as_str.ensures.value ∙ c.in_ok-line.ensures.line) ∙ (ap (λ (text : List ℕ). text ++ slot_line place marks) c.loop-number.invariant.text ∙ text_more front slots place marks (omega arith) c.index-slots-number.is));
+      text = c.in_ok-push_str.ensures.bytes ∙ (ap (λ (line : List ℕ). string_bytes c.loop-number.text ++ line)
+          (c.as_str.ensures.value ∙ c.in_ok-line.ensures.line)
+          ∙ (ap (λ (text : List ℕ). text ++ slot_line place marks) c.loop-number.invariant.text ∙ text_more front slots place marks (omega arith)
+          c.index-slots-number.is));
       said = said_more slots place marks (omega arith) c.index-slots-number.is c.loop-number.invariant.said c.in_ok-line.ensures.says;
     }
 
 pub returns-clause-said : goal.returns-clause-said
-returns-clause-said c = said_all c.args.slots.now c.loop-number.number c.index-slots-0.result (omega arith) c.requires.some c.number_word.ensures.says c.loop-number.invariant.said
+returns-clause-said c = said_all c.args.slots.now c.loop-number.number c.index-slots-0.result (omega arith) c.requires.some c.number_word.ensures.says
+    c.loop-number.invariant.said

@@ -9,4 +9,5 @@ pub returns-clause-says : goal.returns-clause-says
 returns-clause-says c =
     let is = c.as_bytes.ensures.bytes in
     let few : length c.args.name.now ≤ 40 = subst (λ (bytes : List ℕ). length bytes ≤ 40) is c.as_bytes.ensures.bound in
-    name_says c.args.name.now (subst IsBytes is c.bytes_word.ensures.in_range) few (subst (λ (bytes : List ℕ). list_any (λ byte. eqb byte 0) bytes ≡ false) is c.as_bytes.ensures.no_zero)
+    name_says c.args.name.now (subst IsBytes is c.bytes_word.ensures.in_range) few
+    (subst (λ (bytes : List ℕ). list_any (λ byte. eqb byte 0) bytes ≡ false) is c.as_bytes.ensures.no_zero)

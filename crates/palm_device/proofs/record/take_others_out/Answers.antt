@@ -12,9 +12,9 @@ loop-place-preserved c =
     slice_get_read _ _ _ _ refl more (rw c.records-in-loop-place.ensures.records at c.index-records-place.is) in
     let lost : is_kept c.args.kept.now c.index-records-place.result ≡ false = sym c.keeps.ensures ∙ c.if-keeps.false in
     rw c.take_out.ensures
-    (keeping_out (is_kept c.args.kept.now) c.args.database.now c.loop-place.database c.loop-place.place c.index-records-place.result
+    (keeping_out
     c.loop-place.invariant more here lost)
 
 pub returns : goal.returns
-returns c = keeping_end (is_kept c.args.kept.now) c.args.database.now c.loop-place.database c.loop-place.place c.loop-place.invariant
+returns c = keeping_end c.loop-place.invariant
     (grind (arith, common_steps))

@@ -14,16 +14,16 @@ returns-in-Some c =
     let here : slice_get items c.in-Some.place ≡ Some there =
     slice_get_read items (length items) c.in-Some.place there refl (search rules) c.index-items-place.is in
     let told : c.eq.result ≡ bytes_eq there.bytes c.args.bytes.now = search rules in (
-      λ e. put_resource_same c.args.kind.0 c.args.id c.args.bytes.now items c.in-Some.place there found here
+      λ e. put_resource_same c.args.kind.0 c.args.id items found here
           (bytes_eq-is there.bytes c.args.bytes.now (sym told ∙ e)),
       λ same. told ∙ ap (bytes_eq there.bytes)
-          (sym (put_resource_own c.args.kind.0 c.args.id c.args.bytes.now items c.in-Some.place there found here same)) ∙ bytes_eq-own there.bytes,
+          (sym (put_resource_own c.args.kind.0 c.args.id c.args.bytes.now found here same)) ∙ bytes_eq-own there.bytes,
     )
 
 pub returns-in-None : goal.returns-in-None
 returns-in-None c = (
   λ e. absurd cc,
   λ same.
-      absurd (put_resource_longer c.args.kind.0 c.args.id c.args.bytes.now c.args.items.now (sym c.place_of_resource.ensures.place
+      absurd (put_resource_longer c.args.kind.0 c.args.id c.args.bytes.now (sym c.place_of_resource.ensures.place
       ∙ c.in-None.is) same),
 )

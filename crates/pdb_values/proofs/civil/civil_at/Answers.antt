@@ -17,4 +17,5 @@ returns c =
     let year : FitsSigned w16 d.year = omega (arith, signed_arith, d.year_in) in
     let month : FitsSigned w8 (pos d.month) = omega (arith, signed_arith, d.month_in) in
     let day : FitsSigned w8 (pos d.day) = omega (arith, signed_arith, rw c.day.ensures at c.day.type_inv) in
-    rw (c.year.ensures, c.month.ensures, c.day.ensures, to_z-of_z year, to_z-of_z month, to_z-of_z day) (civil_at-civil_of d c.args.seconds (omega arith) c.day_at-date.ensures)
+    rw (c.year.ensures, c.month.ensures, c.day.ensures, to_z-of_z year, to_z-of_z month, to_z-of_z day)
+    (civil_at-civil_of d c.args.seconds (omega arith) c.day_at-date.ensures)

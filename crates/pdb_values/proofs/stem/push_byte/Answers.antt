@@ -1,8 +1,7 @@
 use Rattle.std.proofs.lemmas.Str.Ascii.{encode_ascii}
-use Rattle.std.proofs.Common.{arith}
+use Rattle.std.proofs.Common.{arith, ◌<◌}
 use Rattle.std.proofs.lemmas.Grind.{common_steps}
 use Rattle.std.proofs.lemmas.Bool.Decides.{nat_tests}
-use Rattle.std.proofs.Common.{◌<◌}
 use Rattle.pdb_values.specs.Stems.{stem_byte}
 use Rattle.pdb_values.proofs.stem.push_byte.Goals as goal
 

@@ -8,4 +8,4 @@ returns-in_err-take-clause-err g c =
     let p = err_from_is_err_and c.from_residual.result c.from_residual.ensures.1 in
     let before = c.loop-packet.invariant in
     let step = rw c.in-Some.is at (c.next.follows.holds-at-none.continues c.args.reader.now.held before.handed before.continues) in
-    rw (p.1, c.in_err-take.ensures.err) (gains_front _ _ _ _ _ (lent_value c.in-Some.packet) before step)
+    rw (p.1, c.in_err-take.ensures.err) (gains_front (lent_value c.in-Some.packet) before step)

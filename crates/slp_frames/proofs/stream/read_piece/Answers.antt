@@ -9,8 +9,14 @@ loop-rest-preserved g c =
     let before = c.loop-rest.invariant.1 in
     let rest = c.loop-rest.rest.now in
     let bytes = take c.feed-count.result rest in
-    let gains = gains_then _ bytes _ _ _ _ _ before.2 (rw c.feed-count.ensures.held at c.in_ok-drain.ensures.ok) in
-    (c.in_ok-drain.ensures.drained, (before.0 ++ bytes, rw take_rest (piece_parts c.args.piece.now before.0 rest c.feed-count.result before.1), rw (← append_assoc) gains))
+    let gains = gains_then bytes before.2 (rw c.feed-count.ensures.held at c.in_ok-drain.ensures.ok) in (
+      c.in_ok-drain.ensures.drained,
+      (
+        before.0 ++ bytes,
+        rw take_rest (piece_parts c.args.piece.now before.0 rest c.feed-count.result before.1),
+        rw (← append_assoc) gains,
+      ),
+    )
 
 pub returns-in_err-drain-clause-err : goal.returns-in_err-drain-clause-err
 returns-in_err-drain-clause-err g c =
@@ -20,6 +26,7 @@ returns-in_err-drain-clause-err g c =
     let held = c.args.reader.now.held in
     let bytes = take c.feed-count.result rest in
     let left = drop c.feed-count.result rest in
-    let parts = ap (λ (s : List ℕ). held ++ s) (piece_parts c.args.piece.now before.0 rest c.feed-count.result before.1) ∙ sym (append_assoc held (before.0 ++ bytes) left) ∙ ap (λ (s : List ℕ). s ++ left) (sym (append_assoc held before.0 bytes)) in
-    let front = gains_front_then _ bytes _ _ _ _ before.2 (rw c.feed-count.ensures.held at c.in_err-drain.ensures.err) in
-    rw p.1 (gains_front_append _ _ left _ _ parts front)
+    let parts = ap (λ (s : List ℕ). held ++ s) (piece_parts c.args.piece.now before.0 rest c.feed-count.result before.1)
+    ∙ sym (append_assoc held (before.0 ++ bytes) left) ∙ ap (λ (s : List ℕ). s ++ left) (sym (append_assoc held before.0 bytes)) in
+    let front = gains_front_then bytes before.2 (rw c.feed-count.ensures.held at c.in_err-drain.ensures.err) in
+    rw p.1 (gains_front_append left parts front)

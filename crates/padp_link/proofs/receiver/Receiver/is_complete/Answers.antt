@@ -11,7 +11,8 @@ returns-then-self-ne0 c =
     let bytes = c.self.inside.message.items in
     let some : nat_eq count 0 ≡ false = ne_eqb count 0 c.if-self-ne0.true in
     let held = is_complete-held size count bytes c.self.invariant.has_all in
-    let test : (not (nat_eq count 0) && nat_eq (length bytes) size) ≡ nat_eq (length bytes) size = ap (λ (b : Bool). not b && nat_eq (length bytes) size) some in
+    let test : (not (nat_eq count 0) && nat_eq (length bytes) size) ≡ nat_eq (length bytes) size = ap (λ (b : Bool). not b && nat_eq (length bytes) size)
+    some in
     let len : c.len.result ≡ length bytes = omega arith in
     ap (λ (n : ℕ). nat_eq n c.from.result) len ∙ ap (λ (n : ℕ). nat_eq (length bytes) n) c.from.ensures
     ∙ sym test ∙ sym held ∙ ap (λ (r : ReceiverValue). is_complete r.pieces) c.self.view_is

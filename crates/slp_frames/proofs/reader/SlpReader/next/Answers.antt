@@ -11,8 +11,8 @@ returns-in_default c =
     let reader = c.self.inside in
     let found = c.find_packet-found in
     let same = c.as_slice.ensures.value in
-    let is = held_is reader.buffer.items c.as_slice.result.now reader.passed same ∙ ap (λ (r : ReaderValue). r.held) c.self.view_is in
-    let behind = behind_is reader.buffer.items c.as_slice.result.now reader.passed found.result.place same in
+    let is = held_is reader.passed same ∙ ap (λ (r : ReaderValue). r.held) c.self.view_is in
+    let behind = behind_is reader.passed found.result.place same in
     let tally = ap (λ (r : ReaderValue). r.tally) c.self.view_is in
     let opens = rw c.in_default.is at found.ensures.found in
     ((refl, λ _. tt, hands_out_none c.args.self.now _ _ is found.result.place found.ensures.passed opens behind tally), record { hands_out = tt })
@@ -22,11 +22,19 @@ returns c =
     let reader = c.self.inside in
     let found = c.find_packet-found in
     let same = c.as_slice.ensures.value in
-    let is = held_is reader.buffer.items c.as_slice.result.now reader.passed same ∙ ap (λ (r : ReaderValue). r.held) c.self.view_is in
-    let behind = behind_is reader.buffer.items c.as_slice.result.now reader.passed found.result.place same in
+    let is = held_is reader.passed same ∙ ap (λ (r : ReaderValue). r.held) c.self.view_is in
+    let behind = behind_is reader.passed found.result.place same in
     let tally = ap (λ (r : ReaderValue). r.tally) c.self.view_is in
     let stands = rw c.in-Some.is at found.ensures.found in
-    let value = packet_is _ found.result.place _ c.packet_at.ensures in
-    let held = sym (drop-drop (text_len c.in-Some.size) (reader.passed + found.result.place) reader.buffer.items) ∙ ap (λ (s : List ℕ). drop (text_len c.in-Some.size) s) behind in
-    let counted = c.add_packet.ensures ∙ ap (λ (t : TallyValue). record t { packets = raised t.packets 1 }) tally in
-    ((refl, λ _. tt, hands_out_packet c.args.self.now _ _ is found.result.place found.ensures.passed c.packet_at.result c.in-Some.size stands value held counted), record { hands_out = tt })
+    let value = packet_is _ found.result.place c.packet_at.ensures in
+    let held = sym (drop-drop (text_len c.in-Some.size) (reader.passed + found.result.place) reader.buffer.items)
+    ∙ ap (λ (s : List ℕ). drop (text_len c.in-Some.size) s) behind in
+    let counted = c.add_packet.ensures ∙ ap (λ (t : TallyValue). record t { packets = raised t.packets 1 }) tally in (
+      (
+        refl,
+        λ _. tt,
+        hands_out_packet c.args.self.now _ _ is found.result.place found.ensures.passed c.packet_at.result c.in-Some.size stands value held
+            counted,
+      ),
+      record { hands_out = tt },
+    )
