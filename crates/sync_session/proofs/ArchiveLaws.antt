@@ -1,12 +1,13 @@
 -- An archive, entry by entry.
 use Rattle.std.proofs.Common.{◌≡◌, ◌∙◌, ◌<◌, ◌+◌, ap, refl, sym, ℕ, Bool, true, false, List, [], ◌∷◌, ◌++◌, map, take, length, get_or, append_assoc}
-use Rattle.std.proofs.lemmas.List.{map-append, take_more}
+use Rattle.std.proofs.lemmas.List.{append-nil, map-append}
 use Rattle.std.specs.Prelude.{◌||◌, ◌&&◌, ◌==◌, if◌then◌else◌}
 use Rattle.std.specs.List.{list_any}
 use Rattle.pdb_values.specs.Contents.{ContentValue}
 use Rattle.pdb_values.specs.declared.record.Record.{Record}
 use Rattle.conduit_rules.specs.Contents.{same_content}
 use Rattle.conduit_merge.specs.Merging.{is_archived, one_copy_behind, settled_record}
+use Rattle.slow_mirror.proofs.NewsLaws.{split_at}
 use Rattle.sync_session.specs.Archives.{archive_records, entries_of, with_entries, with_entry}
 
 or_later : (a b c : Bool) → (a || (b || c)) ≡ (b || (a || c))
@@ -14,10 +15,6 @@ or_later true true c = refl
 or_later true false c = refl
 or_later false true c = refl
 or_later false false c = refl
-
-or_last : (a : Bool) → (a || false) ≡ a
-or_last true = refl
-or_last false = refl
 
 pub stands_among : (id : ℕ) (content : ContentValue) (archive : List Record)
     → list_any (λ (entry : Record). (entry.id == id) && same_content entry.content content) archive ≡ is_archived (id, content) (entries_of archive)
@@ -38,28 +35,21 @@ with_entries-append : (xs ys : List (ℕ × ContentValue)) (kept : List Record) 
 with_entries-append [] ys kept = refl
 with_entries-append (x ∷ xs) ys kept = with_entries-append xs ys (with_entry x kept)
 
--- entries that were put are those that none before equals
-append_nil : (xs : List (ℕ × ContentValue)) → xs ++ [] ≡ xs
-append_nil [] = refl
-append_nil (x ∷ xs) = ap (λ ys. x ∷ ys) (append_nil xs)
-
 -- what becomes of the first entry, by whether it stands there
 put_by : (b c : Bool) (earlier kept es : List (ℕ × ContentValue)) (e : ℕ × ContentValue) → c ≡ b
     → (b ≡ true → with_entries es (archive_records kept) ≡ archive_records (kept ++ one_copy_behind earlier es))
     → (b ≡ false → with_entries es (archive_records (kept ++ e ∷ [])) ≡ archive_records ((kept ++ e ∷ []) ++ one_copy_behind (e ∷ earlier) es))
     → with_entries es (if b then archive_records kept else archive_records kept ++ settled_record e ∷ [])
     ≡ archive_records (kept ++ (if c then one_copy_behind earlier es else e ∷ one_copy_behind (e ∷ earlier) es))
-put_by true true earlier kept es e is there new = there refl
-put_by false false earlier kept es e is there new =
-    ap (with_entries es) (sym (map-append settled_record kept (e ∷ []))) ∙ new refl
-    ∙ ap archive_records (append_assoc kept (e ∷ []) (one_copy_behind (e ∷ earlier) es))
-put_by true false earlier kept es e is there new = absurd cc
-put_by false true earlier kept es e is there new = absurd cc
+put_by true c earlier kept es e is there new = rw is (there refl)
+put_by false c earlier kept es e is there new =
+    rw is (ap (with_entries es) (sym (map-append settled_record kept (e ∷ []))) ∙ new refl
+    ∙ ap archive_records (append_assoc kept (e ∷ []) (one_copy_behind (e ∷ earlier) es)))
 
 -- entries that were put are those that none before equals
 copies : (earlier kept es : List (ℕ × ContentValue)) → ((e : ℕ × ContentValue) → is_archived e earlier ≡ is_archived e kept)
     → with_entries es (archive_records kept) ≡ archive_records (kept ++ one_copy_behind earlier es)
-copies earlier kept [] same = ap archive_records (sym (append_nil kept))
+copies earlier kept [] same = ap archive_records (sym (append-nil kept))
 copies earlier kept (e ∷ es) same =
     ap (λ ks. with_entries es (if is_archived e ks then archive_records kept else archive_records kept ++ settled_record e ∷ [])) (entries-records kept)
     ∙ put_by (is_archived e kept) (is_archived e earlier) earlier kept es e (same e) (λ here. copies earlier kept es same)
@@ -74,9 +64,7 @@ one_copy_of_each old new = sym (with_entries-append old new []) ∙ copies [] []
 more : {A : Type 0} (f : A → ℕ × ContentValue) (xs : List A) (k : ℕ) (x : A) (kept : List Record) → k < length xs → x ≡ get_or xs k x
     → with_entries (map f (take (k + 1) xs)) kept ≡ with_entry (f x) (with_entries (map f (take k xs)) kept)
 more f xs k x kept within is =
-    ap (λ ys. with_entries (map f ys) kept) (take_more xs k x within ∙ ap (λ y. take k xs ++ y ∷ []) (sym is))
-    ∙ ap (λ ys. with_entries ys kept) (map-append f (take k xs) (x ∷ []))
-    ∙ with_entries-append (map f (take k xs)) (f x ∷ []) kept
+    rw ((split_at xs k x within is).next, map-append f (take k xs) (x ∷ []), with_entries-append (map f (take k xs)) (f x ∷ []) kept)
 
 pub old_more : (old : List Record) (k : ℕ) (r : Record) (kept : List Record) → k < length old → r ≡ get_or old k r
     → with_entries (entries_of (take (k + 1) old)) kept ≡ with_entry (r.id, r.content) (with_entries (entries_of (take k old)) kept)
@@ -84,6 +72,4 @@ old_more old k r kept within is = more (λ (x : Record). (x.id, x.content)) old 
 
 pub new_more : (new : List (ℕ × ContentValue)) (k : ℕ) (e : ℕ × ContentValue) (kept : List Record) → k < length new → e ≡ get_or new k e
     → with_entries (take (k + 1) new) kept ≡ with_entry e (with_entries (take k new) kept)
-new_more new k e kept within is =
-    ap (λ ys. with_entries ys kept) (take_more new k e within ∙ ap (λ y. take k new ++ y ∷ []) (sym is))
-    ∙ with_entries-append (take k new) (e ∷ []) kept
+new_more new k e kept within is = rw ((split_at new k e within is).next, with_entries-append (take k new) (e ∷ []) kept)

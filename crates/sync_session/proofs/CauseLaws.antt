@@ -1,18 +1,12 @@
 -- Why a session stops once both sides have met.
-use Rattle.std.proofs.Common.{◌≡◌, refl, sym, subst, inl, inr}
-use Rattle.std.specs.Prelude.{◌⊎◌, Option, Some, None, IfErr, Result, Ok, Err}
+use Rattle.std.proofs.Common.{◌≡◌, refl, inl, inr, ◌⊎◌, Option, Some, None, IfErr, Result, Ok, Err}
 use Rattle.dlp_replies.specs.declared.error_code.ErrorCode.{ErrorCode}
 use Rattle.dlp_replies.specs.declared.fault.ReplyFault.{ReplyFault}
 use Rattle.dlp_replies.specs.ReplyValues as reply
 use Rattle.dlp_replies.specs.ReplyValues.{ReplyValue}
-use Rattle.dlp_commands.specs.declared.link.LinkFault.{LinkFault}
+use Rattle.sync_session.proofs.LinkWords.{LinkFault, SessionFault, Ended, Halted, answer_by, no_more, said_in, end_of, link_ended}
 use Rattle.dlp_commands.specs.declared.link.LinkFault.TheVariants as link
-use Rattle.desktop_session.specs.declared.fault.SessionFault.{SessionFault}
 use Rattle.desktop_session.specs.declared.fault.SessionFault.TheVariants as session
-use Rattle.desktop_session.specs.declared.ending.Ended.{Ended}
-use Rattle.desktop_session.specs.declared.ending.Halted.{Halted}
-use Rattle.desktop_session.specs.Answers.{answer_by, no_more, said_in}
-use Rattle.desktop_session.specs.Ends.{end_of, link_ended}
 use Rattle.desktop_session.specs.Faults.{fault_of}
 use Rattle.desktop_session.specs.Lists.{HasCause}
 use Rattle.sync_session.specs.Causes.{IsLater}
@@ -23,8 +17,7 @@ later_by fault read session.Down is = is
 later_by fault read (session.Refused code) is = is.0
 later_by fault read (session.BadReply broken) is = is.0
 later_by fault read session.NoMemory is = tt
-later_by fault read (session.OtherUser handheld desktop) is = absurd is
-later_by fault read session.TooManyUsers is = absurd is
+later_by fault read other is = absurd is
 
 pub later_by_two : (fault : Option LinkFault) (one two : Result ReplyValue ReplyFault) (cause : SessionFault)
     → HasCause fault one cause ⊎ HasCause fault two cause → IsLater fault cause
@@ -44,15 +37,15 @@ later_by_four fault one two three four cause (inr is) = later_by_three fault two
 -- by an answer
 later_fault : {A : Type 0} (now : LinkFault) (cause : SessionFault) → ◌≡◌ {A = Result A SessionFault} (Err cause) (Err (fault_of now))
     → IsLater (Some now) cause
-later_fault link.Down cause is = let same : cause ≡ session.Down = cc in subst (IsLater (Some link.Down)) (sym same) refl
-later_fault link.NoMemory cause is = let same : cause ≡ session.NoMemory = cc in subst (IsLater (Some link.NoMemory)) (sym same) tt
+later_fault link.Down cause is = let same : cause ≡ session.Down = cc in rw same refl
+later_fault link.NoMemory cause is = let same : cause ≡ session.NoMemory = cc in rw same tt
 
 later_said : {A : Type 0} (take : ReplyValue → A) (read : Result ReplyValue ReplyFault) (cause : SessionFault) → Err cause ≡ said_in take read
     → IsLater None cause
-later_said take (Err broken) cause is = let same : cause ≡ session.BadReply broken = cc in subst (IsLater None) (sym same) refl
+later_said take (Err broken) cause is = let same : cause ≡ session.BadReply broken = cc in rw same refl
 later_said take (Ok (reply.Refused number code)) cause is =
     let other : ErrorCode = record { 0 = code } in
-    let same : cause ≡ session.Refused other = cc in subst (IsLater None) (sym same) refl
+    let same : cause ≡ session.Refused other = cc in rw same refl
 later_said take (Ok value) cause is = absurd cc
 
 pub later_refused : {A : Type 0} (fault : Option LinkFault) (take : ReplyValue → A) (read : Result ReplyValue ReplyFault) (cause : SessionFault)
@@ -69,17 +62,10 @@ later_answer fault take read (Err cause) is = later_refused fault take read caus
 pub later_unopened : {A B : Type 0} (fault : Option LinkFault) (take : ReplyValue → B) (read : Result ReplyValue ReplyFault) (r : Result A SessionFault)
     (cause : SessionFault) → r ≡ Err cause → IfErr r (λ cause. Err cause ≡ answer_by fault (said_in take read)) → IsLater fault cause
 later_unopened {A} {B} fault take read r cause is held =
-    later_refused fault take read cause
-    (subst (λ (s : Result A SessionFault). IfErr s (λ cause. ◌≡◌ {A = Result B SessionFault} (Err cause) (answer_by fault (said_in take read)))) is held)
+    later_refused fault take read cause (rw is at held)
 
 -- an ending
 pub later_ended : {L : Type 0} (fault : L → Option LinkFault) (read : Result ReplyValue ReplyFault) (answer : Result (Ended L) (Halted L))
     → end_of answer ≡ answer_by (fault (link_ended answer)) (said_in no_more read) → IfErr answer (λ halted. IsLater (fault halted.link) halted.cause)
 later_ended fault read (Ok ended) is = tt
 later_ended fault read (Err halted) is = later_refused (fault halted.link) no_more read halted.cause is
-
--- it was refused before, and left
-pub later_left : {L : Type 0} (fault : L → Option LinkFault) (link : L) (cause : SessionFault) (halted : Halted L) → halted.link ≡ link → halted.cause ≡ cause
-    → IsLater (fault link) cause → IsLater (fault halted.link) halted.cause
-later_left fault link cause halted same is later =
-    subst (λ l. IsLater (fault l) halted.cause) (sym same) (subst (IsLater (fault link)) (sym is) later)

@@ -1,11 +1,9 @@
 -- Whatever is opened, written and closed under handle 1 leaves nothing open.
-use Rattle.std.proofs.Common.{◌≡◌, ◌∙◌, refl, ap, ℕ, List, [], ◌∷◌, ◌++◌, map}
-use Rattle.std.specs.Prelude.{Option, Some, None, Ok, Err, replicate}
+use Rattle.std.proofs.Common.{◌≡◌, ◌∙◌, refl, ap, ℕ, List, [], ◌∷◌, ◌++◌, map, Option, Some, None, Ok, Err, replicate}
 use Rattle.std.specs.List.{AllByRecursion}
 use Rattle.std.specs.Option.{option_map}
-use Rattle.pdb_values.specs.Contents.{ContentValue}
+use Rattle.sync_session.proofs.MeetingWords.{ContentValue, DbHead}
 use Rattle.pdb_values.specs.PalmDates.{wire_date}
-use Rattle.pdb_values.specs.declared.head.DbHead.{DbHead}
 use Rattle.pdb_values.specs.declared.user.UserInfo.{UserInfo}
 use Rattle.dlp_replies.specs.ReplyValues as reply
 use Rattle.dlp_replies.specs.ReplyValues.{ReplyValue}
@@ -16,14 +14,11 @@ use Rattle.dlp_commands.specs.DatabaseFunctions.{close_db, create_db, open_db}
 use Rattle.dlp_commands.specs.DeviceSteps.{outcome, tried}
 use Rattle.dlp_commands.specs.Errors.{none_open, read_only, check, need}
 use Rattle.dlp_commands.specs.Reached.{Tried, writes}
-use Rattle.dlp_commands.specs.Talks.{Talk}
+use Rattle.sync_session.proofs.LinkWords.{Talk, Act, acted, cleaning, closing, making, marked_name, marking, opening, putting, removing, resetting, secret_bit}
+use Rattle.sync_session.proofs.LinkWords.{said, saying, device_after}
 use Rattle.dlp_commands.specs.UserFunctions.{chosen, marked, name_length, write_user_info}
 use Rattle.dlp_commands.specs.Writings as writing
 use Rattle.dlp_commands.specs.Writings.{WritingValue, written_in}
-use Rattle.desktop_session.specs.Acts.{Act, acted}
-use Rattle.desktop_session.specs.Requests.{cleaning, closing, making, marked_name, marking, opening, putting, removing, resetting, secret_bit}
-use Rattle.desktop_session.specs.Says.{said, saying}
-use Rattle.desktop_session.specs.Tellings.{device_after}
 use Rattle.desktop_session.proofs.TellLaws.{IfDone, Opens, done_then, open_done, said_device}
 use Rattle.slow_mirror.specs.News.{purge_writes, puts}
 use Rattle.sync_session.proofs.HandleLaws.{make_done}
@@ -86,14 +81,6 @@ removing_keeps : (handle id : ℕ) → KeepsHandles (removing handle id)
 unfolding acted tried
 removing_keeps handle id = record { at = λ device. writes_keep 0 device handle 0x22 (writing.DeleteRecord 0 id) }
 
-cleaning_keeps : (handle : ℕ) → KeepsHandles (cleaning handle)
-unfolding acted tried
-cleaning_keeps handle = record { at = λ device. writes_keep 0 device handle 0x26 writing.CleanUp }
-
-resetting_keeps : (handle : ℕ) → KeepsHandles (resetting handle)
-unfolding acted tried
-resetting_keeps handle = record { at = λ device. writes_keep 0 device handle 0x27 writing.ResetFlags }
-
 marks_keep : (device : Device) (user viewer pc : ℕ) (date : List ℕ) (bits name_len : ℕ) (name : Option (List ℕ))
     → IfDone (λ (done : Device × ReplyValue). done.0.handles ≡ device.handles) (write_user_info device user viewer pc date bits name_len name)
 unfolding write_user_info
@@ -125,9 +112,12 @@ removes_keep handle [] = tt
 removes_keep handle (id ∷ ids) = (removing_keeps handle id, removes_keep handle ids)
 
 pub purges_keep : (handle : ℕ) (ids : List ℕ) → AllByRecursion KeepsHandles (purge_writes handle ids)
+unfolding acted tried
 purges_keep handle ids =
-    all-append KeepsHandles (map (removing handle) ids) (cleaning handle ∷ resetting handle ∷ []) (removes_keep handle ids)
-    (cleaning_keeps handle, (resetting_keeps handle, tt))
+    all-append KeepsHandles (map (removing handle) ids) (cleaning handle ∷ resetting handle ∷ []) (removes_keep handle ids) (
+      record { at = λ device. writes_keep 0 device handle 0x26 writing.CleanUp },
+      (record { at = λ device. writes_keep 0 device handle 0x27 writing.ResetFlags }, tt),
+    )
 
 handles_after : (acts : List Act) (device : Device) → AllByRecursion KeepsHandles acts → (device_after acts device).handles ≡ device.handles
 handles_after [] device all = refl

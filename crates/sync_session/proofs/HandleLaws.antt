@@ -1,32 +1,25 @@
 -- A database that is opened or made where nothing is open gets handle 1.
-use Rattle.std.proofs.Common.{◌≡◌, ◌∙◌, refl, sym, ap, subst, ℕ, List, length, lit<, lit≤}
+use Rattle.std.proofs.Common.{◌≡◌, ◌∙◌, refl, sym, ap, subst, ℕ, List, [], ◌∷◌, length, lit<, lit≤}
 use Rattle.std.specs.Prelude.{Option, Some, None, IfSome, Result, Ok, Err, is_none, nat_lt}
 use Rattle.pdb_values.specs.NamedDatabases.{database_of}
-use Rattle.pdb_values.specs.declared.head.DbHead.{DbHead}
+use Rattle.sync_session.proofs.MeetingWords.{DbHead, IsFirst}
 use Rattle.dlp_replies.specs.Frames.{reply_text}
 use Rattle.dlp_replies.specs.ReplyReading.{reply_at}
 use Rattle.dlp_replies.specs.ReplyValues as reply
 use Rattle.dlp_replies.specs.ReplyValues.{ReplyValue}
 use Rattle.palm_device.specs.Devices.{Device, most_databases}
 use Rattle.palm_device.specs.Handles.{free_handle, just_opened, no_handles, with_handle}
-use Rattle.dlp_commands.specs.declared.link.LinkFault.{LinkFault}
+use Rattle.sync_session.proofs.LinkWords.{LinkFault, Talk, SessionFault, Act, acted, answer_by, handle_of, said_in, making, opening, saying, SessionValue}
+use Rattle.sync_session.proofs.LinkWords.{Asked}
 use Rattle.dlp_commands.specs.DatabaseFunctions.{create_db, named, open_db}
 use Rattle.dlp_commands.specs.DeviceSteps.{outcome, tried}
 use Rattle.dlp_commands.specs.Errors.{exists, limit, too_many_open, check, need}
 use Rattle.dlp_commands.specs.Reached.{Tried}
-use Rattle.dlp_commands.specs.Talks.{Talk}
 use Rattle.dlp_commands.proofs.ReplyLaws.{Replies, refused_reply}
 use Rattle.dlp_commands.proofs.TableLaws.{tried_done}
 use Rattle.dlp_commands.proofs.TriedLaws.{Keeps}
-use Rattle.desktop_session.specs.declared.fault.SessionFault.{SessionFault}
-use Rattle.desktop_session.specs.Acts.{Act, acted}
-use Rattle.desktop_session.specs.Answers.{answer_by, handle_of, said_in}
-use Rattle.desktop_session.specs.Requests.{making, opening}
-use Rattle.desktop_session.specs.Sessions.{SessionValue}
-use Rattle.desktop_session.specs.Stops.{Asked}
 use Rattle.desktop_session.proofs.GreetLaws.{no_fault_said}
 use Rattle.desktop_session.proofs.TellLaws.{IfDone, Opens, done_then, need_some, open_done, read_again}
-use Rattle.sync_session.specs.Rests.{IsFirst}
 
 -- ---- the handle in a reply
 
@@ -105,25 +98,40 @@ first_by None one number handle bytes opens told said = tt
 first_by (Some talk) one number handle bytes opens told said =
     λ none. opens talk.device none (subst (λ r. said_in handle_of (reply_at number r) ≡ Ok handle) told said)
 
-pub opened_first : {L : Type 0} (talk : L → Option Talk) (since : L → L → Type 0) (fault : L → Option LinkFault) (downs : L → ℕ) (name : List ℕ)
-    (handle : ℕ) (old now : SessionValue L) → Asked talk since fault downs (opening name) old now
-    → Ok handle ≡ answer_by (fault now.link) (said_in handle_of (reply_at 0x17 now.reply)) → IsFirst (talk old.link) handle
-opened_first talk since fault downs name handle old now asked is =
-    let said = said_in handle_of (reply_at 0x17 now.reply) in
-    let none = no_fault_said (fault now.link) said handle is in
-    first_by (talk old.link) (opening name) 0x17 handle now.reply (λ device none. opens_one device name handle none) (asked.told none)
-    (said_of_answer (fault now.link) said handle is)
-
-pub made_first : {L : Type 0} (talk : L → Option Talk) (since : L → L → Type 0) (fault : L → Option LinkFault) (downs : L → ℕ) (head : DbHead)
-    (handle : ℕ) (old now : SessionValue L) → Asked talk since fault downs (making head) old now
-    → Ok handle ≡ answer_by (fault now.link) (said_in handle_of (reply_at 0x18 now.reply)) → IsFirst (talk old.link) handle
-made_first talk since fault downs head handle old now asked is =
-    let said = said_in handle_of (reply_at 0x18 now.reply) in
-    let none = no_fault_said (fault now.link) said handle is in
-    first_by (talk old.link) (making head) 0x18 handle now.reply (λ device none. makes_one device head handle none) (asked.told none)
-    (said_of_answer (fault now.link) said handle is)
-
 -- handle 1 is the first
 pub one_first : (told : Option Talk) → IsFirst told 1
 one_first None = tt
 one_first (Some talk) = λ none. refl
+
+-- an act that opens a database was answered by this handle, the first where nothing was open
+pub record IsOpened {L : Type 0} (talk : L → Option Talk) (since : L → L → Type 0) (fault : L → Option LinkFault) (downs : L → ℕ) (one : Act) (handle : ℕ)
+    (old now : SessionValue L) : Type 0 where
+  pub asked : Asked talk since fault downs one old now
+  pub none : fault now.link ≡ None
+  pub first : IsFirst (talk old.link) handle
+  pub told : talk now.link ≡ saying (one ∷ []) (talk old.link)
+
+module _ {L : Type 0} {talk : L → Option Talk} {since : L → L → Type 0} {fault : L → Option LinkFault} {downs : L → ℕ} where
+  answered_first : (number : ℕ) (one : Act) {handle : ℕ} {old now : SessionValue L}
+      → ((device : Device) → device.handles ≡ no_handles → said_in handle_of (reply_at number (acted one device).0) ≡ Ok handle → handle ≡ 1)
+      → Asked talk since fault downs one old now → Ok handle ≡ answer_by (fault now.link) (said_in handle_of (reply_at number now.reply))
+      → IsOpened talk since fault downs one handle old now
+  answered_first number one {handle} {old} {now} opens asked is =
+      let said = said_in handle_of (reply_at number now.reply) in
+      let none = no_fault_said (fault now.link) said handle is in
+      record {
+        asked = asked;
+        none = none;
+        first = first_by (talk old.link) one number handle now.reply opens (asked.told none) (said_of_answer (fault now.link) said handle is);
+        told = (asked.does none).said;
+      }
+
+  pub opened_first : (name : List ℕ) {handle : ℕ} {old now : SessionValue L} → Asked talk since fault downs (opening name) old now
+      → Ok handle ≡ answer_by (fault now.link) (said_in handle_of (reply_at 0x17 now.reply))
+      → IsOpened talk since fault downs (opening name) handle old now
+  opened_first name asked is = answered_first 0x17 (opening name) (λ device none. opens_one device name _ none) asked is
+
+  pub made_first : (head : DbHead) {handle : ℕ} {old now : SessionValue L} → Asked talk since fault downs (making head) old now
+      → Ok handle ≡ answer_by (fault now.link) (said_in handle_of (reply_at 0x18 now.reply))
+      → IsOpened talk since fault downs (making head) handle old now
+  made_first head asked is = answered_first 0x18 (making head) (λ device none. makes_one device head _ none) asked is

@@ -1,19 +1,11 @@
 -- No request depends on the ids that new records get.
-use Rattle.std.proofs.Common.{◌≡◌, ◌∙◌, refl, ap, sym, ℕ, List, [], ◌∷◌, ◌++◌, map, length, take, drop}
+use Rattle.std.proofs.Common.{◌≡◌, refl, ap, ℕ, List, [], ◌∷◌, ◌++◌, map, length, take, drop, replicate, Option, Some, None}
 use Rattle.std.proofs.lemmas.List.{map-append}
-use Rattle.std.specs.Prelude.{replicate, Option, Some, None}
-use Rattle.pdb_values.specs.Contents.{ContentValue}
-use Rattle.pdb_values.specs.Databases.{DatabaseValue}
-use Rattle.desktop_session.specs.Acts.{Act, text}
-use Rattle.desktop_session.specs.Requests.{closing, making, opening, putting}
+use Rattle.sync_session.proofs.MeetingWords.{ContentValue, DatabaseValue, Meeting, Task, active, choice, adds_of, before_commit, requests, session}
+use Rattle.sync_session.proofs.LinkWords.{Act, text, closing, making, opening, putting}
 use Rattle.slow_mirror.specs.News.{as_new, puts}
-use Rattle.sync_session.specs.Tasks.{Meeting, Task}
-use Rattle.sync_session.specs.Skips.{active}
-use Rattle.sync_session.specs.Choosing.{choice}
 use Rattle.sync_session.specs.Heads.{made_head}
 use Rattle.sync_session.specs.News.{add_count, all_news, news_acts, news_by, opened_for, replaced, writes}
-use Rattle.sync_session.specs.Users.{begin_mark}
-use Rattle.sync_session.specs.Sessions.{adds_of, after_commit, before_commit, before_writes, requests, session}
 
 pub text-puts : (handle : ℕ) (entries : List (ℕ × ContentValue)) (ids others : List ℕ)
     → map text (puts handle ids entries) ≡ map text (puts handle others entries)
@@ -26,8 +18,7 @@ text-puts handle (e ∷ es) (i ∷ ids) (o ∷ others) = ap (λ zs. text (puttin
 
 pub text-around : (first : Act) (acts others : List Act) → map text acts ≡ map text others
     → map text (first ∷ (acts ++ closing 1 ∷ [])) ≡ map text (first ∷ (others ++ closing 1 ∷ []))
-text-around first acts others same = ap (λ zs. text first ∷ zs)
-    (map-append text acts (closing 1 ∷ []) ∙ ap (λ zs. zs ++ text (closing 1) ∷ []) same ∙ sym (map-append text others (closing 1 ∷ [])))
+text-around first acts others same = simp (map-append, same)
 
 pub text-opened_for : (name : List ℕ) (acts others : List Act) → map text acts ≡ map text others
     → map text (opened_for name acts) ≡ map text (opened_for name others)
@@ -57,22 +48,13 @@ unfolding all_news
 text-all_news meeting [] ids others = refl
 text-all_news meeting (task ∷ later) ids others =
     let n = add_count meeting task in
-    map-append text (news_acts meeting task (take n ids)) (all_news meeting later (drop n ids))
-    ∙ ap (λ zs. zs ++ map text (all_news meeting later (drop n ids))) (text-news_acts meeting task (take n ids) (take n others))
-    ∙ ap (λ zs. map text (news_acts meeting task (take n others)) ++ zs) (text-all_news meeting later (drop n ids) (drop n others))
-    ∙ sym (map-append text (news_acts meeting task (take n others)) (all_news meeting later (drop n others)))
+    simp (map-append, text-news_acts meeting task (take n ids) (take n others), text-all_news meeting later (drop n ids) (drop n others))
 
 pub text-before_commit : (meeting : Meeting) (ids others : List ℕ) → map text (before_commit meeting ids) ≡ map text (before_commit meeting others)
 unfolding before_commit
 text-before_commit meeting ids others =
-    map-append text (before_writes meeting) (begin_mark meeting ∷ all_news meeting (active meeting) ids)
-    ∙ ap (λ zs. map text (before_writes meeting) ++ text (begin_mark meeting) ∷ zs) (text-all_news meeting (active meeting) ids others)
-    ∙ sym (map-append text (before_writes meeting) (begin_mark meeting ∷ all_news meeting (active meeting) others))
+    simp (map-append, text-all_news meeting (active meeting) ids others)
 
 pub text-session : (meeting : Meeting) (ids : List ℕ) → map text (session meeting ids) ≡ requests meeting
 unfolding session requests
-text-session meeting ids =
-    let zeros = replicate (adds_of meeting) 0 in
-    map-append text (before_commit meeting ids) (after_commit meeting)
-    ∙ ap (λ zs. zs ++ map text (after_commit meeting)) (text-before_commit meeting ids zeros)
-    ∙ sym (map-append text (before_commit meeting zeros) (after_commit meeting))
+text-session meeting ids = simp (map-append, text-before_commit meeting ids (replicate (adds_of meeting) 0))

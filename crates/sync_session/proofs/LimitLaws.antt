@@ -1,16 +1,17 @@
 -- Entries that are passed, and sums that stop at the greatest number.
-use Rattle.std.proofs.Common.{◌≡◌, ◌∙◌, ◌<◌, ◌≤◌, ◌+◌, ◌-◌, ◌^◌, ap, refl, sym, ℕ, zero, suc, Bool, true, false, List, [], ◌∷◌, length, length-drop, drop, get_or, take, Option, Some, None, arith, inl, inr, ◌⊎◌, cond}
+use Rattle.std.proofs.Common.{◌≡◌, ◌∙◌, ◌<◌, ◌≤◌, ◌+◌, ◌-◌, ◌^◌, ap, refl, sym, ℕ, suc, Bool, true, false, List, [], ◌∷◌, length}
+use Rattle.std.proofs.Common.{length-drop, drop, get_or, take, Option, Some, None, arith, inl, inr, ◌⊎◌, cond}
 use Rattle.std.proofs.Math.Nat.{min-eq_left, min-eq_right}
+use Rattle.std.proofs.Math.Seq.{drop-length}
 use Rattle.std.proofs.lemmas.Bool.Decides.{nat_tests}
 use Rattle.std.proofs.lemmas.Bool.{cases_lt}
-use Rattle.std.specs.Prelude.{◌||◌, if◌then◌else◌, is_none, is_some, min, nat_lt, not, position}
+use Rattle.std.proofs.lemmas.List.{drop_all, drop_more}
+use Rattle.std.specs.Prelude.{if◌then◌else◌, is_none, is_some, min, nat_lt, not, position}
 use Rattle.std.specs.List.{position_or_len}
-use Rattle.pdb_values.specs.Contents.{ContentValue}
+use Rattle.sync_session.proofs.MeetingWords.{ContentValue, ShelvesValue, Planned}
 use Rattle.pdb_values.proofs.PlaceLaws.{place_found, place_past}
-use Rattle.desk_store.specs.Shelves.{ShelvesValue}
 use Rattle.conduit_rules.specs.declared.view.Seen.{Seen}
 use Rattle.slow_mirror.proofs.NewsLaws.{take_all}
-use Rattle.sync_session.specs.declared.planned.Planned.{Planned}
 use Rattle.sync_session.specs.Limits.{with_one}
 use Rattle.sync_session.specs.PlannedLimits.{begins_with, entries_from, one_unless, over_planned, sizes_planned, unseen_count}
 use Rattle.sync_session.specs.Sizes.{is_over}
@@ -35,12 +36,8 @@ pub from_found : (id : ℕ) (view : List Seen) (place : ℕ) → position (λ (s
     → entries_from id view ≡ drop place view
 from_found id view place found = from_place id view ∙ ap (λ n. drop n view) (place_found (is_from id) view place found)
 
-drop_all : {A : Type 0} (xs : List A) → drop (length xs) xs ≡ []
-drop_all [] = refl
-drop_all (x ∷ xs) = drop_all xs
-
 pub from_none : (id : ℕ) (view : List Seen) → position (λ (seen : Seen). not (nat_lt seen.id id)) view ≡ None → entries_from id view ≡ []
-from_none id view none = from_place id view ∙ ap (λ n. drop n view) (place_past (is_from id) view none) ∙ drop_all view
+from_none id view none = from_place id view ∙ ap (λ n. drop n view) (place_past (is_from id) view none) ∙ drop-length view
 
 -- the entries from a place on, as a slice
 pub from_slice : (id : ℕ) (view : List Seen) (place : ℕ) → position (λ (seen : Seen). not (nat_lt seen.id id)) view ≡ Some place
@@ -74,25 +71,18 @@ new_alike None a b (inr both) =
     let one : nat_lt 200 (a + 1) ≡ true = grind (arith, nat_tests, first) in
     let two : nat_lt 200 (b + 1) ≡ true = grind (arith, nat_tests, second) in one ∙ sym two
 
-or_two : (a b c d rest : Bool) → a ≡ c → b ≡ d → (a || (b || rest)) ≡ (c || (d || rest))
-or_two a b c d rest first second = ap (λ x. x || (b || rest)) first ∙ ap (λ x. c || (x || rest)) second
-
-over_step : (s b c : Bool) (name : List ℕ) (x y p q : Option (List ℕ)) → b ≡ c → x ≡ y → p ≡ q
-    → (if s then x else (if b then Some name else p)) ≡ (if s then y else (if c then Some name else q))
-over_step s b c name x y p q same first second =
-    ap (λ v. if s then v else (if b then Some name else p)) first ∙ ap (λ v. if s then y else (if v then Some name else p)) same
-    ∙ ap (λ v. if s then y else (if c then Some name else v)) second
-
 over_alike : (shelves : ShelvesValue) (planned : List Planned) (a b c d : ℕ) → Alike a c → Alike b d
     → over_planned shelves a b planned ≡ over_planned shelves c d planned
 unfolding over_planned
 over_alike shelves [] a b c d first second = refl
 over_alike shelves (one ∷ planned) a b c d first second =
-    over_step (is_some one.job.skip) _ _ one.job.name _ _ _ _
-    (or_two _ _ _ _ _ (new_alike one.job.handheld a c first) (new_alike one.job.rows b d second))
-    (over_alike shelves planned a b c d first second)
-    (over_alike shelves planned (with_one one.job.handheld a) (with_one one.job.rows b) (with_one one.job.handheld c) (with_one one.job.rows d)
-    (one_alike one.job.handheld a c first) (one_alike one.job.rows b d second))
+    rw (
+      new_alike one.job.handheld a c first,
+      new_alike one.job.rows b d second,
+      over_alike shelves planned a b c d first second,
+      over_alike shelves planned (with_one one.job.handheld a) (with_one one.job.rows b) (with_one one.job.handheld c) (with_one one.job.rows d)
+          (one_alike one.job.handheld a c first) (one_alike one.job.rows b d second),
+    )
 
 capped_alike : (n : ℕ) → Alike (min n (2 ^ 64 - 1)) n
 unfolding Alike
@@ -115,43 +105,20 @@ over_capped shelves planned a b = over_alike shelves planned _ _ a b (capped_ali
 -- ---- one after another
 
 drop_at : {A : Type 0} (xs : List A) (k : ℕ) (x : A) → k < length xs → x ≡ get_or xs k x → drop k xs ≡ x ∷ drop (k + 1) xs
-drop_at [] k x below is = absurd (omega arith)
-drop_at (y ∷ ys) zero x below is = ap (λ z. z ∷ ys) (sym is)
-drop_at (y ∷ ys) (suc k) x below is =
-    let one : suc (k + 1) ≡ suc k + 1 = omega arith in
-    drop_at ys k x (omega arith) is ∙ ap (λ n. x ∷ drop n (y ∷ ys)) one
-
-pub unseen_on : (rows : List (ℕ × ContentValue)) (k : ℕ) (row : ℕ × ContentValue) (view : List Seen) → k < length rows → row ≡ get_or rows k row
-    → unseen_count view (drop k rows)
-    ≡ one_unless (begins_with row.0 (entries_from row.0 view)) + unseen_count (entries_from row.0 view) (drop (k + 1) rows)
-unfolding unseen_count
-unseen_on rows k row view below is = ap (unseen_count view) (drop_at rows k row below is)
+drop_at xs k x below is = drop_more xs k x below ∙ ap (λ y. y ∷ drop (k + 1) xs) (sym is)
 
 pub unseen_more : (b : Bool) (rows : List (ℕ × ContentValue)) (k : ℕ) (row : ℕ × ContentValue) (view ahead : List Seen) (count new all : ℕ) → k < length rows
     → row ≡ get_or rows k row → ahead ≡ entries_from row.0 view → begins_with row.0 ahead ≡ b → new ≡ count + one_unless b
     → count + unseen_count view (drop k rows) ≡ all → new + unseen_count ahead (drop (k + 1) rows) ≡ all
+unfolding unseen_count
 unseen_more b rows k row view ahead count new all below is passed begins more before =
-    let on = unseen_on rows k row view below is in
-    let first : one_unless (begins_with row.0 (entries_from row.0 view)) ≡ one_unless b
-    = ap (λ (xs : List Seen). one_unless (begins_with row.0 xs)) (sym passed) ∙ ap one_unless begins in
-    let rest : unseen_count (entries_from row.0 view) (drop (k + 1) rows) ≡ unseen_count ahead (drop (k + 1) rows)
-    = ap (λ (xs : List Seen). unseen_count xs (drop (k + 1) rows)) (sym passed) in
-    omega (arith, on, first, rest, more, before)
+    let on : unseen_count view (drop k rows) ≡ one_unless b + unseen_count ahead (drop (k + 1) rows)
+    = ap (unseen_count view) (drop_at rows k row below is) ∙ rw (← passed, begins) in
+    omega (arith, on, more, before)
 
 pub unseen_end : (rows : List (ℕ × ContentValue)) (k : ℕ) (view : List Seen) → length rows ≤ k → unseen_count view (drop k rows) ≡ 0
 unfolding unseen_count
-unseen_end [] zero view past = refl
-unseen_end [] (suc k) view past = refl
-unseen_end (row ∷ rows) zero view past = absurd (omega arith)
-unseen_end (row ∷ rows) (suc k) view past = unseen_end rows k view (omega arith)
-
-pub over_on : (shelves : ShelvesValue) (planned : List Planned) (k : ℕ) (one : Planned) (a b : ℕ) → k < length planned → one ≡ get_or planned k one
-    → over_planned shelves a b (drop k planned)
-    ≡ (if is_some one.job.skip then over_planned shelves a b (drop (k + 1) planned)
-    else (if is_over (sizes_planned shelves a b one) then Some one.job.name
-    else over_planned shelves (with_one one.job.handheld a) (with_one one.job.rows b) (drop (k + 1) planned)))
-unfolding over_planned
-over_on shelves planned k one a b below is = ap (over_planned shelves a b) (drop_at planned k one below is)
+unseen_end rows k view past = ap (unseen_count view) (drop_all k rows past)
 
 not_skipped : {A : Type 0} (o : Option A) → is_none o ≡ true → is_some o ≡ false
 not_skipped None none = refl
@@ -161,47 +128,33 @@ skipped : {A : Type 0} (o : Option A) → is_none o ≡ false → is_some o ≡ 
 skipped None some = absurd cc
 skipped (Some a) some = refl
 
-abbrev choose : Bool → Bool → List ℕ → Option (List ℕ) → Option (List ℕ) → Option (List ℕ)
-choose skip over name past later = if skip then past else (if over then Some name else later)
+module _ (shelves : ShelvesValue) (planned : List Planned) (k : ℕ) (one : Planned) (a b : ℕ) (below : k < length planned)
+    (is : one ≡ get_or planned k one) where
+  over_on : over_planned shelves a b (drop k planned)
+      ≡ (if is_some one.job.skip then over_planned shelves a b (drop (k + 1) planned)
+      else (if is_over (sizes_planned shelves a b one) then Some one.job.name
+      else over_planned shelves (with_one one.job.handheld a) (with_one one.job.rows b) (drop (k + 1) planned)))
+  unfolding over_planned
+  over_on = ap (over_planned shelves a b) (drop_at planned k one below is)
 
--- one that is not skipped passes a limit
-pub over_now : (shelves : ShelvesValue) (planned : List Planned) (k : ℕ) (one : Planned) (a b : ℕ) → k < length planned → one ≡ get_or planned k one
-    → is_none one.job.skip ≡ true → is_over (sizes_planned shelves a b one) ≡ true → over_planned shelves a b (drop k planned) ≡ Some one.job.name
-over_now shelves planned k one a b below is active over =
-    over_on shelves planned k one a b below is
-    ∙ ap (λ s. choose s (is_over (sizes_planned shelves a b one)) one.job.name (over_planned shelves a b (drop (k + 1) planned))
-    (over_planned shelves (with_one one.job.handheld a) (with_one one.job.rows b) (drop (k + 1) planned))) (not_skipped one.job.skip active)
-    ∙ ap (λ s. choose false s one.job.name (over_planned shelves a b (drop (k + 1) planned))
-    (over_planned shelves (with_one one.job.handheld a) (with_one one.job.rows b) (drop (k + 1) planned))) over
+  -- one that is not skipped passes a limit
+  pub over_now : is_none one.job.skip ≡ true → is_over (sizes_planned shelves a b one) ≡ true
+      → over_planned shelves a b (drop k planned) ≡ Some one.job.name
+  over_now active over = rw (over_on, not_skipped one.job.skip active, over)
 
--- or passes none
-pub over_next : (shelves : ShelvesValue) (planned : List Planned) (k : ℕ) (one : Planned) (a b more others : ℕ) → k < length planned
-    → one ≡ get_or planned k one → is_none one.job.skip ≡ true → is_over (sizes_planned shelves a b one) ≡ false
-    → more ≡ min (with_one one.job.handheld a) (2 ^ 64 - 1) → others ≡ min (with_one one.job.rows b) (2 ^ 64 - 1)
-    → over_planned shelves more others (drop (k + 1) planned) ≡ over_planned shelves a b (drop k planned)
-over_next shelves planned k one a b more others below is active over first second =
-    ap (λ n. over_planned shelves n others (drop (k + 1) planned)) first
-    ∙ ap (λ n. over_planned shelves (min (with_one one.job.handheld a) (2 ^ 64 - 1)) n (drop (k + 1) planned)) second
-    ∙ over_capped shelves (drop (k + 1) planned) (with_one one.job.handheld a) (with_one one.job.rows b)
-    ∙ sym (over_on shelves planned k one a b below is
-    ∙ ap (λ s. choose s (is_over (sizes_planned shelves a b one)) one.job.name (over_planned shelves a b (drop (k + 1) planned))
-    (over_planned shelves (with_one one.job.handheld a) (with_one one.job.rows b) (drop (k + 1) planned))) (not_skipped one.job.skip active)
-    ∙ ap (λ s. choose false s one.job.name (over_planned shelves a b (drop (k + 1) planned))
-    (over_planned shelves (with_one one.job.handheld a) (with_one one.job.rows b) (drop (k + 1) planned))) over)
+  -- or passes none
+  pub over_next : {more others : ℕ} → is_none one.job.skip ≡ true → is_over (sizes_planned shelves a b one) ≡ false
+      → more ≡ min (with_one one.job.handheld a) (2 ^ 64 - 1) → others ≡ min (with_one one.job.rows b) (2 ^ 64 - 1)
+      → over_planned shelves more others (drop (k + 1) planned) ≡ over_planned shelves a b (drop k planned)
+  over_next active over first second =
+      rw (first, second, over_on, not_skipped one.job.skip active, over)
+      (over_capped shelves (drop (k + 1) planned) (with_one one.job.handheld a) (with_one one.job.rows b))
 
--- one that is skipped is passed
-pub over_past : (shelves : ShelvesValue) (planned : List Planned) (k : ℕ) (one : Planned) (a b more others : ℕ) → k < length planned
-    → one ≡ get_or planned k one → is_none one.job.skip ≡ false → more ≡ a → others ≡ b
-    → over_planned shelves more others (drop (k + 1) planned) ≡ over_planned shelves a b (drop k planned)
-over_past shelves planned k one a b more others below is skip first second =
-    ap (λ n. over_planned shelves n others (drop (k + 1) planned)) first ∙ ap (λ n. over_planned shelves a n (drop (k + 1) planned)) second
-    ∙ sym (over_on shelves planned k one a b below is
-    ∙ ap (λ s. choose s (is_over (sizes_planned shelves a b one)) one.job.name (over_planned shelves a b (drop (k + 1) planned))
-    (over_planned shelves (with_one one.job.handheld a) (with_one one.job.rows b) (drop (k + 1) planned))) (skipped one.job.skip skip))
+  -- one that is skipped is passed
+  pub over_past : {more others : ℕ} → is_none one.job.skip ≡ false → more ≡ a → others ≡ b
+      → over_planned shelves more others (drop (k + 1) planned) ≡ over_planned shelves a b (drop k planned)
+  over_past skip first second = rw (first, second, over_on, skipped one.job.skip skip)
 
 pub over_end : (shelves : ShelvesValue) (planned : List Planned) (k a b : ℕ) → length planned ≤ k → over_planned shelves a b (drop k planned) ≡ None
 unfolding over_planned
-over_end shelves [] zero a b past = refl
-over_end shelves [] (suc k) a b past = refl
-over_end shelves (one ∷ planned) zero a b past = absurd (omega arith)
-over_end shelves (one ∷ planned) (suc k) a b past = over_end shelves planned k a b (omega arith)
+over_end shelves planned k a b past = ap (over_planned shelves a b) (drop_all k planned past)

@@ -1,12 +1,11 @@
 -- Names, one after another.
 use Rattle.std.proofs.Common.{◌≡◌, ◌∙◌, ◌<◌, ◌≤◌, ◌+◌, ap, refl, sym, inl, inr, ℕ, List, [], ◌∷◌, ◌++◌, map, take, length, get_or, arith}
-use Rattle.std.proofs.lemmas.List.{map-append, take_more}
+use Rattle.std.proofs.lemmas.List.{map-append}
 use Rattle.std.proofs.lemmas.Option.{slice_get_cases}
 use Rattle.std.specs.Prelude.{◌⊎◌, Some, None, slice_get}
 use Rattle.std.specs.Option.{option_map}
-use Rattle.pdb_values.specs.Databases.{DatabaseValue}
-use Rattle.pdb_values.specs.declared.head.DbHead.{DbHead}
-use Rattle.sync_session.specs.Tasks.{names_of, with_name, with_names}
+use Rattle.sync_session.proofs.MeetingWords.{DatabaseValue, DbHead, names_of, with_name, with_names}
+use Rattle.slow_mirror.proofs.NewsLaws.{split_at}
 
 with_names-append : (first second names : List (List ℕ)) → with_names (first ++ second) names ≡ with_names second (with_names first names)
 with_names-append [] second names = refl
@@ -16,9 +15,7 @@ with_names-append (name ∷ first) second names = with_names-append first second
 more : {A : Type 0} (f : A → List ℕ) (xs : List A) (k : ℕ) (x : A) (names : List (List ℕ)) → k < length xs → x ≡ get_or xs k x
     → with_names (map f (take (k + 1) xs)) names ≡ with_name (f x) (with_names (map f (take k xs)) names)
 more f xs k x names within is =
-    ap (λ ys. with_names (map f ys) names) (take_more xs k x within ∙ ap (λ y. take k xs ++ y ∷ []) (sym is))
-    ∙ ap (λ ys. with_names ys names) (map-append f (take k xs) (x ∷ []))
-    ∙ with_names-append (map f (take k xs)) (f x ∷ []) names
+    rw ((split_at xs k x within is).next, map-append f (take k xs) (x ∷ []), with_names-append (map f (take k xs)) (f x ∷ []) names)
 
 pub heads_more : (heads : List DbHead) (k : ℕ) (head : DbHead) (names : List (List ℕ)) → k < length heads → head ≡ get_or heads k head
     → with_names (map (λ (h : DbHead). h.name) (take (k + 1) heads)) names

@@ -1,68 +1,51 @@
 -- What databases get, and what they lose then, are the news and the purges of the meeting.
-use Rattle.std.proofs.Common.{◌≡◌, ◌∙◌, ◌<◌, ◌+◌, refl, sym, ap, subst, ℕ, zero, suc, Bool, true, false, List, [], ◌∷◌, ◌++◌, map, length, take, drop, append_assoc, arith}
-use Rattle.std.proofs.lemmas.List.{length-append, map-append}
+use Rattle.std.proofs.Common.{◌≡◌, ◌∙◌, ◌<◌, ◌+◌, refl, sym, ap, subst, ℕ, zero, suc, Bool, true, false, List, [], ◌∷◌, ◌++◌, map, length, take, drop}
+use Rattle.std.proofs.Common.{append_assoc, arith, Option, Some, None, is_none, filter, flat_map}
+use Rattle.std.proofs.Math.Seq.{drop-append_seam, take-append_seam}
+use Rattle.std.proofs.lemmas.List.{length-append, map-append, map-id}
 use Rattle.std.proofs.lemmas.List.Sums.{sum_by-cons}
 use Rattle.std.specs.Prelude.{Option, Some, None, IfSome, is_none, filter, flat_map, replicate, ◌==◌, sum_by, if◌then◌else◌}
 use Rattle.std.specs.List.{AllByRecursion}
 use Rattle.std.specs.Option.{option_to_list}
-use Rattle.pdb_values.specs.Contents.{ContentValue}
-use Rattle.pdb_values.specs.Databases.{DatabaseValue}
-use Rattle.pdb_values.specs.declared.head.DbHead.{DbHead}
-use Rattle.dlp_commands.specs.Talks.{Talk}
+use Rattle.sync_session.proofs.MeetingWords.{ContentValue, DatabaseValue, DbHead, IsPlan, replacement, Plan, Planned, Skip, action_or_sync, agrees, choice}
+use Rattle.sync_session.proofs.MeetingWords.{seen_held, sides, sides_by, view, gained, gained_by, news_under, opened_news, AreEachPlannedFor, ArePlannedFor}
+use Rattle.sync_session.proofs.MeetingWords.{IsPlannedFor, listed_head, IsFirst, active, head_of, skip_of, AreFirst, EachSays, Stretch, each_acts, Meeting}
+use Rattle.sync_session.proofs.MeetingWords.{Task, tasks, purged_ids, purges_by, purges_under, done_each, says_nothing}
+use Rattle.sync_session.proofs.LinkWords.{Talk, Act, acted, text, closing, making, opening, said, saying, device_after}
 use Rattle.conduit_rules.specs.ById.{each_id, id_bound, ids_below, with_id}
 use Rattle.conduit_rules.specs.Choices.{Sides, choice_for, fate_for, loose_for, offers_for, partners_for}
 use Rattle.conduit_rules.specs.Contents.{count_of}
 use Rattle.conduit_rules.specs.Fates.{fate_under}
 use Rattle.conduit_rules.specs.News.{unpaired}
-use Rattle.conduit_rules.specs.Plans.{IsPlan, replacement}
-use Rattle.conduit_rules.specs.States.{Held, nothing, live, archived, no_base}
+use Rattle.conduit_rules.specs.States.{Held, live, no_base}
 use Rattle.conduit_rules.specs.declared.action.Action.{Action}
 use Rattle.conduit_rules.specs.declared.action.Action.TheVariants.{Sync, Handheld, Desktop}
-use Rattle.conduit_rules.specs.declared.planned.Plan.{Plan}
 use Rattle.conduit_rules.proofs.ContentLaws.{same_content-same}
-use Rattle.desktop_session.specs.Acts.{Act, acted, text}
-use Rattle.desktop_session.specs.Requests.{closing, making, opening}
-use Rattle.desktop_session.specs.Says.{said, saying}
-use Rattle.desktop_session.specs.Tellings.{device_after}
 use Rattle.desktop_session.proofs.SaysLaws.{saying_none, saying_then}
 use Rattle.desktop_session.proofs.TellLaws.{said_device}
-use Rattle.slow_mirror.specs.News.{AreIdsOf, as_new, news_of, puts}
-use Rattle.sync_session.specs.declared.job.Job.{Job}
-use Rattle.sync_session.specs.declared.planned.Planned.{Planned}
-use Rattle.sync_session.specs.declared.skip.Skip.{Skip}
-use Rattle.sync_session.specs.Choosing.{action_or_sync, agrees, choice, seen_held, sides, sides_by, view}
+use Rattle.slow_mirror.specs.News.{AreIdsOf, as_new, news_of, puts, purge_writes}
 use Rattle.sync_session.specs.Gains.{AreGained}
 use Rattle.sync_session.specs.Given.{AreDealtTo, GetFreeIds}
 use Rattle.sync_session.specs.Heads.{made_head}
 use Rattle.sync_session.specs.News as session
-use Rattle.sync_session.specs.News.{add_count, all_news, made, news_acts, opened_for, replaced, writes}
+use Rattle.sync_session.specs.News.{add_count, all_news, made, news_acts, opened_for, replaced, writes, purge_acts}
 use Rattle.sync_session.specs.Phases as phase
-use Rattle.sync_session.specs.Phases.{gained, gained_by, news_under, opened_news}
-use Rattle.sync_session.specs.PlannedTasks.{AreEachPlannedFor, ArePlannedFor, IsPlannedFor, job_for, listed_head}
-use Rattle.sync_session.specs.Rests.{IsFirst}
-use Rattle.sync_session.specs.Skips.{active, head_of, skip_of}
-use Rattle.sync_session.specs.Stretches.{AreFirst, EachSays, Stretch, each_acts}
-use Rattle.sync_session.specs.Tasks.{Meeting, Task, tasks}
-use Rattle.sync_session.proofs.CloseLaws.{LeavesClosed, TellsClosed, around_closed, closed_on, making_one, none_closed, opening_one, puts_keep}
+use Rattle.sync_session.proofs.CloseLaws.{LeavesClosed, TellsClosed, around_closed, closed_on, making_one, none_closed, opening_one, puts_keep, purges_keep}
 use Rattle.sync_session.proofs.FreeLaws.{NoId, around_free, free-append, puts_free}
 use Rattle.sync_session.proofs.IdsLaws.{text-all_news, text-around, text-news_acts, text-opened_for, text-puts}
 use Rattle.sync_session.proofs.ReadJoins.{job-skip}
 use Rattle.sync_session.proofs.RestLaws.{all-flat_map}
-use Rattle.sync_session.proofs.StretchLaws.{flat_map-none, flat_map-same, where_kept}
+use Rattle.sync_session.proofs.StretchLaws.{flat_map-none, flat_map-same, where_kept, Steps, kept_step, stretches_join}
+use Rattle.sync_session.specs.Reads.{opened}
 
 -- ---- replacements have ids
 
 -- nothing is written under id 0
 rep_zero : (a : Action) (h d : Held) → replacement (fate_under a no_base h d).keep h ≡ None
-rep_zero Sync nothing d = refl
 rep_zero Sync (live c) d = ap (λ b. let none : Option ContentValue = None in if b then none else Some c) (same_content-same c)
-rep_zero Sync (archived c) d = refl
-rep_zero Handheld nothing d = refl
 rep_zero Handheld (live c) d = ap (λ b. let none : Option ContentValue = None in if b then none else Some c) (same_content-same c)
-rep_zero Handheld (archived c) d = refl
-rep_zero Desktop nothing d = refl
 rep_zero Desktop (live c) d = refl
-rep_zero Desktop (archived c) d = refl
+rep_zero a h d = refl
 
 abbrev HasId : ℕ × ContentValue → Type 0
 HasId entry = 0 < entry.0
@@ -72,17 +55,7 @@ with_id-has i None some = tt
 with_id-has i (Some c) some = (some, tt)
 
 none-has : (o : Option ContentValue) → o ≡ None → AllByRecursion HasId (with_id 0 o)
-none-has o is = subst (λ p. AllByRecursion HasId (with_id 0 p)) (sym is) tt
-
-replaced-has : (meeting : Meeting) (task : Task) → AllByRecursion HasId (replaced meeting task)
-unfolding choice sides
-replaced-has meeting task = all-flat_map HasId (λ i. with_id i (replacement ((choice meeting task).keep i) (seen_held meeting task i)))
-    (ids_below id_bound) each
-  where
-    each : (i : ℕ) → AllByRecursion HasId (with_id i (replacement ((choice meeting task).keep i) (seen_held meeting task i)))
-    each zero = none-has (replacement ((choice meeting task).keep 0) (seen_held meeting task 0))
-        (rep_zero (action_or_sync task.action) (seen_held meeting task 0) ((sides meeting task).desktop 0))
-    each (suc i) = with_id-has (suc i) (replacement ((choice meeting task).keep (suc i)) (seen_held meeting task (suc i))) (omega arith)
+none-has o is = rw is tt
 
 -- ---- ids are 0 where an entry has its own
 
@@ -95,32 +68,13 @@ zeros (e ∷ rows) adds (g ∷ given) has own =
 
 behind_rows : (rows adds : List (ℕ × ContentValue)) (given : List ℕ) → AreIdsOf (rows ++ adds) given → length (drop (length rows) given) ≡ length adds
 behind_rows [] [] [] own = refl
-behind_rows [] [] (g ∷ given) own = absurd own
-behind_rows [] (a ∷ adds) [] own = absurd own
 behind_rows [] (a ∷ adds) (g ∷ given) own = let rest = behind_rows [] adds given own.1 in omega (arith, rest)
-behind_rows (e ∷ rows) adds [] own = absurd own
 behind_rows (e ∷ rows) adds (g ∷ given) own = behind_rows rows adds given own.1
+behind_rows rows adds given own = absurd own
 
 length-as_new : (cs : List ContentValue) → length (as_new cs) ≡ length cs
 length-as_new [] = refl
 length-as_new (c ∷ cs) = let rest = length-as_new cs in omega (arith, rest)
-
--- what is written of a database, by its plan, where its new records got these ids
-plan_puts : (meeting : Meeting) (task : Task) (plan : Plan) (given ids : List ℕ) → IsPlan (action_or_sync task.action) (sides meeting task) plan
-    → ids ≡ drop (length plan.replace.items) given → AreIdsOf (news_of plan) given
-    → (puts 1 given (news_of plan) ≡ writes meeting task ids) × (length ids ≡ add_count meeting task)
-unfolding choice
-plan_puts meeting task plan given ids is behind own =
-    let rows : List (ℕ × ContentValue) = replaced meeting task in
-    let adds : List ContentValue = (choice meeting task).adds in
-    let news : news_of plan ≡ rows ++ as_new adds = ap (λ rs. rs ++ as_new plan.adds.items) is.replace ∙ ap (λ cs. rows ++ as_new cs) is.adds in
-    let count : ids ≡ drop (length rows) given = behind ∙ ap (λ rs. drop (length rs) given) is.replace in
-    let own_rows : AreIdsOf (rows ++ as_new adds) given = subst (λ es. AreIdsOf es given) news own in
-    let all : given ≡ replicate (length rows) 0 ++ ids
-    = zeros rows (as_new adds) given (replaced-has meeting task) own_rows ∙ ap (λ gs. replicate (length rows) 0 ++ gs) (sym count) in (
-      ap (puts 1 given) news ∙ ap (λ gs. puts 1 gs (rows ++ as_new adds)) all,
-      ap length count ∙ behind_rows rows (as_new adds) given own_rows ∙ length-as_new adds,
-    )
 
 -- ---- a database of which the desktop has no rows gets nothing new
 
@@ -146,15 +100,6 @@ never_based : (zero : Bool) → (if zero then no_base else no_base) ≡ no_base
 never_based true = refl
 never_based false = refl
 
-rowless_adds : (meeting : Meeting) (task : Task) → task.rows ≡ None → (choice meeting task).adds ≡ []
-unfolding choice sides
-rowless_adds meeting task none =
-    let a : Action = action_or_sync task.action in
-    let s : Sides = sides_by (view meeting task) None task.base (agrees meeting) in
-    ap (λ rows. (choice_for a (sides_by (view meeting task) rows task.base (agrees meeting))).adds) none
-    ∙ none_added a s refl (λ i. ap (λ b. (fate_under a b (s.handheld i) (s.desktop i)).news) (never_based (i == 0))
-    ∙ unbased_news a (s.handheld i) (s.desktop i))
-
 -- ---- one database
 
 -- so many, where the test holds
@@ -168,50 +113,153 @@ opened_same name [] given = refl
 opened_same name (e ∷ es) [] = refl
 opened_same name (e ∷ es) (g ∷ given) = refl
 
--- what it gets, where this became of its new records
-record NewsStep (meeting : Meeting) (task : Task) (b : Bool) (acts : List Act) (ids : List ℕ) : Type 0 where
-  acts_are : acts ≡ where_kept b (news_acts meeting task ids)
-  count : length ids ≡ kept_count b (add_count meeting task)
+-- ---- a database of a meeting
 
-news_by_case : (meeting : Meeting) (task : Task) (plan : Plan) (told : Option Talk) (given ids : List ℕ) (s : Option Skip) (h r : Option DatabaseValue)
-    → skip_of task ≡ s → task.handheld ≡ h → task.rows ≡ r → (s ≡ None → IsPlan (action_or_sync task.action) (sides meeting task) plan)
-    → gained_by s (listed_head h) (head_of r) task.name plan told 1 given ids
-    → NewsStep meeting task (is_none s) (phase.news_by s (listed_head h) (head_of r) task.name (news_of plan) 1 given) ids
-unfolding news_acts
-news_by_case meeting task plan told given ids (Some why) h r skips has rows planned gains = record { acts_are = refl; count = ap length gains }
-news_by_case meeting task plan told given ids None (Some d) r skips has rows planned gains =
-    let put = plan_puts meeting task plan given ids (planned refl) gains.behind gains.own in
-    record {
-      acts_are = opened_same task.name (news_of plan) given ∙ ap (opened_for task.name) put.0
-          ∙ ap (λ h. session.news_by h task (writes meeting task ids)) (sym has);
-      count = put.1;
-    }
-news_by_case meeting task plan told given ids None None (Some d) skips has rows planned gains =
-    let put = plan_puts meeting task plan given ids (planned refl) gains.behind gains.own in
-    record {
-      acts_are = ap (λ zs. making (made_head d.head) ∷ (zs ++ closing 1 ∷ [])) put.0 ∙ ap (λ q. made q (writes meeting task ids)) (sym rows)
-          ∙ ap (λ h. session.news_by h task (writes meeting task ids)) (sym has);
-      count = put.1;
-    }
-news_by_case meeting task plan told given ids None None None skips has rows planned gains = record {
-  acts_are = ap (λ q. made q (writes meeting task ids)) (sym rows) ∙ ap (λ h. session.news_by h task (writes meeting task ids)) (sym has);
-  count = ap length gains ∙ sym (ap length (rowless_adds meeting task rows));
-}
+pub no_ids : (ids : List ℕ) → length ids ≡ 0 → ids ≡ []
+no_ids [] is = refl
+no_ids (id ∷ ids) is = absurd (omega arith)
 
-news_step : (meeting : Meeting) (task : Task) (one : Planned) (told : Option Talk) (given ids : List ℕ) → IsPlannedFor meeting task one
-    → gained told one 1 given ids → NewsStep meeting task (is_none (skip_of task)) (news_under told one 1 given) ids
-unfolding news_under gained
-news_step meeting task one told given ids is gains =
-    let job : Job = job_for meeting task in
-    let skips = job-skip meeting task in
-    let mine = subst (λ s. gained_by s job.handheld job.rows job.name one.plan told 1 given ids) skips
-    (subst (λ (j : Job). gained_by j.skip j.handheld j.rows j.name one.plan told 1 given ids) is.job gains) in
-    let step = news_by_case meeting task one.plan told given ids (skip_of task) task.handheld task.rows refl refl refl is.plan mine in
-    record {
-      acts_are = ap (λ (j : Job). phase.news_by j.skip j.handheld j.rows j.name (news_of one.plan) 1 given) is.job
-          ∙ ap (λ s. phase.news_by s job.handheld job.rows job.name (news_of one.plan) 1 given) skips ∙ step.acts_are;
-      count = step.count;
-    }
+-- a task that isn't skipped
+abbrev pub is_active : Task → Bool
+is_active task = is_none (skip_of task)
+
+module _ (meeting : Meeting) (task : Task) where
+  replaced-has : AllByRecursion HasId (replaced meeting task)
+  unfolding choice sides
+  replaced-has = all-flat_map HasId (λ i. with_id i (replacement ((choice meeting task).keep i) (seen_held meeting task i))) (ids_below id_bound) each
+    where
+      each : (i : ℕ) → AllByRecursion HasId (with_id i (replacement ((choice meeting task).keep i) (seen_held meeting task i)))
+      each zero = none-has (replacement ((choice meeting task).keep 0) (seen_held meeting task 0))
+          (rep_zero (action_or_sync task.action) (seen_held meeting task 0) ((sides meeting task).desktop 0))
+      each (suc i) = with_id-has (suc i) (replacement ((choice meeting task).keep (suc i)) (seen_held meeting task (suc i))) (omega arith)
+
+  rowless_adds : task.rows ≡ None → (choice meeting task).adds ≡ []
+  unfolding choice sides
+  rowless_adds none =
+      let a : Action = action_or_sync task.action in
+      let s : Sides = sides_by (view meeting task) None task.base (agrees meeting) in
+      ap (λ rows. (choice_for a (sides_by (view meeting task) rows task.base (agrees meeting))).adds) none
+      ∙ none_added a s refl (λ i. ap (λ b. (fate_under a b (s.handheld i) (s.desktop i)).news) (never_based (i == 0))
+      ∙ unbased_news a (s.handheld i) (s.desktop i))
+
+  -- it is opened where the handheld has it, and else made where the desktop has rows
+  opened_there : (database : DatabaseValue) (acts : List Act) → task.handheld ≡ Some database
+      → session.news_by task.handheld task acts ≡ opened_for task.name acts
+  opened_there database acts has = rw has
+
+  made_for : (rows : Option DatabaseValue) (acts : List Act) → task.handheld ≡ None → task.rows ≡ rows
+      → session.news_by task.handheld task acts ≡ made rows acts
+  made_for rows acts has is = rw (has, is)
+
+  -- what it gets, where this became of its new records
+  record NewsStep (b : Bool) (acts : List Act) (ids : List ℕ) : Type 0 where
+    acts_are : acts ≡ where_kept b (news_acts meeting task ids)
+    count : length ids ≡ kept_count b (add_count meeting task)
+
+  module _ (plan : Plan) (given ids : List ℕ) where
+    -- what is put by its plan
+    news-plan : IsPlan (action_or_sync task.action) (sides meeting task) plan → news_of plan ≡ replaced meeting task ++ as_new (choice meeting task).adds
+    unfolding choice
+    news-plan is = ap (λ rs. rs ++ as_new plan.adds.items) is.replace ∙ ap (λ cs. replaced meeting task ++ as_new cs) is.adds
+
+    -- what is written of it, where its new records got these ids
+    plan_puts : IsPlan (action_or_sync task.action) (sides meeting task) plan → ids ≡ drop (length plan.replace.items) given
+        → AreIdsOf (news_of plan) given → (puts 1 given (news_of plan) ≡ writes meeting task ids) × (length ids ≡ add_count meeting task)
+    unfolding choice
+    plan_puts is behind own =
+        let rows : List (ℕ × ContentValue) = replaced meeting task in
+        let adds : List ContentValue = (choice meeting task).adds in
+        let count : ids ≡ drop (length rows) given = behind ∙ ap (λ rs. drop (length rs) given) is.replace in
+        let own_rows : AreIdsOf (rows ++ as_new adds) given = rw (news-plan is) at own in
+        let all : given ≡ replicate (length rows) 0 ++ ids
+        = zeros rows (as_new adds) given replaced-has own_rows ∙ ap (λ gs. replicate (length rows) 0 ++ gs) (sym count) in (
+          ap (puts 1 given) (news-plan is) ∙ ap (λ gs. puts 1 gs (rows ++ as_new adds)) all,
+          ap length count ∙ behind_rows rows (as_new adds) given own_rows ∙ length-as_new adds,
+        )
+
+    text_put : IsPlan (action_or_sync task.action) (sides meeting task) plan → map text (puts 1 given (news_of plan)) ≡ map text (writes meeting task ids)
+    text_put is =
+        let rows : List (ℕ × ContentValue) = replaced meeting task in
+        ap (λ es. map text (puts 1 given es)) (news-plan is)
+        ∙ text-puts 1 (rows ++ as_new (choice meeting task).adds) given (replicate (length rows) 0 ++ ids)
+
+    news_by_case : (told : Option Talk) (s : Option Skip) (h r : Option DatabaseValue) → task.handheld ≡ h → task.rows ≡ r
+        → (s ≡ None → IsPlan (action_or_sync task.action) (sides meeting task) plan)
+        → gained_by s (listed_head h) (head_of r) task.name plan told 1 given ids
+        → NewsStep (is_none s) (phase.news_by s (listed_head h) (head_of r) task.name (news_of plan) 1 given) ids
+    unfolding news_acts
+    news_by_case told (Some why) h r has rows planned gains = record { acts_are = refl; count = ap length gains }
+    news_by_case told None (Some d) r has rows planned gains =
+        let put = plan_puts (planned refl) gains.behind gains.own in
+        record {
+          acts_are = opened_same task.name (news_of plan) given ∙ ap (opened_for task.name) put.0 ∙ sym (opened_there d (writes meeting task ids) has);
+          count = put.1;
+        }
+    news_by_case told None None (Some d) has rows planned gains =
+        let put = plan_puts (planned refl) gains.behind gains.own in
+        record {
+          acts_are = ap (λ zs. making (made_head d.head) ∷ (zs ++ closing 1 ∷ [])) put.0 ∙ sym (made_for (Some d) (writes meeting task ids) has rows);
+          count = put.1;
+        }
+    news_by_case told None None None has rows planned gains =
+        record { acts_are = sym (made_for None (writes meeting task ids) has rows); count = ap length gains ∙ sym (ap length (rowless_adds rows)) }
+
+    text_by_case : (s : Option Skip) (h r : Option DatabaseValue) → task.handheld ≡ h → task.rows ≡ r
+        → (s ≡ None → IsPlan (action_or_sync task.action) (sides meeting task) plan)
+        → map text (phase.news_by s (listed_head h) (head_of r) task.name (news_of plan) 1 given)
+        ≡ map text (where_kept (is_none s) (news_acts meeting task ids))
+    unfolding news_acts
+    text_by_case (Some why) h r has rows planned = refl
+    text_by_case None (Some d) r has rows planned =
+        ap (map text) (opened_same task.name (news_of plan) given)
+        ∙ text-opened_for task.name (puts 1 given (news_of plan)) (writes meeting task ids) (text_put (planned refl))
+        ∙ ap (map text) (sym (opened_there d (writes meeting task ids) has))
+    text_by_case None None (Some d) has rows planned =
+        text-around (making (made_head d.head)) (puts 1 given (news_of plan)) (writes meeting task ids) (text_put (planned refl))
+        ∙ ap (map text) (sym (made_for (Some d) (writes meeting task ids) has rows))
+    text_by_case None None None has rows planned = ap (map text) (sym (made_for None (writes meeting task ids) has rows))
+
+  module _ (one : Planned) (told : Option Talk) (given ids : List ℕ) (is : IsPlannedFor meeting task one) where
+    news_step : gained told one 1 given ids → NewsStep (is_active task) (news_under told one 1 given) ids
+    unfolding news_under gained
+    news_step gains =
+        let skips = job-skip meeting task in
+        let mine = rw (is.job, skips) at gains in
+        let step = news_by_case one.plan given ids told (skip_of task) task.handheld task.rows refl refl is.plan mine in
+        record { acts_are = rw (is.job, skips) step.acts_are; count = step.count }
+
+    text_step : map text (news_under told one 1 given) ≡ map text (where_kept (is_active task) (news_acts meeting task ids))
+    unfolding news_under
+    text_step =
+        rw (is.job, job-skip meeting task) (text_by_case one.plan given ids (skip_of task) task.handheld task.rows refl refl is.plan)
+
+  deal : (later : List Task) (b : Bool) (ids rest : List ℕ) → length ids ≡ kept_count b (add_count meeting task)
+      → where_kept b (news_acts meeting task ids) ++ all_news meeting later rest ≡ all_news meeting (if b then task ∷ later else later) (ids ++ rest)
+  unfolding all_news
+  deal later true ids rest is = rw (← is, take-append_seam ids rest, drop-append_seam ids rest)
+  deal later false ids rest is = rw (no_ids ids is)
+
+  adds_more : (later : List Task) (b : Bool) (ids rest : List ℕ) → length ids ≡ kept_count b (add_count meeting task)
+      → length rest ≡ sum_by (add_count meeting) later → length (ids ++ rest) ≡ sum_by (add_count meeting) (if b then task ∷ later else later)
+  adds_more later true ids rest first second =
+      length-append ids rest ∙ ap (λ n. n + length rest) first ∙ ap (λ n. add_count meeting task + n) second
+      ∙ sym (sum_by-cons (add_count meeting) task later)
+  adds_more later false ids rest first second =
+      length-append ids rest ∙ ap (λ n. n + length rest) first ∙ (let same : 0 + length rest ≡ length rest = omega arith in same) ∙ second
+
+  -- the texts of one that isn't skipped, and then of the others
+  text_deal : (later : List Task) (b : Bool) (ids : List ℕ)
+      → map text (where_kept b (news_acts meeting task ids)) ++ map text (all_news meeting later ids)
+      ≡ map text (all_news meeting (if b then task ∷ later else later) ids)
+  unfolding all_news
+  text_deal later true ids =
+      let n : ℕ = add_count meeting task in
+      ap (λ zs. zs ++ map text (all_news meeting later ids)) (text-news_acts meeting task ids (take n ids))
+      ∙ ap (λ zs. map text (news_acts meeting task (take n ids)) ++ zs) (text-all_news meeting later ids (drop n ids))
+      ∙ sym (map-append text (news_acts meeting task (take n ids)) (all_news meeting later (drop n ids)))
+  text_deal later false ids = refl
+
+-- ---- what becomes of the handheld
 
 -- each id was free at its turn
 
@@ -225,8 +273,7 @@ opened_free : (name : List ℕ) (plan : Plan) (entries : List (ℕ × ContentVal
     → AreGained (saying (opening name ∷ []) (Some talk)) plan 1 given ids → GetFreeIds (opened_news name entries 1 given) talk.device
 opened_free name plan [] talk given ids is gains = tt
 opened_free name plan (e ∷ es) talk given ids is gains =
-    subst (λ entries. GetFreeIds (opening name ∷ (puts 1 given entries ++ closing 1 ∷ [])) talk.device) is
-    (put_free (opening name) plan talk given ids (record { is = refl }) gains)
+    rw is at (put_free (opening name) plan talk given ids (record { is = refl }) gains)
 
 free_by_case : (s : Option Skip) (h r : Option DbHead) (name : List ℕ) (plan : Plan) (talk : Talk) (given ids : List ℕ)
     → gained_by s h r name plan (Some talk) 1 given ids → GetFreeIds (phase.news_by s h r name (news_of plan) 1 given) talk.device
@@ -268,46 +315,9 @@ news_under_leaves told one given = news_leaves one.job.skip one.job.handheld one
 
 -- under the handle that it got
 pub handle_is : (told : Option Talk) (handle : ℕ) → TellsClosed told → IsFirst told handle → handle ≡ 1
-handle_is told handle tells first = let here : IsFirst (Some tells.talk) handle = subst (λ t. IsFirst t handle) tells.is first in here tells.closed
+handle_is told handle tells first = let here : IsFirst (Some tells.talk) handle = rw tells.is at first in here tells.closed
 
 -- ---- all of them
-
-take_front : (xs ys : List ℕ) (n : ℕ) → length xs ≡ n → take n (xs ++ ys) ≡ xs
-take_front [] ys zero is = refl
-take_front [] ys (suc n) is = absurd (omega arith)
-take_front (x ∷ xs) ys zero is = absurd (omega arith)
-take_front (x ∷ xs) ys (suc n) is = ap (λ zs. x ∷ zs) (take_front xs ys n (omega arith))
-
-drop_front : (xs ys : List ℕ) (n : ℕ) → length xs ≡ n → drop n (xs ++ ys) ≡ ys
-drop_front [] ys zero is = refl
-drop_front [] ys (suc n) is = absurd (omega arith)
-drop_front (x ∷ xs) ys zero is = absurd (omega arith)
-drop_front (x ∷ xs) ys (suc n) is = drop_front xs ys n (omega arith)
-
-no_ids : (ids : List ℕ) → length ids ≡ 0 → ids ≡ []
-no_ids [] is = refl
-no_ids (id ∷ ids) is = absurd (omega arith)
-
-deal : (meeting : Meeting) (task : Task) (later : List Task) (b : Bool) (ids rest : List ℕ) → length ids ≡ kept_count b (add_count meeting task)
-    → where_kept b (news_acts meeting task ids) ++ all_news meeting later rest ≡ all_news meeting (if b then task ∷ later else later) (ids ++ rest)
-unfolding all_news
-deal meeting task later true ids rest is =
-    ap (λ zs. news_acts meeting task zs ++ all_news meeting later rest) (sym (take_front ids rest (add_count meeting task) is))
-    ∙ ap (λ zs. news_acts meeting task (take (add_count meeting task) (ids ++ rest)) ++ all_news meeting later zs)
-    (sym (drop_front ids rest (add_count meeting task) is))
-deal meeting task later false ids rest is = ap (λ zs. all_news meeting later (zs ++ rest)) (sym (no_ids ids is))
-
-adds_more : (meeting : Meeting) (task : Task) (later : List Task) (b : Bool) (ids rest : List ℕ) → length ids ≡ kept_count b (add_count meeting task)
-    → length rest ≡ sum_by (add_count meeting) later → length (ids ++ rest) ≡ sum_by (add_count meeting) (if b then task ∷ later else later)
-adds_more meeting task later true ids rest first second =
-    length-append ids rest ∙ ap (λ n. n + length rest) first ∙ ap (λ n. add_count meeting task + n) second
-    ∙ sym (sum_by-cons (add_count meeting) task later)
-adds_more meeting task later false ids rest first second =
-    length-append ids rest ∙ ap (λ n. n + length rest) first ∙ (let same : 0 + length rest ≡ length rest = omega arith in same) ∙ second
-
--- a task that isn't skipped
-abbrev pub is_active : Task → Bool
-is_active task = is_none (skip_of task)
 
 -- what all databases got: the ids that were given are dealt out to them in order, each was free at its turn, and then nothing is open
 pub record NewsJoin (meeting : Meeting) (ts : List Task) (told : Option Talk) (planned : List Planned) (ones : List Stretch) (given : List ℕ)
@@ -325,39 +335,30 @@ news_each : {V : Type 0} (items : V → List ℕ) (meeting : Meeting) (ts : List
 unfolding all_news
 news_each items meeting [] told [] [] [] are tells firsts all =
     record { free = nothing_free told; acts = refl; closed = subst TellsClosed (sym (saying_none told)) tells; count = refl; dealt = tt }
-news_each items meeting [] told [] [] (x ∷ ids) are tells firsts all = absurd all
-news_each items meeting [] told [] (one ∷ ones) [] are tells firsts all = absurd all
-news_each items meeting [] told [] (one ∷ ones) (x ∷ ids) are tells firsts all = absurd all
-news_each items meeting [] told (p ∷ planned) ones ids are tells firsts all = absurd are
-news_each items meeting (task ∷ ts) told [] ones ids are tells firsts all = absurd are
-news_each items meeting (task ∷ ts) told (p ∷ planned) [] [] are tells firsts all = absurd all
-news_each items meeting (task ∷ ts) told (p ∷ planned) [] (x ∷ ids) are tells firsts all = absurd all
-news_each items meeting (task ∷ ts) told (p ∷ planned) (one ∷ ones) [] are tells firsts all = absurd all
 news_each items meeting (task ∷ ts) told (p ∷ planned) (one ∷ ones) (x ∷ ids) are tells firsts all =
     let handle : one.handle ≡ 1 = handle_is told one.handle tells firsts.0 in
     let mine : List Act = news_under told p one.handle one.given in
     let same : mine ≡ news_under told p 1 one.given = ap (λ h. news_under told p h one.given) handle in
-    let step = news_step meeting task p told one.given (items x) are.0 (subst (λ h. gained told p h one.given (items x)) handle all.0) in
+    let step = news_step meeting task p told one.given (items x) are.0 (rw handle at all.0) in
     let leaves = subst LeavesClosed (sym same) (news_under_leaves told p one.given) in
     let later = news_each items meeting ts (saying mine told) planned ones ids are.1 (closed_on mine told tells leaves) firsts.1 all.1 in
     let rest : List ℕ = flat_map items ids in
     let rests : List Act = each_acts news_under (saying mine told) planned ones in
     let talk : Talk = tells.talk in
     let now : saying mine told ≡ Some (said mine talk) = ap (saying mine) tells.is ∙ said_some mine talk in
-    let first : GetFreeIds mine talk.device = subst (λ zs. GetFreeIds zs talk.device) (sym same)
-    (subst (λ t. GetFreeIds (news_under t p 1 one.given) talk.device) (sym tells.is)
-    (news_free p talk one.given (items x) (subst (λ t. gained t p 1 one.given (items x)) tells.is
-    (subst (λ h. gained told p h one.given (items x)) handle all.0)))) in
+    let first : GetFreeIds mine talk.device = rw (same, tells.is) (news_free p talk one.given (items x) (rw (handle, tells.is) at all.0)) in
     let second : GetFreeIds rests (device_after mine talk.device) = subst (GetFreeIds rests) (said_device mine talk)
     (subst (λ t. IfSome t (λ talk. GetFreeIds rests talk.device)) now later.free) in
     record {
       free = subst (λ t. IfSome t (λ talk. GetFreeIds (mine ++ rests) talk.device)) (sym tells.is) (free-append mine rests talk.device first second);
-      acts = ap (λ zs. mine ++ zs) later.acts ∙ ap (λ zs. zs ++ all_news meeting (filter is_active ts) rest) (same ∙ step.acts_are)
-          ∙ deal meeting task (filter is_active ts) (is_active task) (items x) rest step.count;
+      acts = rw (later.acts, same ∙ step.acts_are) (deal meeting task (filter is_active ts) (is_active task) (items x) rest step.count);
       closed = subst TellsClosed (saying_then mine (each_acts news_under (saying mine told) planned ones) told) later.closed;
       count = adds_more meeting task (filter is_active ts) (is_active task) (items x) rest step.count later.count;
       dealt = (step.count, later.dealt);
     }
+news_each items meeting [] told (p ∷ planned) ones ids are tells firsts all = absurd are
+news_each items meeting (task ∷ ts) told [] ones ids are tells firsts all = absurd are
+news_each items meeting ts told planned ones ids are tells firsts all = absurd all
 
 pub news_join : {V : Type 0} (items : V → List ℕ) (meeting : Meeting) (told : Option Talk) (planned : List Planned) (ones : List Stretch)
     (ids : List V) → ArePlannedFor meeting planned → TellsClosed told → AreFirst news_under told planned ones
@@ -372,59 +373,10 @@ pub record TextsLead (first all : List (List ℕ)) : Type 0 where
   pub rest : List (List ℕ)
   pub is : first ++ rest ≡ all
 
-text_put : (meeting : Meeting) (task : Task) (plan : Plan) (given ids : List ℕ) → IsPlan (action_or_sync task.action) (sides meeting task) plan
-    → map text (puts 1 given (news_of plan)) ≡ map text (writes meeting task ids)
-unfolding choice
-text_put meeting task plan given ids is =
-    let rows : List (ℕ × ContentValue) = replaced meeting task in
-    let adds : List ContentValue = (choice meeting task).adds in
-    let news : news_of plan ≡ rows ++ as_new adds = ap (λ rs. rs ++ as_new plan.adds.items) is.replace ∙ ap (λ cs. rows ++ as_new cs) is.adds in
-    ap (λ es. map text (puts 1 given es)) news ∙ text-puts 1 (rows ++ as_new adds) given (replicate (length rows) 0 ++ ids)
-
-text_by_case : (meeting : Meeting) (task : Task) (plan : Plan) (given ids : List ℕ) (s : Option Skip) (h r : Option DatabaseValue)
-    → skip_of task ≡ s → task.handheld ≡ h → task.rows ≡ r → (s ≡ None → IsPlan (action_or_sync task.action) (sides meeting task) plan)
-    → map text (phase.news_by s (listed_head h) (head_of r) task.name (news_of plan) 1 given)
-    ≡ map text (where_kept (is_none s) (news_acts meeting task ids))
-unfolding news_acts
-text_by_case meeting task plan given ids (Some why) h r skips has rows planned = refl
-text_by_case meeting task plan given ids None (Some d) r skips has rows planned =
-    ap (map text) (opened_same task.name (news_of plan) given)
-    ∙ text-opened_for task.name (puts 1 given (news_of plan)) (writes meeting task ids) (text_put meeting task plan given ids (planned refl))
-    ∙ ap (λ h. map text (session.news_by h task (writes meeting task ids))) (sym has)
-text_by_case meeting task plan given ids None None (Some d) skips has rows planned =
-    text-around (making (made_head d.head)) (puts 1 given (news_of plan)) (writes meeting task ids) (text_put meeting task plan given ids (planned refl))
-    ∙ ap (λ q. map text (made q (writes meeting task ids))) (sym rows)
-    ∙ ap (λ h. map text (session.news_by h task (writes meeting task ids))) (sym has)
-text_by_case meeting task plan given ids None None None skips has rows planned =
-    ap (λ q. map text (made q (writes meeting task ids))) (sym rows) ∙ ap (λ h. map text (session.news_by h task (writes meeting task ids))) (sym has)
-
-text_step : (meeting : Meeting) (task : Task) (one : Planned) (told : Option Talk) (given ids : List ℕ) → IsPlannedFor meeting task one
-    → map text (news_under told one 1 given) ≡ map text (where_kept (is_active task) (news_acts meeting task ids))
-unfolding news_under
-text_step meeting task one told given ids is =
-    let job : Job = job_for meeting task in
-    ap (λ (j : Job). map text (phase.news_by j.skip j.handheld j.rows j.name (news_of one.plan) 1 given)) is.job
-    ∙ ap (λ s. map text (phase.news_by s job.handheld job.rows job.name (news_of one.plan) 1 given)) (job-skip meeting task)
-    ∙ text_by_case meeting task one.plan given ids (skip_of task) task.handheld task.rows refl refl refl is.plan
-
--- the texts of one that isn't skipped, and then of the others
-text_deal : (meeting : Meeting) (task : Task) (later : List Task) (b : Bool) (ids : List ℕ)
-    → map text (where_kept b (news_acts meeting task ids)) ++ map text (all_news meeting later ids)
-    ≡ map text (all_news meeting (if b then task ∷ later else later) ids)
-unfolding all_news
-text_deal meeting task later true ids =
-    let n : ℕ = add_count meeting task in
-    ap (λ zs. zs ++ map text (all_news meeting later ids)) (text-news_acts meeting task ids (take n ids))
-    ∙ ap (λ zs. map text (news_acts meeting task (take n ids)) ++ zs) (text-all_news meeting later ids (drop n ids))
-    ∙ sym (map-append text (news_acts meeting task (take n ids)) (all_news meeting later (drop n ids)))
-text_deal meeting task later false ids = refl
-
 news_lead_each : (meeting : Meeting) (ts : List Task) (told : Option Talk) (planned : List Planned) (ones : List Stretch) (ids : List ℕ)
     → AreEachPlannedFor meeting ts planned → TellsClosed told → AreFirst news_under told planned ones
     → TextsLead (map text (each_acts news_under told planned ones)) (map text (all_news meeting (filter is_active ts) ids))
 news_lead_each meeting [] told [] ones ids are tells firsts = record { rest = map text (all_news meeting [] ids); is = refl }
-news_lead_each meeting [] told (p ∷ planned) ones ids are tells firsts = absurd are
-news_lead_each meeting (task ∷ ts) told [] ones ids are tells firsts = absurd are
 news_lead_each meeting (task ∷ ts) told (p ∷ planned) [] ids are tells firsts =
     record { rest = map text (all_news meeting (filter is_active (task ∷ ts)) ids); is = refl }
 news_lead_each meeting (task ∷ ts) told (p ∷ planned) (one ∷ ones) ids are tells firsts =
@@ -436,14 +388,85 @@ news_lead_each meeting (task ∷ ts) told (p ∷ planned) (one ∷ ones) ids are
     let later = news_lead_each meeting ts (saying mine told) planned ones ids are.1 (closed_on mine told tells leaves) firsts.1 in
     record {
       rest = later.rest;
-      is = ap (λ zs. zs ++ later.rest) (map-append text mine rest) ∙ append_assoc (map text mine) (map text rest) later.rest
-          ∙ ap (λ zs. map text mine ++ zs) later.is
-          ∙ ap (λ zs. zs ++ map text (all_news meeting (filter is_active ts) ids)) (ap (map text) same ∙ text_step meeting task p told one.given ids are.0)
-          ∙ text_deal meeting task (filter is_active ts) (is_active task) ids;
+      is = rw (
+        map-append text mine rest,
+        append_assoc (map text mine) (map text rest) later.rest,
+        later.is,
+        same,
+        text_step meeting task p told one.given ids are.0,
+      ) (text_deal meeting task (filter is_active ts) (is_active task) ids);
     }
+news_lead_each meeting ts told planned ones ids are tells firsts = absurd are
 
 pub news_lead : (meeting : Meeting) (told : Option Talk) (planned : List Planned) (ones : List Stretch) (ids : List ℕ) → ArePlannedFor meeting planned
     → TellsClosed told → AreFirst news_under told planned ones
     → TextsLead (map text (each_acts news_under told planned ones)) (map text (all_news meeting (active meeting) ids))
 unfolding active
 news_lead meeting told planned ones ids are tells firsts = news_lead_each meeting (tasks meeting) told planned ones ids are tells firsts
+
+-- ---- what they lose once the desktop has committed
+
+-- what a planned database loses
+abbrev purge_says : Planned → List Act
+purge_says one = purges_by one.job.skip one.job.name one.plan.purge.items 1 []
+
+purges_leave : (s : Option Skip) (name ids : List ℕ) → LeavesClosed (purges_by s name ids 1 [])
+purges_leave (Some why) name ids = none_closed
+purges_leave None name ids = around_closed (opening name) (purge_writes 1 ids) (opening_one name) (purges_keep 1 ids)
+
+any_given : (s : Option Skip) (name ids given : List ℕ) → purges_by s name ids 1 given ≡ purges_by s name ids 1 []
+any_given (Some why) name ids given = refl
+any_given None name ids given = refl
+
+purge_steps : Steps purges_under (λ (one : Planned). one) purge_says TellsClosed
+unfolding purges_under
+purge_steps = record {
+  acts_are = λ told one stretch tells first.
+      ap (λ h. purges_by one.job.skip one.job.name one.plan.purge.items h stretch.given) (handle_is told stretch.handle tells first)
+      ∙ any_given one.job.skip one.job.name one.plan.purge.items stretch.given;
+  known = λ told one tells. closed_on (purge_says one) told tells (purges_leave one.job.skip one.job.name one.plan.purge.items);
+}
+
+-- by the meeting
+
+purge_by_case : (meeting : Meeting) (task : Task) (plan : Plan) (s : Option Skip) → (s ≡ None
+    → plan.purge.items ≡ purged_ids (choice meeting task).keep (seen_held meeting task))
+    → purges_by s task.name plan.purge.items 1 [] ≡ where_kept (is_none s) (purge_acts meeting task)
+unfolding purge_acts
+purge_by_case meeting task plan (Some why) planned = refl
+purge_by_case meeting task plan None planned = ap (λ ids. opened task.name (purge_writes 1 ids)) (planned refl)
+
+purge_for : (meeting : Meeting) (task : Task) (one : Planned) → IsPlannedFor meeting task one
+    → purge_says one ≡ where_kept (is_active task) (purge_acts meeting task)
+unfolding choice
+purge_for meeting task one is =
+    rw (is.job, job-skip meeting task) (purge_by_case meeting task one.plan (skip_of task) (λ none. (is.plan none).purge))
+
+purges_flat : (meeting : Meeting) (ts : List Task) (planned : List Planned) → AreEachPlannedFor meeting ts planned
+    → flat_map purge_says planned ≡ flat_map (purge_acts meeting) (filter is_active ts)
+purges_flat meeting [] [] are = refl
+purges_flat meeting (task ∷ ts) (p ∷ planned) are =
+    rw (purges_flat meeting ts planned are.1, purge_for meeting task p are.0)
+    (kept_step (is_active task) (purge_acts meeting) task (filter is_active ts))
+purges_flat meeting ts planned are = absurd are
+
+-- ---- all of them
+
+pub record PurgeJoin (meeting : Meeting) (told : Option Talk) (planned : List Planned) (ones : List Stretch) : Type 0 where
+  pub acts : each_acts purges_under told planned ones ≡ flat_map (purge_acts meeting) (active meeting)
+  pub closed : TellsClosed (saying (flat_map (purge_acts meeting) (active meeting)) told)
+
+pub purge_join : (meeting : Meeting) (told : Option Talk) (planned : List Planned) (ones : List Stretch) → ArePlannedFor meeting planned → TellsClosed told
+    → AreFirst purges_under told planned ones → EachSays purges_under says_nothing told planned ones (done_each planned tt)
+    → PurgeJoin meeting told planned ones
+unfolding active
+purge_join meeting told planned ones are tells firsts all =
+    let own : map (λ (one : Planned). one) planned ≡ planned = map-id planned in
+    let flat = purges_flat meeting (tasks meeting) planned are in
+    let joined = stretches_join purge_steps says_nothing (λ one done. Unit {0}) (λ told one stretch done tells first said. tt) told planned ones
+    (done_each planned tt) tells (subst (λ ps. AreFirst purges_under told ps ones) (sym own) firsts)
+    (subst (λ ps. EachSays purges_under says_nothing told ps ones (done_each planned tt)) (sym own) all) in
+    record {
+      acts = ap (λ ps. each_acts purges_under told ps ones) (sym own) ∙ joined.acts_are ∙ flat;
+      closed = subst (λ zs. TellsClosed (saying zs told)) flat joined.known;
+    }

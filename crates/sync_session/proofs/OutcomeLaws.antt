@@ -8,25 +8,17 @@ use Rattle.hs_folders.specs.Moments.{EachMomentSince, Moments}
 use Rattle.hs_folders.proofs.MomentLaws.{moments_weaken, no_moment}
 use Rattle.pdb_values.specs.declared.user.Marks.{Marks}
 use Rattle.pdb_values.specs.declared.user.UserInfo.{UserInfo}
-use Rattle.dlp_commands.specs.declared.link.LinkFault.{LinkFault}
-use Rattle.dlp_commands.specs.Talks.{Talk}
+use Rattle.sync_session.proofs.LinkWords.{LinkFault, Talk, Ended, Halted, SessionFault, text, marking, reading_user, SessionValue, Stops}
 use Rattle.desk_journal.specs.Entries.{EntryValue}
 use Rattle.desk_journal.specs.Overlays.{StandsAs, overlay, put_all}
 use Rattle.desk_journal.proofs.OverlayLaws.{plain_overlay}
-use Rattle.desk_store.specs.Desks.{IsDesk, IsDeskOf}
-use Rattle.desk_store.specs.Shelves.{AreInOrder, SlotValue, slot_at}
-use Rattle.desk_store.specs.Views.{DeskValue, marks_in}
+use Rattle.desk_store.specs.Desks.{IsDesk}
+use Rattle.sync_session.proofs.MeetingWords.{AreInOrder, SlotValue, DeskValue, marks_in, ArePlannedFor, IsAtRest, adds_of, after_commit, before_writes, Meeting}
+use Rattle.sync_session.proofs.MeetingWords.{slot_of, gained, news_under, SpansBehind}
 use Rattle.desk_store.specs.declared.fault.CommitFault.{CommitFault}
 use Rattle.desk_store.specs.declared.fault.CommitFault.TheVariants as commit
-use Rattle.desktop_session.specs.declared.ending.Ended.{Ended}
-use Rattle.desktop_session.specs.declared.ending.Halted.{Halted}
-use Rattle.desktop_session.specs.declared.fault.SessionFault.{SessionFault}
 use Rattle.desktop_session.specs.declared.fault.SessionFault.TheVariants as session
-use Rattle.desktop_session.specs.Acts.{text}
-use Rattle.desktop_session.specs.Requests.{marking, reading_user}
 use Rattle.desktop_session.proofs.StopLaws.{fell_none, stops_none}
-use Rattle.desktop_session.specs.Sessions.{SessionValue}
-use Rattle.desktop_session.specs.Stops.{Stops}
 use Rattle.sync_session.specs.declared.outcome.Outcome.{Outcome}
 use Rattle.sync_session.specs.declared.preparing.Prepared.{Prepared}
 use Rattle.sync_session.specs.declared.report.DbReport.{DbReport}
@@ -38,20 +30,15 @@ use Rattle.sync_session.specs.Courses.{AfterCommit, AfterNews, closed, last_acts
 use Rattle.sync_session.specs.Endings.{Ends}
 use Rattle.sync_session.specs.Limits.{first_over}
 use Rattle.sync_session.specs.Merges.{merged_slots}
-use Rattle.sync_session.specs.Outcomes.{IsAtCommit, IsCommitted, IsStopOf, IsUncommitted, MergedSince, SessionEnds, StandsForSlots, StopsAtLimit, StopsFor, requests_before_commit, seat_of, tellings}
+use Rattle.sync_session.specs.Outcomes.{IsAtCommit, IsCommitted, IsStopOf, IsUncommitted, MergedSince, SessionEnds, StandsForSlots}
+use Rattle.sync_session.specs.Outcomes.{StopsAtLimit, StopsFor, requests_before_commit, seat_of, tellings}
 use Rattle.sync_session.specs.Reports.{reports}
-use Rattle.sync_session.specs.PlannedTasks.{ArePlannedFor}
-use Rattle.sync_session.specs.Rests.{IsAtRest}
-use Rattle.sync_session.specs.Sessions.{adds_of, after_commit, before_writes}
 use Rattle.sync_session.specs.Stopping.{stop_of}
-use Rattle.sync_session.specs.Takes.{each_of, taken_entries, taken_slots}
-use Rattle.sync_session.specs.Tasks.{Meeting, slot_of}
+use Rattle.sync_session.specs.Takes.{each_of, taken_slots}
 use Rattle.sync_session.proofs.IdsLaws.{text-before_commit}
 use Rattle.sync_session.proofs.SessionJoins.{NewsReach, Reached, end_reach, end_stop, news_reach, news_stop, session_free, writes_stop}
 use Rattle.sync_session.proofs.StretchLaws.{Tells}
 use Rattle.sync_session.proofs.TakenLaws.{taken-merged}
-use Rattle.sync_session.specs.Phases.{gained, news_under}
-use Rattle.sync_session.specs.Stretches.{SpansBehind}
 use Rattle.sync_session.specs.Users.{begun_user}
 
 -- ---- the folder
@@ -62,7 +49,7 @@ stands_merged slots made None desk same = tt
 stands_merged slots None (Some held) desk same = absurd cc
 stands_merged slots (Some made) (Some held) desk same =
     let over : overlay held ≡ overlay made = cc in
-    subst (λ h. IsDeskOf h slots) (sym (over ∙ plain_overlay made desk.stands.no_journal)) desk.stands
+    rw (over ∙ plain_overlay made desk.stands.no_journal) desk.stands
 
 -- so it does at each moment
 moments_merged : (slots : List SlotValue) (made : Option FileMap) (old new : Moments) → IsDesk made slots → EachMomentSince (StandsAs made) old new
@@ -78,8 +65,7 @@ later_stop talk fault meeting old new session.Down later = later
 later_stop talk fault meeting old new (session.Refused code) later = later
 later_stop talk fault meeting old new (session.BadReply broken) later = later
 later_stop talk fault meeting old new session.NoMemory later = tt
-later_stop talk fault meeting old new (session.OtherUser handheld desktop) later = absurd later
-later_stop talk fault meeting old new session.TooManyUsers later = absurd later
+later_stop talk fault meeting old new other later = absurd later
 
 commit_stop : {L : Type 0} (talk : L → Option Talk) (fault : L → Option LinkFault) (meeting : Meeting) (old new : L) (cause : CommitFault)
     → IsAtCommit talk meeting old new → IsStopOf talk fault meeting old new (stop_of cause)
@@ -98,274 +84,210 @@ SaysLimit meeting answer = (name : List ℕ) → first_over meeting ≡ Some nam
 pub seated_says : (P : Type 0) (meeting : Meeting) (why : SessionFault) → IsOk (seat_of meeting) → seat_of meeting ≡ Err why → P
 seated_says P meeting why seated is = absurd (let no : IsOk {T = UserInfo} (Err why) = subst IsOk is seated in let never : ⊥ = cc in never)
 
-none_limit : (meeting : Meeting) (answer : Result (Vec DbReport) Stop) → first_over meeting ≡ None → SaysLimit meeting answer
-none_limit meeting answer none = λ name is. absurd (let never : ⊥ = cc in never)
-
--- the session said all that precedes the commit
-at_commit : {L : Type 0} (talk : L → Option Talk) (since : L → L → Type 0) (fault : L → Option LinkFault) (downs : L → ℕ) (meeting : Meeting)
-    (given : List ℕ) (dealt : List (List ℕ)) (old new : L) → NewsReach talk since fault downs meeting given dealt old new → IsAtCommit talk meeting old new
-at_commit talk since fault downs meeting given dealt old new news =
-    record { given = given; count = news.count; free = news.free; does = news.reached.does }
-
--- ---- a stop before the commit
-
-pub ends_before : {L F : Type 0} (talk : L → Option Talk) (since : L → L → Type 0) (fault : L → Option LinkFault) (downs : L → ℕ)
-    (contents : F → Option FileMap) (moments : F → Moments) (meeting : Meeting) (old new : L) (folder : F) (cause : Stop) (left : Outcome L F)
-    → left ≡ stopped new folder cause → Stops talk since fault downs (requests_before_commit meeting) old new → IsStopOf talk fault meeting old new cause
-    → (IsSome (first_over meeting) → Stops talk since fault downs (map text (before_writes meeting)) old new)
-    → SaysUnseated talk since fault downs meeting old new (Err cause) → SaysLimit meeting (Err cause)
-    → SessionEnds talk since fault downs meeting old left.link (tellings contents moments folder left.folder) left.end
-ends_before {L} {F} talk since fault downs contents moments meeting old new folder cause left is stops why over unseated limit =
-    subst (λ o. SessionEnds talk since fault downs meeting old o.link (tellings contents moments folder o.folder) o.end) (sym is)
-    (record {
-      ended = tt;
-      stopped = inl (record {
-        given = [];
-        stops = stops;
-        stands = refl;
-        moments = no_moment (StandsForSlots (merged_slots meeting [])) (moments folder) (moments folder) refl;
-      });
-      cause = why;
-      over = over;
-      unseated = unseated;
-      limit = limit;
-    })
-
--- while nothing was written
-pub ends_unwritten : {L F : Type 0} (talk : L → Option Talk) (since : L → L → Type 0) (fault : L → Option LinkFault) (downs : L → ℕ)
-    (contents : F → Option FileMap) (moments : F → Moments) (meeting : Meeting) (old new : L) (folder : F) (cause : Stop) (left : Outcome L F)
-    → left ≡ stopped new folder cause → Stops talk since fault downs (map text (before_writes meeting)) old new
-    → IsStopOf talk fault meeting old new cause → SaysUnseated talk since fault downs meeting old new (Err cause) → SaysLimit meeting (Err cause)
-    → SessionEnds talk since fault downs meeting old left.link (tellings contents moments folder left.folder) left.end
-ends_unwritten talk since fault downs contents moments meeting old new folder cause left is stops why unseated limit =
-    ends_before talk since fault downs contents moments meeting old new folder cause left is
-    (writes_stop talk since fault downs meeting (replicate (adds_of meeting) 0) old new stops) why (λ over. stops) unseated limit
+none_limit : (P : Type 0) (meeting : Meeting) (name : List ℕ) → first_over meeting ≡ None → first_over meeting ≡ Some name → P
+none_limit P meeting name none is = absurd (let never : ⊥ = cc in never)
 
 none_over : {A : Type 0} (P : Type 0) (over : Option A) → over ≡ None → IsSome over → P
 none_over P None none some = absurd cc
 none_over P (Some a) none some = absurd cc
 
--- ---- at the end
-
--- what both sides had done when the desktop committed
-record Committed {L F : Type 0} (talk : L → Option Talk) (since : L → L → Type 0) (fault : L → Option LinkFault) (downs : L → ℕ)
-    (contents : F → Option FileMap) (moments : F
-    → Moments) (meeting : Meeting) (given : List ℕ) (dealt : List (List ℕ)) (old between : L) (folder after : F) : Type 0 where
-  news : NewsReach talk since fault downs meeting given dealt old between
-  none : first_over meeting ≡ None
-  seated : IsOk (seat_of meeting)
-  desk : IsDesk (contents after) (merged_slots meeting given)
-  each : MergedSince meeting given (moments folder) (moments after)
-
 desk_stands : (told : Option FileMap) (slots : List SlotValue) → IsDesk told slots → StandsForSlots slots told
 desk_stands None slots desk = tt
-desk_stands (Some held) slots desk = subst (λ h. IsDeskOf h slots) (sym (plain_overlay held desk.stands.no_journal)) desk.stands
-
-closes_ends : {L F : Type 0} (talk : L → Option Talk) (since : L → L → Type 0) (fault : L → Option LinkFault) (downs : L → ℕ)
-    (contents : F → Option FileMap) (moments : F → Moments) (since_more : (a b c : L) → since a b → since b c
-    → since a c) (meeting : Meeting) (given : List ℕ) (dealt : List (List ℕ)) (date : ℕ) (slot : Marks)
-    (prepared : Prepared) (old : L) (between : SessionValue L) (folder after : F) (answer : Result (Ended L) (Halted L)) → date ≡ meeting.wishes.date
-    → between.user ≡ meeting.device.user → slot ≡ (slot_of meeting).marks → ArePlannedFor meeting prepared.planned.items
-    → prepared.reports.items ≡ reports meeting → Committed talk since fault downs contents moments meeting given dealt old between.link folder after
-    → (ends : Ends talk since fault downs prepared.planned.items (last_acts date between.user slot) between answer)
-    → SessionEnds talk since fault downs meeting old (closed after prepared.reports answer).link
-    (tellings contents moments folder (closed after prepared.reports answer).folder) (closed after prepared.reports answer).end
-closes_ends {L} {F} talk since fault downs contents moments since_more meeting given dealt date slot prepared old between folder after
-    (Ok ended) dated known marked are told done ends =
-    let reached = end_reach talk since fault downs since_more meeting date between.user slot prepared.planned.items given dealt old between ended dated
-    known marked are done.news ends in
-    record {
-      ended = record {
-        given = given;
-        count = done.news.count;
-        free = session_free meeting given done.news.free;
-        does = reached.does;
-        desk = done.desk;
-        moments = done.each;
-        told = told;
-      };
-      stopped = tt;
-      cause = tt;
-      over = none_over (Stops talk since fault downs (map text (before_writes meeting)) old ended.link) (first_over meeting) done.none;
-      unseated = λ why is. seated_says (Stops talk since fault downs (text reading_user ∷ []) old ended.link × StopsFor (stop.Session why)
-          (Ok prepared.reports)) meeting why done.seated is;
-      limit = none_limit meeting (Ok prepared.reports) done.none;
-    }
-closes_ends {L} {F} talk since fault downs contents moments since_more meeting given dealt date slot prepared old between folder after
-    (Err halted) dated known marked are told done ends =
-    record {
-      ended = tt;
-      stopped = inr (record {
-        given = given;
-        between = between.link;
-        count = done.news.count;
-        free = done.news.free;
-        does = done.news.reached.does;
-        stops = subst (λ rs. Stops talk since fault downs rs old between.link) (text-before_commit meeting given (replicate
-            (adds_of meeting) 0)) done.news.reached.stops;
-        rest = end_stop talk since fault downs meeting date between.user slot prepared.planned.items given dealt old between
-            (Err halted) dated known marked are done.news ends;
-        stands = desk_stands (contents after) (merged_slots meeting given) done.desk;
-        moments = done.each;
-      });
-      cause = later_stop talk fault meeting old halted.link halted.cause ends.cause;
-      over = none_over (Stops talk since fault downs (map text (before_writes meeting)) old halted.link) (first_over meeting) done.none;
-      unseated = λ why is. seated_says (Stops talk since fault downs (text reading_user ∷ []) old halted.link × StopsFor (stop.Session why)
-          (Err (stop.Session halted.cause))) meeting why done.seated is;
-      limit = none_limit meeting (Err (stop.Session halted.cause)) done.none;
-    }
-
--- ---- the commit
-
--- it was refused, and stands or not
-refused_ends : {L F : Type 0} (talk : L → Option Talk) (since : L → L → Type 0) (fault : L → Option LinkFault) (downs : L → ℕ)
-    (contents : F → Option FileMap) (moments : F → Moments) (paths : F → Option (List (List ℕ))) (faults : F → ℕ) (itself : (a : L)
-    → since a a) (meeting : Meeting) (given : List ℕ) (dealt : List (List ℕ))
-    (entries : List EntryValue) (old between : L) (desk : DeskValue F) (refusal : CommitFault × F) (left : Outcome L F)
-    → NewsReach talk since fault downs meeting given dealt old between → first_over meeting ≡ None → IsOk (seat_of meeting)
-    → Commits contents moments paths faults (merged_slots meeting given) entries desk (Err refusal) → left ≡ stopped between refusal.1 (stop_of refusal.0)
-    → SessionEnds talk since fault downs meeting old left.link (tellings contents moments desk.folder left.folder) left.end
-refused_ends {L} {F} talk since fault downs contents moments paths faults itself meeting given dealt entries old between desk refusal left news none
-    seated commits is =
-    let made : Option FileMap = option_map (put_all entries) (contents desk.folder) in
-    let merged : List SlotValue = merged_slots meeting given in
-    let stops : Stops talk since fault downs (requests_before_commit meeting) old between
-    = subst (λ rs. Stops talk since fault downs rs old between) (text-before_commit meeting given (replicate (adds_of meeting) 0)) news.reached.stops in
-    let both : IsUncommitted talk since fault downs meeting old between (tellings contents moments desk.folder refusal.1)
-    ⊎ IsCommitted talk since fault downs meeting old between (tellings contents moments desk.folder refusal.1)
-    = elim commits.made [
-      | inl same ↦ inl (record {
-        given = given;
-        stops = stops;
-        stands = ap (λ f. option_map overlay (contents f)) same;
-        moments = no_moment (StandsForSlots merged) (moments desk.folder) (moments refusal.1) (ap moments same);
-      })
-      | inr stands ↦ elim commits.refused [
-        | inl before ↦ inl (record {
-          given = given;
-          stops = stops;
-          stands = before;
-          moments = moments_merged merged made (moments desk.folder) (moments refusal.1) stands commits.each_moment;
-        })
-        | inr after ↦ inr (record {
-          given = given;
-          between = between;
-          count = news.count;
-          free = news.free;
-          does = news.reached.does;
-          stops = stops;
-          rest = stops_none talk since fault downs (map text (after_commit meeting)) between between refl (itself between) (fell_none fault downs between);
-          stands = stands_merged merged made (contents refusal.1) stands after;
-          moments = moments_merged merged made (moments desk.folder) (moments refusal.1) stands commits.each_moment;
-        })
-      ]
-    ] in
-    subst (λ o. SessionEnds talk since fault downs meeting old o.link (tellings contents moments desk.folder o.folder) o.end) (sym is)
-    (record {
-      ended = tt;
-      stopped = both;
-      cause = commit_stop talk fault meeting old between refusal.0 (at_commit talk since fault downs meeting given dealt old between news);
-      over = none_over (Stops talk since fault downs (map text (before_writes meeting)) old between) (first_over meeting) none;
-      unseated = λ why is. seated_says (Stops talk since fault downs (text reading_user ∷ []) old between × StopsFor (stop.Session why)
-          (Err (stop_of refusal.0))) meeting why seated is;
-      limit = none_limit meeting (Err (stop_of refusal.0)) none;
-    })
-
-commit_ends : {L F : Type 0} (talk : L → Option Talk) (since : L → L → Type 0) (fault : L → Option LinkFault) (downs : L → ℕ)
-    (contents : F → Option FileMap) (moments : F → Moments) (paths : F → Option (List (List ℕ))) (faults : F → ℕ) (itself : (a : L)
-    → since a a) (since_more : (a b c : L) → since a b → since b c → since a c)
-    (meeting : Meeting) (given : List ℕ) (dealt : List (List ℕ)) (date : ℕ) (slot : Marks) (prepared : Prepared) (entries : List EntryValue) (old : L)
-    (between : SessionValue L)
-    (desk : DeskValue F) (answer : Result (DeskValue F) (CommitFault × F)) (left : Outcome L F) → date ≡ meeting.wishes.date
-    → between.user ≡ meeting.device.user → slot ≡ (slot_of meeting).marks → ArePlannedFor meeting prepared.planned.items
-    → prepared.reports.items ≡ reports meeting → NewsReach talk since fault downs meeting given dealt old between.link → first_over meeting ≡ None
-    → IsOk (seat_of meeting) → Commits contents moments paths faults (merged_slots meeting given) entries desk answer
-    → AfterCommit talk since fault downs date slot prepared between answer left
-    → SessionEnds talk since fault downs meeting old left.link (tellings contents moments desk.folder left.folder) left.end
-commit_ends {L} {F} talk since fault downs contents moments paths faults itself since_more meeting given dealt date slot prepared entries old between
-    desk (Ok after) left dated known marked are told news none seated commits goes =
-    let merged : List SlotValue = merged_slots meeting given in
-    let stands : IsDesk (contents after.folder) merged = subst (IsDesk (contents after.folder)) commits.slots commits.stands in
-    let made : IsDesk (option_map (put_all entries) (contents desk.folder)) merged = subst (λ t. IsDesk t merged) commits.written stands in
-    let done : Committed talk since fault downs contents moments meeting given dealt old between.link desk.folder after.folder
-    = record {
-      news = news;
-      none = none;
-      seated = seated;
-      desk = stands;
-      each = moments_merged merged (option_map (put_all entries) (contents desk.folder)) (moments desk.folder)
-          (moments after.folder) made commits.each_moment;
-    } in
-    subst (λ o. SessionEnds talk since fault downs meeting old o.link (tellings contents moments desk.folder o.folder) o.end) (sym goes.is)
-    (closes_ends talk since fault downs contents moments since_more meeting given dealt date slot prepared old between desk.folder after.folder
-    goes.answer dated known marked are told done
-    goes.ends)
-commit_ends {L} {F} talk since fault downs contents moments paths faults itself since_more meeting given dealt date slot prepared entries old between
-    desk (Err refusal) left dated known marked are told news none seated commits goes =
-    refused_ends talk since fault downs contents moments paths faults itself meeting given dealt entries old between.link desk refusal left news none
-    seated commits goes
-
--- ---- the news
-
--- what both sides know of each other once all is read
-pub record Known {L F : Type 0} (talk : L → Option Talk) (since : L → L → Type 0) (fault : L → Option LinkFault) (downs : L
-    → ℕ) (meeting : Meeting) (prepared : Prepared)
-    (old : L) (now : SessionValue L) (desk : DeskValue F) (date : ℕ) : Type 0 where
-  pub rests : IsAtRest meeting.device
-  pub dated : date ≡ meeting.wishes.date
-  pub user : now.user ≡ meeting.device.user
-  pub slots : desk.slots ≡ meeting.slots
-  pub picked : desk.picked ≡ meeting.picked
-  pub are : ArePlannedFor meeting prepared.planned.items
-  pub told : prepared.reports.items ≡ reports meeting
-  pub none : first_over meeting ≡ None
-  pub seated : IsOk (seat_of meeting)
-  pub ordered : AreInOrder meeting.slots
-  pub read : Reached talk since fault downs (before_writes meeting) old now.link
-  pub tells : Tells meeting.device (talk now.link)
+desk_stands (Some held) slots desk = rw (plain_overlay held desk.stands.no_journal) desk.stands
 
 flat-each : (ids : List (Vec ℕ)) → flat_map (λ (one : Vec ℕ). one.items) ids ≡ flat_map (λ (one : List ℕ). one) (each_of ids)
 flat-each [] = refl
 flat-each (one ∷ ids) = ap (λ zs. one.items ++ zs) (flat-each ids)
 
-pub news_ends : {L F : Type 0} (talk : L → Option Talk) (since : L → L → Type 0) (fault : L → Option LinkFault) (downs : L → ℕ)
-    (contents : F → Option FileMap) (moments : F → Moments) (paths : F → Option (List (List ℕ))) (faults : F → ℕ) (itself : (a : L)
-    → since a a) (since_more : (a b c : L) → since a b → since b c → since a c)
-    (meeting : Meeting) (date : ℕ) (prepared : Prepared) (old : L) (now then : SessionValue L) (desk : DeskValue F)
-    (answer : Result (Vec (Vec ℕ)) SessionFault) (left : Outcome L F) → Known talk since fault downs meeting prepared old now desk date
-    → SpansBehind talk since fault downs (marking (begun_user now.user) 0x40) news_under (λ told one handle given
-    (ids : Vec ℕ). gained told one handle given ids.items)
-    prepared.planned.items (λ (made : Vec (Vec ℕ)). made.items) now then answer
-    → AfterNews talk since fault downs contents moments paths faults date prepared then desk answer left
-    → SessionEnds talk since fault downs meeting old left.link (tellings contents moments desk.folder left.folder) left.end
-news_ends {L} {F} talk since fault downs contents moments paths faults itself since_more meeting date prepared old now then desk
-    (Ok ids) left knows sends goes =
-    let given : List ℕ = flat_map (λ (one : Vec ℕ). one.items) ids.items in
-    let dealt : List (List ℕ) = each_of ids.items in
-    let news : NewsReach talk since fault downs meeting given dealt old then.link
-    = news_reach talk since fault downs since_more meeting now.user prepared.planned.items (λ (one : Vec ℕ). one.items) (λ (made : Vec
-    (Vec ℕ)). made.items) old now then ids
-    knows.rests knows.user knows.are knows.read knows.tells sends in
-    let user : then.user ≡ meeting.device.user = sends.user ∙ knows.user in
-    let marked : marks_in desk ≡ (slot_of meeting).marks = ap (λ ss. (slot_at ss desk.picked).marks) knows.slots
-    ∙ ap (λ p. (slot_at meeting.slots p).marks) knows.picked in
-    let taken : taken_slots date then.user prepared.planned.items (each_of ids.items) desk.picked desk.slots ≡ merged_slots meeting given
-    = ap (λ n. taken_slots n then.user prepared.planned.items (each_of ids.items) desk.picked desk.slots) knows.dated
-    ∙ ap (λ u. taken_slots meeting.wishes.date u prepared.planned.items (each_of ids.items) desk.picked desk.slots) user
-    ∙ ap (λ p. taken_slots meeting.wishes.date meeting.device.user prepared.planned.items (each_of ids.items) p desk.slots) knows.picked
-    ∙ ap (λ ss. taken_slots meeting.wishes.date meeting.device.user prepared.planned.items (each_of ids.items) meeting.picked ss) knows.slots
-    ∙ taken-merged meeting prepared.planned.items (each_of ids.items) knows.ordered knows.are news.dealt
-    ∙ ap (merged_slots meeting) (sym (flat-each ids.items)) in
-    let entries : List EntryValue = taken_entries date then.user prepared.planned.items (each_of ids.items) desk.picked desk.slots in
-    commit_ends talk since fault downs contents moments paths faults itself since_more meeting given dealt date
-    (marks_in desk) prepared entries old then desk goes.answer left knows.dated user marked knows.are
-    knows.told news knows.none knows.seated (subst (λ ss. Commits contents moments paths faults ss entries desk goes.answer) taken goes.commits) goes.goes
-news_ends {L} {F} talk since fault downs contents moments paths faults itself since_more meeting date prepared old now then desk
-    (Err cause) left knows sends goes =
-    ends_before talk since fault downs contents moments meeting old then.link desk.folder (stop.Session cause) left goes
-    (news_stop talk since fault downs since_more meeting now.user prepared.planned.items (λ (one : Vec ℕ). one.items) (λ (made : Vec (Vec ℕ)). made.items)
-    (replicate (adds_of meeting) 0) old now then (Err cause) knows.rests knows.user knows.are knows.read knows.tells sends)
-    (later_stop talk fault meeting old then.link cause sends.cause)
-    (none_over (Stops talk since fault downs (map text (before_writes meeting)) old then.link) (first_over meeting) knows.none)
-    (λ why is. seated_says (Stops talk since fault downs (text reading_user ∷ []) old then.link × StopsFor (stop.Session why)
-    (Err (stop.Session cause))) meeting why knows.seated is) (none_limit meeting (Err (stop.Session cause)) knows.none)
+-- ---- the session of a meeting, from this link on
+
+module _ {L F : Type 0} (talk : L → Option Talk) (since : L → L → Type 0) (fault : L → Option LinkFault) (downs : L → ℕ)
+    (contents : F → Option FileMap) (moments : F → Moments) (meeting : Meeting) (old : L) where
+  -- it ends so, by what is left
+  abbrev pub EndsSo : F → Outcome L F → Type 0
+  EndsSo folder left = SessionEnds talk since fault downs meeting old left.link (tellings contents moments folder left.folder) left.end
+
+  -- it stopped before the commit
+  ends_before : {new : L} {folder : F} {cause : Stop} {left : Outcome L F} → left ≡ stopped new folder cause
+      → Stops talk since fault downs (requests_before_commit meeting) old new → IsStopOf talk fault meeting old new cause
+      → (IsSome (first_over meeting) → Stops talk since fault downs (map text (before_writes meeting)) old new)
+      → SaysUnseated talk since fault downs meeting old new (Err cause) → SaysLimit meeting (Err cause) → EndsSo folder left
+  ends_before {folder} is stops why over unseated limit = rw is (record {
+    ended = tt;
+    stopped = inl (record {
+      given = [];
+      stops = stops;
+      stands = refl;
+      moments = no_moment (StandsForSlots (merged_slots meeting [])) (moments folder) (moments folder) refl;
+    });
+    cause = why;
+    over = over;
+    unseated = unseated;
+    limit = limit;
+  })
+
+  -- while nothing was written
+  pub ends_unwritten : {new : L} {folder : F} {cause : Stop} {left : Outcome L F} → left ≡ stopped new folder cause
+      → Stops talk since fault downs (map text (before_writes meeting)) old new → IsStopOf talk fault meeting old new cause
+      → SaysUnseated talk since fault downs meeting old new (Err cause) → SaysLimit meeting (Err cause) → EndsSo folder left
+  ends_unwritten is stops why unseated limit =
+      ends_before is (writes_stop meeting (replicate (adds_of meeting) 0) stops) why (λ over. stops) unseated limit
+
+  -- what both sides had done when the desktop committed
+  record Committed (given : List ℕ) (dealt : List (List ℕ)) (between : L) (folder after : F) : Type 0 where
+    news : NewsReach talk since fault downs meeting given dealt old between
+    none : first_over meeting ≡ None
+    seated : IsOk (seat_of meeting)
+    desk : IsDesk (contents after) (merged_slots meeting given)
+    each : MergedSince meeting given (moments folder) (moments after)
+
+  closes_ends : (since_more : (a b c : L) → since a b → since b c → since a c) {given : List ℕ} {dealt : List (List ℕ)} {date : ℕ} {slot : Marks}
+      (prepared : Prepared) {between : SessionValue L} {folder after : F} (answer : Result (Ended L) (Halted L)) → date ≡ meeting.wishes.date
+      → between.user ≡ meeting.device.user → slot ≡ (slot_of meeting).marks → ArePlannedFor meeting prepared.planned.items
+      → prepared.reports.items ≡ reports meeting → Committed given dealt between.link folder after
+      → (ends : Ends talk since fault downs prepared.planned.items (last_acts date between.user slot) between answer)
+      → EndsSo folder (closed after prepared.reports answer)
+  closes_ends since_more {given} prepared (Ok ended) dated known marked are told done ends = record {
+    ended = record {
+      given = given;
+      count = done.news.count;
+      free = session_free meeting given done.news.free;
+      does = (end_reach meeting dated known marked are done.news since_more ends).does;
+      desk = done.desk;
+      moments = done.each;
+      told = told;
+    };
+    stopped = tt;
+    cause = tt;
+    over = none_over _ (first_over meeting) done.none;
+    unseated = λ why is. seated_says _ meeting why done.seated is;
+    limit = λ name is. none_limit _ meeting name done.none is;
+  }
+  closes_ends since_more {given} prepared {between} {after} (Err halted) dated known marked are told done ends = record {
+    ended = tt;
+    stopped = inr (record {
+      given = given;
+      between = between.link;
+      count = done.news.count;
+      free = done.news.free;
+      does = done.news.reached.does;
+      stops = rw (text-before_commit meeting given (replicate (adds_of meeting) 0)) at done.news.reached.stops;
+      rest = end_stop meeting dated known marked are done.news ends;
+      stands = desk_stands (contents after) (merged_slots meeting given) done.desk;
+      moments = done.each;
+    });
+    cause = later_stop talk fault meeting old halted.link halted.cause ends.cause;
+    over = none_over _ (first_over meeting) done.none;
+    unseated = λ why is. seated_says _ meeting why done.seated is;
+    limit = λ name is. none_limit _ meeting name done.none is;
+  }
+
+  module _ (paths : F → Option (List (List ℕ))) (faults : F → ℕ) (itself : (a : L) → since a a) where
+    -- the commit was refused, and stands or not
+    refused_ends : {given : List ℕ} {dealt : List (List ℕ)} {entries : List EntryValue} {between : L} {desk : DeskValue F} {refusal : CommitFault × F}
+        {left : Outcome L F} → NewsReach talk since fault downs meeting given dealt old between → first_over meeting ≡ None → IsOk (seat_of meeting)
+        → Commits contents moments paths faults (merged_slots meeting given) entries desk (Err refusal)
+        → left ≡ stopped between refusal.1 (stop_of refusal.0) → EndsSo desk.folder left
+    refused_ends {given} {entries} {between} {desk} {refusal} news none seated commits is =
+        let made : Option FileMap = option_map (put_all entries) (contents desk.folder) in
+        let merged : List SlotValue = merged_slots meeting given in
+        let stops = rw (text-before_commit meeting given (replicate (adds_of meeting) 0)) at news.reached.stops in
+        let both : IsUncommitted talk since fault downs meeting old between (tellings contents moments desk.folder refusal.1)
+        ⊎ IsCommitted talk since fault downs meeting old between (tellings contents moments desk.folder refusal.1)
+        = elim commits.made [
+          | inl same ↦ inl (record {
+            given = given;
+            stops = stops;
+            stands = ap (λ f. option_map overlay (contents f)) same;
+            moments = no_moment (StandsForSlots merged) (moments desk.folder) (moments refusal.1) (ap moments same);
+          })
+          | inr stands ↦ elim commits.refused [
+            | inl before ↦ inl (record {
+              given = given;
+              stops = stops;
+              stands = before;
+              moments = moments_merged merged made (moments desk.folder) (moments refusal.1) stands commits.each_moment;
+            })
+            | inr after ↦ inr (record {
+              given = given;
+              between = between;
+              count = news.count;
+              free = news.free;
+              does = news.reached.does;
+              stops = stops;
+              rest = stops_none talk since fault downs (map text (after_commit meeting)) between between refl (itself between)
+                  (fell_none fault downs between);
+              stands = stands_merged merged made (contents refusal.1) stands after;
+              moments = moments_merged merged made (moments desk.folder) (moments refusal.1) stands commits.each_moment;
+            })
+          ]
+        ] in
+        rw is (record {
+          ended = tt;
+          stopped = both;
+          cause = commit_stop talk fault meeting old between refusal.0
+              (record { given = given; count = news.count; free = news.free; does = news.reached.does });
+          over = none_over _ (first_over meeting) none;
+          unseated = λ why is. seated_says _ meeting why seated is;
+          limit = λ name is. none_limit _ meeting name none is;
+        })
+
+    module _ (since_more : (a b c : L) → since a b → since b c → since a c) where
+      commit_ends : {given : List ℕ} {dealt : List (List ℕ)} {date : ℕ} {slot : Marks} (prepared : Prepared) {entries : List EntryValue}
+          (between : SessionValue L) {desk : DeskValue F} (answer : Result (DeskValue F) (CommitFault × F)) {left : Outcome L F}
+          → date ≡ meeting.wishes.date → between.user ≡ meeting.device.user → slot ≡ (slot_of meeting).marks
+          → ArePlannedFor meeting prepared.planned.items → prepared.reports.items ≡ reports meeting
+          → NewsReach talk since fault downs meeting given dealt old between.link → first_over meeting ≡ None → IsOk (seat_of meeting)
+          → Commits contents moments paths faults (merged_slots meeting given) entries desk answer
+          → AfterCommit talk since fault downs date slot prepared between answer left → EndsSo desk.folder left
+      commit_ends {given} {dealt} prepared {entries} between {desk} (Ok after) dated known marked are told news none seated commits goes =
+          let merged : List SlotValue = merged_slots meeting given in
+          let stands : IsDesk (contents after.folder) merged = rw commits.slots at commits.stands in
+          let made : IsDesk (option_map (put_all entries) (contents desk.folder)) merged = rw commits.written at stands in
+          let done : Committed given dealt between.link desk.folder after.folder
+          = record {
+            news = news;
+            none = none;
+            seated = seated;
+            desk = stands;
+            each = moments_merged merged (option_map (put_all entries) (contents desk.folder)) (moments desk.folder) (moments after.folder) made
+                commits.each_moment;
+          } in
+          rw goes.is (closes_ends since_more prepared goes.answer dated known marked are told done goes.ends)
+      commit_ends prepared between (Err refusal) dated known marked are told news none seated commits goes = refused_ends news none seated commits goes
+
+      -- what both sides know of each other once all is read
+      pub record Known (prepared : Prepared) (now : SessionValue L) (desk : DeskValue F) (date : ℕ) : Type 0 where
+        pub rests : IsAtRest meeting.device
+        pub dated : date ≡ meeting.wishes.date
+        pub user : now.user ≡ meeting.device.user
+        pub slots : desk.slots ≡ meeting.slots
+        pub picked : desk.picked ≡ meeting.picked
+        pub are : ArePlannedFor meeting prepared.planned.items
+        pub told : prepared.reports.items ≡ reports meeting
+        pub none : first_over meeting ≡ None
+        pub seated : IsOk (seat_of meeting)
+        pub ordered : AreInOrder meeting.slots
+        pub read : Reached talk since fault downs (before_writes meeting) old now.link
+        pub tells : Tells meeting.device (talk now.link)
+
+      pub news_ends : {date : ℕ} {prepared : Prepared} {now then : SessionValue L} {desk : DeskValue F} (answer : Result (Vec (Vec ℕ)) SessionFault)
+          {left : Outcome L F} → Known prepared now desk date → SpansBehind talk since fault downs (marking (begun_user now.user) 0x40) news_under
+          (λ told one handle given (ids : Vec ℕ). gained told one handle given ids.items) prepared.planned.items (λ (made : Vec (Vec ℕ)). made.items)
+          now then answer
+          → AfterNews talk since fault downs contents moments paths faults date prepared then desk answer left → EndsSo desk.folder left
+      news_ends {date} {prepared} {then} {desk} (Ok ids) knows sends goes =
+          let dealt : List (List ℕ) = each_of ids.items in
+          let news = news_reach since_more meeting knows.rests (λ (one : Vec ℕ). one.items) knows.user knows.are knows.read knows.tells sends in
+          let user : then.user ≡ meeting.device.user = sends.user ∙ knows.user in
+          let marked : marks_in desk ≡ (slot_of meeting).marks = rw (knows.slots, knows.picked) in
+          let taken : taken_slots date then.user prepared.planned.items dealt desk.picked desk.slots
+          ≡ merged_slots meeting (flat_map (λ (one : Vec ℕ). one.items) ids.items)
+          = rw (knows.dated, user, knows.picked, knows.slots)
+          (taken-merged meeting prepared.planned.items dealt knows.ordered knows.are news.dealt ∙ ap (merged_slots meeting) (sym (flat-each ids.items))) in
+          commit_ends prepared then goes.answer knows.dated user marked knows.are knows.told news knows.none knows.seated (rw taken at goes.commits) goes.goes
+      news_ends {then} (Err cause) knows sends goes =
+          ends_before goes (news_stop since_more meeting knows.rests (λ (one : Vec ℕ). one.items) knows.user knows.are knows.read knows.tells
+          (replicate (adds_of meeting) 0) sends)
+          (later_stop talk fault meeting old then.link cause sends.cause) (none_over _ (first_over meeting) knows.none)
+          (λ why is. seated_says _ meeting why knows.seated is) (λ name is. none_limit _ meeting name knows.none is)

@@ -1,15 +1,17 @@
--- Planned databases that are those of a meeting: their sizes, and what is told of them.
-use Rattle.std.proofs.Common.{◌≡◌, ◌∙◌, ◌<◌, ◌≤◌, ◌+◌, ◌-◌, ap, refl, sym, ℕ, zero, suc, Bool, true, false, List, [], ◌∷◌, ◌++◌, length, length-append, map, Option, Some, None, arith}
+-- Planned databases that are those of a meeting: from what was seen, their sizes, and what is told of them.
+use Rattle.std.proofs.Common.{◌≡◌, ◌∙◌, ◌<◌, ◌≤◌, ◌+◌, ◌-◌, ap, refl, sym, ℕ, zero, suc, Bool, true, false, List, [], ◌∷◌, ◌++◌, length, length-append, map}
+use Rattle.std.proofs.Common.{Option, Some, None, arith}
 use Rattle.std.proofs.Math.Nat.{min-eq_left}
+use Rattle.std.proofs.lemmas.Bool.{or_parts}
 use Rattle.std.proofs.lemmas.Bool.Decides.{nat_tests}
 use Rattle.std.proofs.lemmas.Grind.{common_steps}
-use Rattle.std.specs.Prelude.{◌||◌, filter, if◌then◌else◌, is_none, is_some, nat_lt}
+use Rattle.std.specs.Prelude.{filter, if◌then◌else◌, is_none, is_some, nat_lt}
 use Rattle.std.specs.List.{AllByRecursion}
 use Rattle.std.specs.Option.{option_map}
-use Rattle.pdb_values.specs.Contents.{ContentValue}
-use Rattle.pdb_values.specs.Databases.{DatabaseValue}
+use Rattle.sync_session.proofs.MeetingWords.{ContentValue, DatabaseValue, kept_rows, lost, purged_at, purged_ids, replaced_rows, replacement, Job, Planned}
+use Rattle.sync_session.proofs.MeetingWords.{Skip, base_rows, choice, is_fast, seen_held, view, AreEachPlannedFor, ArePlannedFor, IsPlannedFor, active, skip_of}
+use Rattle.sync_session.proofs.MeetingWords.{Meeting, Task, names, records_of, slot_of, task_of, tasks, ShelvesValue, agrees, sides, job_for}
 use Rattle.pdb_values.specs.NamedDatabases.{database_of}
-use Rattle.pdb_values.specs.declared.head.DbHead.{DbHead}
 use Rattle.pdb_values.specs.declared.record.Record.{Record}
 use Rattle.pdb_values.proofs.NamedLaws.{AllByRecursion-database_of}
 use Rattle.palm_device.specs.Bounds.{IsBoundedDatabase, IsBoundedRecord}
@@ -19,11 +21,8 @@ use Rattle.palm_device.proofs.BoundLaws.{length-filter}
 use Rattle.dlp_commands.specs.DatabaseFunctions.{listed}
 use Rattle.conduit_rules.specs.ById.{each_below, each_id, id_bound, with_id}
 use Rattle.conduit_rules.specs.Contents.{same_content}
-use Rattle.conduit_rules.specs.Plans.{kept_rows, lost, purged_at, purged_ids, replaced_rows, replacement}
 use Rattle.conduit_rules.specs.States.{Held, archived, first, live, nothing}
 use Rattle.conduit_rules.specs.Views.{fast_seen, fast_view, slow_seen, slow_view}
-use Rattle.conduit_rules.specs.declared.action.Action.{Action}
-use Rattle.conduit_rules.specs.declared.action.Action.TheVariants.{Sync, Handheld, Desktop}
 use Rattle.conduit_rules.specs.declared.view.Seen.{Seen}
 use Rattle.conduit_rules.proofs.ByIdLaws.{each_below-suc, each_below-zero}
 use Rattle.conduit_rules.proofs.ViewLaws.{fast_id}
@@ -31,24 +30,66 @@ use Rattle.conduit_merge.specs.Merging.{new_under, one_copy_behind}
 use Rattle.conduit_merge.proofs.StopLaws.{within}
 use Rattle.desktop_session.specs.Tellings.{IsProper}
 use Rattle.desk_store.specs.Desks.{all_rows}
-use Rattle.sync_session.specs.declared.job.Job.{Job}
-use Rattle.sync_session.specs.declared.planned.Planned.{Planned}
-use Rattle.sync_session.specs.declared.report.DbReport.{DbReport}
 use Rattle.sync_session.specs.declared.report.Did.TheVariants.{Synced}
 use Rattle.sync_session.specs.declared.sizes.Sizes.{Sizes}
-use Rattle.sync_session.specs.declared.skip.Skip.{Skip}
 use Rattle.sync_session.specs.Archives.{entries_of}
-use Rattle.sync_session.specs.Choosing.{action_or_sync, agrees, base_rows, choice, is_fast, is_fast_by, seen_held, view}
 use Rattle.sync_session.specs.Limits.{first_behind, first_over, gone_count, sizes_of, with_one}
 use Rattle.sync_session.specs.News.{add_count}
 use Rattle.sync_session.specs.PlannedLimits.{over_planned, sizes_planned, unseen_count}
 use Rattle.sync_session.specs.PlannedReports.{counts_planned, did_by_plan, report_planned, reports_planned, told}
-use Rattle.sync_session.specs.PlannedTasks.{AreEachPlannedFor, ArePlannedFor, IsPlannedFor, job_for, listed_head}
 use Rattle.sync_session.specs.Reports.{counts_of, did_by, did_of, is_received, read_count, report_of, reports}
 use Rattle.sync_session.specs.Sizes.{is_over}
-use Rattle.sync_session.specs.Skips.{active, head_of, reason_by, skip_of}
-use Rattle.sync_session.specs.Tasks.{Meeting, Task, names, records_of, slot_of, task_of, tasks}
+use Rattle.sync_session.proofs.ReadJoins.{job-fast, job-skip, IsSeen, jobs_for}
 use Rattle.sync_session.proofs.SeenCountLaws.{length-view, unseen_is_new, view_by}
+use Rattle.conduit_rules.specs.declared.view.View.{View}
+use Rattle.sync_session.specs.Planning.{ArePlanned, IsPlanUnder}
+use Rattle.sync_session.proofs.StretchLaws.{Pairs}
+
+-- ---- what is planned from what was seen
+
+-- the first of two lists that are equal, and the rest
+first_same : {A : Type 0} (x y : A) (xs ys : List A) → x ∷ xs ≡ y ∷ ys → x ≡ y
+first_same x y xs ys is = let same : x ≡ y = cc in same
+
+rest_same : {A : Type 0} (x y : A) (xs ys : List A) → x ∷ xs ≡ y ∷ ys → xs ≡ ys
+rest_same x y xs ys is = let same : xs ≡ ys = cc in same
+
+-- one of them
+plan_for : (meeting : Meeting) (agree : Bool) (name : List ℕ) (one : Planned) (seen : View) → agree ≡ agrees meeting
+    → one.job ≡ job_for meeting (task_of meeting name) → one.view ≡ seen → IsSeen meeting (task_of meeting name) seen
+    → IsPlanUnder (slot_of meeting).shelves agree one.job one.view one.plan → IsPlannedFor meeting (task_of meeting name) one
+unfolding sides
+plan_for meeting agree name one seen same is shown seen_is planned =
+    let task = task_of meeting name in
+    let shelves : ShelvesValue = (slot_of meeting).shelves in
+    let viewed : (skip_of task ≡ None → one.view.seen.items ≡ view meeting task) = λ none. ap (λ (v : View). v.seen.items) shown ∙ seen_is none in
+    record {
+      job = is;
+      seen = viewed;
+      plan = λ none. rw (is, same, viewed none) at planned;
+    }
+
+plans_for : (meeting : Meeting) (agree : Bool) (ns : List (List ℕ)) (planned : List Planned) (seen : List View) → agree ≡ agrees meeting
+    → map (λ (one : Planned). one.job) planned ≡ map (job_for meeting) (map (task_of meeting) ns) → map (λ (one : Planned). one.view) planned ≡ seen
+    → Pairs (IsSeen meeting) (map (task_of meeting) ns) seen
+    → AllByRecursion (λ (one : Planned). IsPlanUnder (slot_of meeting).shelves agree one.job one.view one.plan) planned
+    → AreEachPlannedFor meeting (map (task_of meeting) ns) planned
+plans_for meeting agree [] [] seen same jobs views pairs plans = tt
+plans_for meeting agree [] (one ∷ planned) seen same jobs views pairs plans = absurd cc
+plans_for meeting agree (name ∷ ns) [] seen same jobs views pairs plans = absurd cc
+plans_for meeting agree (name ∷ ns) (one ∷ planned) [] same jobs views pairs plans = absurd pairs
+plans_for meeting agree (name ∷ ns) (one ∷ planned) (v ∷ seen) same jobs views pairs plans = (
+  plan_for meeting agree name one v same (first_same _ _ _ _ jobs) (first_same _ _ _ _ views) pairs.0 plans.0,
+  plans_for meeting agree ns planned seen same (rest_same _ _ _ _ jobs) (rest_same _ _ _ _ views) pairs.1 plans.1,
+)
+
+-- from the desktop's picked slot, and what was seen of each database that isn't skipped
+pub plans_join : (meeting : Meeting) (shelves : ShelvesValue) (agree : Bool) (jobs : List Job) (seen : List View) (planned : List Planned)
+    → shelves ≡ (slot_of meeting).shelves → agree ≡ agrees meeting → jobs ≡ jobs_for meeting → Pairs (IsSeen meeting) (tasks meeting) seen
+    → ArePlanned shelves agree jobs seen planned → ArePlannedFor meeting planned
+unfolding tasks
+plans_join meeting shelves agree jobs seen planned own same are pairs plans =
+    plans_for meeting agree (names meeting) planned seen same (plans.jobs_are ∙ are) plans.views_are pairs (rw own at plans.plans)
 
 -- ---- heads
 
@@ -56,37 +97,9 @@ none-map : {A B : Type 0} (f : A → B) (o : Option A) → is_none (option_map f
 none-map f None = refl
 none-map f (Some a) = refl
 
-pub some-map : {A B : Type 0} (f : A → B) (o : Option A) → is_some (option_map f o) ≡ is_some o
-some-map f None = refl
-some-map f (Some a) = refl
-
 one-map : {A B : Type 0} (f : A → B) (o : Option A) (count : ℕ) → with_one (option_map f o) count ≡ with_one o count
 one-map f None count = refl
 one-map f (Some a) count = refl
-
--- why a database is skipped doesn't rest on the seed of its head
-pub listed-reason : (action : Option Action) (handheld : Option DatabaseValue) (rows : Option DbHead) (base : Bool)
-    → reason_by action (listed_head handheld) rows base ≡ reason_by action (head_of handheld) rows base
-listed-reason None handheld rows base = refl
-listed-reason (Some a) None rows base = refl
-listed-reason (Some Sync) (Some d) None base = refl
-listed-reason (Some Handheld) (Some d) None base = refl
-listed-reason (Some Desktop) (Some d) None base = refl
-listed-reason (Some Sync) (Some d) (Some rows) base = refl
-listed-reason (Some Handheld) (Some d) (Some rows) base = refl
-listed-reason (Some Desktop) (Some d) (Some rows) base = refl
-
-pub job_skip : (meeting : Meeting) (task : Task) → (job_for meeting task).skip ≡ skip_of task
-unfolding skip_of
-job_skip meeting task = listed-reason task.action task.handheld (head_of task.rows) (is_some task.base)
-
-pub job_fast : (meeting : Meeting) (task : Task) → (job_for meeting task).fast ≡ is_fast meeting task
-unfolding is_fast
-job_fast meeting task =
-    ap (λ b. is_fast_by (agrees meeting) meeting.wishes.slow (action_or_sync task.action) b (is_some (head_of task.rows)) (is_some task.base))
-    (some-map (λ (d : DatabaseValue). listed d.head) task.handheld)
-    ∙ ap (λ b. is_fast_by (agrees meeting) meeting.wishes.slow (action_or_sync task.action) (is_some task.handheld) b (is_some task.base))
-    (some-map (λ (d : DatabaseValue). d.head) task.rows)
 
 -- ---- what is seen
 
@@ -126,12 +139,6 @@ sound_records device name proper = by (database_of name device.databases) refl
 
 -- ---- sizes
 
-plus_two : (a b x y : ℕ) → a ≡ x → b ≡ y → a + b ≡ x + y
-plus_two a b x y first second = omega (arith, first, second)
-
-plus_three : (a b c x y z : ℕ) → a ≡ x → b ≡ y → c ≡ z → a + (b + c) ≡ x + (y + z)
-plus_three a b c x y z first second third = omega (arith, first, second, third)
-
 -- the lists of a planned database are those of its task
 record SameLists (meeting : Meeting) (task : Task) (one : Planned) : Type 0 where
   pub name : one.job.name ≡ task.name
@@ -169,44 +176,15 @@ same_lists meeting task one sound for none =
 archive_by : (archives : List DatabaseValue) (new more : List (ℕ × ContentValue)) (name other : List ℕ) → name ≡ other → new ≡ more
     → length (one_copy_behind [] (entries_of (records_of (database_of name archives)) ++ new))
     ≡ length (one_copy_behind [] (entries_of (records_of (database_of other archives)) ++ more))
-archive_by archives new more name other same grows =
-    ap (λ (n : List ℕ). length (one_copy_behind [] (entries_of (records_of (database_of n archives)) ++ new))) same
-    ∙ ap (λ (xs : List (ℕ × ContentValue)). length (one_copy_behind [] (entries_of (records_of (database_of other archives)) ++ xs))) grows
-
--- a planned database of a meeting has the sizes of its task
-sizes_are : (meeting : Meeting) (name : List ℕ) (one : Planned) (handhelds desktops : ℕ) → IsProper meeting.device
-    → IsPlannedFor meeting (task_of meeting name) one → skip_of (task_of meeting name) ≡ None
-    → sizes_planned (slot_of meeting).shelves handhelds desktops one ≡ sizes_of meeting handhelds desktops (task_of meeting name)
-sizes_are meeting name one handhelds desktops proper for none =
-    let task : Task = task_of meeting name in
-    let same : SameLists meeting task one = same_lists meeting task one (sound_records meeting.device name proper) for none in
-    let new_there : (if is_none one.job.handheld then handhelds + 1 else 0) ≡ (if is_none task.handheld then handhelds + 1 else 0)
-    = ap (λ b. if b then handhelds + 1 else 0)
-    (ap (λ (j : Job). is_none j.handheld) for.job ∙ none-map (λ (d : DatabaseValue). listed d.head) task.handheld) in
-    let new_here : (if is_none one.job.rows then desktops + 1 else 0) ≡ (if is_none task.rows then desktops + 1 else 0)
-    = ap (λ b. if b then desktops + 1 else 0)
-    (ap (λ (j : Job). is_none j.rows) for.job ∙ none-map (λ (d : DatabaseValue). d.head) task.rows) in
-    let rows = plus_two _ _ _ _ same.kept same.adds in
-    λ k. record {
-      handhelds = new_there k;
-      desktops = new_here k;
-      records = plus_three _ _ _ _ _ _ same.seen same.adds same.unseen k;
-      rows = rows k;
-      base = plus_two _ _ _ _ rows same.gone k;
-      archive = archive_by (slot_of meeting).shelves.archives _ _ one.job.name name same.name same.archive k;
-    }
+archive_by archives new more name other same grows = λ k. length (one_copy_behind [] (entries_of (records_of (database_of (same k) archives)) ++ grows k))
 
 -- ---- the first that would pass a limit
 
 over_by : (s t : Option Skip) (b c : Bool) (name other : List ℕ) (skipped left later rest : Option (List ℕ)) → s ≡ t → (t ≡ None → b ≡ c) → name ≡ other
     → skipped ≡ rest → left ≡ later
     → (if is_some s then skipped else (if b then Some name else left)) ≡ (if is_none t then (if c then Some other else later) else rest)
-over_by s None b c name other skipped left later rest same over named passed on =
-    ap (λ o. if is_some o then skipped else (if b then Some name else left)) same
-    ∙ ap (λ x. if x then Some name else left) (over refl) ∙ ap (λ n. if c then Some n else left) named
-    ∙ ap (λ o. if c then Some other else o) on
-over_by s (Some skip) b c name other skipped left later rest same over named passed on =
-    ap (λ o. if is_some o then skipped else (if b then Some name else left)) same ∙ passed
+over_by s None b c name other skipped left later rest same over named passed on = rw (same, over refl, named, on)
+over_by s (Some skip) b c name other skipped left later rest same over named passed on = rw (same, passed)
 
 -- a list of tasks of which the first may be skipped
 first_if : (meeting : Meeting) (handhelds desktops : ℕ) (b : Bool) (task : Task) (later : List Task)
@@ -217,47 +195,7 @@ unfolding first_behind
 first_if meeting handhelds desktops true task later = refl
 first_if meeting handhelds desktops false task later = refl
 
-over_each : (meeting : Meeting) (all : List (List ℕ)) (planned : List Planned) (handhelds desktops : ℕ) → IsProper meeting.device
-    → AreEachPlannedFor meeting (map (task_of meeting) all) planned
-    → over_planned (slot_of meeting).shelves handhelds desktops planned
-    ≡ first_behind meeting handhelds desktops (filter (λ task. is_none (skip_of task)) (map (task_of meeting) all))
-unfolding over_planned first_behind
-over_each meeting [] [] handhelds desktops proper each = refl
-over_each meeting [] (one ∷ planned) handhelds desktops proper each = absurd each
-over_each meeting (name ∷ all) [] handhelds desktops proper each = absurd each
-over_each meeting (name ∷ all) (one ∷ planned) handhelds desktops proper each =
-    let task : Task = task_of meeting name in
-    let later : List Task = filter (λ task. is_none (skip_of task)) (map (task_of meeting) all) in
-    let job = each.0.job in
-    over_by one.job.skip (skip_of task) (is_over (sizes_planned (slot_of meeting).shelves handhelds desktops one))
-    (is_over (sizes_of meeting handhelds desktops task)) one.job.name name
-    (over_planned (slot_of meeting).shelves handhelds desktops planned)
-    (over_planned (slot_of meeting).shelves (with_one one.job.handheld handhelds) (with_one one.job.rows desktops) planned)
-    (first_behind meeting (with_one task.handheld handhelds) (with_one task.rows desktops) later) (first_behind meeting handhelds desktops later)
-    (ap (λ (j : Job). j.skip) job ∙ job_skip meeting task)
-    (λ none. ap is_over (sizes_are meeting name one handhelds desktops proper each.0 none))
-    (ap (λ (j : Job). j.name) job)
-    (over_each meeting all planned handhelds desktops proper each.1)
-    (ap (λ (j : Job). over_planned (slot_of meeting).shelves (with_one j.handheld handhelds) (with_one j.rows desktops) planned) job
-    ∙ ap (λ n. over_planned (slot_of meeting).shelves n (with_one (head_of task.rows) desktops) planned)
-    (one-map (λ (d : DatabaseValue). listed d.head) task.handheld handhelds)
-    ∙ ap (λ n. over_planned (slot_of meeting).shelves (with_one task.handheld handhelds) n planned)
-    (one-map (λ (d : DatabaseValue). d.head) task.rows desktops)
-    ∙ over_each meeting all planned (with_one task.handheld handhelds) (with_one task.rows desktops) proper each.1)
-    ∙ sym (first_if meeting handhelds desktops (is_none (skip_of task)) task later)
-
--- the first planned database that would pass a limit is the first one of the meeting
-pub over_is_first_over : (meeting : Meeting) (planned : List Planned) → IsProper meeting.device → ArePlannedFor meeting planned
-    → over_planned (slot_of meeting).shelves (length meeting.device.databases) (all_rows meeting.slots) planned ≡ first_over meeting
-unfolding first_over active tasks
-over_is_first_over meeting planned proper each =
-    over_each meeting (names meeting) planned (length meeting.device.databases) (all_rows meeting.slots) proper each
-
 -- ---- what is told of each
-
-or_false : (a b : Bool) → (a || b) ≡ false → (a ≡ false) × (b ≡ false)
-or_false true b none = absurd cc
-or_false false b none = (refl, none)
 
 at_most : (a b : ℕ) → nat_lt a b ≡ false → b ≤ a
 at_most a b none = grind (arith, nat_tests, none)
@@ -271,11 +209,11 @@ record Fits (sizes : Sizes) : Type 0 where
 
 fits : (sizes : Sizes) → is_over sizes ≡ false → Fits sizes
 fits sizes none =
-    let first = or_false _ _ none in
-    let second = or_false _ _ first.1 in
-    let third = or_false _ _ second.1 in
-    let fourth = or_false _ _ third.1 in
-    let fifth = or_false _ _ fourth.1 in
+    let first = or_parts _ _ none in
+    let second = or_parts _ _ first.1 in
+    let third = or_parts _ _ second.1 in
+    let fourth = or_parts _ _ third.1 in
+    let fifth = or_parts _ _ fourth.1 in
     record {
       records = at_most 65535 sizes.records third.0;
       rows = at_most 65535 sizes.rows fourth.0;
@@ -316,35 +254,8 @@ archived_by : (archives : List DatabaseValue) (new more : List (ℕ × ContentVa
     - length (one_copy_behind [] (entries_of (records_of (database_of name archives))))
     ≡ length (one_copy_behind [] (entries_of (records_of (database_of other archives)) ++ more))
     - length (one_copy_behind [] (entries_of (records_of (database_of other archives))))
-archived_by archives new more name other same grows =
-    ap (λ n. n - length (one_copy_behind [] (entries_of (records_of (database_of name archives))))) (archive_by archives new more name other same grows)
-    ∙ ap (λ (n : List ℕ). length (one_copy_behind [] (entries_of (records_of (database_of other archives)) ++ more))
-    - length (one_copy_behind [] (entries_of (records_of (database_of n archives))))) same
-
-counts_are : (meeting : Meeting) (name : List ℕ) (one : Planned) (handhelds desktops : ℕ) → IsProper meeting.device
-    → IsPlannedFor meeting (task_of meeting name) one → skip_of (task_of meeting name) ≡ None
-    → is_over (sizes_planned (slot_of meeting).shelves handhelds desktops one) ≡ false
-    → counts_planned (slot_of meeting).shelves one ≡ counts_of meeting (task_of meeting name)
-counts_are meeting name one handhelds desktops proper for none under =
-    let task : Task = task_of meeting name in
-    let keep : ℕ → Option ContentValue = (choice meeting task).keep in
-    let held : ℕ → Held = seen_held meeting task in
-    let same : SameLists meeting task one = same_lists meeting task one (sound_records meeting.device name proper) for none in
-    let fit : Fits (sizes_planned (slot_of meeting).shelves handhelds desktops one) = fits _ under in
-    let records = fit.records in let rows = fit.rows in let base = fit.base in let archive = fit.archive in
-    let seen_few = length-filter (λ (seen : Seen). is_received seen.state) one.view.seen.items in
-    let replaced_few = shorter (λ i. with_id i (replacement (keep i) (held i))) (λ i. with_id i (keep i)) id_bound (λ i. replaced_kept i (keep i) (held i)) in
-    let purged_few = shorter (λ i. purged_at (keep i) (held i) i) (λ i. with_id i (lost (keep i) (held i))) id_bound (λ i. purged_gone i (keep i) (held i)) in
-    let kept = same.kept in let gone = same.gone in let replaced = same.replaced in let purged = same.purged in
-    λ k. record {
-      fast = (ap (λ (j : Job). j.fast) for.job ∙ job_fast meeting task) k;
-      read = told_small _ _ (ap read_count (for.seen none)) (omega (arith, seen_few, records)) k;
-      replaced = told_small _ _ same.replaced (omega (arith, replaced_few, kept, replaced, rows)) k;
-      added = told_small _ _ same.adds (omega (arith, rows)) k;
-      purged = told_small _ _ same.purged (omega (arith, purged_few, gone, purged, base)) k;
-      archived = told_small _ _ (archived_by (slot_of meeting).shelves.archives _ _ one.job.name name same.name same.archive) (omega (arith, archive)) k;
-      rows = told_small _ _ (plus_two _ _ _ _ same.kept same.adds) (omega (arith, rows)) k;
-    }
+archived_by archives new more name other same grows = λ k.
+    archive_by archives new more name other same grows k - length (one_copy_behind [] (entries_of (records_of (database_of (same k) archives))))
 
 did_by_skip : (meeting : Meeting) (task : Task) (one : Planned) (skip : Option Skip)
     → (skip ≡ None → counts_planned (slot_of meeting).shelves one ≡ counts_of meeting task)
@@ -360,53 +271,127 @@ record Under (over : Bool) (left : Option (List ℕ)) : Type 0 where
 under_by : (s t : Option Skip) (over : Bool) (name : List ℕ) (skipped left : Option (List ℕ)) → s ≡ t
     → (if is_some s then skipped else (if over then Some name else left)) ≡ None → t ≡ None → Under over left
 under_by s t over name skipped left same none bare =
-    by over (sym (ap (λ o. if is_some o then skipped else (if over then Some name else left)) (same ∙ bare)) ∙ none)
+    by over (rw (same ∙ bare) at none)
   where
     by : (b : Bool) → (if b then Some name else left) ≡ None → Under b left
     by true e = absurd cc
     by false e = record { here = refl; on = e }
 
-skipped_by : (s : Option Skip) (skip : Skip) (over : Bool) (name : List ℕ) (skipped left : Option (List ℕ)) → s ≡ Some skip
-    → (if is_some s then skipped else (if over then Some name else left)) ≡ None → skipped ≡ None
-skipped_by s skip over name skipped left is none = sym (ap (λ o. if is_some o then skipped else (if over then Some name else left)) is) ∙ none
+-- ---- the planned databases of a meeting
 
-cons_by : (a b : DbReport) (xs ys : List DbReport) → a ≡ b → xs ≡ ys → a ∷ xs ≡ b ∷ ys
-cons_by a b xs ys first rest = ap (λ x. x ∷ xs) first ∙ ap (λ zs. b ∷ zs) rest
+module _ (meeting : Meeting) (proper : IsProper meeting.device) where
+  -- a planned database of a meeting has the sizes of its task
+  sizes_are : (name : List ℕ) (one : Planned) (handhelds desktops : ℕ)
+      → IsPlannedFor meeting (task_of meeting name) one → skip_of (task_of meeting name) ≡ None
+      → sizes_planned (slot_of meeting).shelves handhelds desktops one ≡ sizes_of meeting handhelds desktops (task_of meeting name)
+  sizes_are name one handhelds desktops for none =
+      let task : Task = task_of meeting name in
+      let same : SameLists meeting task one = same_lists meeting task one (sound_records meeting.device name proper) for none in
+      let new_there : (if is_none one.job.handheld then handhelds + 1 else 0) ≡ (if is_none task.handheld then handhelds + 1 else 0)
+      = rw (for.job, none-map (λ (d : DatabaseValue). listed d.head) task.handheld) in
+      let new_here : (if is_none one.job.rows then desktops + 1 else 0) ≡ (if is_none task.rows then desktops + 1 else 0)
+      = rw (for.job, none-map (λ (d : DatabaseValue). d.head) task.rows) in
+      λ k. record {
+        handhelds = new_there k;
+        desktops = new_here k;
+        records = same.seen k + (same.adds k + same.unseen k);
+        rows = same.kept k + same.adds k;
+        base = (same.kept k + same.adds k) + same.gone k;
+        archive = archive_by (slot_of meeting).shelves.archives _ _ one.job.name name same.name same.archive k;
+      }
 
-reports_each : (meeting : Meeting) (all : List (List ℕ)) (planned : List Planned) (handhelds desktops : ℕ) → IsProper meeting.device
-    → AreEachPlannedFor meeting (map (task_of meeting) all) planned → over_planned (slot_of meeting).shelves handhelds desktops planned ≡ None
-    → map (report_planned (slot_of meeting).shelves) planned ≡ map (report_of meeting) (map (task_of meeting) all)
-unfolding over_planned did_of
-reports_each meeting [] [] handhelds desktops proper each none = refl
-reports_each meeting [] (one ∷ planned) handhelds desktops proper each none = absurd each
-reports_each meeting (name ∷ all) [] handhelds desktops proper each none = absurd each
-reports_each meeting (name ∷ all) (one ∷ planned) handhelds desktops proper each none =
-    let task : Task = task_of meeting name in
-    let job = each.0.job in
-    let skip : one.job.skip ≡ skip_of task = ap (λ (j : Job). j.skip) job ∙ job_skip meeting task in
-    let left : Option (List ℕ)
-    = over_planned (slot_of meeting).shelves (with_one one.job.handheld handhelds) (with_one one.job.rows desktops) planned in
-    let under : skip_of task ≡ None → Under (is_over (sizes_planned (slot_of meeting).shelves handhelds desktops one)) left
-    = λ bare. under_by one.job.skip (skip_of task) _ one.job.name (over_planned (slot_of meeting).shelves handhelds desktops planned) left skip none bare in
-    let counts : skip_of task ≡ None → counts_planned (slot_of meeting).shelves one ≡ counts_of meeting task
-    = λ bare. counts_are meeting name one handhelds desktops proper each.0 bare (under bare).here in
-    let did = ap (did_by_plan (slot_of meeting).shelves one) skip ∙ did_by_skip meeting task one (skip_of task) counts in
-    let report : report_planned (slot_of meeting).shelves one ≡ report_of meeting task
-    = λ k. record { name = ap (λ (j : Job). j.name) job k; did = did k } in
-    cons_by _ _ _ _ report
-    (rest (skip_of task) one.job.skip skip _ one.job.name (over_planned (slot_of meeting).shelves handhelds desktops planned) left none _
-    (λ e. reports_each meeting all planned handhelds desktops proper each.1 e)
-    (λ e. reports_each meeting all planned (with_one one.job.handheld handhelds) (with_one one.job.rows desktops) proper each.1 e))
-  where
-    rest : (t : Option Skip) → (s : Option Skip) → s ≡ t → (over : Bool) (name : List ℕ) (skipped left : Option (List ℕ))
-        → (if is_some s then skipped else (if over then Some name else left)) ≡ None → (P : Type 0) → (skipped ≡ None → P) → (left ≡ None → P) → P
-    rest None s is over name skipped left none P passed on = on (under_by s None over name skipped left is none refl).on
-    rest (Some x) s is over name skipped left none P passed on = passed (skipped_by s x over name skipped left is none)
+  over_each : (all : List (List ℕ)) (planned : List Planned) (handhelds desktops : ℕ)
+      → AreEachPlannedFor meeting (map (task_of meeting) all) planned
+      → over_planned (slot_of meeting).shelves handhelds desktops planned
+      ≡ first_behind meeting handhelds desktops (filter (λ task. is_none (skip_of task)) (map (task_of meeting) all))
+  unfolding over_planned first_behind
+  over_each [] [] handhelds desktops each = refl
+  over_each (name ∷ all) (one ∷ planned) handhelds desktops each =
+      let task : Task = task_of meeting name in
+      let later : List Task = filter (λ task. is_none (skip_of task)) (map (task_of meeting) all) in
+      let job = each.0.job in
+      over_by one.job.skip (skip_of task) (is_over (sizes_planned (slot_of meeting).shelves handhelds desktops one))
+      (is_over (sizes_of meeting handhelds desktops task)) one.job.name name
+      (over_planned (slot_of meeting).shelves handhelds desktops planned)
+      (over_planned (slot_of meeting).shelves (with_one one.job.handheld handhelds) (with_one one.job.rows desktops) planned)
+      (first_behind meeting (with_one task.handheld handhelds) (with_one task.rows desktops) later) (first_behind meeting handhelds desktops later)
+      (ap (λ (j : Job). j.skip) job ∙ job-skip meeting task)
+      (λ none. ap is_over (sizes_are name one handhelds desktops each.0 none))
+      (ap (λ (j : Job). j.name) job)
+      (over_each all planned handhelds desktops each.1)
+      (rw (job, one-map (λ (d : DatabaseValue). listed d.head) task.handheld handhelds, one-map (λ (d : DatabaseValue). d.head) task.rows desktops)
+      (over_each all planned (with_one task.handheld handhelds) (with_one task.rows desktops) each.1))
+      ∙ sym (first_if meeting handhelds desktops (is_none (skip_of task)) task later)
+  over_each all planned handhelds desktops each = absurd each
 
--- where no database would pass a limit, what is told of the planned databases is what is told of the meeting
-pub reports_are : (meeting : Meeting) (planned : List Planned) → IsProper meeting.device → ArePlannedFor meeting planned
-    → first_over meeting ≡ None → reports_planned (slot_of meeting).shelves planned ≡ reports meeting
-unfolding reports_planned reports tasks
-reports_are meeting planned proper each none =
-    reports_each meeting (names meeting) planned (length meeting.device.databases) (all_rows meeting.slots) proper each
-    (over_is_first_over meeting planned proper each ∙ none)
+  -- the first planned database that would pass a limit is the first one of the meeting
+  pub over_is_first_over : (planned : List Planned) → ArePlannedFor meeting planned
+      → over_planned (slot_of meeting).shelves (length meeting.device.databases) (all_rows meeting.slots) planned ≡ first_over meeting
+  unfolding first_over active tasks
+  over_is_first_over planned each =
+      over_each (names meeting) planned (length meeting.device.databases) (all_rows meeting.slots) each
+
+  counts_are : (name : List ℕ) (one : Planned) (handhelds desktops : ℕ)
+      → IsPlannedFor meeting (task_of meeting name) one → skip_of (task_of meeting name) ≡ None
+      → is_over (sizes_planned (slot_of meeting).shelves handhelds desktops one) ≡ false
+      → counts_planned (slot_of meeting).shelves one ≡ counts_of meeting (task_of meeting name)
+  counts_are name one handhelds desktops for none under =
+      let task : Task = task_of meeting name in
+      let keep : ℕ → Option ContentValue = (choice meeting task).keep in
+      let held : ℕ → Held = seen_held meeting task in
+      let same : SameLists meeting task one = same_lists meeting task one (sound_records meeting.device name proper) for none in
+      let fit : Fits (sizes_planned (slot_of meeting).shelves handhelds desktops one) = fits _ under in
+      let records = fit.records in let rows = fit.rows in let base = fit.base in let archive = fit.archive in
+      let seen_few = length-filter (λ (seen : Seen). is_received seen.state) one.view.seen.items in
+      let replaced_few = shorter (λ i. with_id i (replacement (keep i) (held i))) (λ i. with_id i (keep i)) id_bound
+      (λ i. replaced_kept i (keep i) (held i)) in
+      let purged_few = shorter (λ i. purged_at (keep i) (held i) i) (λ i. with_id i (lost (keep i) (held i))) id_bound
+      (λ i. purged_gone i (keep i) (held i)) in
+      let kept = same.kept in let gone = same.gone in let replaced = same.replaced in let purged = same.purged in
+      λ k. record {
+        fast = (ap (λ (j : Job). j.fast) for.job ∙ job-fast meeting task) k;
+        read = told_small _ _ (ap read_count (for.seen none)) (omega (arith, seen_few, records)) k;
+        replaced = told_small _ _ same.replaced (omega (arith, replaced_few, kept, replaced, rows)) k;
+        added = told_small _ _ same.adds (omega (arith, rows)) k;
+        purged = told_small _ _ same.purged (omega (arith, purged_few, gone, purged, base)) k;
+        archived = told_small _ _ (archived_by (slot_of meeting).shelves.archives _ _ one.job.name name same.name same.archive) (omega (arith, archive)) k;
+        rows = told_small _ _ (λ k. same.kept k + same.adds k) (omega (arith, rows)) k;
+      }
+
+  reports_each : (all : List (List ℕ)) (planned : List Planned) (handhelds desktops : ℕ)
+      → AreEachPlannedFor meeting (map (task_of meeting) all) planned → over_planned (slot_of meeting).shelves handhelds desktops planned ≡ None
+      → map (report_planned (slot_of meeting).shelves) planned ≡ map (report_of meeting) (map (task_of meeting) all)
+  unfolding over_planned did_of
+  reports_each [] [] handhelds desktops each none = refl
+  reports_each (name ∷ all) (one ∷ planned) handhelds desktops each none =
+      let task : Task = task_of meeting name in
+      let job = each.0.job in
+      let skip : one.job.skip ≡ skip_of task = ap (λ (j : Job). j.skip) job ∙ job-skip meeting task in
+      let left : Option (List ℕ)
+      = over_planned (slot_of meeting).shelves (with_one one.job.handheld handhelds) (with_one one.job.rows desktops) planned in
+      let under : skip_of task ≡ None → Under (is_over (sizes_planned (slot_of meeting).shelves handhelds desktops one)) left
+      = λ bare. under_by one.job.skip (skip_of task) _ one.job.name (over_planned (slot_of meeting).shelves handhelds desktops planned) left
+      skip none bare in
+      let counts : skip_of task ≡ None → counts_planned (slot_of meeting).shelves one ≡ counts_of meeting task
+      = λ bare. counts_are name one handhelds desktops each.0 bare (under bare).here in
+      let did = ap (did_by_plan (slot_of meeting).shelves one) skip ∙ did_by_skip meeting task one (skip_of task) counts in
+      let report : report_planned (slot_of meeting).shelves one ≡ report_of meeting task
+      = λ k. record { name = ap (λ (j : Job). j.name) job k; did = did k } in
+      ap (λ x. x ∷ map (report_planned (slot_of meeting).shelves) planned) report ∙ ap (λ zs. report_of meeting task ∷ zs)
+      (rest (skip_of task) one.job.skip skip _ one.job.name (over_planned (slot_of meeting).shelves handhelds desktops planned) left none _
+      (λ e. reports_each all planned handhelds desktops each.1 e)
+      (λ e. reports_each all planned (with_one one.job.handheld handhelds) (with_one one.job.rows desktops) each.1 e))
+    where
+      rest : (t : Option Skip) → (s : Option Skip) → s ≡ t → (over : Bool) (name : List ℕ) (skipped left : Option (List ℕ))
+          → (if is_some s then skipped else (if over then Some name else left)) ≡ None → (P : Type 0) → (skipped ≡ None → P) → (left ≡ None → P) → P
+      rest None s is over name skipped left none P passed on = on (under_by s None over name skipped left is none refl).on
+      rest (Some x) s is over name skipped left none P passed on = passed (rw is at none)
+  reports_each all planned handhelds desktops each none = absurd each
+
+  -- where no database would pass a limit, what is told of the planned databases is what is told of the meeting
+  pub reports_are : (planned : List Planned) → ArePlannedFor meeting planned
+      → first_over meeting ≡ None → reports_planned (slot_of meeting).shelves planned ≡ reports meeting
+  unfolding reports_planned reports tasks
+  reports_are planned each none =
+      reports_each (names meeting) planned (length meeting.device.databases) (all_rows meeting.slots) each
+      (over_is_first_over planned each ∙ none)

@@ -1,9 +1,9 @@
 -- What is opened on a handheld at rest, read and closed leaves it as it was.
-use Rattle.std.proofs.Common.{◌≡◌, ◌∙◌, ◌+◌, ◌*◌, refl, sym, ap, subst, ℕ, zero, suc, false, List, [], ◌∷◌, ◌++◌, lit<}
+use Rattle.std.proofs.Common.{◌≡◌, ◌∙◌, ◌+◌, refl, sym, ap, subst, ℕ, zero, suc, false, List, [], ◌∷◌, ◌++◌, lit<}
 use Rattle.std.specs.Prelude.{Option, Some, None, IsSomeAnd, Ok, Err, ◌&&◌, replicate, flat_map, slice_get}
 use Rattle.std.specs.List.{AllByRecursion}
 use Rattle.std.specs.Option.{option_map}
-use Rattle.pdb_values.specs.Databases.{DatabaseValue}
+use Rattle.sync_session.proofs.MeetingWords.{DatabaseValue, greeting}
 use Rattle.pdb_values.specs.Names.{IsName}
 use Rattle.pdb_values.specs.NamedDatabases.{database_of}
 use Rattle.dlp_replies.specs.ReplyValues as reply
@@ -17,18 +17,13 @@ use Rattle.dlp_commands.specs.Errors.{none_open, not_found, check, need}
 use Rattle.dlp_commands.specs.Reached.{Tried, next_of, read_next_modified_rec, reads}
 use Rattle.dlp_commands.specs.Readings.{read_in}
 use Rattle.dlp_commands.specs.declared.reading.Reading.{Reading}
-use Rattle.dlp_commands.specs.declared.reading.Reading.TheVariants as reading
-use Rattle.desktop_session.specs.Acts.{Act, acted}
-use Rattle.desktop_session.specs.Lists.{id_listings, listings}
+use Rattle.sync_session.proofs.LinkWords.{Act, acted, closing, listing, opening, reading_next, IsProper, device_after}
+use Rattle.desktop_session.specs.Lists.{listings}
 use Rattle.desktop_session.specs.Orders.{CanOpen}
-use Rattle.desktop_session.specs.Requests.{closing, counting, listing, listing_ids, opening, reading_at, reading_next, reading_of}
-use Rattle.desktop_session.specs.Tellings.{IsProper, device_after}
 use Rattle.desktop_session.proofs.ChangeRows.{row_does}
 use Rattle.desktop_session.proofs.OrderLaws.{name_right}
 use Rattle.desktop_session.proofs.RequestFits.{open_fits}
 use Rattle.desktop_session.proofs.TellLaws.{IfDone, act_sayable, acted_proper, done_then}
-use Rattle.slow_mirror.specs.Reads as slow
-use Rattle.sync_session.specs.Sessions.{greeting}
 
 -- what is there, with what holds of it
 there_with : {A : Type 0} (P : A → Type 0) (o : Option A) → IsSomeAnd o P → (x : A) × (o ≡ Some x) × P x
@@ -62,27 +57,11 @@ outcome_is P old number (Err code) before after = before
 
 -- ---- what changes nothing
 
-reads_same : (device : Device) (handle number : ℕ) (asked : Reading) → (outcome device number (reads device handle asked)).1 ≡ device
+pub reads_same : (device : Device) (handle number : ℕ) (asked : Reading) → (outcome device number (reads device handle asked)).1 ≡ device
 reads_same device handle number asked =
     outcome_is (λ d. d ≡ device) device number (reads device handle asked) refl
     (done_then (need none_open (base_at device handle)) _ (λ (done : Device × ReplyValue). done.0 ≡ device) (λ base a.
     done_then (read_in asked base.database) _ (λ (done : Device × ReplyValue). done.0 ≡ device) (λ answer b. refl)))
-
-pub counting_same : (device : Device) (handle : ℕ) → (acted (counting handle) device).1 ≡ device
-unfolding acted tried
-counting_same device handle = reads_same device handle 0x2B reading.EntryCount
-
-pub ids_same : (device : Device) (handle start : ℕ) → (acted (listing_ids handle start) device).1 ≡ device
-unfolding acted tried
-ids_same device handle start = reads_same device handle 0x31 (reading.RecordIds start 8000)
-
-pub at_same : (device : Device) (handle index : ℕ) → (acted (reading_at handle index) device).1 ≡ device
-unfolding acted tried
-at_same device handle index = reads_same device handle 0x20 (reading.RecordAt index 0 65535)
-
-pub of_same : (device : Device) (handle id : ℕ) → (acted (reading_of handle id) device).1 ≡ device
-unfolding acted tried
-of_same device handle id = reads_same device handle 0x20 (reading.RecordOfId id 0 65535)
 
 list_done : (device : Device) (flags card start : ℕ) → IfDone (λ (done : Device × ReplyValue). done.0 ≡ device) (read_db_list device flags card start)
 unfolding read_db_list
@@ -118,8 +97,8 @@ opened_on device name mode next = with_handles device (with_handle 1 (Some (reco
 pub record KeepsOpen (device : Device) (name : List ℕ) (mode : ℕ) (one : Act) : Type 0 where
   pub at : (next : ℕ) → (later : ℕ) × ((acted one (opened_on device name mode next)).1 ≡ opened_on device name mode later)
 
-pub keeps_same : (device : Device) (name : List ℕ) (mode : ℕ) (one : Act) → ((d : Device) → (acted one d).1 ≡ d) → KeepsOpen device name mode one
-keeps_same device name mode one same = record { at = λ next. (next, same (opened_on device name mode next)) }
+pub keeps_same : {device : Device} {name : List ℕ} {mode : ℕ} {one : Act} → ((d : Device) → (acted one d).1 ≡ d) → KeepsOpen device name mode one
+keeps_same {device} {name} {mode} same = record { at = λ next. (next, same (opened_on device name mode next)) }
 
 pub keeps_next : (device : Device) (name : List ℕ) (mode : ℕ) → KeepsOpen device name mode (reading_next 1)
 unfolding acted tried read_next_modified_rec
@@ -177,23 +156,3 @@ pub opened_proper : (device : Device) (name : List ℕ) → IsProper device → 
 opened_proper device name proper is can =
     subst IsProper (opens_does device name can)
     (acted_proper (opening name) device proper (act_sayable (opening name).asks device (open_fits 0xD0 name (lit< tt) is) refl))
-
--- ---- readings
-
--- requests that change nothing keep what is open open
-pub ids_keep : (device : Device) (name : List ℕ) (mode handle parts : ℕ) → AllByRecursion (KeepsOpen device name mode) (id_listings handle parts)
-unfolding id_listings
-ids_keep device name mode handle zero = tt
-ids_keep device name mode handle (suc parts) =
-    all-append (KeepsOpen device name mode) (id_listings handle parts) (listing_ids handle (8000 * parts) ∷ []) (ids_keep device name mode handle parts)
-    (keeps_same device name mode (listing_ids handle (8000 * parts)) (λ d. ids_same d handle (8000 * parts)), tt)
-
-pub reads_keep : (device : Device) (name : List ℕ) (mode handle count : ℕ) → AllByRecursion (KeepsOpen device name mode) (slow.reads handle count)
-unfolding slow.reads
-reads_keep device name mode handle zero = tt
-reads_keep device name mode handle (suc count) =
-    all-append (KeepsOpen device name mode) (slow.reads handle count) (reading_at handle count ∷ []) (reads_keep device name mode handle count)
-    (keeps_same device name mode (reading_at handle count) (λ d. at_same d handle count), tt)
-
-pub slow_keep : (device : Device) (name : List ℕ) (mode count : ℕ) → AllByRecursion (KeepsOpen device name mode) (slow.slow_reads 1 count)
-slow_keep device name mode count = (keeps_same device name mode (counting 1) (λ d. counting_same d 1), reads_keep device name mode 1 count)

@@ -1,30 +1,29 @@
 -- Rows grow by one, and are settled in rising ids.
-use Rattle.std.proofs.Common.{◌≡◌, ◌∙◌, ◌<◌, ◌+◌, ◌==◌, ap, refl, sym, eqb-true, lt-ltb, ℕ, zero, suc, Bool, true, false, List, [], ◌∷◌, ◌++◌, map, take, length, get_or, append_assoc, arith}
+use Rattle.std.proofs.Common.{◌≡◌, ◌∙◌, ◌<◌, ◌+◌, ◌==◌, ap, refl, sym, eqb-true, lt-ltb, ℕ, Bool, true, false, List, []}
+use Rattle.std.proofs.Common.{◌∷◌, ◌++◌, map, take, length, get_or, append_assoc, arith}
 use Rattle.std.proofs.lemmas.List.{length-take-le, map-append}
-use Rattle.std.specs.Prelude.{Option, Some, None, nat_lt, option_to_list, if◌then◌else◌}
+use Rattle.std.specs.Prelude.{Option, Some, nat_lt, option_to_list, if◌then◌else◌}
 use Rattle.std.specs.Option.{option_or}
-use Rattle.pdb_values.specs.Contents.{ContentValue}
+use Rattle.sync_session.proofs.MeetingWords.{ContentValue, IsPlan, Plan}
 use Rattle.pdb_values.specs.declared.record.Record.{Record}
-use Rattle.conduit_rules.specs.ById.{at, each_below, each_id, id_bound, with_id}
+use Rattle.conduit_rules.specs.ById.{at, each_id, id_bound, with_id}
 use Rattle.conduit_rules.specs.Choices.{Sides, choice_for}
-use Rattle.conduit_rules.specs.Plans.{IsPlan}
 use Rattle.conduit_rules.specs.Views.{first_seen}
 use Rattle.conduit_rules.specs.declared.action.Action.{Action}
-use Rattle.conduit_rules.specs.declared.planned.Plan.{Plan}
 use Rattle.conduit_rules.specs.declared.view.Seen.{Seen}
-use Rattle.conduit_rules.proofs.ByIdLaws.{each_below-same, each_below-suc, each_below-zero}
+use Rattle.conduit_rules.proofs.ByIdLaws.{each_below-same}
 use Rattle.conduit_rules.proofs.PlanLaws.{at-each_below}
 use Rattle.conduit_merge.specs.Merging.{gone_record, merged_base, merged_rows, row_at, settled_record}
 use Rattle.conduit_merge.specs.Writes.{numbered}
 use Rattle.slow_mirror.specs.Entries.{ordered}
 use Rattle.slow_mirror.proofs.NewsLaws.{split_at}
+use Rattle.sync_session.proofs.SeenCountLaws.{map-each_below}
 use Rattle.sync_session.specs.Rows.{planned_base, planned_rows, row_entries, row_seen}
 
 pub rows_on : (old now new : List Seen) (es more : List (ℕ × ContentValue)) (e : ℕ × ContentValue) → new ≡ now ++ row_seen e ∷ []
     → now ≡ old ++ map row_seen es → more ≡ es ++ e ∷ [] → new ≡ old ++ map row_seen more
 rows_on old now new es more e is before grows =
-    is ∙ ap (λ xs. xs ++ row_seen e ∷ []) before ∙ append_assoc old (map row_seen es) (row_seen e ∷ [])
-    ∙ ap (λ xs. old ++ xs) (sym (map-append row_seen es (e ∷ []))) ∙ ap (λ xs. old ++ map row_seen xs) (sym grows)
+    rw (is, before, grows) (simp (append_assoc, map-append))
 
 -- ---- numbers
 
@@ -40,10 +39,8 @@ pub numbered_more : (gs : List ℕ) (cs : List ContentValue) (k g : ℕ) (c : Co
 numbered_more gs cs k g c same within g_is c_is =
     let one = split_at gs k g (omega arith) g_is in
     let two = split_at cs k c within c_is in
-    let a = length-take-le k gs (omega arith) in
-    let b = length-take-le k cs (omega arith) in
-    ap (λ xs. numbered xs (take (k + 1) cs)) one.next ∙ ap (λ ys. numbered (take k gs ++ g ∷ []) ys) two.next
-    ∙ numbered-push (take k gs) (take k cs) g c (a ∙ sym b)
+    rw (one.next, two.next)
+    (numbered-push (take k gs) (take k cs) g c (length-take-le k gs (omega arith) ∙ sym (length-take-le k cs (omega arith))))
 
 -- ---- in rising ids
 
@@ -60,12 +57,6 @@ settled_at : (i : ℕ) (es : List (ℕ × ContentValue))
     → map settled_seen (option_to_list (first_seen i (map row_seen es))) ≡ map settled_record (with_id i (at i es))
 settled_at i [] = refl
 settled_at i (e ∷ es) = settled_by (e.0 == i) i e (first_seen i (map row_seen es)) (at i es) (λ is. eqb-true e.0 i is) (settled_at i es)
-
-map-each_below : {A B : Type 0} (f : A → B) (g : ℕ → List A) (n : ℕ) → map f (each_below g n) ≡ each_below (λ i. map f (g i)) n
-map-each_below f g zero = ap (map f) (each_below-zero g) ∙ sym (each_below-zero (λ i. map f (g i)))
-map-each_below f g (suc n) =
-    ap (map f) (each_below-suc g n) ∙ map-append f (each_below g n) (g n) ∙ ap (λ xs. xs ++ map f (g n)) (map-each_below f g n)
-    ∙ sym (each_below-suc (λ i. map f (g i)) n)
 
 pub settled-ordered : (es : List (ℕ × ContentValue))
     → map (λ (seen : Seen). settled_record (seen.id, seen.content)) (ordered (map row_seen es)) ≡ map settled_record (each_id (λ i. with_id i (at i es)))
@@ -91,10 +82,8 @@ merged_at : (a : Action) (s : Sides) (plan : Plan) (given : List ℕ) (i : ℕ) 
 merged_at a s plan given i is less =
     let below : nat_lt i id_bound ≡ true = lt-ltb i id_bound less in
     let keep : ℕ → Option ContentValue = (choice_for a s).keep in
-    let kept : at i plan.kept.items ≡ keep i
-    = ap (at i) is.kept ∙ at-each_below keep id_bound i ∙ ap (λ b. if b then keep i else None) below in
-    ap (with_id i) (at-append i plan.kept.items (numbered given plan.adds.items) ∙ ap (λ k. option_or k (at i (numbered given plan.adds.items))) kept
-    ∙ ap (λ cs. option_or (keep i) (at i (numbered given cs))) is.adds)
+    let kept : at i plan.kept.items ≡ keep i = rw (is.kept, at-each_below keep id_bound i, below) in
+    rw (at-append i plan.kept.items (numbered given plan.adds.items), kept, is.adds)
 
 pub rows-merged : (a : Action) (s : Sides) (plan : Plan) (given : List ℕ) → IsPlan a s plan → planned_rows plan given ≡ merged_rows (choice_for a s) given
 rows-merged a s plan given is =

@@ -1,5 +1,6 @@
 -- Counts of a view: it has as many entries as there are records, and rows whose ids no entry has are those whose ids no record has.
-use Rattle.std.proofs.Common.{◌≡◌, ◌∙◌, ◌<◌, ◌≤◌, ◌+◌, ap, refl, sym, subst, ℕ, zero, suc, Bool, true, false, List, [], ◌∷◌, ◌++◌, length, map, sum_by, Option, Some, None, option_to_list, arith}
+use Rattle.std.proofs.Common.{◌≡◌, ◌∙◌, ◌<◌, ◌≤◌, ◌+◌, ap, refl, sym, subst, ℕ, zero, suc, Bool, true, false, List, [], ◌∷◌, ◌++◌}
+use Rattle.std.proofs.Common.{length, map, sum_by, Option, Some, None, option_to_list, arith}
 use Rattle.std.proofs.lemmas.Bool.{lt-ltb}
 use Rattle.std.proofs.lemmas.Bool.Decides.{nat_tests}
 use Rattle.std.proofs.lemmas.Grind.{common_steps}
@@ -8,12 +9,11 @@ use Rattle.std.proofs.lemmas.List.Elements.{filter-append}
 use Rattle.std.specs.Prelude.{◌||◌, ◌==◌, filter, if◌then◌else◌, is_none, is_some, nat_lt}
 use Rattle.std.specs.List.{AllByRecursion}
 use Rattle.std.specs.Option.{option_map}
-use Rattle.pdb_values.specs.Contents.{ContentValue}
+use Rattle.sync_session.proofs.MeetingWords.{ContentValue, kept_rows}
 use Rattle.pdb_values.specs.declared.record.Record.{Record}
 use Rattle.palm_device.specs.FreshIds.{is_among}
 use Rattle.palm_device.specs.Soundness.{AreIds, ids_of}
 use Rattle.conduit_rules.specs.ById.{each_below, each_id, id_bound, put, with_id}
-use Rattle.conduit_rules.specs.Plans.{kept_rows}
 use Rattle.conduit_rules.specs.States.{first}
 use Rattle.conduit_rules.specs.Views.{first_seen}
 use Rattle.conduit_rules.specs.declared.view.Seen.{Seen}
@@ -47,10 +47,8 @@ turned i j = grind (arith, nat_tests)
 
 with_first : (g : Record → Seen) (b c : Bool) (r : Record) (found : Option Record) → b ≡ c
     → option_to_list (option_map g (if b then Some r else found)) ≡ option_to_list (if c then Some (g r) else option_map g found)
-with_first g true true r found is = refl
-with_first g false false r found is = refl
-with_first g true false r found is = absurd (cc)
-with_first g false true r found is = absurd (cc)
+with_first g b true r found is = rw is
+with_first g b false r found is = rw is
 
 counted : (g : Record → Seen) (n : ℕ) (records : List Record) → AreIds (ids_of records) → AllByRecursion (λ (r : Record). r.id < n) records
     → sum_by (λ (s : Seen). 1) (each_below (λ i. option_to_list (option_map g (first i records))) n) ≡ length records
@@ -70,21 +68,26 @@ length-view g records ids bounded = sym (ones (view_by g records)) ∙ counted g
 
 -- ---- in rising ids
 
-abbrev pub seen_ids : List Seen → List ℕ
+abbrev seen_ids : List Seen → List ℕ
 seen_ids view = map (λ (s : Seen). s.id) view
 
-map-each_below : {A B : Type 0} (f : A → B) (g : ℕ → List A) (n : ℕ) → map f (each_below g n) ≡ each_below (λ i. map f (g i)) n
-map-each_below f g zero = ap (map f) (each_below-zero g) ∙ sym (each_below-zero (λ i. map f (g i)))
-map-each_below f g (suc n) =
-    ap (map f) (each_below-suc g n) ∙ map-append f (each_below g n) (g n) ∙ ap (λ xs. xs ++ map f (g n)) (map-each_below f g n)
-    ∙ sym (each_below-suc (λ i. map f (g i)) n)
+-- what goes into each part of what each number gives
+each_below-by : {A B : Type 0} (h : List A → List B) (g : ℕ → List A) (n : ℕ) → h [] ≡ [] → ((xs ys : List A) → h (xs ++ ys) ≡ h xs ++ h ys)
+    → h (each_below g n) ≡ each_below (λ i. h (g i)) n
+each_below-by h g zero none more = ap h (each_below-zero g) ∙ none ∙ sym (each_below-zero (λ i. h (g i)))
+each_below-by h g (suc n) none more =
+    ap h (each_below-suc g n) ∙ more (each_below g n) (g n) ∙ ap (λ xs. xs ++ h (g n)) (each_below-by h g n none more)
+    ∙ sym (each_below-suc (λ i. h (g i)) n)
+
+pub map-each_below : {A B : Type 0} (f : A → B) (g : ℕ → List A) (n : ℕ) → map f (each_below g n) ≡ each_below (λ i. map f (g i)) n
+map-each_below f g n = each_below-by (map f) g n refl (map-append f)
 
 own_id : (g : Record → Seen) (i : ℕ) (found : Option Record) → ((r : Record) → (g r).id ≡ r.id) → ((r : Record) → found ≡ Some r → r.id ≡ i)
     → seen_ids (option_to_list (option_map g found)) ≡ (if is_some found then i ∷ [] else [])
 own_id g i None keeps bears = refl
 own_id g i (Some r) keeps bears = ap (λ n. n ∷ []) (keeps r ∙ bears r refl)
 
-pub view_rises : (g : Record → Seen) (records : List Record) → ((r : Record) → (g r).id ≡ r.id) → IsRisingFrom 0 (seen_ids (view_by g records)) id_bound
+view_rises : (g : Record → Seen) (records : List Record) → ((r : Record) → (g r).id ≡ r.id) → IsRisingFrom 0 (seen_ids (view_by g records)) id_bound
 view_rises g records keeps =
     subst (λ is. IsRisingFrom 0 is id_bound)
     (sym (map-each_below (λ (s : Seen). s.id) (λ i. option_to_list (option_map g (first i records))) id_bound
@@ -157,12 +160,6 @@ unseen_by view ahead (row ∷ rows) low end last rising rows_rise same =
     (unseen_by view (entries_from row.0 ahead) rows (suc row.0) end last (from_rises row.0 ahead last rising) rows_rise.1
     (λ j past. from_same j row.0 ahead (omega (arith, past)) ∙ same j (let first = rows_rise.0 in omega (arith, past, first))))
 
-filter-each_below : {A : Type 0} (p : A → Bool) (f : ℕ → List A) (n : ℕ) → filter p (each_below f n) ≡ each_below (λ i. filter p (f i)) n
-filter-each_below p f zero = ap (filter p) (each_below-zero f) ∙ sym (each_below-zero (λ i. filter p (f i)))
-filter-each_below p f (suc n) =
-    ap (filter p) (each_below-suc f n) ∙ filter-append p (each_below f n) (f n) ∙ ap (λ xs. xs ++ filter p (f n)) (filter-each_below p f n)
-    ∙ sym (each_below-suc (λ i. filter p (f i)) n)
-
 new_at : (g : Record → Seen) (view : List Seen) (i : ℕ) (keep : Option ContentValue) (found : Option Record) → first_seen i view ≡ option_map g found
     → filter (is_unseen view) (with_id i keep) ≡ new_under i found keep
 new_at g view i None None shows = refl
@@ -176,7 +173,7 @@ pub unseen_is_new : (g : Record → Seen) (records : List Record) (keep : ℕ �
 unseen_is_new g records keep keeps =
     let view = view_by g records in
     unseen_by view view (kept_rows keep) 0 id_bound id_bound (view_rises g records keeps) (kept_rise keep) (λ j past. refl)
-    ∙ ap length (filter-each_below (is_unseen view) (λ i. with_id i (keep i)) id_bound
+    ∙ ap length (each_below-by (filter (is_unseen view)) (λ i. with_id i (keep i)) id_bound refl (filter-append (is_unseen view))
     ∙ each_below-same (λ i. filter (is_unseen view) (with_id i (keep i))) (λ i. new_under i (first i records) (keep i)) id_bound
     (λ i less. new_at g view i (keep i) (first i records)
     (any_view g records i keeps ∙ ap (λ b. if b then option_map g (first i records) else None) (lt-ltb i id_bound less))))

@@ -1,22 +1,22 @@
 -- The changes of planned databases, one after another, and what a commit makes of them.
-use Rattle.std.proofs.Common.{◌≡◌, ◌∙◌, ◌<◌, ◌+◌, ap, refl, sym, subst, ℕ, true, false, List, [], ◌∷◌, ◌++◌, map, take, length, get_or, append_assoc, arith}
-use Rattle.std.specs.Prelude.{◌&&◌, ◌≤◌, IfSome, Option, option_to_list}
+use Rattle.std.proofs.Common.{◌≡◌, ◌∙◌, ◌<◌, ◌+◌, ap, refl, sym, subst, ℕ, Bool, true, false, List, [], ◌∷◌, ◌++◌, map, take, length}
+use Rattle.std.proofs.Common.{get_or, append_assoc, arith}
+use Rattle.std.specs.Prelude.{◌&&◌, IfSome, Option, option_to_list}
 use Rattle.std.specs.Global.{Vec}
-use Rattle.std.proofs.lemmas.List.{length-map, length-take-le, map-append, append-nil, take_all, take_more}
+use Rattle.std.proofs.lemmas.List.{length-map, length-take-le, map-append, append-nil}
 use Rattle.std.proofs.lemmas.Bool.{and_parts}
 use Rattle.std.specs.List.{list_all}
-use Rattle.pdb_values.specs.Databases.{DatabaseValue}
+use Rattle.sync_session.proofs.MeetingWords.{DatabaseValue, ShelvesValue, Planned}
 use Rattle.pdb_values.specs.NamedDatabases.{NamesRise, comes_before}
 use Rattle.pdb_values.proofs.NamedLaws.{comes_before-trans}
 use Rattle.pdb_values.specs.Heads.{holds_resources}
 use Rattle.pdb_values.specs.declared.record.Record.{Record}
 use Rattle.palm_device.specs.Records.{with_records}
 use Rattle.desk_store.specs.Changes.{IsDbChange, IsOf}
-use Rattle.desk_store.specs.Shelves.{ShelvesValue}
+use Rattle.slow_mirror.proofs.NewsLaws.{split_at}
 use Rattle.desk_store.specs.declared.change.DbChange.{DbChange}
 use Rattle.sync_session.specs.Merges.{archive_of, beside}
 use Rattle.sync_session.specs.Takes.{change_of, changes_of, each_of}
-use Rattle.sync_session.specs.declared.planned.Planned.{Planned}
 
 -- ---- one database
 
@@ -54,11 +54,12 @@ changes_more : (date : ℕ) (shelves : ShelvesValue) (planned : List Planned) (i
 changes_more date shelves planned ids k one given same within one_is given_is =
     let left = length-take-le k planned (omega arith) in
     let right = length-map (take k ids) (λ (x : Vec ℕ). x.items) ∙ length-take-le k ids (omega arith) in
-    ap (λ ps. changes_of date shelves ps (each_of (take (k + 1) ids))) (take_more planned k one within ∙ ap (λ y. take k planned ++ y ∷ []) (sym one_is))
-    ∙ ap (λ xs. changes_of date shelves (take k planned ++ one ∷ []) (each_of xs))
-    (take_more ids k given (omega arith) ∙ ap (λ y. take k ids ++ y ∷ []) (sym given_is))
-    ∙ ap (changes_of date shelves (take k planned ++ one ∷ [])) (map-append (λ (x : Vec ℕ). x.items) (take k ids) (given ∷ []))
-    ∙ changes_of-push date shelves (take k planned) (each_of (take k ids)) one given.items (right ∙ sym left)
+    rw (
+      (split_at planned k one within one_is).next,
+      (split_at ids k given (omega arith) given_is).next,
+      map-append (λ (x : Vec ℕ). x.items) (take k ids) (given ∷ []),
+    )
+    (changes_of-push date shelves (take k planned) (each_of (take k ids)) one given.items (right ∙ sym left))
 
 pub changes_step : (date : ℕ) (shelves : ShelvesValue) (planned : List Planned) (ids : List (Vec ℕ)) (k : ℕ) (one : Planned) (given : Vec ℕ)
     (lent : List ℕ) (before now : List DbChange) (change : Option DbChange) → length ids ≡ length planned → k < length planned
@@ -66,9 +67,7 @@ pub changes_step : (date : ℕ) (shelves : ShelvesValue) (planned : List Planned
     → before ≡ changes_of date shelves (take k planned) (each_of (take k ids)) → option_to_list change ≡ change_of date shelves one lent
     → lent ≡ given.items → now ≡ changes_of date shelves (take (k + 1) planned) (each_of (take (k + 1) ids))
 changes_step date shelves planned ids k one given lent before now change same within one_is given_is put is own lends =
-    put ∙ ap (λ xs. xs ++ option_to_list change) is
-    ∙ ap (λ xs. changes_of date shelves (take k planned) (each_of (take k ids)) ++ xs) (own ∙ ap (change_of date shelves one) lends)
-    ∙ sym (changes_more date shelves planned ids k one given same within one_is given_is)
+    rw (put, is, own, lends, changes_more date shelves planned ids k one given same within one_is given_is)
 
 pub changes_none : (date : ℕ) (shelves : ShelvesValue) → changes_of date shelves [] [] ≡ []
 unfolding changes_of
@@ -76,19 +75,24 @@ changes_none date shelves = refl
 
 -- ---- names in byte order
 
+-- each of these comes behind a name
+abbrev are_behind : List ℕ → List DatabaseValue → Bool
+are_behind name xs = list_all (λ (later : DatabaseValue). comes_before name later.head.name) xs
+
 before_all : (name : List ℕ) (xs : List DatabaseValue) (last : DatabaseValue)
-    → list_all (λ (later : DatabaseValue). comes_before name later.head.name) (xs ++ last ∷ []) ≡ true → comes_before name last.head.name ≡ true
+    → are_behind name (xs ++ last ∷ []) ≡ true → comes_before name last.head.name ≡ true
 before_all name [] last all = (and_parts (comes_before name last.head.name) true all).0
 before_all name (x ∷ xs) last all =
-    before_all name xs last (and_parts (comes_before name x.head.name) (list_all (λ (later : DatabaseValue). comes_before name later.head.name) (xs ++ last ∷ [])) all).1
+    before_all name xs last
+    (and_parts (comes_before name x.head.name) (are_behind name (xs ++ last ∷ [])) all).1
 
 all_more : (name : List ℕ) (xs : List DatabaseValue) (new : DatabaseValue)
-    → list_all (λ (later : DatabaseValue). comes_before name later.head.name) xs ≡ true → comes_before name new.head.name ≡ true
-    → list_all (λ (later : DatabaseValue). comes_before name later.head.name) (xs ++ new ∷ []) ≡ true
+    → are_behind name xs ≡ true → comes_before name new.head.name ≡ true
+    → are_behind name (xs ++ new ∷ []) ≡ true
 all_more name [] new all next = ap (λ b. b && true) next
 all_more name (x ∷ xs) new all next =
-    let both = and_parts (comes_before name x.head.name) (list_all (λ (later : DatabaseValue). comes_before name later.head.name) xs) all in
-    ap (λ b. b && list_all (λ (later : DatabaseValue). comes_before name later.head.name) (xs ++ new ∷ [])) both.0 ∙ all_more name xs new both.1 next
+    let both = and_parts (comes_before name x.head.name) (are_behind name xs) all in
+    ap (λ b. b && are_behind name (xs ++ new ∷ [])) both.0 ∙ all_more name xs new both.1 next
 
 rise-push : (xs : List DatabaseValue) (last new : DatabaseValue) → NamesRise (xs ++ last ∷ []) → comes_before last.head.name new.head.name ≡ true
     → NamesRise ((xs ++ last ∷ []) ++ new ∷ [])
@@ -102,22 +106,11 @@ rise-push (x ∷ xs) last new rise next = (
 abbrev rows_in : DbChange → DatabaseValue
 rows_in change = change.rows
 
-pub rise_first : (changes : List DbChange) → NamesRise (map (λ (change : DbChange). change.rows) (take 1 changes))
-rise_first [] = tt
-rise_first (x ∷ changes) = (refl, tt)
-
 pub rise_more : (changes : List DbChange) (k j : ℕ) (a b : DbChange) → k ≡ j + 1 → k < length changes → a ≡ get_or changes j a → b ≡ get_or changes k b
     → comes_before a.rows.head.name b.rows.head.name ≡ true → NamesRise (map (λ (change : DbChange). change.rows) (take k changes))
     → NamesRise (map (λ (change : DbChange). change.rows) (take (k + 1) changes))
 rise_more changes k j a b is within a_is b_is next rise =
-    let last : take k changes ≡ take j changes ++ a ∷ []
-    = ap (λ n. take n changes) is ∙ take_more changes j a (omega arith) ∙ ap (λ y. take j changes ++ y ∷ []) (sym a_is) in
-    let all : take (k + 1) changes ≡ take k changes ++ b ∷ [] = take_more changes k b within ∙ ap (λ y. take k changes ++ y ∷ []) (sym b_is) in
-    let old : map rows_in (take k changes) ≡ map rows_in (take j changes) ++ a.rows ∷ [] = ap (map rows_in) last ∙ map-append rows_in (take j changes) (a ∷ []) in
-    let new : map rows_in (take (k + 1) changes) ≡ (map rows_in (take j changes) ++ a.rows ∷ []) ++ b.rows ∷ []
-    = ap (map rows_in) all ∙ map-append rows_in (take k changes) (b ∷ []) ∙ ap (λ xs. xs ++ b.rows ∷ []) old in
-    subst NamesRise (sym new) (rise-push (map rows_in (take j changes)) a.rows b.rows (subst NamesRise old rise) next)
-
-pub rise_all : (changes : List DbChange) (k : ℕ) → length changes ≤ k → NamesRise (map (λ (change : DbChange). change.rows) (take k changes))
-    → NamesRise (map (λ (change : DbChange). change.rows) changes)
-rise_all changes k past rise = subst (λ xs. NamesRise (map rows_in xs)) (take_all k changes past) rise
+    let old : map rows_in (take k changes) ≡ map rows_in (take j changes) ++ a.rows ∷ []
+    = rw (is, (split_at changes j a (omega arith) a_is).next) (map-append rows_in (take j changes) (a ∷ [])) in
+    rw ((split_at changes k b within b_is).next, map-append rows_in (take k changes) (b ∷ []), old)
+    (rise-push (map rows_in (take j changes)) a.rows b.rows (rw old at rise) next)

@@ -1,7 +1,6 @@
 -- The changes of one database after another.
-use Rattle.std.proofs.Common.{◌∙◌, List, sym, subst}
+use Rattle.std.proofs.Common.{◌∙◌, List, sym, subst, option_to_list}
 use Rattle.std.specs.List.{AllByRecursion}
-use Rattle.std.specs.Prelude.{option_to_list}
 use Rattle.desk_store.proofs.OwnLaws.{each-append}
 use Rattle.desk_store.specs.Changes.{IsDbChange}
 use Rattle.desk_store.specs.Views.{shelves_in}

@@ -1,31 +1,59 @@
 -- Nothing is put, or something is.
-use Rattle.std.proofs.Common.{◌≡◌, ◌∙◌, ◌+◌, [], ◌∷◌, ap, length, refl, sym}
-use Rattle.desktop_session.specs.Requests.{opening}
-use Rattle.desktop_session.specs.Says.{saying}
+use Rattle.std.proofs.Common.{◌≡◌, ◌+◌, length, refl, ◌∙◌, sym, ℕ, zero, suc, List, [], ◌∷◌, ◌++◌, drop, arith, Option, None, Some, IfSome}
+use Rattle.sync_session.proofs.SpanLaws.{span_none}
+use Rattle.sync_session.proofs.MeetingWords.{ContentValue, Plan, opened_news}
+use Rattle.sync_session.proofs.LinkWords.{Talk, opening}
+use Rattle.slow_mirror.specs.News.{AreFreeFor, as_new, news_of, puts}
 use Rattle.sync_session.specs.Gains.{AreGained}
-use Rattle.sync_session.proofs.GiveLaws.{spans_nothing, spans_something}
+use Rattle.sync_session.specs.Spans.{within}
 use Rattle.sync_session.proofs.giving.give_old.Goals as goal
+
+none_put : (rows : List (ℕ × ContentValue)) (adds : List ContentValue) → length rows + length adds ≡ 0 → rows ++ as_new adds ≡ []
+none_put [] [] none = refl
+none_put [] (c ∷ adds) none = absurd (omega arith)
+none_put (r ∷ rows) adds none = absurd (omega arith)
+
+nothing_put : (plan : Plan) → length plan.replace.items + length plan.adds.items ≡ 0 → news_of plan ≡ []
+nothing_put plan none = none_put plan.replace.items plan.adds.items none
+
+some_put : (name : List ℕ) (rows : List (ℕ × ContentValue)) (adds : List ContentValue) → (length rows + length adds ≡ 0 → ⊥)
+    → within (opening name) (λ handle given. puts handle given (rows ++ as_new adds)) ≡ opened_news name (rows ++ as_new adds)
+some_put name [] [] some = absurd (some refl)
+some_put name [] (c ∷ adds) some = refl
+some_put name (r ∷ rows) adds some = refl
+
+something_put : (name : List ℕ) (plan : Plan) → (length plan.replace.items + length plan.adds.items ≡ 0 → ⊥)
+    → within (opening name) (λ handle given. puts handle given (news_of plan)) ≡ opened_news name (news_of plan)
+something_put name plan some = some_put name plan.replace.items plan.adds.items some
+
+no_drop : (n : ℕ) → drop {A = ℕ} n [] ≡ []
+no_drop zero = refl
+no_drop (suc n) = refl
+
+any_free : (told : Option Talk) (handle : ℕ) → IfSome told (λ talk. AreFreeFor handle [] [] talk.device)
+any_free None handle = tt
+any_free (Some talk) handle = tt
+
+-- no ids are those of no adds
+none_gained : (told : Option Talk) (plan : Plan) (handle : ℕ) (ids : List ℕ) → length plan.replace.items + length plan.adds.items ≡ 0 → ids ≡ []
+    → AreGained told plan handle [] ids
+none_gained told plan handle ids none is = record {
+  behind = is ∙ sym (no_drop (length plan.replace.items));
+  own = rw (nothing_put plan none) tt;
+  free = rw (nothing_put plan none) (any_free told handle);
+}
 
 pub returns-then-is_nothing : goal.returns-then-is_nothing
 returns-then-is_nothing g c =
-    let same : length c.deref.result.now + length c.deref-2.result.now ≡ length c.args.plan.now.replace.items + length c.args.plan.now.adds.items
-    = ap (λ xs. length xs + length c.deref-2.result.now) c.deref.ensures.value
-    ∙ ap (λ ys. length c.args.plan.now.replace.items + length ys) c.deref-2.ensures.value in
+    let none : length c.args.plan.now.replace.items + length c.args.plan.now.adds.items ≡ 0
+    = rw (c.deref.ensures.value, c.deref-2.ensures.value) at (c.if-is_nothing.ensures.0 refl) in
     record {
-      spans = spans_nothing g.L.Link.talk g.L.Link.since g.L.Link.fault g.L.Link.downs g.met.L.Link.since_itself
-          (saying (opening c.args.name.now ∷ []) (g.L.Link.talk c.args.linked.now.link)) c.args.name.now c.args.plan.now (λ ids. ids.items)
-          c.args.linked.now c.new.result (sym same ∙ c.if-is_nothing.ensures.0 refl) c.new.ensures.items;
+      spans = rw (nothing_put c.args.plan.now none)
+          (span_none g.met.L.Link.since_itself (none_gained _ c.args.plan.now 1 _ none c.new.ensures.items));
     }
 
 pub returns : goal.returns
-returns g c =
-    let same : length c.deref.result.now + length c.deref-2.result.now ≡ length c.args.plan.now.replace.items + length c.args.plan.now.adds.items
-    = ap (λ xs. length xs + length c.deref-2.result.now) c.deref.ensures.value
-    ∙ ap (λ ys. length c.args.plan.now.replace.items + length ys) c.deref-2.ensures.value in
-    record {
-      spans = spans_something g.L.Link.talk g.L.Link.since g.L.Link.fault g.L.Link.downs c.args.name.now c.args.plan.now
-          (λ handle given ids. AreGained (saying (opening c.args.name.now ∷ []) (g.L.Link.talk c.args.linked.now.link)) c.args.plan.now handle given
-          ids.items)
-          c.args.linked.now c.give_one.new.linked c.give_one.result (λ none. absurd (let is = c.if-is_nothing.ensures.1 (same ∙ none) in cc))
-          c.give_one.ensures.spans;
-    }
+returns g c = record {
+  spans = rw (← something_put c.args.name.now c.args.plan.now (λ none. absurd (let is = c.if-is_nothing.ensures.1
+      (rw (c.deref.ensures.value, c.deref-2.ensures.value) none) in cc))) c.give_one.ensures.spans;
+}

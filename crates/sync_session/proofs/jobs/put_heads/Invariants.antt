@@ -1,6 +1,5 @@
 use Rattle.std.proofs.Common.{◌≡◌, map, take}
-use Rattle.pdb_values.specs.declared.head.DbHead.{DbHead}
-use Rattle.sync_session.specs.Tasks.{with_names}
+use Rattle.sync_session.proofs.MeetingWords.{DbHead, with_names}
 use Rattle.sync_session.proofs.jobs.put_heads.Given as goal
 
 abbrev pub invariant-loop-head : goal.invariant-loop-head

@@ -1,6 +1,5 @@
 use Rattle.std.proofs.Common.{◌≡◌, take}
-use Rattle.desk_store.specs.Views.{shelves_in}
-use Rattle.sync_session.specs.Tasks.{names_of, with_names}
+use Rattle.sync_session.proofs.MeetingWords.{shelves_in, names_of, with_names}
 use Rattle.sync_session.proofs.jobs.put_rows.Given as goal
 
 abbrev pub invariant-loop-index : goal.invariant-loop-index

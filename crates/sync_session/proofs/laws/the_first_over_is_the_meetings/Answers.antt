@@ -2,4 +2,4 @@ use Rattle.sync_session.proofs.PlannedLaws.{over_is_first_over}
 use Rattle.sync_session.proofs.laws.the_first_over_is_the_meetings.Goals as goal
 
 pub returns : goal.returns
-returns c = over_is_first_over
+returns c = λ meeting planned proper are. over_is_first_over meeting proper planned are

@@ -1,10 +1,22 @@
 -- Plans, one database after another.
-use Rattle.std.proofs.Common.{◌≡◌, ◌+◌, ◌∷◌, ap, arith, length, refl, rules}
-use Rattle.desk_store.specs.Views.{shelves_in}
-use Rattle.sync_session.specs.declared.planned.Planned.{Planned}
+use Rattle.std.proofs.Common.{◌≡◌, ◌+◌, ◌∷◌, ap, arith, length, refl, rules, ◌∙◌, sym, List, [], ◌++◌, map, append_assoc}
+use Rattle.sync_session.proofs.MeetingWords.{shelves_in, Planned}
 use Rattle.sync_session.specs.Planning.{IsPlanUnder}
-use Rattle.sync_session.proofs.PlanningLaws.{planned_on, plans_on}
+use Rattle.std.proofs.lemmas.List.{map-append}
+use Rattle.std.specs.List.{AllByRecursion}
+use Rattle.desk_store.proofs.OwnLaws.{each-append}
 use Rattle.sync_session.proofs.planning.plan_all.Goals as goal
+
+-- what was planned so far, with what is left, is all
+planned_on : {P A : Type 0} (f : P → A) (planned more : List P) (one : P) (x : A) (rest left all : List A) → more ≡ planned ++ one ∷ [] → f one ≡ x
+    → left ≡ x ∷ rest → map f planned ++ left ≡ all → map f more ++ rest ≡ all
+planned_on f planned more one x rest left all is same step before =
+    ap (λ ps. map f ps ++ rest) is ∙ ap (λ xs. xs ++ rest) (map-append f planned (one ∷ [])) ∙ append_assoc (map f planned) (f one ∷ []) rest
+    ∙ ap (λ y. map f planned ++ y ∷ rest) same ∙ ap (λ xs. map f planned ++ xs) (sym step) ∙ before
+
+plans_on : {P : Type 0} (Q : P → Type 0) (planned more : List P) (one : P) → more ≡ planned ++ one ∷ [] → AllByRecursion Q planned → Q one
+    → AllByRecursion Q more
+plans_on Q planned more one is all last = rw is (each-append Q planned (one ∷ []) all (last, tt))
 
 pub loop-job-preserved : goal.loop-job-preserved
 loop-job-preserved g c =

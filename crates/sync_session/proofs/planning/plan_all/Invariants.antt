@@ -1,7 +1,6 @@
 use Rattle.std.proofs.Common.{◌≡◌, ◌++◌, length, map}
 use Rattle.std.specs.List.{AllByRecursion}
-use Rattle.desk_store.specs.Views.{shelves_in}
-use Rattle.sync_session.specs.declared.planned.Planned.{Planned}
+use Rattle.sync_session.proofs.MeetingWords.{shelves_in, Planned}
 use Rattle.sync_session.specs.Planning.{IsPlanUnder}
 use Rattle.sync_session.proofs.planning.plan_all.Given as goal
 

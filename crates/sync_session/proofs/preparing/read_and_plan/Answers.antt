@@ -1,18 +1,16 @@
 -- Readings, and then plans.
-use Rattle.std.proofs.Common.{◌∙◌, ap, length, subst, sym}
+use Rattle.std.proofs.Common.{◌∙◌, ap, length}
 use Rattle.std.proofs.lemmas.Result.{err_from_is_err_and}
 use Rattle.conduit_rules.specs.declared.view.View.{View}
 use Rattle.desk_store.specs.Views.{shelves_in}
-use Rattle.sync_session.specs.Causes.{IsLater}
 use Rattle.sync_session.specs.Readings.{reads_under, shown_under}
-use Rattle.sync_session.proofs.PreparingLaws.{says-length, spans_none}
+use Rattle.sync_session.proofs.EachLaws.{says-length, spans_none}
 use Rattle.sync_session.proofs.preparing.read_and_plan.Goals as goal
 
 pub returns-in_err-jobs-clause-reads : goal.returns-in_err-jobs-clause-reads
 returns-in_err-jobs-clause-reads g c =
     let p = err_from_is_err_and c.from_residual.result c.from_residual.ensures.1 in
-    let later = subst (IsLater (g.L.Link.fault c.args.linked.now.link)) (sym p.2) tt in
-    rw p.1 (record { reads = spans_none _ _ _ _ g.met.L.Link.since_itself _ _ _ _ _ _ later; plans = tt })
+    rw p.1 (record { reads = spans_none g.met.L.Link.since_itself (rw p.2 tt); plans = tt })
 
 pub plan_all-requires : goal.plan_all-requires
 plan_all-requires g c =

@@ -1,6 +1,5 @@
 use Rattle.std.proofs.Common.{take}
-use Rattle.sync_session.specs.Phases.{purges_under}
-use Rattle.sync_session.specs.Stretches.{done_each, says_nothing}
+use Rattle.sync_session.proofs.MeetingWords.{purges_under, done_each, says_nothing}
 use Rattle.sync_session.proofs.EachLaws.{EachSoFar}
 use Rattle.sync_session.proofs.purging.purge_all.Given as goal
 

@@ -1,7 +1,6 @@
 -- Rows in rising ids, settled.
-use Rattle.std.proofs.Common.{◌≡◌, ◌∙◌, ◌++◌, ap, map, subst, sym}
+use Rattle.std.proofs.Common.{◌≡◌, ◌∙◌, ap, map, subst, sym, IfOk}
 use Rattle.std.proofs.lemmas.List.{map-append}
-use Rattle.std.specs.Prelude.{IfOk}
 use Rattle.conduit_rules.specs.declared.view.Seen.{Seen}
 use Rattle.conduit_merge.specs.Merging.{settled_record}
 use Rattle.conduit_merge.specs.Writes.{numbered}
@@ -15,10 +14,8 @@ returns c =
     let kept = c.args.plan.now.kept.items in
     let added = numbered c.args.given.now c.args.plan.now.adds.items in
     let entries : c.put_added.new.rows.items ≡ map row_seen (row_entries c.args.plan.now c.args.given.now)
-    = c.in_ok-put_added.ensures.rows ∙ ap (λ xs. xs ++ map row_seen (numbered c.args.given.now c.deref-2.result.now)) c.in_ok-put_kept.ensures.rows
-    ∙ ap (λ xs. (xs ++ map row_seen c.deref.result.now) ++ map row_seen (numbered c.args.given.now c.deref-2.result.now)) c.new-rows.ensures.items
-    ∙ ap (λ ks. map row_seen ks ++ map row_seen (numbered c.args.given.now c.deref-2.result.now)) c.deref.ensures.value
-    ∙ ap (λ cs. map row_seen kept ++ map row_seen (numbered c.args.given.now cs)) c.deref-2.ensures.value ∙ sym (map-append row_seen kept added) in
+    = rw (c.in_ok-put_added.ensures.rows, c.in_ok-put_kept.ensures.rows, c.new-rows.ensures.items, c.deref.ensures.value, c.deref-2.ensures.value)
+    (sym (map-append row_seen kept added)) in
     subst (λ xs. IfOk c.settled_all.result (λ rows. rows.items ≡ xs))
     (ap (map (λ (seen : Seen). settled_record (seen.id, seen.content))) (c.in_ok-view.ensures.ordered ∙ ap ordered entries)
     ∙ settled-ordered (row_entries c.args.plan.now c.args.given.now)) c.settled_all.ensures

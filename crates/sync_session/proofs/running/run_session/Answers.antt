@@ -4,16 +4,11 @@ use Rattle.sync_session.proofs.RunLaws.{runs_end}
 use Rattle.sync_session.proofs.running.run_session.Goals as goal
 
 pub returns-clause-link : goal.returns-clause-link
-returns-clause-link g c =
-    runs_link g.L.Link.talk g.L.Link.since g.L.Link.fault g.L.Link.downs g.D.Folder.contents g.D.Folder.moments g.D.Folder.paths g.D.Folder.faults
-    g.met.L.Link.since_itself g.met.L.Link.since_more c.args.wishes.now c.args.link c.args.desk c.run.result c.run.ensures
+returns-clause-link g c = runs_link g.met.L.Link.since_itself g.met.L.Link.since_more c.run.ensures
 
 pub returns-clause-folder : goal.returns-clause-folder
-returns-clause-folder g c =
-    runs_folder g.L.Link.talk g.L.Link.since g.L.Link.fault g.L.Link.downs g.D.Folder.contents g.D.Folder.moments g.D.Folder.paths g.D.Folder.faults
-    g.met.L.Link.since_itself g.met.L.Link.since_more c.args.wishes.now c.args.link c.args.desk c.run.result c.run.ensures
+returns-clause-folder g c = runs_folder g.met.L.Link.since_itself g.met.L.Link.since_more c.run.ensures
 
 pub returns-clause-ends : goal.returns-clause-ends
 returns-clause-ends g c = λ told ordered is rests.
-    runs_end g.L.Link.talk g.L.Link.since g.L.Link.fault g.L.Link.downs g.D.Folder.contents g.D.Folder.moments g.D.Folder.paths g.D.Folder.faults
-    g.met.L.Link.since_itself g.met.L.Link.since_more c.args.wishes.now c.args.link c.args.desk c.run.result told ordered is rests c.run.ensures
+    runs_end g.met.L.Link.since_itself g.met.L.Link.since_more ordered is rests c.run.ensures
