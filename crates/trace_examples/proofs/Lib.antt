@@ -1,4 +1,3 @@
 pub mod Changed
-pub mod Losing
-pub mod Quiet
-pub mod Steps
+pub mod Findings
+pub mod Rules
