@@ -1,13 +1,7 @@
 -- The newest frame that passes, and progress.
-use Rattle.std.proofs.Common.{◌≡◌, ◌⊎◌, ℕ, ◌+◌, ◌<◌, ◌≤◌, Bool, true, false, not, List, [], ◌∷◌, length, refl, sym, ap, ◌∙◌, arith, inl, inr}
-use Rattle.std.proofs.lemmas.Bool.{cases_Bool, cases_lt, cond-true, cond-false, and_parts}
-use Rattle.padp_link.specs.declared.piece.Key.{Key}
-use Rattle.trace_text.specs.Faults.{is_faulty, is_late, faulted, late_of, newest}
-use Rattle.trace_text.specs.Past.{Course, Came, Gone, Late, Sent, is_end, said, acked, at, IsAckOf, is_data_of}
-use Rattle.trace_text.specs.declared.frame.End.{End}
-use Rattle.trace_text.specs.declared.frame.End.TheVariants.{Handheld, Desktop}
-use Rattle.line_laws.specs.Core.{data_frame, ack_frame}
-use Rattle.line_laws.specs.Progress.{DataPends, AckPends, Progress, IsHeld, Blocked}
+use Rattle.line_laws.proofs.Names.{rules, ◌≡◌, ◌⊎◌, ℕ, ◌+◌, ◌<◌, ◌≤◌, Bool, true, false, not, List, [], ◌∷◌, length, refl, sym, ap, ◌∙◌, arith, inl, inr}
+use Rattle.line_laws.proofs.Names.{cases_Bool, cases_lt, cond-true, cond-false, Key, faulted, late_of, newest, Course, Came, Gone, Late, Sent, said, acked, at}
+use Rattle.line_laws.proofs.Names.{IsAckOf, is_data_of, End, Handheld, Desktop, data_frame, ack_frame, DataPends, AckPends, Progress, IsHeld, Blocked}
 use Rattle.line_laws.proofs.PastLaws.{at_all, at_push}
 
 -- ---- the newest that passes
@@ -25,33 +19,29 @@ newest_push p frame past = let below = newest_inside p past in elim (cases_Bool 
   | inr fails ↦ omega (arith, cond-false (p frame) (length past + 1) (newest p past) fails)
 ]
 
-pub newest_from : (p : Sent → Bool) (past : List Sent) (n : ℕ) (frame : Sent) (older : List Sent) → n ≤ length past → at n past ≡ frame ∷ older
+pub newest_from : (p : Sent → Bool) (past : List Sent) {n : ℕ} {frame : Sent} {older : List Sent} → n ≤ length past → at n past ≡ frame ∷ older
     → p frame ≡ true → n ≤ newest p past
-newest_from p [] n frame older inside here passes = omega arith
-newest_from p (top ∷ past) n frame older inside here passes = elim (cases_lt (length past) n) [
+newest_from p [] inside here passes = omega arith
+newest_from p (top ∷ past) {n} {frame} {older} inside here passes = elim (cases_lt (length past) n) [
   | inl new ↦ (let e : n ≡ length (top ∷ past) = omega arith in
-      let all_of : top ∷ past ≡ frame ∷ older = sym (ap (λ (k : ℕ). at k (top ∷ past)) e ∙ at_all (top ∷ past)) ∙ here in
+      let all_of : top ∷ past ≡ frame ∷ older = sym (ap (λ k. at k (top ∷ past)) e ∙ at_all (top ∷ past)) ∙ here in
       let it : top ≡ frame = cc in
       omega (arith, cond-true (p top) (length past + 1) (newest p past) (ap p it ∙ passes)))
-  | inr old ↦ (let later = newest_from p past n frame older old (sym (at_push n top past old) ∙ here) passes in omega (arith, later, newest_push p top past))
+  | inr old ↦ (let later = newest_from p past old (sym (at_push top past old) ∙ here) passes in omega (arith, later, newest_push p top past))
 ]
 
 -- ---- at a tick a fault stands above the last one
 
 pub late_is_fault : (Z : End) (frame : Sent) → late_of Z frame ≡ true → faulted frame ≡ true
-late_is_fault Z frame late = go (frame.course) (and_parts (is_end Z frame.from) (is_late frame.course) late).1 where
-  go : (course : Course) → is_late course ≡ true → is_faulty course ≡ true
-  go Came is = absurd cc
-  go Gone is = absurd cc
-  go Late is = refl
+late_is_fault Z frame late = search rules
 
-pub fault_at_tick : (X Y : End) (past : List Sent) (cx cy released : ℕ) → Progress X Y past cx cy released → Blocked X past cx released
+pub fault_at_tick : {X Y : End} {past : List Sent} {cx cy released : ℕ} → Progress X Y past cx cy released → Blocked X past cx released
     → Blocked Y past cy released → released < newest faulted past
-fault_at_tick X Y past cx cy released progress bx by = elim bx [
+fault_at_tick {X} {Y} {past} {cx} {cy} {released} progress bx by = elim bx [
   | inr held ↦ held_is X cx held
   | inl none ↦ elim by [
     | inr held ↦ held_is Y cy held
-    | inl none' ↦ elim (progress.cause) [
+    | inl none' ↦ elim progress.cause [
       | inl fault ↦ omega (arith, progress.since, fault)
       | inr (inl pends) ↦ omega (arith, pends.from, pends.inside, none)
       | inr (inr pends) ↦ omega (arith, pends.from, pends.inside, none')
@@ -59,19 +49,19 @@ fault_at_tick X Y past cx cy released progress bx by = elim bx [
   ]
 ] where
   held_is : (Z : End) (c : ℕ) → IsHeld Z past c released → released < newest faulted past
-  held_is Z c held = omega (arith, held.above, newest_from faulted past (c + 1) held.frame held.older (omega (arith, held.inside)) held.here (late_is_fault Z held.frame held.late))
+  held_is Z c held = omega (arith, held.above, newest_from faulted past (omega (arith, held.inside)) held.here (late_is_fault Z held.frame held.late))
 
 -- ---- progress over the steps
 
-pub at_top : (frame : Sent) (past : List Sent) → at (length past + 1) (frame ∷ past) ≡ frame ∷ past
-at_top frame past = let e : length past + 1 ≡ length (frame ∷ past) = omega arith in ap (λ (k : ℕ). at k (frame ∷ past)) e ∙ at_all (frame ∷ past)
+pub at_top : {frame : Sent} {past : List Sent} → at (length past + 1) (frame ∷ past) ≡ frame ∷ past
+at_top = search rules
 
 len : {s t : List Key} → s ≡ t → length s ≡ length t
-len e = ap (λ (s : List Key). length s) e
+len e = ap length e
 
-data_pends-push : (X : End) (frame : Sent) (past : List Sent) (cx : ℕ) → DataPends X past cx → said X (frame ∷ past) ≡ said X past
+data_pends-push : {X : End} {frame : Sent} {past : List Sent} {cx : ℕ} → DataPends X past cx → said X (frame ∷ past) ≡ said X past
     → DataPends X (frame ∷ past) cx
-data_pends-push X frame past cx pends same = (let e = at_push pends.n frame past pends.inside in record {
+data_pends-push {X} {frame} {past} pends same = (let e = at_push frame past pends.inside in record {
   n = pends.n;
   frame = pends.frame;
   older = pends.older;
@@ -80,12 +70,12 @@ data_pends-push X frame past cx pends same = (let e = at_push pends.n frame past
   here = e ∙ pends.here;
   is = pends.is;
   comes_here = pends.comes_here;
-  newest_is = ap (λ (p : List Sent). length (said X p)) e ∙ pends.newest_is ∙ sym (len same);
+  newest_is = ap (λ p. length (said X p)) e ∙ pends.newest_is ∙ sym (len same);
 })
 
-ack_pends-push : (X Y : End) (frame : Sent) (past : List Sent) (cy : ℕ) → AckPends X Y past cy → said X (frame ∷ past) ≡ said X past
+ack_pends-push : {X Y : End} {frame : Sent} {past : List Sent} {cy : ℕ} → AckPends X Y past cy → said X (frame ∷ past) ≡ said X past
     → AckPends X Y (frame ∷ past) cy
-ack_pends-push X Y frame past cy pends same = (let e = at_push pends.n frame past pends.inside in record {
+ack_pends-push {Y} {frame} {past} pends same = (let e = at_push frame past pends.inside in record {
   n = pends.n;
   frame = pends.frame;
   older = pends.older;
@@ -94,20 +84,20 @@ ack_pends-push X Y frame past cy pends same = (let e = at_push pends.n frame pas
   here = e ∙ pends.here;
   is = pends.is;
   comes_here = pends.comes_here;
-  newest_is = ap (λ (p : List Sent). length (acked Y p)) e ∙ pends.newest_is ∙ sym (len same);
+  newest_is = ap (λ p. length (acked Y p)) e ∙ pends.newest_is ∙ sym (len same);
 })
 
 -- a frame that isn't data of X
-pub progress_push : (X Y : End) (frame : Sent) (past : List Sent) (cx cy released : ℕ) → Progress X Y past cx cy released → is_data_of X frame ≡ false
+pub progress_push : {X Y : End} {frame : Sent} {past : List Sent} {cx cy released : ℕ} → Progress X Y past cx cy released → is_data_of X frame ≡ false
     → said X (frame ∷ past) ≡ said X past → Progress X Y (frame ∷ past) cx cy released
-progress_push X Y frame past cx cy released progress other same =
+progress_push {X} {frame} {past} progress other same =
     let stays : newest (is_data_of X) (frame ∷ past) ≡ newest (is_data_of X) past = cond-false _ _ _ other in
     record {
       since = omega (arith, progress.since, stays);
-      cause = elim (progress.cause) [
+      cause = elim progress.cause [
         | inl fault ↦ inl (omega (arith, fault, stays, newest_push faulted frame past))
-        | inr (inl pends) ↦ inr (inl (data_pends-push X frame past cx pends same))
-        | inr (inr pends) ↦ inr (inr (ack_pends-push X Y frame past cy pends same))
+        | inr (inl pends) ↦ inr (inl (data_pends-push pends same))
+        | inr (inr pends) ↦ inr (inr (ack_pends-push pends same))
       ];
     }
 
@@ -119,72 +109,98 @@ is_ack-frame : (X : End) (key : Key) (course : Course) → IsAckOf X (ack_frame 
 is_ack-frame Handheld key course = refl
 is_ack-frame Desktop key course = refl
 
--- X sends data
-pub progress_sent : (X Y : End) (key : Key) (bytes : List ℕ) (course : Course) (past : List Sent) (cx cy released : ℕ) → released ≤ length past
-    → cx ≤ length past → Progress X Y (data_frame X key bytes course ∷ past) cx cy released
-progress_sent X Y key bytes course past cx cy released before inside =
-    let frame = data_frame X key bytes course in
-    let here : newest (is_data_of X) (frame ∷ past) ≡ length past + 1 = cond-true _ _ _ (is_data-frame X key bytes course) in
-    record { since = omega (arith, here, before); cause = go course here } where
-      go : (course : Course) → newest (is_data_of X) (data_frame X key bytes course ∷ past) ≡ length past + 1
-          → (newest (is_data_of X) (data_frame X key bytes course ∷ past) ≤ newest faulted (data_frame X key bytes course ∷ past)) ⊎ DataPends X (data_frame X key bytes course ∷ past) cx ⊎ AckPends X Y (data_frame X key bytes course ∷ past) cy
-      go Came here = inr (inl (record {
-        n = length past + 1;
-        frame = data_frame X key bytes Came;
-        older = past;
-        from = omega (arith, inside);
-        inside = omega arith;
-        here = at_top _ past;
-        is = is_data-frame X key bytes Came;
-        comes_here = refl;
-        newest_is = ap (λ (p : List Sent). length (said X p)) (at_top _ past);
-      }))
-      go Gone here = inl (omega (arith, here))
-      go Late here = inl (omega (arith, here))
+module _ {X Y : End} {past : List Sent} {cx cy released : ℕ} where
+  -- X sends data
+  pub progress_sent : {key : Key} {bytes : List ℕ} {course : Course} → released ≤ length past
+      → cx ≤ length past → Progress X Y (data_frame X key bytes course ∷ past) cx cy released
+  progress_sent {key} {bytes} {course} before inside =
+      let frame = data_frame X key bytes course in
+      let here : newest (is_data_of X) (frame ∷ past) ≡ length past + 1 = cond-true _ _ _ (is_data-frame X key bytes course) in
+      record { since = omega (arith, here, before); cause = go course here } where
+        go : (course : Course) → newest (is_data_of X) (data_frame X key bytes course ∷ past) ≡ length past + 1
+            → (newest (is_data_of X) (data_frame X key bytes course ∷ past) ≤ newest faulted (data_frame X key bytes course ∷ past))
+            ⊎ DataPends X (data_frame X key bytes course ∷ past) cx ⊎ AckPends X Y (data_frame X key bytes course ∷ past) cy
+        go Came here = inr (inl (record {
+          n = length past + 1;
+          frame = data_frame X key bytes Came;
+          older = past;
+          from = omega (arith, inside);
+          inside = omega arith;
+          here = at_top;
+          is = is_data-frame X key bytes Came;
+          comes_here = refl;
+          newest_is = ap (λ p. length (said X p)) at_top;
+        }))
+        go Gone here = inl (omega (arith, here))
+        go Late here = inl (omega (arith, here))
 
--- Y acknowledges the newest fragment of X
-pub progress_acked : (X Y : End) (key : Key) (course : Course) (past : List Sent) (cx cy c released : ℕ) → Progress X Y past cx cy released
-    → is_data_of X (ack_frame Y key course) ≡ false → cy ≤ length past
-    → acked Y (ack_frame Y key course ∷ past) ≡ said X (ack_frame Y key course ∷ past)
-    → Progress X Y (ack_frame Y key course ∷ past) c cy released
-progress_acked X Y key course past cx cy c released progress other inside all =
-    let stays : newest (is_data_of X) (ack_frame Y key course ∷ past) ≡ newest (is_data_of X) past = cond-false _ _ _ other in
-    record { since = omega (arith, progress.since, stays); cause = go course stays all } where
-      go : (course : Course) → newest (is_data_of X) (ack_frame Y key course ∷ past) ≡ newest (is_data_of X) past → acked Y (ack_frame Y key course ∷ past) ≡ said X (ack_frame Y key course ∷ past)
-          → (newest (is_data_of X) (ack_frame Y key course ∷ past) ≤ newest faulted (ack_frame Y key course ∷ past)) ⊎ DataPends X (ack_frame Y key course ∷ past) c ⊎ AckPends X Y (ack_frame Y key course ∷ past) cy
-      go Came stays all = inr (inr (record {
-        n = length past + 1;
-        frame = ack_frame Y key Came;
-        older = past;
-        from = omega (arith, inside);
-        inside = omega arith;
-        here = at_top _ past;
-        is = is_ack-frame Y key Came;
-        comes_here = refl;
-        newest_is = ap (λ (p : List Sent). length (acked Y p)) (at_top _ past) ∙ len all;
-      }))
-      go Gone stays all = inl (omega (arith, stays, newest_inside (is_data_of X) past))
-      go Late stays all = inl (omega (arith, stays, newest_inside (is_data_of X) past))
+  -- Y acknowledges the newest fragment of X
+  pub progress_acked : {key : Key} {course : Course} {c : ℕ} → Progress X Y past cx cy released
+      → is_data_of X (ack_frame Y key course) ≡ false → cy ≤ length past
+      → acked Y (ack_frame Y key course ∷ past) ≡ said X (ack_frame Y key course ∷ past)
+      → Progress X Y (ack_frame Y key course ∷ past) c cy released
+  progress_acked {key} {course} {c} progress other inside all =
+      let stays : newest (is_data_of X) (ack_frame Y key course ∷ past) ≡ newest (is_data_of X) past = cond-false _ _ _ other in
+      record { since = omega (arith, progress.since, stays); cause = go course stays all } where
+        go : (course : Course) → newest (is_data_of X) (ack_frame Y key course ∷ past) ≡ newest (is_data_of X) past
+            → acked Y (ack_frame Y key course ∷ past) ≡ said X (ack_frame Y key course ∷ past)
+            → (newest (is_data_of X) (ack_frame Y key course ∷ past) ≤ newest faulted (ack_frame Y key course ∷ past))
+            ⊎ DataPends X (ack_frame Y key course ∷ past) c ⊎ AckPends X Y (ack_frame Y key course ∷ past) cy
+        go Came stays all = inr (inr (record {
+          n = length past + 1;
+          frame = ack_frame Y key Came;
+          older = past;
+          from = omega (arith, inside);
+          inside = omega arith;
+          here = at_top;
+          is = is_ack-frame Y key Came;
+          comes_here = refl;
+          newest_is = ap (λ p. length (acked Y p)) (at_top {past = past}) ∙ len all;
+        }))
+        go Gone stays all = inl (omega (arith, stays, newest_inside (is_data_of X) past))
+        go Late stays all = inl (omega (arith, stays, newest_inside (is_data_of X) past))
 
--- a cursor moves by one frame that isn't what X waits for
-pub progress_x : (X Y : End) (past : List Sent) (cx cy released : ℕ) → Progress X Y past cx cy released
-    → ((pends : DataPends X past cx) → pends.n ≡ cx + 1 → ⊥) → Progress X Y past (cx + 1) cy released
-progress_x X Y past cx cy released progress not = record {
-  since = progress.since;
-  cause = elim (progress.cause) [
-    | inl fault ↦ inl fault
-    | inr (inl pends) ↦ inr (inl (record { n = pends.n; frame = pends.frame; older = pends.older; from = (let apart = not pends in omega (arith, pends.from, apart)); inside = pends.inside; here = pends.here; is = pends.is; comes_here = pends.comes_here; newest_is = pends.newest_is }))
-    | inr (inr pends) ↦ inr (inr pends)
-  ];
-}
+  -- a cursor moves by one frame that isn't what X waits for
+  pub progress_x : Progress X Y past cx cy released
+      → ((pends : DataPends X past cx) → pends.n ≡ cx + 1 → ⊥) → Progress X Y past (cx + 1) cy released
+  progress_x progress not = record {
+    since = progress.since;
+    cause = elim progress.cause [
+      | inl fault ↦ inl fault
+      | inr (inl pends) ↦
+          inr (inl (record {
+            n = pends.n;
+            frame = pends.frame;
+            older = pends.older;
+            from = (let apart = not pends in omega (arith, pends.from, apart));
+            inside = pends.inside;
+            here = pends.here;
+            is = pends.is;
+            comes_here = pends.comes_here;
+            newest_is = pends.newest_is;
+          }))
+      | inr (inr pends) ↦ inr (inr pends)
+    ];
+  }
 
-pub progress_y : (X Y : End) (past : List Sent) (cx cy released : ℕ) → Progress X Y past cx cy released
-    → ((pends : AckPends X Y past cy) → pends.n ≡ cy + 1 → ⊥) → Progress X Y past cx (cy + 1) released
-progress_y X Y past cx cy released progress not = record {
-  since = progress.since;
-  cause = elim (progress.cause) [
-    | inl fault ↦ inl fault
-    | inr (inl pends) ↦ inr (inl pends)
-    | inr (inr pends) ↦ inr (inr (record { n = pends.n; frame = pends.frame; older = pends.older; from = (let apart = not pends in omega (arith, pends.from, apart)); inside = pends.inside; here = pends.here; is = pends.is; comes_here = pends.comes_here; newest_is = pends.newest_is }))
-  ];
-}
+  pub progress_y : Progress X Y past cx cy released
+      → ((pends : AckPends X Y past cy) → pends.n ≡ cy + 1 → ⊥) → Progress X Y past cx (cy + 1) released
+  progress_y progress not = record {
+    since = progress.since;
+    cause = elim progress.cause [
+      | inl fault ↦ inl fault
+      | inr (inl pends) ↦ inr (inl pends)
+      | inr (inr pends) ↦
+          inr (inr (record {
+            n = pends.n;
+            frame = pends.frame;
+            older = pends.older;
+            from = (let apart = not pends in omega (arith, pends.from, apart));
+            inside = pends.inside;
+            here = pends.here;
+            is = pends.is;
+            comes_here = pends.comes_here;
+            newest_is = pends.newest_is;
+          }))
+    ];
+  }

@@ -1,14 +1,8 @@
 -- The messages of both ends: how many pieces stand before one, and what stays of the rules when a message is added.
-use Rattle.std.proofs.Common.{◌≡◌, ◌⊎◌, ℕ, zero, suc, ◌+◌, ◌<◌, ◌≤◌, Bool, true, false, cond, ◌&&◌, List, [], ◌∷◌, ◌++◌, length, Option, Some, None, refl, sym, ap, ◌∙◌, arith, inl, inr}
-use Rattle.std.proofs.lemmas.Bool.{cases_lt, cond-true}
-use Rattle.padp_link.specs.declared.piece.Key.{Key}
-use Rattle.padp_link.specs.Pieces.{piece_count}
-use Rattle.trace_text.specs.Past.{Sent, is_end, same_key, first, add, data_of, said, is_data_of, is_newest_key, is_repeat}
-use Rattle.trace_text.specs.Proper.{AcksNewest, AnswersNewest, IsKnown, IfAnswers, BeginInTurn}
-use Rattle.trace_text.specs.Talks.{Talk, Turn, messages_of, pieces_before, answered_by}
-use Rattle.trace_text.specs.declared.frame.End.{End}
-use Rattle.trace_text.specs.declared.frame.End.TheVariants.{Handheld, Desktop}
-use Rattle.line_laws.specs.Talking.{count_messages, say}
+use Rattle.line_laws.proofs.Names.{rules, ◌≡◌, ◌⊎◌, ℕ, zero, suc, ◌+◌, ◌<◌, ◌≤◌, Bool, true, false, List, [], ◌∷◌, ◌++◌, length, Option, Some, None, refl, sym}
+use Rattle.line_laws.proofs.Names.{ap, ◌∙◌, arith, inl, inr, cases_lt, piece_count, Sent, is_end, first, said, is_data_of, is_repeat, AcksNewest, AnswersNewest}
+use Rattle.line_laws.proofs.Names.{IsKnown, IfAnswers, BeginInTurn, Talk, Turn, messages_of, pieces_before, answered_by, End, Handheld, Desktop, count_messages}
+use Rattle.line_laws.proofs.Names.{say}
 
 pub some_pieces : (size : ℕ) → 0 < piece_count size
 some_pieces size = omega arith
@@ -29,7 +23,7 @@ pieces-stay : (messages : List (List ℕ)) (message : List ℕ) (k : ℕ) → k 
     → pieces_before (messages ++ message ∷ []) k ≡ pieces_before messages k
 pieces-stay messages message zero inside = refl
 pieces-stay [] message (suc k) inside = absurd (omega arith)
-pieces-stay (first ∷ later) message (suc k) inside = ap (λ (n : ℕ). piece_count (length first) + n) (pieces-stay later message k (omega arith))
+pieces-stay (first ∷ later) message (suc k) inside = ap (λ n. piece_count (length first) + n) (pieces-stay later message k (omega arith))
 
 one_more : (messages : List (List ℕ)) (message : List ℕ) → length (messages ++ message ∷ []) ≡ length messages + 1
 one_more [] message = refl
@@ -74,7 +68,8 @@ count-say Handheld message talk = one_more talk.handheld message
 count-say Desktop message talk = one_more talk.desktop message
 
 pub pieces-say : (X : End) (message : List ℕ) (talk : Talk)
-    → pieces_before (messages_of X (say X message talk)) (count_messages X talk + 1) ≡ pieces_before (messages_of X talk) (count_messages X talk) + piece_count (length message)
+    → pieces_before (messages_of X (say X message talk)) (count_messages X talk + 1) ≡ pieces_before (messages_of X talk)
+    (count_messages X talk) + piece_count (length message)
 pieces-say Handheld message talk = pieces-all talk.handheld message
 pieces-say Desktop message talk = pieces-all talk.desktop message
 
@@ -86,11 +81,12 @@ messages-other Desktop Desktop message talk apart = absurd cc
 
 -- ---- the rules stay
 
-pub known-longer : (X Y : End) (talk later : Talk) (came : ℕ → Bool) (past : List Sent) → Longer talk later → IsKnown X Y talk came past
+pub known-longer : {X Y : End} {talk later : Talk} {came : ℕ → Bool} {past : List Sent} → Longer talk later → IsKnown X Y talk came past
     → IsKnown X Y later came past
-known-longer X Y talk later came past longer was = record { n = was.n; reaches = was.reaches; cause = go was.reaches.frame was.cause }
+known-longer {X} {Y} {talk} {later} {past} longer was = record { n = was.n; reaches = was.reaches; cause = go was.reaches.frame was.cause }
   where
-    go : (frame : Sent) → AcksNewest X Y past was.n frame ⊎ AnswersNewest X Y talk past was.n frame → AcksNewest X Y past was.n frame ⊎ AnswersNewest X Y later past was.n frame
+    go : (frame : Sent) → AcksNewest X Y past was.n frame ⊎ AnswersNewest X Y talk past was.n frame
+        → AcksNewest X Y past was.n frame ⊎ AnswersNewest X Y later past was.n frame
     go frame (inl ack) = inl ack
     go frame (inr answer) = inr (record {
       number = answer.number;
@@ -99,13 +95,17 @@ known-longer X Y talk later came past longer was = record { n = was.n; reaches =
       there = omega (arith, longer.more Y (answer.answer + 1) (omega (arith, answer.there)));
       answers = answer.answers;
       newest_ends = longer.stays X (answer.number + 1) (omega (arith, answer.asked)) ∙ answer.newest_ends;
-      bears = record { is = answer.bears.is; number_is = answer.bears.number_is ∙ ap (λ (k : ℕ). k + 1) (sym (longer.stays Y answer.answer (omega (arith, answer.there)))) };
+      bears = record {
+        is = answer.bears.is;
+        number_is = answer.bears.number_is
+            ∙ ap (λ k. k + 1) (sym (longer.stays Y answer.answer (omega (arith, answer.there))));
+      };
     })
 
-pub answers-longer : (turn : Option Turn) (talk later : Talk) (came : ℕ → Bool) (past : List Sent) → Longer talk later → IfAnswers turn talk came past
+pub answers-longer : (turn : Option Turn) {talk later : Talk} (came : ℕ → Bool) (past : List Sent) → Longer talk later → IfAnswers turn talk came past
     → IfAnswers turn later came past
-answers-longer None talk later came past longer was = tt
-answers-longer (Some turn) talk later came past longer was = record {
+answers-longer None came past longer was = tt
+answers-longer (Some turn) came past longer was = record {
   n = was.n;
   reaches = was.reaches;
   there = omega (arith, longer.more turn.end (turn.number + 1) (omega (arith, was.there)));
@@ -115,35 +115,30 @@ answers-longer (Some turn) talk later came past longer was = record {
 -- a new fragment is one more
 pub new-says : (X : End) (frame : Sent) (past : List Sent) → is_data_of X frame ≡ true → is_repeat X frame past ≡ false
     → length (said X (frame ∷ past)) ≡ length (said X past) + 1
-new-says X frame past is new =
-    let picked : data_of X frame ≡ Some frame.key = cond-true _ _ _ is in
-    let other : is_newest_key frame.key (said X past) ≡ false = ap (λ (b : Bool). b && is_newest_key frame.key (said X past)) (sym is) ∙ new in
-    ap (λ (o : Option Key). length (add o (said X past))) picked ∙ go (said X past) other
-  where
-    go : (keys : List Key) → is_newest_key frame.key keys ≡ false → length (add (Some frame.key) keys) ≡ length keys + 1
-    go [] other = refl
-    go (newest ∷ older) other = ap (λ (b : Bool). length (cond b (newest ∷ older) (frame.key ∷ newest ∷ older))) other ∙ omega arith
+new-says X frame past is new = search rules
 
 said-grows : (X : End) (frame : Sent) (past : List Sent) → length (said X past) ≤ length (said X (frame ∷ past))
-said-grows X frame past = go (data_of X frame) (said X past)
-  where
-    go : (picked : Option Key) (keys : List Key) → length keys ≤ length (add picked keys)
-    go None keys = omega arith
-    go (Some key) [] = omega arith
-    go (Some key) (newest ∷ older) = elim (same_key key newest) as (λ b. length (newest ∷ older) ≤ length (cond b (newest ∷ older) (key ∷ newest ∷ older))) [ true ↦ omega arith | false ↦ omega arith ]
+said-grows X frame past = search rules
 
-pub begins-longer : (X Y : End) (talk later : Talk) (came : ℕ → Bool) (past : List Sent) → Longer talk later
+pub begins-longer : (X Y : End) {talk later : Talk} (came : ℕ → Bool) (past : List Sent) → Longer talk later
     → length (said X past) ≤ pieces_before (messages_of X talk) (count_messages X talk) → BeginInTurn X Y talk came past
     → BeginInTurn X Y later came past
-begins-longer X Y talk later came [] longer most was = tt
-begins-longer X Y talk later came (frame ∷ past) longer most was = (
+begins-longer X Y came [] longer most was = tt
+begins-longer X Y {talk} {later} came (frame ∷ past) longer most was = (
   λ is new. let rules = was.0 is new in
       let one = new-says X frame past is new in (
-        λ some. known-longer X Y talk later came past longer (rules.0 some),
+        λ some. known-longer longer (rules.0 some),
         λ number less begins. elim (cases_lt number (count_messages X talk)) [
-          | inl old ↦ answers-longer (answered_by X number) talk later came past longer (rules.1 number old (sym (longer.stays X number (omega (arith, old))) ∙ begins))
-          | inr added ↦ absurd (omega (arith, one, most, begins, longer.stays X (count_messages X talk) (omega arith), pieces-grow (messages_of X later) (count_messages X talk) number added))
+          | inl old ↦ answers-longer (answered_by X number) came past longer (rules.1 number old (sym (longer.stays X number (omega (arith, old))) ∙ begins))
+          | inr added ↦ absurd (omega (
+            arith,
+            one,
+            most,
+            begins,
+            longer.stays X (count_messages X talk) (omega arith),
+            pieces-grow (messages_of X later) (count_messages X talk) number added,
+          ))
         ],
       ),
-  begins-longer X Y talk later came past longer (omega (arith, most, said-grows X frame past)) was.1,
+  begins-longer X Y came past longer (omega (arith, most, said-grows X frame past)) was.1,
 )

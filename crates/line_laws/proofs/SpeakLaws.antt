@@ -1,48 +1,43 @@
 -- What an end says and hears over a pushed frame.
-use Rattle.std.proofs.Common.{◌≡◌, ℕ, Bool, false, List, ◌∷◌, length, sym, ap, subst, ◌∙◌, arith, inl, inr}
-use Rattle.std.proofs.lemmas.Bool.{cases_lt}
-use Rattle.padp_link.specs.declared.piece.Key.{Key}
-use Rattle.padp_link.specs.Receivers.{ReceiverValue}
-use Rattle.trace_text.specs.Past.{Course, Sent, is_end, first, data_of, said, acked, at, IsDataOf}
-use Rattle.trace_text.specs.declared.frame.End.{End}
-use Rattle.trace_text.specs.declared.frame.End.TheVariants.{Handheld, Desktop}
-use Rattle.line_laws.specs.Core.{Side, part_now, AllBear, Speaks, Hears, data_frame, ack_frame}
+use Rattle.line_laws.proofs.Names.{rules, ◌≡◌, ℕ, Bool, false, List, ◌∷◌, length, sym, ap, subst, ◌∙◌, arith, inl, inr, cases_lt, Key, ReceiverValue, Course}
+use Rattle.line_laws.proofs.Names.{Sent, is_end, first, data_of, said, acked, at, IsDataOf, End, Handheld, Desktop, Side, part_now, AllBear, Speaks, Hears}
+use Rattle.line_laws.proofs.Names.{data_frame, ack_frame}
 use Rattle.line_laws.proofs.PastLaws.{at_all, at_push, keys_below}
 
-pub all_bear-push : (X : End) (frame : Sent) (past : List Sent) (bytes : List ℕ) → AllBear X past bytes → said X (frame ∷ past) ≡ said X past
+pub all_bear-push : (X : End) (frame : Sent) (past : List Sent) {bytes : List ℕ} → AllBear X past bytes → said X (frame ∷ past) ≡ said X past
     → (IsDataOf X frame → frame.bytes ≡ bytes) → AllBear X (frame ∷ past) bytes
-all_bear-push X frame past bytes all same now n found older inside here is newest = elim (cases_lt (length past) n) [
+all_bear-push X frame past {bytes} all same now n found older inside here is newest = elim (cases_lt (length past) n) [
   | inl new ↦ (let e : n ≡ length (frame ∷ past) = omega arith in
-      let all_of : frame ∷ past ≡ found ∷ older = sym (ap (λ (k : ℕ). at k (frame ∷ past)) e ∙ at_all (frame ∷ past)) ∙ here in
+      let all_of : frame ∷ past ≡ found ∷ older = sym (ap (λ k. at k (frame ∷ past)) e ∙ at_all (frame ∷ past)) ∙ here in
       let it : frame ≡ found = cc in
-      subst (λ (f : Sent). f.bytes ≡ bytes) it (now (subst (λ (f : Sent). IsDataOf X f) (sym it) is)))
-  | inr old ↦ all n found older old (sym (at_push n frame past old) ∙ here) is (newest ∙ ap (λ (s : List Key). length s) same)
+      subst (λ f. f.bytes ≡ bytes) it (now (subst (λ f. IsDataOf X f) (sym it) is)))
+  | inr old ↦ all n found older old (sym (at_push frame past old) ∙ here) is (newest ∙ ap length same)
 ]
 
-pub all_bear-new : (X : End) (key : Key) (frame : Sent) (past : List Sent) (bytes : List ℕ) → said X (frame ∷ past) ≡ key ∷ said X past
+pub all_bear-new : (X : End) {key : Key} (frame : Sent) (past : List Sent) {bytes : List ℕ} → said X (frame ∷ past) ≡ key ∷ said X past
     → frame.bytes ≡ bytes → AllBear X (frame ∷ past) bytes
-all_bear-new X key frame past bytes more now n found older inside here is newest = elim (cases_lt (length past) n) [
+all_bear-new X frame past {bytes} more now n found older inside here is newest = elim (cases_lt (length past) n) [
   | inl new ↦ (let e : n ≡ length (frame ∷ past) = omega arith in
-      let all_of : frame ∷ past ≡ found ∷ older = sym (ap (λ (k : ℕ). at k (frame ∷ past)) e ∙ at_all (frame ∷ past)) ∙ here in
+      let all_of : frame ∷ past ≡ found ∷ older = sym (ap (λ k. at k (frame ∷ past)) e ∙ at_all (frame ∷ past)) ∙ here in
       let it : frame ≡ found = cc in
-      subst (λ (f : Sent). f.bytes ≡ bytes) it now)
+      subst (λ f. f.bytes ≡ bytes) it now)
   | inr old ↦ (let below = keys_below (data_of X) n past in
-      let was : at n past ≡ found ∷ older = sym (at_push n frame past old) ∙ here in
-      absurd (omega (arith, below, newest, ap (λ (s : List Key). length s) more, ap (λ (p : List Sent). length (said X p)) was)))
+      let was : at n past ≡ found ∷ older = sym (at_push frame past old) ∙ here in
+      absurd (omega (arith, below, newest, ap length more, ap (λ p. length (said X p)) was)))
 ]
 
-pub speaks_push : (X : End) (frame : Sent) (past : List Sent) (fresh : Bool) (side : Side) → Speaks X past fresh side
+pub speaks_push : {X : End} {frame : Sent} {past : List Sent} {fresh : Bool} {side : Side} → Speaks X past fresh side
     → said X (frame ∷ past) ≡ said X past → (IsDataOf X frame → frame.bytes ≡ (part_now side).bytes) → Speaks X (frame ∷ past) fresh side
-speaks_push X frame past fresh side speaks same now = record {
+speaks_push {X} {frame} {past} speaks same now = record {
   waits = speaks.waits;
   newest = λ waits. ap first same ∙ speaks.newest waits;
   newest_id = λ key is. speaks.newest_id key (ap first (sym same) ∙ is);
-  bytes = λ waits. all_bear-push X frame past _ (speaks.bytes waits) same now;
+  bytes = λ waits. all_bear-push X frame past (speaks.bytes waits) same now;
 }
 
-pub hears_push : (Y : End) (frame : Sent) (past : List Sent) (fresh : Bool) (side : Side) (receiver : ReceiverValue)
+pub hears_push : {Y : End} {frame : Sent} {past : List Sent} {fresh : Bool} {side : Side} {receiver : ReceiverValue}
     → Hears Y past fresh side receiver → acked Y (frame ∷ past) ≡ acked Y past → Hears Y (frame ∷ past) fresh side receiver
-hears_push Y frame past fresh side receiver hears same = record { last_is = hears.last_is ∙ ap first (sym same); receives = hears.receives }
+hears_push hears same = search rules
 
 -- an acknowledgement is no data
 pub ack_no_data : (X Y : End) (key : Key) (course : Course) → IsDataOf X (ack_frame Y key course) → ⊥

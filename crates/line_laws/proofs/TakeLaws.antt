@@ -1,17 +1,9 @@
 -- What an end does with a frame that comes.
-use Rattle.std.proofs.Common.{◌≡◌, ◌⊎◌, ℕ, ◌+◌, ◌<◌, ◌≤◌, Bool, true, false, cond, nat_eq, List, [], ◌∷◌, length, Some, None, refl, sym, ap, subst, ◌∙◌, arith, inl, inr}
-use Rattle.std.proofs.lemmas.Bool.{both_ways, cond-true, cond-false}
-use Rattle.padp_link.specs.declared.piece.Key.{Key}
-use Rattle.padp_link.specs.declared.receiver.Taken.{Taken}
-use Rattle.padp_link.specs.declared.receiver.Taken.TheVariants.{Accepted, Whole, Repeated, Dropped}
-use Rattle.padp_link.specs.Pieces.{piece_count}
-use Rattle.padp_link.specs.Collecting.{data_fragment}
-use Rattle.padp_link.specs.Receivers.{ReceiverValue, Answers, after_answer}
-use Rattle.padp_link.proofs.ReceiverLaws.{IsBefore, takes_piece}
-use Rattle.padp_link.proofs.NeighbourLaws.{next_key_differs}
-use Rattle.trace_text.specs.Past.{Course, Sent, first, data_of, ack_of, said, acked, at, IsDataOf, IsAckOf}
-use Rattle.trace_text.specs.declared.frame.End.{End}
-use Rattle.line_laws.specs.Core.{Apart, Follows, Counts, Side, Waiting, key_now, part_now, Speaks, Awaits, Answering, Core, data_frame, ack_frame}
+use Rattle.line_laws.proofs.Names.{rules, ◌≡◌, ◌⊎◌, ℕ, ◌+◌, ◌<◌, ◌≤◌, Bool, true, false, cond, nat_eq, List, [], ◌∷◌, length, Some, refl, sym, ap, subst, ◌∙◌}
+use Rattle.line_laws.proofs.Names.{arith, inl, inr, both_ways, cond-true, cond-false, Key, Taken, Accepted, Whole, Repeated, Dropped, piece_count}
+use Rattle.line_laws.proofs.Names.{data_fragment, ReceiverValue, Answers, after_answer, IsBefore, takes_piece, next_key_differs, Course, Sent, first, data_of}
+use Rattle.line_laws.proofs.Names.{ack_of, said, acked, at, IsDataOf, IsAckOf, End, Apart, Follows, Counts, Side, Waiting, key_now, part_now, Awaits, Answering}
+use Rattle.line_laws.proofs.Names.{Core, data_frame, ack_frame}
 use Rattle.line_laws.proofs.PastLaws.{keys_apart, keys_below}
 use Rattle.line_laws.proofs.CountLaws.{counts_later, IsNewest, pending_data, pending_ack}
 use Rattle.line_laws.proofs.StepLaws.{turned, repeats, begins, answers_last, accepts, ends}
@@ -22,9 +14,9 @@ pub record Took (x : Side) (receiver : ReceiverValue) (answer : Taken) : Type 0 
   pub last : (after_answer receiver x.id (part_now x) answer).last ≡ Some (key_now x)
   pub awaits : Awaits x.id (x.acknowledged + 1) x.message (after_answer receiver x.id (part_now x) answer)
 
-pub takes : (x : Side) (receiver : ReceiverValue) (answer : Taken) → Awaits x.id x.acknowledged x.message receiver
+pub takes : {x : Side} {receiver : ReceiverValue} {answer : Taken} → Awaits x.id x.acknowledged x.message receiver
     → (receiver.last ≡ Some (key_now x) → ⊥) → Waiting x → Answers receiver x.id (part_now x) answer → Took x receiver answer
-takes x receiver answer awaits new waits answers =
+takes {x} {receiver} {answer} awaits new waits answers =
     let before : IsBefore x.id x.acknowledged x.message receiver = record { awaited = awaits.awaited; pieces = awaits.pieces; fresh = new } in
     let step = takes_piece x.id x.acknowledged x.message receiver answer before waits answers in
     record {
@@ -42,94 +34,103 @@ takes x receiver answer awaits new waits answers =
 
 -- the newest fragment was taken: it is the last one of its message where it is whole; the other end, if it waits, waits on the last
 -- piece of its own message, and this one is a first piece; and the core holds once the frame is acknowledged and the other end waits no more
-pub record Accepting (X Y : End) (past : List Sent) (cy n : ℕ) (x y : Side) (rx ry : ReceiverValue) (key : Key) (bytes : List ℕ) (answer : Taken) (whole : Bool) : Type 0 where
+pub record Accepting (X Y : End) (past : List Sent) (cy n : ℕ) (x y : Side) (rx ry : ReceiverValue) (key : Key) (bytes : List ℕ)
+    (answer : Taken) (whole : Bool) : Type 0 where
   pub key_is : key ≡ key_now x
   pub waits : Waiting x
   pub whole_is : nat_eq (x.acknowledged + 1) (piece_count (length x.message)) ≡ whole
   pub answers : Waiting y → (x.acknowledged ≡ 0) × (y.acknowledged + 1 ≡ piece_count (length y.message))
   pub knows : length (said Y past) ≤ length (acked X (at n past))
-  pub core : (k : ℕ) (course : Course) → piece_count (length y.message) ≤ k → Core X Y (ack_frame Y key course ∷ past) n cy x (record y { acknowledged = k }) rx (after_answer ry (key.id) (data_fragment key bytes) answer) false false
+  pub core : (k : ℕ) (course : Course) → piece_count (length y.message) ≤ k
+      → Core X Y (ack_frame Y key course ∷ past) n cy x (record y { acknowledged = k }) rx
+      (after_answer ry (key.id) (data_fragment key bytes) answer) false false
 
-abbrev pub AfterData : (X Y : End) (past : List Sent) (cy n : ℕ) (x y : Side) (rx ry : ReceiverValue) (fx fy : Bool) (key : Key) (bytes : List ℕ) → Taken → Type 0
+abbrev pub AfterData : (X Y : End) (past : List Sent) (cy n : ℕ) (x y : Side) (rx ry : ReceiverValue) (fx fy : Bool) (key : Key) (bytes : List ℕ) → Taken
+    → Type 0
 AfterData X Y past cy n x y rx ry fx fy key bytes Repeated = (course : Course) → Core X Y (ack_frame Y key course ∷ past) n cy x y rx ry fx fy
 AfterData X Y past cy n x y rx ry fx fy key bytes Accepted = (fx ≡ true) × Accepting X Y past cy n x y rx ry key bytes Accepted false
 AfterData X Y past cy n x y rx ry fx fy key bytes Whole = (fx ≡ true) × Accepting X Y past cy n x y rx ry key bytes Whole true
 AfterData X Y past cy n x y rx ry fx fy key bytes Dropped = ⊥
 
--- a copy of the last fragment that was taken
-take_copy : (X Y : End) (past : List Sent) (cx cy n : ℕ) (x y : Side) (rx ry : ReceiverValue) (fx fy : Bool) (key : Key) (bytes : List ℕ) (answer : Taken)
-    → Apart X Y → Core X Y past cx cy x y rx ry fx fy → cx ≤ n → n ≤ length past
-    → first (acked Y past) ≡ Some key → Answers ry (key.id) (data_fragment key bytes) answer → AfterData X Y past cy n x y rx ry fx fy key bytes answer
-take_copy X Y past cx cy n x y rx ry fx fy key bytes Repeated apart core from inside copy answers = λ course. repeats X Y past cx cy x y rx ry fx fy n key course apart core from inside copy
-take_copy X Y past cx cy n x y rx ry fx fy key bytes Accepted apart core from inside copy answers = absurd (answers.0 (core.y_hears.last_is ∙ copy))
-take_copy X Y past cx cy n x y rx ry fx fy key bytes Whole apart core from inside copy answers = absurd (answers.0 (core.y_hears.last_is ∙ copy))
-take_copy X Y past cx cy n x y rx ry fx fy key bytes Dropped apart core from inside copy answers = absurd (answers.0 (core.y_hears.last_is ∙ copy))
+module _ {X Y : End} {past : List Sent} {cx cy : ℕ} {x y : Side} {rx ry : ReceiverValue} where
+  -- a copy of the last fragment that was taken
+  take_copy : {n : ℕ} {fx fy : Bool} {key : Key} (bytes : List ℕ) (answer : Taken)
+      → Apart X Y → Core X Y past cx cy x y rx ry fx fy → cx ≤ n → n ≤ length past
+      → first (acked Y past) ≡ Some key → Answers ry (key.id) (data_fragment key bytes) answer → AfterData X Y past cy n x y rx ry fx fy key bytes answer
+  take_copy bytes Repeated apart core from inside copy answers = λ course. repeats apart core from inside copy
+  take_copy bytes Accepted apart core from inside copy answers = absurd (answers.0 (core.y_hears.last_is ∙ copy))
+  take_copy bytes Whole apart core from inside copy answers = absurd (answers.0 (core.y_hears.last_is ∙ copy))
+  take_copy bytes Dropped apart core from inside copy answers = absurd (answers.0 (core.y_hears.last_is ∙ copy))
 
--- the newest fragment
-take_newest : (X Y : End) (past : List Sent) (cx cy n : ℕ) (x y : Side) (rx ry : ReceiverValue) (answer : Taken) → Apart X Y
-    → Core X Y past cx cy x y rx ry true false → cx ≤ n → n ≤ length past
-    → length (acked Y past) < length (said X (at n past)) → Answers ry x.id (part_now x) answer → (whole : Bool)
-    → nat_eq (x.acknowledged + 1) (piece_count (length x.message)) ≡ whole → Took x ry answer
-    → Accepting X Y past cy n x y rx ry (key_now x) ((part_now x).bytes) answer whole
-take_newest X Y past cx cy n x y rx ry answer apart core from inside behind answers whole whole_is took = record {
-  key_is = refl;
-  waits = core.x_speaks.waits refl;
-  whole_is = whole_is;
-  answers = answers_last X Y past cx cy x y rx ry false core;
-  knows = (core.there.fits n from inside).begun behind;
-  core = λ k course idle. accepts X Y past cx cy x y rx ry (after_answer ry x.id (part_now x) answer) n k (key_now x) course apart core from inside (core.x_speaks.newest (core.x_speaks.waits refl)) behind idle (took.last) (λ below. took.awaits);
-}
+  -- the newest fragment
+  take_newest : {n : ℕ} {answer : Taken} → Apart X Y
+      → Core X Y past cx cy x y rx ry true false → cx ≤ n → n ≤ length past
+      → length (acked Y past) < length (said X (at n past)) → Answers ry x.id (part_now x) answer → {whole : Bool}
+      → nat_eq (x.acknowledged + 1) (piece_count (length x.message)) ≡ whole → Took x ry answer
+      → Accepting X Y past cy n x y rx ry (key_now x) ((part_now x).bytes) answer whole
+  take_newest {n} apart core from inside behind answers whole_is took = record {
+    key_is = refl;
+    waits = core.x_speaks.waits refl;
+    whole_is = whole_is;
+    answers = answers_last core;
+    knows = (core.there.fits n from inside).begun behind;
+    core = λ k course idle. accepts apart core from inside (core.x_speaks.newest (core.x_speaks.waits refl)) behind idle took.last (λ below. took.awaits);
+  }
 
--- the newest fragment of X wasn't the last key that the other end took
-newest_is_new : (X Y : End) (past : List Sent) (cx cy : ℕ) (x y : Side) (rx ry : ReceiverValue) (fy : Bool) → Core X Y past cx cy x y rx ry true fy
-    → ry.last ≡ Some (key_now x) → ⊥
-newest_is_new X Y past cx cy x y rx ry fy core same =
-    let was = core.there.follows in
-    let newest = core.x_speaks.newest (core.x_speaks.waits refl) in
-    let it : was.0 ≡ key_now x = (let s : Some (was.0) ≡ Some (key_now x) = sym (ap first (was.1)) ∙ newest in cc) in
-    keys_apart (data_of X) past (was.0) (acked Y past) (was.1) (sym core.y_hears.last_is ∙ same ∙ ap (λ (k : Key). Some k) (sym it))
+  -- the newest fragment of X wasn't the last key that the other end took
+  newest_is_new : {fy : Bool} → Core X Y past cx cy x y rx ry true fy → ry.last ≡ Some (key_now x) → ⊥
+  newest_is_new core same =
+      let was = core.there.follows in
+      let newest = core.x_speaks.newest (core.x_speaks.waits refl) in
+      let it : was.0 ≡ key_now x = (let s : Some was.0 ≡ Some (key_now x) = sym (ap first was.1) ∙ newest in cc) in
+      keys_apart (data_of X) past was.1 (sym core.y_hears.last_is ∙ same ∙ ap Some (sym it))
 
-after_newest : (X Y : End) (past : List Sent) (cx cy n : ℕ) (x y : Side) (rx ry : ReceiverValue) (answer : Taken) → Apart X Y
-    → Core X Y past cx cy x y rx ry true false → cx ≤ n → n ≤ length past
-    → length (acked Y past) < length (said X (at n past)) → Answers ry x.id (part_now x) answer
-    → AfterData X Y past cy n x y rx ry true false (key_now x) ((part_now x).bytes) answer
-after_newest X Y past cx cy n x y rx ry answer apart core from inside behind answers =
-    go answer (nat_eq (x.acknowledged + 1) (piece_count (length x.message))) refl answers (takes x ry answer awaits (newest_is_new X Y past cx cy x y rx ry false core) waits answers) where
-      waits : Waiting x
-      waits = core.x_speaks.waits refl
+  after_newest : {n : ℕ} (answer : Taken) → Apart X Y
+      → Core X Y past cx cy x y rx ry true false → cx ≤ n → n ≤ length past
+      → length (acked Y past) < length (said X (at n past)) → Answers ry x.id (part_now x) answer
+      → AfterData X Y past cy n x y rx ry true false (key_now x) ((part_now x).bytes) answer
+  after_newest {n} answer apart core from inside behind answers =
+      go answer (nat_eq (x.acknowledged + 1) (piece_count (length x.message))) refl answers (takes awaits (newest_is_new core) waits answers) where
+        waits : Waiting x
+        waits = core.x_speaks.waits refl
 
-      awaits : Awaits x.id x.acknowledged x.message ry
-      awaits = core.y_hears.receives waits
+        awaits : Awaits x.id x.acknowledged x.message ry
+        awaits = core.y_hears.receives waits
 
-      go : (answer : Taken) (test : Bool) → nat_eq (x.acknowledged + 1) (piece_count (length x.message)) ≡ test → Answers ry x.id (part_now x) answer → Took x ry answer → AfterData X Y past cy n x y rx ry true false (key_now x) ((part_now x).bytes) answer
-      go Accepted false test answers took = (refl, take_newest X Y past cx cy n x y rx ry Accepted apart core from inside behind answers false test took)
-      go Whole true test answers took = (refl, take_newest X Y past cx cy n x y rx ry Whole apart core from inside behind answers true test took)
-      go Accepted true test answers took = absurd (let e : Accepted ≡ Whole = took.is ∙ cond-true _ Whole Accepted test in cc)
-      go Whole false test answers took = absurd (let e : Whole ≡ Accepted = took.is ∙ cond-false _ Whole Accepted test in cc)
-      go Repeated true test answers took = absurd (let e : Repeated ≡ Whole = took.is ∙ cond-true _ Whole Accepted test in cc)
-      go Repeated false test answers took = absurd (let e : Repeated ≡ Accepted = took.is ∙ cond-false _ Whole Accepted test in cc)
-      go Dropped true test answers took = absurd (let e : Dropped ≡ Whole = took.is ∙ cond-true _ Whole Accepted test in cc)
-      go Dropped false test answers took = absurd (let e : Dropped ≡ Accepted = took.is ∙ cond-false _ Whole Accepted test in cc)
+        go : (answer : Taken) (test : Bool) → nat_eq (x.acknowledged + 1) (piece_count (length x.message)) ≡ test → Answers ry x.id (part_now x) answer
+            → Took x ry answer → AfterData X Y past cy n x y rx ry true false (key_now x) ((part_now x).bytes) answer
+        go Accepted false test answers took = (refl, take_newest apart core from inside behind answers test took)
+        go Whole true test answers took = (refl, take_newest apart core from inside behind answers test took)
+        go Accepted true test answers took = absurd (let e : Accepted ≡ Whole = took.is ∙ cond-true _ Whole Accepted test in cc)
+        go Whole false test answers took = absurd (let e : Whole ≡ Accepted = took.is ∙ cond-false _ Whole Accepted test in cc)
+        go Repeated true test answers took = absurd (let e : Repeated ≡ Whole = took.is ∙ cond-true _ Whole Accepted test in cc)
+        go Repeated false test answers took = absurd (let e : Repeated ≡ Accepted = took.is ∙ cond-false _ Whole Accepted test in cc)
+        go Dropped true test answers took = absurd (let e : Dropped ≡ Whole = took.is ∙ cond-true _ Whole Accepted test in cc)
+        go Dropped false test answers took = absurd (let e : Dropped ≡ Accepted = took.is ∙ cond-false _ Whole Accepted test in cc)
 
--- A data frame of X comes, whatever its answer: it is never dropped.
-pub take_data : (X Y : End) (past : List Sent) (cx cy n : ℕ) (x y : Side) (rx ry : ReceiverValue) (fx fy : Bool) (frame : Sent) (older : List Sent) (answer : Taken)
-    → Apart X Y → Core X Y past cx cy x y rx ry fx fy → cx ≤ n → n ≤ length past
-    → at n past ≡ frame ∷ older → IsDataOf X frame → Answers ry (frame.key.id) (data_fragment (frame.key) (frame.bytes)) answer
-    → AfterData X Y past cy n x y rx ry fx fy (frame.key) (frame.bytes) answer
-take_data X Y past cx cy n x y rx ry fx fy frame older answer apart core from inside here is answers = elim (pending_data X Y past fx cx n frame older core.there from inside here is) [
-  | inl copy ↦ take_copy X Y past cx cy n x y rx ry fx fy (frame.key) (frame.bytes) answer apart core from inside (copy.key) answers
-  | inr newest ↦ go fx fy core newest
-] where
-  go : (fx fy : Bool) → Core X Y past cx cy x y rx ry fx fy → IsNewest X Y frame n past fx → AfterData X Y past cy n x y rx ry fx fy (frame.key) (frame.bytes) answer
-  go false fy core newest = absurd (let e = newest.is_fresh in cc)
-  go true true core newest = absurd (let e = core.one refl in cc)
-  go true false core newest =
-      let waits = core.x_speaks.waits refl in
-      let key : key_now x ≡ frame.key = (let s : Some (key_now x) ≡ Some (frame.key) = sym (core.x_speaks.newest waits) ∙ newest.key in cc) in
-      let bytes : frame.bytes ≡ (part_now x).bytes = core.x_speaks.bytes waits n frame older inside here is (ap (λ (p : List Sent). length (said X p)) (sym here) ∙ newest.newest) in
-      let answers_x : Answers ry x.id (part_now x) answer = subst (λ (b : List ℕ). Answers ry x.id (data_fragment (key_now x) b) answer) bytes (subst (λ (k : Key). Answers ry (k.id) (data_fragment k (frame.bytes)) answer) (sym key) answers) in
-      let all = after_newest X Y past cx cy n x y rx ry answer apart core from inside (newest.behind) answers_x in
-      subst (λ (k : Key). AfterData X Y past cy n x y rx ry true false k (frame.bytes) answer) key (subst (λ (b : List ℕ). AfterData X Y past cy n x y rx ry true false (key_now x) b answer) (sym bytes) all)
+  -- A data frame of X comes, whatever its answer: it is never dropped.
+  pub take_data : {n : ℕ} {fx fy : Bool} {frame : Sent} {older : List Sent} (answer : Taken)
+      → Apart X Y → Core X Y past cx cy x y rx ry fx fy → cx ≤ n → n ≤ length past
+      → at n past ≡ frame ∷ older → IsDataOf X frame → Answers ry (frame.key.id) (data_fragment (frame.key) (frame.bytes)) answer
+      → AfterData X Y past cy n x y rx ry fx fy (frame.key) (frame.bytes) answer
+  take_data {n} {fx} {fy} {frame} {older} answer apart core from inside here is answers = elim (pending_data fx core.there from inside here is) [
+    | inl copy ↦ take_copy frame.bytes answer apart core from inside copy.key answers
+    | inr newest ↦ go fx fy core newest
+  ] where
+    go : (fx fy : Bool) → Core X Y past cx cy x y rx ry fx fy → IsNewest X Y frame n past fx
+        → AfterData X Y past cy n x y rx ry fx fy frame.key frame.bytes answer
+    go false fy core newest = absurd (let e = newest.is_fresh in cc)
+    go true true core newest = absurd (let e = core.one refl in cc)
+    go true false core newest =
+        let waits = core.x_speaks.waits refl in
+        let key : key_now x ≡ frame.key = (let s : Some (key_now x) ≡ Some frame.key = sym (core.x_speaks.newest waits) ∙ newest.key in cc) in
+        let bytes : frame.bytes ≡ (part_now x).bytes =
+        core.x_speaks.bytes waits n frame older inside here is (ap (λ p. length (said X p)) (sym here) ∙ newest.newest) in
+        let answers_x : Answers ry x.id (part_now x) answer = subst (λ b. Answers ry x.id (data_fragment (key_now x) b) answer) bytes
+        (subst (λ k. Answers ry k.id (data_fragment k frame.bytes) answer) (sym key) answers) in
+        let all = after_newest answer apart core from inside newest.behind answers_x in
+        subst (λ k. AfterData X Y past cy n x y rx ry true false k frame.bytes answer) key
+        (subst (λ b. AfterData X Y past cy n x y rx ry true false (key_now x) b answer) (sym bytes) all)
 
 -- ---- an acknowledgement
 
@@ -142,64 +143,69 @@ pub record Matched (X Y : End) (past : List Sent) (n : ℕ) (fx fy : Bool) (x y 
   pub knows : length (said Y past) ≤ length (acked X (at n past))
   pub alone : y.acknowledged + 1 < piece_count (length y.message) → (fx ≡ false) × (Waiting x → ⊥)
 
--- it bears the key of the waiting piece of Y: its newest fragment was taken, and where more pieces follow X waits for nothing
-pub matched : (X Y : End) (past : List Sent) (cx cy n : ℕ) (x y : Side) (rx ry : ReceiverValue) (fx fy : Bool) (frame : Sent) (older : List Sent)
-    → Core X Y past cx cy x y rx ry fx fy → cx ≤ n → n ≤ length past
-    → at n past ≡ frame ∷ older → IsAckOf X frame → Waiting y → key_now y ≡ frame.key → Matched X Y past n fx fy x y
-matched X Y past cx cy n x y rx ry fx fy frame older core from inside here is waits key =
-    let newest : first (said Y past) ≡ Some (frame.key) = core.y_speaks.newest waits ∙ ap (λ (k : Key). Some k) key in
-    let all = pending_ack X Y past fy cx n frame older _ core.there.fits core.back.follows from inside here is newest in
-    let none : fy ≡ false = none_of fy core.back.follows all in
-    record {
-      none_fresh = none;
-      knows = omega (arith, all);
-      alone = λ more. (
-        not_fresh fx none more (λ f. core.x_speaks.waits f) (core.both),
-        λ wx. elim (core.both wx waits) [
-          | inl a ↦ omega (arith, a.ends)
-          | inr a ↦ both_ways fy none a.is_fresh
-        ],
-      );
-    } where
-      none_of : (fy : Bool) → Follows (said Y past) (acked X past) fy → length (said Y past) ≡ length (acked X (at n past)) → fy ≡ false
-      none_of false follows all = refl
-      none_of true follows all = absurd (omega (arith, keys_below (ack_of X) n past, ap (λ (s : List Key). length s) (follows.1)))
+module _ {X Y : End} {past : List Sent} {cx cy n : ℕ} {x y : Side} {rx ry : ReceiverValue} {frame : Sent} {older : List Sent} where
+  -- it bears the key of the waiting piece of Y: its newest fragment was taken, and where more pieces follow X waits for nothing
+  pub matched : {fx fy : Bool}
+      → Core X Y past cx cy x y rx ry fx fy → cx ≤ n → n ≤ length past
+      → at n past ≡ frame ∷ older → IsAckOf X frame → Waiting y → key_now y ≡ frame.key → Matched X Y past n fx fy x y
+  matched {fx} {fy} core from inside here is waits key =
+      let newest : first (said Y past) ≡ Some frame.key = core.y_speaks.newest waits ∙ ap Some key in
+      let all = pending_ack Y past fy core.there.fits core.back.follows from inside here is newest in
+      let none : fy ≡ false = none_of fy core.back.follows all in
+      record {
+        none_fresh = none;
+        knows = omega (arith, all);
+        alone = λ more. (
+          not_fresh fx none more (λ f. core.x_speaks.waits f) core.both,
+          λ wx. elim (core.both wx waits) [
+            | inl a ↦ omega (arith, a.ends)
+            | inr a ↦ both_ways fy none a.is_fresh
+          ],
+        );
+      } where
+        none_of : (fy : Bool) → Follows (said Y past) (acked X past) fy → length (said Y past) ≡ length (acked X (at n past)) → fy ≡ false
+        none_of false follows all = refl
+        none_of true follows all = absurd (omega (arith, keys_below (ack_of X) n past, ap length follows.1))
 
-      not_fresh : (fx : Bool) → fy ≡ false → y.acknowledged + 1 < piece_count (length y.message) → (fx ≡ true → Waiting x) → (Waiting x → Waiting y → Answering fx x y ⊎ Answering fy y x) → fx ≡ false
-      not_fresh false none more wx both = refl
-      not_fresh true none more wx both = elim (both (wx refl) waits) [
-        | inl a ↦ absurd (omega (arith, a.ends))
-        | inr a ↦ absurd (both_ways fy none a.is_fresh)
-      ]
+        not_fresh : (fx : Bool) → fy ≡ false → y.acknowledged + 1 < piece_count (length y.message) → (fx ≡ true → Waiting x)
+            → (Waiting x → Waiting y → Answering fx x y ⊎ Answering fy y x) → fx ≡ false
+        not_fresh false none more wx both = refl
+        not_fresh true none more wx both = elim (both (wx refl) waits) [
+          | inl a ↦ absurd (omega (arith, a.ends))
+          | inr a ↦ absurd (both_ways fy none a.is_fresh)
+        ]
 
--- it acknowledges the last piece: nothing waits
-pub take_last_ack : (X Y : End) (past : List Sent) (cx cy n : ℕ) (x y : Side) (rx ry : ReceiverValue) (fx fy : Bool) (frame : Sent) (older : List Sent)
-    → Core X Y past cx cy x y rx ry fx fy → cx ≤ n → n ≤ length past
-    → at n past ≡ frame ∷ older → IsAckOf X frame → Waiting y → key_now y ≡ frame.key → y.acknowledged + 1 ≡ piece_count (length y.message)
-    → Core X Y past n cy x (acknowledged y) rx ry fx false
-take_last_ack X Y past cx cy n x y rx ry fx fy frame older core from inside here is waits key last =
-    let m = matched X Y past cx cy n x y rx ry fx fy frame older core from inside here is waits key in
-    ends X Y past cx cy x y rx ry fx n (y.acknowledged + 1) (subst (λ (f : Bool). Core X Y past cx cy x y rx ry fx f) (m.none_fresh) core) from inside (omega arith)
+  -- it acknowledges the last piece: nothing waits
+  pub take_last_ack : {fx fy : Bool}
+      → Core X Y past cx cy x y rx ry fx fy → cx ≤ n → n ≤ length past
+      → at n past ≡ frame ∷ older → IsAckOf X frame → Waiting y → key_now y ≡ frame.key → y.acknowledged + 1 ≡ piece_count (length y.message)
+      → Core X Y past n cy x (acknowledged y) rx ry fx false
+  take_last_ack {fx} core from inside here is waits key last =
+      let m = matched core from inside here is waits key in
+      ends (subst (λ f. Core X Y past cx cy x y rx ry fx f) m.none_fresh core) from inside (omega arith)
 
--- it acknowledges another piece: the next one goes
-pub take_ack : (X Y : End) (past : List Sent) (cx cy n : ℕ) (x y : Side) (rx ry : ReceiverValue) (fx fy : Bool) (frame : Sent) (older : List Sent) (course : Course)
-    → Apart X Y → Core X Y past cx cy x y rx ry fx fy → cx ≤ n → n ≤ length past
-    → at n past ≡ frame ∷ older → IsAckOf X frame → Waiting y → key_now y ≡ frame.key → y.acknowledged + 1 < piece_count (length y.message)
-    → Core X Y (data_frame Y (key_now (acknowledged y)) ((part_now (acknowledged y)).bytes) course ∷ past) n cy x (acknowledged y) rx ry false true
-take_ack X Y past cx cy n x y rx ry fx fy frame older course apart core from inside here is waits key more =
-    let m = matched X Y past cx cy n x y rx ry fx fy frame older core from inside here is waits key in
-    let alone = m.alone more in
-    go fx fy (alone.0) (m.none_fresh) core where
-      go : (fx fy : Bool) → fx ≡ false → fy ≡ false → Core X Y past cx cy x y rx ry fx fy → Core X Y (data_frame Y (key_now (acknowledged y)) ((part_now (acknowledged y)).bytes) course ∷ past) n cy x (acknowledged y) rx ry false true
-      go true fy e d core = absurd cc
-      go false true e d core = absurd cc
-      go false false e d core =
-          let m = matched X Y past cx cy n x y rx ry false false frame older core from inside here is waits key in
-          let newest = core.y_speaks.newest waits in
-          let new : first (said Y past) ≡ Some (key_now (acknowledged y)) → ⊥ = λ same. (let e : Some (key_now y) ≡ Some (key_now (acknowledged y)) = sym newest ∙ same in next_key_differs (y.id) (length y.message) (y.acknowledged) (let k : key_now y ≡ key_now (acknowledged y) = cc in k)) in
-          turned Y X _ cy n (acknowledged y) x ry rx true false (begins Y X past cy n (acknowledged y) x ry rx course (record { there = apart.back; back = apart.there }) core.back (counts_later X Y past false cx n core.there from inside)
-          (m.knows) core.x_speaks core.x_hears.last_is (core.x_hears.receives more)
-          (record { last_is = core.y_hears.last_is; receives = core.y_hears.receives }) more new (λ wx. absurd ((m.alone more).1 wx)))
+  -- it acknowledges another piece: the next one goes
+  pub take_ack : {fx fy : Bool} (course : Course)
+      → Apart X Y → Core X Y past cx cy x y rx ry fx fy → cx ≤ n → n ≤ length past
+      → at n past ≡ frame ∷ older → IsAckOf X frame → Waiting y → key_now y ≡ frame.key → y.acknowledged + 1 < piece_count (length y.message)
+      → Core X Y (data_frame Y (key_now (acknowledged y)) ((part_now (acknowledged y)).bytes) course ∷ past) n cy x (acknowledged y) rx ry false true
+  take_ack {fx} {fy} course apart core from inside here is waits key more =
+      let m = matched core from inside here is waits key in
+      let alone = m.alone more in
+      go fx fy alone.0 m.none_fresh core where
+        go : (fx fy : Bool) → fx ≡ false → fy ≡ false → Core X Y past cx cy x y rx ry fx fy
+            → Core X Y (data_frame Y (key_now (acknowledged y)) ((part_now (acknowledged y)).bytes) course ∷ past) n cy x (acknowledged y) rx ry false true
+        go true fy e d core = absurd cc
+        go false true e d core = absurd cc
+        go false false e d core =
+            let m = matched core from inside here is waits key in
+            let newest = core.y_speaks.newest waits in
+            let new : first (said Y past) ≡ Some (key_now (acknowledged y)) → ⊥ = λ same.
+            (let e : Some (key_now y) ≡ Some (key_now (acknowledged y)) = sym newest ∙ same in
+            next_key_differs y.id (length y.message) y.acknowledged (let k : key_now y ≡ key_now (acknowledged y) = cc in k)) in
+            turned (begins (record { there = apart.back; back = apart.there }) core.back (counts_later core.there from inside)
+            m.knows core.x_speaks core.x_hears.last_is (core.x_hears.receives more)
+            (record { last_is = core.y_hears.last_is; receives = core.y_hears.receives }) more new (λ wx. absurd ((m.alone more).1 wx)))
 
 -- ---- messages
 
@@ -207,53 +213,28 @@ take_ack X Y past cx cy n x y rx ry fx fy frame older course apart core from ins
 abbrev pub beginning : ℕ → List ℕ → Side
 beginning id message = record { id = id; message = message; acknowledged = 0 }
 
--- X, which waits for nothing and knows all that was said, begins a message that Y awaits
-pub starts : (X Y : End) (past : List Sent) (cx cy : ℕ) (x y : Side) (rx ry : ReceiverValue) (id : ℕ) (message : List ℕ) (course : Course) → Apart X Y
-    → Core X Y past cx cy x y rx ry false false
-    → length (said X past) ≤ length (acked Y (at cy past)) → (id ≡ x.id → ⊥) → ry.awaited ≡ Some id → ry.pieces ≡ []
-    → (Waiting y → y.acknowledged + 1 ≡ piece_count (length y.message))
-    → Core X Y (data_frame X (key_now (beginning id message)) ((part_now (beginning id message)).bytes) course ∷ past) cx cy (beginning id message) y rx ry true false
-starts X Y past cx cy x y rx ry id message course apart core caught other awaited none last =
-    begins X Y past cx cy (beginning id message) y rx ry course apart core.there core.back caught core.y_speaks core.y_hears.last_is
-    (record { awaited = awaited; pieces = none }) core.x_hears (omega arith) (λ same. other (core.x_speaks.newest_id _ same)) (λ w. (refl, last w))
+module _ {X Y : End} {past : List Sent} {cx cy : ℕ} {x y : Side} {rx ry : ReceiverValue} {id : ℕ} where
+  -- X, which waits for nothing and knows all that was said, begins a message that Y awaits
+  pub starts : {message : List ℕ} {course : Course} → Apart X Y
+      → Core X Y past cx cy x y rx ry false false
+      → length (said X past) ≤ length (acked Y (at cy past)) → (id ≡ x.id → ⊥) → ry.awaited ≡ Some id → ry.pieces ≡ []
+      → (Waiting y → y.acknowledged + 1 ≡ piece_count (length y.message))
+      → Core X Y (data_frame X (key_now (beginning id message)) ((part_now (beginning id message)).bytes) course ∷ past) cx cy
+      (beginning id message) y rx ry true false
+  starts apart core caught other awaited none last =
+      begins apart core.there core.back caught core.y_speaks core.y_hears.last_is
+      (record { awaited = awaited; pieces = none }) core.x_hears (omega arith) (λ same. other (core.x_speaks.newest_id _ same)) (λ w. (refl, last w))
 
--- Y, which took the whole message of X, awaits the next one
-pub expects : (X Y : End) (past : List Sent) (cx cy : ℕ) (x y : Side) (rx ry : ReceiverValue) (fy : Bool) (id : ℕ)
-    → Core X Y past cx cy x y rx ry false fy → piece_count (length x.message) ≤ x.acknowledged + 1
-    → Core X Y past cx cy x y rx (record { awaited = Some id; pieces = []; last = ry.last }) false fy
-expects X Y past cx cy x y rx ry fy id core whole = record {
-  there = core.there;
-  back = core.back;
-  x_speaks = core.x_speaks;
-  y_speaks = core.y_speaks;
-  y_hears = record { last_is = core.y_hears.last_is; receives = λ below. absurd (omega arith) };
-  x_hears = core.x_hears;
-  one = core.one;
-  both = core.both;
-}
+  -- Y, which took the whole message of X, awaits the next one
+  pub expects : {fy : Bool}
+      → Core X Y past cx cy x y rx ry false fy → piece_count (length x.message) ≤ x.acknowledged + 1
+      → Core X Y past cx cy x y rx (record { awaited = Some id; pieces = []; last = ry.last }) false fy
+  expects core whole = search rules
 
 -- ---- the beginning
 
 abbrev pub silent : Side
 silent = record { id = 0; message = []; acknowledged = 1 }
 
-abbrev pub deaf : ReceiverValue
-deaf = record { awaited = None; pieces = []; last = None }
-
-nothing : (X Y : End) → Counts X Y [] false 0
-nothing X Y = record { follows = refl; cur_in = omega arith; fits = λ n from inside. record { taken = omega arith; known = omega arith; begun = λ over. omega arith } }
-
-nothing_said : (X : End) → Speaks X [] false silent
-nothing_said X = record { waits = λ e. absurd cc; newest = λ w. absurd (omega arith); newest_id = λ key is. absurd cc; bytes = λ w. absurd (omega arith) }
-
-pub at_first : (X Y : End) → Core X Y [] 0 0 silent silent deaf deaf false false
-at_first X Y = record {
-  there = nothing X Y;
-  back = nothing Y X;
-  x_speaks = nothing_said X;
-  y_speaks = nothing_said Y;
-  y_hears = record { last_is = refl; receives = λ below. absurd (omega arith) };
-  x_hears = record { last_is = refl; receives = λ below. absurd (omega arith) };
-  one = λ e. refl;
-  both = λ wx wy. absurd (omega arith);
-}
+nothing : {X Y : End} → Counts X Y [] false 0
+nothing = search rules

@@ -1,98 +1,94 @@
 -- The time of both ends over the steps between two ticks.
-use Rattle.std.proofs.Common.{◌≡◌, ℕ, zero, suc, ◌+◌, ◌*◌, ◌<◌, ◌≤◌, Bool, true, false, ◌&&◌, List, ◌∷◌, length, refl, ap, arith}
-use Rattle.std.proofs.lemmas.Bool.{both_ways, cond-true, cond-false, and_parts}
-use Rattle.padp_link.specs.declared.piece.Key.{Key}
-use Rattle.trace_text.specs.Faults.{late_of, data_comes, newest}
-use Rattle.trace_text.specs.Past.{Course, Sent, is_end, said, acked, at, is_data_of}
-use Rattle.trace_text.specs.declared.frame.End.{End}
-use Rattle.trace_text.specs.declared.frame.End.TheVariants.{Handheld, Desktop}
-use Rattle.line_laws.specs.Budget.{load, Queued, HeldBudget, Tried, Timed}
-use Rattle.line_laws.specs.Core.{Apart, Counts, Side, Waiting, data_frame, ack_frame}
-use Rattle.line_laws.specs.Progress.{DataPends, AckPends, Progress}
+use Rattle.line_laws.proofs.Names.{◌≡◌, ℕ, zero, suc, ◌+◌, ◌*◌, ◌<◌, ◌≤◌, Bool, true, false, ◌&&◌, List, ◌∷◌, length, refl, ap, arith, cond-true, cond-false}
+use Rattle.line_laws.proofs.Names.{Key, late_of, data_comes, newest, Course, Sent, is_end, said, acked, at, is_data_of, End, Handheld, Desktop, load, Queued}
+use Rattle.line_laws.proofs.Names.{HeldBudget, Tried, Timed, Apart, Counts, Side, Waiting, data_frame, ack_frame, DataPends, AckPends, Progress}
 use Rattle.line_laws.proofs.PastLaws.{said_data-other, acked_data, said_ack, acked_ack-other}
 use Rattle.line_laws.proofs.CountLaws.{follows-length}
 use Rattle.line_laws.proofs.FaultLaws.{progress_sent, progress_push, progress_x, progress_y, is_data-frame}
 use Rattle.line_laws.proofs.BudgetLaws.{count_pass, count_fail, four}
-use Rattle.line_laws.proofs.LoadLaws.{load_push, load_sent, load_turned, load_moves, load_takes, queued_push, queued_moves, first_step, held_up-step, held_up-moves, held_moves, held_step}
+use Rattle.line_laws.proofs.LoadLaws.{load_push, load_sent, load_turned, load_moves, load_takes, queued_push, queued_moves, first_step, held_up-step}
+use Rattle.line_laws.proofs.LoadLaws.{held_up-moves, held_moves, held_step}
 use Rattle.line_laws.proofs.TickLaws.{len, late_from}
 
 -- ---- tries
 
-tried_push : (X Y : End) (frame : Sent) (past : List Sent) (cx cy dx dy released tries : ℕ) → Tried X Y past cx cy released tries
+tried_push : (X Y : End) (frame : Sent) (past : List Sent) (cx cy dx dy : ℕ) {released : ℕ} (tries : ℕ) → Tried X Y past cx cy released tries
     → released ≤ length past → newest (is_data_of X) (frame ∷ past) ≡ newest (is_data_of X) past
-    → load X Y (frame ∷ past) dx dy + 2 * length (acked X (frame ∷ past)) + 2 * length (said Y past) ≤ load X Y past cx cy + 2 * length (acked X past) + 2 * length (said Y (frame ∷ past))
+    → load X Y (frame ∷ past) dx dy + 2 * length (acked X (frame ∷ past)) + 2 * length (said Y past) ≤ load X Y past cx cy + 2 * length (acked X past) + 2
+    * length (said Y (frame ∷ past))
     → Tried X Y (frame ∷ past) dx dy released tries
-tried_push X Y frame past cx cy dx dy released zero tried inside same fair = tried
-tried_push X Y frame past cx cy dx dy released (suc zero) tried inside same fair = first_step X Y past (frame ∷ past) cx cy dx dy tried same fair
-tried_push X Y frame past cx cy dx dy released (suc (suc faults)) tried inside same fair = held_up-step X Y frame past cx cy dx dy released (suc faults) tried inside fair
+tried_push X Y frame past cx cy dx dy zero tried inside same fair = tried
+tried_push X Y frame past cx cy dx dy (suc zero) tried inside same fair = first_step tried same fair
+tried_push X Y frame past cx cy dx dy (suc (suc faults)) tried inside same fair = held_up-step tried inside fair
 
 tried_moves : (X Y : End) (past : List Sent) (cx cy dx dy released tries : ℕ) → Tried X Y past cx cy released tries
     → load X Y past dx dy ≤ load X Y past cx cy → Tried X Y past dx dy released tries
 tried_moves X Y past cx cy dx dy released zero tried fair = tried
-tried_moves X Y past cx cy dx dy released (suc zero) tried fair = first_step X Y past past cx cy dx dy tried refl (omega (arith, fair))
-tried_moves X Y past cx cy dx dy released (suc (suc faults)) tried fair = held_up-moves X Y past cx cy dx dy released (suc faults) tried fair
+tried_moves X Y past cx cy dx dy released (suc zero) tried fair = first_step tried refl (omega (arith, fair))
+tried_moves X Y past cx cy dx dy released (suc (suc faults)) tried fair = held_up-moves tried fair
 
 -- two ends at eight data frames on the line
-eight : (X Y : End) (past : List Sent) (fx fy : Bool) (cx cy released : ℕ) → Counts X Y past fx cx → Counts Y X past fy cy → Queued X past cx released
+eight : {X Y : End} {past : List Sent} {fx fy : Bool} {cx cy released : ℕ} → Counts X Y past fx cx → Counts Y X past fy cy → Queued X past cx released
     → Queued Y past cy released → released ≤ length past → load X Y past cx cy ≤ length past + 8
-eight X Y past fx fy cx cy released there back qx qy inside = omega (arith, four X Y past fx cx released there qx inside, four Y X past fy cy released back qy inside)
+eight there back qx qy inside = omega (arith, four there qx inside, four back qy inside)
 
 -- ---- a cursor moves by one frame
 
-pub time_passes : (X Y : End) (past : List Sent) (cx cy released : ℕ) (x y : Side) (tx ty : ℕ) → Timed X Y past cx cy released x tx
+pub time_passes : {X Y : End} {past : List Sent} {cx cy released : ℕ} {x y : Side} {tx ty : ℕ} → Timed X Y past cx cy released x tx
     → Timed Y X past cy cx released y ty → cx < length past
     → (Waiting x → (pends : DataPends X past cx) → pends.n ≡ cx + 1 → ⊥) → (Waiting y → (pends : AckPends Y X past cx) → pends.n ≡ cx + 1 → ⊥)
     → Timed X Y past (cx + 1) cy released x tx × Timed Y X past cy (cx + 1) released y ty
-time_passes X Y past cx cy released x y tx ty x_time y_time inside no_data no_ack =
+time_passes {X} {Y} {past} {cx} {cy} {released} {tx} {ty} x_time y_time inside no_data no_ack =
     let fair = load_moves X Y past cx cy (cx + 1) (omega arith) (omega arith) in
     let t0 = load_turned X Y past cx cy in
     let t1 = load_turned X Y past (cx + 1) cy in (
       record {
-        queued = queued_moves X past cx (cx + 1) released x_time.queued (omega arith) (omega arith);
-        held = held_moves 10 X Y past cx cy (cx + 1) cy released x_time.held (omega arith) fair;
-        progress = λ w. progress_x X Y past cx cy released (x_time.progress w) (no_data w);
+        queued = queued_moves x_time.queued (omega arith) (omega arith);
+        held = held_moves 10 X Y past cy cy x_time.held (omega arith) fair;
+        progress = λ w. progress_x (x_time.progress w) (no_data w);
         tried = λ w. tried_moves X Y past cx cy (cx + 1) cy released tx (x_time.tried w) fair;
       },
       record {
         queued = y_time.queued;
-        held = held_moves 10 Y X past cy cx cy (cx + 1) released y_time.held (omega arith) (omega (arith, fair, t0, t1));
-        progress = λ w. progress_y Y X past cy cx released (y_time.progress w) (no_ack w);
+        held = held_moves 10 Y X past cx (cx + 1) y_time.held (omega arith) (omega (arith, fair, t0, t1));
+        progress = λ w. progress_y (y_time.progress w) (no_ack w);
         tried = λ w. tried_moves Y X past cy cx cy (cx + 1) released ty (y_time.tried w) (omega (arith, fair, t0, t1));
       },
     )
 
 -- ---- X begins a fragment
 
-pub time_begins : (X Y : End) (key : Key) (bytes : List ℕ) (course : Course) (past : List Sent) (cx cy released : ℕ) (x y : Side) (ty : ℕ) → Apart X Y
+pub time_begins : {X Y : End} {key : Key} {bytes : List ℕ} {course : Course} {past : List Sent} {cx cy released : ℕ} {x y : Side} {ty : ℕ} → Apart X Y
     → Queued X past cx released → HeldBudget 10 X Y past cx cy released → Timed Y X past cy cx released y ty → released ≤ length past
     → cx ≤ length past → cy ≤ length past → said X (data_frame X key bytes course ∷ past) ≡ key ∷ said X past
     → Counts X Y (data_frame X key bytes course ∷ past) true cx → Counts Y X (data_frame X key bytes course ∷ past) false cy
     → Timed X Y (data_frame X key bytes course ∷ past) cx cy released x 1 × Timed Y X (data_frame X key bytes course ∷ past) cy cx released y ty
-time_begins X Y key bytes course past cx cy released x y ty apart qx hx y_time inside x_in y_in sx there back =
+time_begins {X} {Y} {key} {bytes} {course} {past} {cx} {cy} {ty} apart qx hx y_time inside x_in y_in sx there back =
     let frame = data_frame X key bytes course in
     let sy = said_data-other X Y apart.back key bytes course past in
     let ax = acked_data X X key bytes course past in
     let ay = acked_data X Y key bytes course past in
     let is = is_data-frame X key bytes course in
-    let other : is_data_of Y frame ≡ false = ap (λ (b : Bool). b && true) apart.back in
-    let loads = load_sent X Y frame past cx cy x_in y_in other in
+    let other : is_data_of Y frame ≡ false = ap (λ b. b && true) apart.back in
+    let loads = load_sent X Y frame past x_in y_in other in
     let t0 = load_turned X Y past cx cy in
     let t1 = load_turned X Y (frame ∷ past) cx cy in
-    let x_queued = queued_push X frame past cx released qx x_in inside (omega (arith, count_pass (is_data_of X) frame past is, len sx)) in
-    let y_queued = queued_push Y frame past cy released y_time.queued y_in inside (omega (arith, count_fail (is_data_of Y) frame past other, len sy)) in
-    let most = eight X Y (frame ∷ past) true false cx cy released there back x_queued y_queued (omega (arith, inside)) in
+    let x_queued = queued_push qx x_in inside (omega (arith, count_pass (is_data_of X) frame past is, len sx)) in
+    let y_queued = queued_push y_time.queued y_in inside (omega (arith, count_fail (is_data_of Y) frame past other, len sy)) in
+    let most = eight there back x_queued y_queued (omega (arith, inside)) in
     let f = follows-length _ _ false back.follows in (
       record {
         queued = x_queued;
-        held = held_step 10 10 X Y frame past cx cy cx cy released hx (omega arith) (omega (arith, loads, len sx, len sy)) (λ late. omega (arith, most, f));
-        progress = λ w. progress_sent X Y key bytes course past cx cy released inside x_in;
+        held = held_step 10 10 X Y frame past cy cy hx (omega arith) (omega (arith, loads, len sx, len sy)) (λ late. omega (arith, most, f));
+        progress = λ w. progress_sent inside x_in;
         tried = λ w. record { bound = omega (arith, most, f, cond-true (is_data_of X frame) (length past + 1) (newest (is_data_of X) past) is) };
       },
       record {
         queued = y_queued;
-        held = held_step 10 10 Y X frame past cy cx cy cx released y_time.held (omega arith) (omega (arith, loads, t0, t1, len sx, len sy)) (λ late. absurd (late_from X Y key bytes course apart.back late));
-        progress = λ w. progress_push Y X frame past cy cx released (y_time.progress w) other sy;
-        tried = λ w. tried_push Y X frame past cy cx cy cx released ty (y_time.tried w) inside (cond-false _ _ _ other) (omega (arith, loads, t0, t1, len sx, len ay));
+        held = held_step 10 10 Y X frame past cx cx y_time.held (omega arith) (omega (arith, loads, t0, t1, len sx, len sy))
+            (λ late. absurd (late_from X Y key bytes course apart.back late));
+        progress = λ w. progress_push (y_time.progress w) other sy;
+        tried = λ w. tried_push Y X frame past cy cx cy cx ty (y_time.tried w) inside (cond-false _ _ _ other) (omega (arith, loads, t0, t1, len sx, len ay));
       },
     )
 
@@ -105,41 +101,46 @@ ack_is_no_data Desktop Handheld key course = refl
 ack_is_no_data Desktop Desktop key course = refl
 
 ack_late : (X Y : End) (key : Key) (course : Course) → is_end X Y ≡ false → late_of X (ack_frame Y key course) ≡ true → ⊥
-ack_late X Y key course apart late = (let parts = and_parts (is_end X Y) _ late in both_ways _ apart parts.0)
+ack_late X Y key course apart late = cc
 
-pub time_takes : (X Y : End) (key : Key) (course : Course) (past : List Sent) (fx fy : Bool) (cx cy released : ℕ) (x y y' : Side) (tx ty : ℕ) (frame : Sent) (older : List Sent)
+pub time_takes : {X Y : End} {key : Key} {course : Course} {past : List Sent} {fx fy : Bool} {cx cy released : ℕ} {x y y' : Side} {tx ty : ℕ}
+    {frame : Sent} {older : List Sent}
     → Apart X Y → Timed X Y past cx cy released x tx → Timed Y X past cy cx released y ty → released ≤ length past
     → cx < length past → cy ≤ length past → at (cx + 1) past ≡ frame ∷ older → older ≡ at cx past → data_comes X frame ≡ true
     → Counts X Y (ack_frame Y key course ∷ past) fx (cx + 1) → Counts Y X (ack_frame Y key course ∷ past) fy cy
     → (Waiting x → Progress X Y (ack_frame Y key course ∷ past) (cx + 1) cy released)
     → (Waiting y' → Waiting y × (acked Y (ack_frame Y key course ∷ past) ≡ acked Y past)) → ((pends : AckPends Y X past cx) → pends.n ≡ cx + 1 → ⊥)
     → Timed X Y (ack_frame Y key course ∷ past) (cx + 1) cy released x tx × Timed Y X (ack_frame Y key course ∷ past) cy (cx + 1) released y' ty
-time_takes X Y key course past fx fy cx cy released x y y' tx ty frame older apart x_time y_time inside x_in y_in here behind comes_here there back progress waits no_ack =
+time_takes {X} {Y} {key} {course} {past} {fx} {cx} {cy} {tx} {ty} apart x_time y_time inside x_in y_in here behind comes_here there back progress waits no_ack =
     let ack = ack_frame Y key course in
     let sx = said_ack Y X key course past in
     let sy = said_ack Y Y key course past in
     let ax = acked_ack-other Y X apart.there key course past in
     let no_x = ack_is_no_data X Y key course in
     let no_y = ack_is_no_data Y Y key course in
-    let takes = load_takes X Y past cx cy frame older x_in here behind comes_here in
-    let pushed = load_push X Y ack past (cx + 1) cy (omega (arith, x_in)) y_in no_x no_y in
+    let takes = load_takes X Y past cy x_in here behind comes_here in
+    let pushed = load_push X Y ack past (cx + 1) (omega (arith, x_in)) y_in no_x no_y in
     let t0 = load_turned X Y past cx cy in
     let t1 = load_turned X Y (ack ∷ past) (cx + 1) cy in
-    let moved = queued_moves X past cx (cx + 1) released x_time.queued (omega arith) (omega (arith, x_in)) in
-    let x_queued = queued_push X ack past (cx + 1) released moved (omega (arith, x_in)) inside (omega (arith, count_fail (is_data_of X) ack past no_x, len sx)) in
-    let y_queued = queued_push Y ack past cy released y_time.queued y_in inside (omega (arith, count_fail (is_data_of Y) ack past no_y, len sy)) in
-    let most = eight X Y (ack ∷ past) fx fy (cx + 1) cy released there back x_queued y_queued (omega (arith, inside)) in
+    let moved = queued_moves x_time.queued (omega arith) (omega (arith, x_in)) in
+    let x_queued = queued_push moved (omega (arith, x_in)) inside (omega (arith, count_fail (is_data_of X) ack past no_x, len sx)) in
+    let y_queued = queued_push y_time.queued y_in inside (omega (arith, count_fail (is_data_of Y) ack past no_y, len sy)) in
+    let most = eight there back x_queued y_queued (omega (arith, inside)) in
     let f = follows-length _ _ fx there.follows in (
       record {
         queued = x_queued;
-        held = held_step 10 10 X Y ack past cx cy (cx + 1) cy released x_time.held (omega arith) (omega (arith, takes, pushed, len sx, len sy)) (λ late. absurd (ack_late X Y key course apart.there late));
+        held = held_step 10 10 X Y ack past cy cy x_time.held (omega arith) (omega (arith, takes, pushed, len sx, len sy))
+            (λ late. absurd (ack_late X Y key course apart.there late));
         progress = progress;
-        tried = λ w. tried_push X Y ack past cx cy (cx + 1) cy released tx (x_time.tried w) inside (cond-false _ _ _ no_x) (omega (arith, takes, pushed, len ax, len sy));
+        tried = λ w. tried_push X Y ack past cx cy (cx + 1) cy tx (x_time.tried w) inside (cond-false _ _ _ no_x)
+            (omega (arith, takes, pushed, len ax, len sy));
       },
       record {
         queued = y_queued;
-        held = held_step 10 10 Y X ack past cy cx cy (cx + 1) released y_time.held (omega arith) (omega (arith, takes, pushed, t0, t1, len sx, len sy)) (λ late. omega (arith, most, t1, f));
-        progress = λ w. progress_push Y X ack past cy (cx + 1) released (progress_y Y X past cy cx released (y_time.progress (waits w).0) no_ack) no_y sy;
-        tried = λ w. tried_push Y X ack past cy cx cy (cx + 1) released ty (y_time.tried (waits w).0) inside (cond-false _ _ _ no_y) (omega (arith, takes, pushed, t0, t1, len sx, len (waits w).1));
+        held = held_step 10 10 Y X ack past cx (cx + 1) y_time.held (omega arith) (omega (arith, takes, pushed, t0, t1, len sx, len sy))
+            (λ late. omega (arith, most, t1, f));
+        progress = λ w. progress_push (progress_y (y_time.progress (waits w).0) no_ack) no_y sy;
+        tried = λ w. tried_push Y X ack past cy cx cy (cx + 1) ty (y_time.tried (waits w).0) inside (cond-false _ _ _ no_y)
+            (omega (arith, takes, pushed, t0, t1, len sx, len (waits w).1));
       },
     )

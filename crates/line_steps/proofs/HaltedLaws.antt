@@ -1,51 +1,17 @@
 -- A run halts where a frame was to be sent: what its frames are then, and what they tell.
-use Rattle.padp_link.specs.declared.receiver.Taken.TheVariants.{Accepted, Whole, Repeated, Dropped}
-use Rattle.line_steps.specs.Stories.{HeardOf, TookMessages}
+use Rattle.line_steps.proofs.Names.{rules, Accepted, Whole, Repeated, Dropped, HeardOf, TookMessages, ◌≡◌, ℕ, ◌+◌, ◌<◌, ◌≤◌, false, Vec, List, ◌∷◌, [], length}
+use Rattle.line_steps.proofs.Names.{map, Some, refl, sym, ap, subst, ◌∙◌, arith, inl, inr, Bool, true, Global, cases_lt, cond-true, cond-false, and_from}
+use Rattle.line_steps.proofs.Names.{map-append, PadpKind, Key, Taken, FragmentValue, piece_count, Waits, waiting_key, End, Frame, FateValue, holds_packet}
+use Rattle.line_steps.proofs.Names.{strange_bytes, comes, RepeatsHaveFaults, MayBear, is_abort, fragment_in, add_frame, past_behind, padp_packet, course_of}
+use Rattle.line_steps.proofs.Names.{Sent, is_data_of, at, Talk, frame_value, is_taken, data_taken, Apart, Side, part_now, ack_frame, say, running_next_piece}
+use Rattle.line_steps.proofs.Names.{running_starts, running_tick_one, running_tick_two, speech-moves, speaks-more, speaks-beside, speaks-unacked, beginning}
+use Rattle.line_steps.proofs.Names.{Accepting, moves-more, speaks_properly, ack_is_no_data, other_no_repeat, faults_push, Blocked, Half, Wire, Stop, Unplugged}
+use Rattle.line_steps.proofs.Names.{Aborted, Undetected, Halt, NoMemory, Stopped, Down, IsSpent, is_aborted, EndsWith, HaltsBy, Spoken, Spoke, Halted, NotAgain}
+use Rattle.line_steps.proofs.Names.{sent_of, past_now, side_of, AllGo, Heeded, Holds, Stays, Sends, Halts, StopsBy, in_place, ack_fragment, AckNext, DataHeard}
+use Rattle.line_steps.proofs.Names.{cursor_of, Talked, Talks, KeepsTalk, IsNextTo, SendsAgain, Turn}
 use Rattle.line_steps.proofs.StoryLaws.{heard_again, heard_new, took_of, took_more, took_beside}
-use Rattle.std.proofs.Common.{◌≡◌, ℕ, ◌+◌, ◌<◌, ◌≤◌, false, Vec, List, ◌∷◌, [], length, map, Some, refl, sym, ap, subst, ◌∙◌, arith, inl, inr, Bool, true}
-use Rattle.std.specs.declared.alloc.Global.{Global}
-use Rattle.std.proofs.lemmas.Bool.{cases_lt, cond-true, cond-false, and_from}
-use Rattle.std.proofs.lemmas.List.{map-append}
-use Rattle.padp_link.specs.declared.fragment.PadpKind.{PadpKind}
 use Rattle.padp_link.specs.declared.fragment.PadpKind.TheVariants as kinds
-use Rattle.padp_link.specs.declared.piece.Key.{Key}
-use Rattle.padp_link.specs.declared.receiver.Taken.{Taken}
-use Rattle.padp_link.specs.FragmentText.{FragmentValue}
-use Rattle.padp_link.specs.Pieces.{piece_count}
-use Rattle.padp_link.specs.Senders.{Waits, waiting_key}
-use Rattle.trace_text.specs.declared.frame.End.{End}
-use Rattle.trace_text.specs.declared.frame.Frame.{Frame}
-use Rattle.trace_text.specs.Fates.{FateValue, holds_packet, strange_bytes}
-use Rattle.trace_text.specs.Faults.{comes, RepeatsHaveFaults}
-use Rattle.trace_text.specs.Frames.{MayBear, is_abort, fragment_in, add_frame, past_behind, padp_packet, course_of}
-use Rattle.trace_text.specs.Past.{Sent, is_data_of, at}
-use Rattle.trace_text.specs.Talks.{Talk}
-use Rattle.trace_text.specs.TraceLines.{FrameValue, frame_value}
-use Rattle.line_laws.specs.Came.{is_taken, came_by, data_taken}
-use Rattle.line_laws.specs.Core.{Apart, Side, part_now, ack_frame}
-use Rattle.line_laws.specs.Talking.{say}
-use Rattle.line_laws.proofs.RunningLaws.{running_next_piece, running_starts, running_tick_one, running_tick_two}
-use Rattle.line_laws.proofs.SpeechLaws.{speech-moves}
-use Rattle.line_laws.proofs.StoppedLaws.{speaks-more, speaks-beside, speaks-unacked}
-use Rattle.line_laws.proofs.TakeLaws.{beginning, Accepting}
-use Rattle.line_laws.proofs.TalkLaws.{moves-more, speaks_properly}
-use Rattle.line_laws.proofs.TimeLaws.{ack_is_no_data}
-use Rattle.line_laws.proofs.TraceLaws.{other_no_repeat, faults_push}
-use Rattle.line_laws.specs.Progress.{Blocked}
-use Rattle.line_steps.specs.declared.half.Half.{Half}
-use Rattle.line_steps.specs.declared.half.Wire.{Wire}
-use Rattle.line_steps.specs.declared.harm.Stop.{Stop}
-use Rattle.line_steps.specs.declared.harm.Stop.TheVariants.{Unplugged, Aborted, Undetected}
-use Rattle.line_steps.specs.declared.sending.Halt.{Halt}
-use Rattle.line_steps.specs.declared.sending.Halt.TheVariants.{NoMemory, Stopped, Down}
-use Rattle.line_steps.specs.Halting.{IsSpent, is_aborted, EndsWith, HaltsBy, Spoken, Spoke, Halted, NotAgain}
-use Rattle.line_steps.specs.Running.{sent_of, past_now, side_of, AllGo, Heeded, Holds, Stays}
-use Rattle.line_steps.specs.Sending.{Sends, Halts, StopsBy, in_place, ack_fragment}
-use Rattle.line_steps.specs.Taking.{AckNext, DataHeard}
-use Rattle.line_steps.specs.Telling.{cursor_of, Talked, Talks, KeepsTalk, IsNextTo}
-use Rattle.line_steps.specs.Ticking.{SendsAgain}
-use Rattle.line_steps.specs.Turning.{Turn}
-use Rattle.line_steps.proofs.BeginningLaws.{first_frame, again_frame, starts-told, one_again-told, two_again-told}
+use Rattle.line_steps.proofs.BeginningLaws.{again_frame, starts-told, one_again-told, two_again-told}
 use Rattle.line_steps.proofs.DataLaws.{NewSender, after_heard, copy_is, never_dropped}
 use Rattle.line_steps.proofs.FrameLaws.{behind_push}
 use Rattle.line_steps.proofs.HaltingLaws.{first_spent, second_spent}
@@ -66,10 +32,10 @@ pub record Plain (kind : PadpKind) : Type 0 where
   pub no_abort : is_abort kind ≡ false
 
 pub data_plain : Plain kinds.Data
-data_plain = record { may = λ given. tt; no_abort = refl }
+data_plain = search rules
 
 pub ack_plain : Plain kinds.Ack
-ack_plain = record { may = λ given. tt; no_abort = refl }
+ack_plain = search rules
 
 abort_stands : (stop : Stop) (fragment : FragmentValue) → Plain fragment.kind → is_abort (in_place (Some stop) fragment).kind ≡ is_aborted stop
 abort_stands Unplugged fragment plain = plain.no_abort
@@ -77,325 +43,370 @@ abort_stands Aborted fragment plain = refl
 abort_stands Undetected fragment plain = plain.no_abort
 
 -- whatever the bytes, an abort and a pulled cable are told by the fate
-stops_any : (stop : Stop) (id : ℕ) (fragment : FragmentValue) (given : FateValue) (bytes : List ℕ) → bytes ≡ padp_packet id (in_place (Some stop) fragment) → StopsBy given (padp_packet id fragment) (Some stop) → StopsBy given bytes (Some stop)
-stops_any Unplugged id fragment given bytes same stops = stops
-stops_any Aborted id fragment given bytes same stops = stops
-stops_any Undetected id fragment given bytes same stops = (stops.0, ap (λ (b : List ℕ). holds_packet (strange_bytes given b)) same ∙ stops.1)
+stops_any : (stop : Stop) (id : ℕ) (fragment : FragmentValue) (given : FateValue) {bytes : List ℕ} → bytes ≡ padp_packet id (in_place (Some stop) fragment)
+    → StopsBy given (padp_packet id fragment) (Some stop) → StopsBy given bytes (Some stop)
+stops_any Unplugged id fragment given same stops = stops
+stops_any Aborted id fragment given same stops = stops
+stops_any Undetected id fragment given same stops = (stops.0, ap (λ b. holds_packet (strange_bytes given b)) same ∙ stops.1)
 
-may_bear : (stop : Stop) (id : ℕ) (fragment : FragmentValue) (given : FateValue) → Plain fragment.kind → StopsBy given (padp_packet id fragment) (Some stop) → MayBear given (in_place (Some stop) fragment).kind
+may_bear : (stop : Stop) (id : ℕ) (fragment : FragmentValue) (given : FateValue) → Plain fragment.kind → StopsBy given (padp_packet id fragment) (Some stop)
+    → MayBear given (in_place (Some stop) fragment).kind
 may_bear Unplugged id fragment given plain stops = plain.may given
 may_bear Aborted id fragment given plain stops = stops
 may_bear Undetected id fragment given plain stops = plain.may given
 
-ends_with : (old new : List Frame) (from : End) (id : ℕ) (fragment : FragmentValue) (given : FateValue) (stop : Stop) → Plain fragment.kind → AllGo 1 old → Sends old from id fragment given (Some stop) new → EndsWith stop new
-ends_with old new from id fragment given stop plain go sends =
-    let it = placed old new from id fragment given (Some stop) sends (may_bear stop id fragment given plain sends.stops) in
+ends_with : {old new : List Frame} {from : End} {id : ℕ} {fragment : FragmentValue} {given : FateValue} {stop : Stop} → Plain fragment.kind → AllGo 1 old
+    → Sends old from id fragment given (Some stop) new → EndsWith stop new
+ends_with {old} {id} {fragment} {given} {stop} plain go sends =
+    let it = placed sends (may_bear stop id fragment given plain sends.stops) in
     record {
       before = old;
       last = sends.frame;
       is = sends.is;
       go = go;
       number_is = sends.number_is;
-      stops = subst (λ (g : FateValue). StopsBy g sends.frame.bytes.items (Some stop)) (sym sends.fate_is) (stops_any stop id fragment given sends.frame.bytes.items sends.bytes_are sends.stops);
+      stops = subst (λ g. StopsBy g sends.frame.bytes.items (Some stop)) (sym sends.fate_is) (stops_any stop id fragment given sends.bytes_are sends.stops);
       bears = it.bears;
-      aborts = ap (λ (f : FragmentValue). is_abort f.kind) it.fragment_is ∙ abort_stands stop fragment plain;
+      aborts = ap (λ f. is_abort f.kind) it.fragment_is ∙ abort_stands stop fragment plain;
     }
 
-pub halts_by : (old new : List Frame) (from : End) (id : ℕ) (fragment : FragmentValue) (given : FateValue) (halt : Halt) (cursor : End → ℕ) → Plain fragment.kind → AllGo 1 old → Halts old from id fragment given halt new → HaltsBy halt cursor new
+pub halts_by : (old new : List Frame) (from : End) (id : ℕ) (fragment : FragmentValue) (given : FateValue) (halt : Halt) (cursor : End → ℕ)
+    → Plain fragment.kind → AllGo 1 old → Halts old from id fragment given halt new → HaltsBy halt cursor new
 halts_by old new from id fragment given NoMemory cursor plain go halts = subst (AllGo 1) (sym halts) go
-halts_by old new from id fragment given (Stopped stop) cursor plain go halts = ends_with old new from id fragment given stop plain go halts
+halts_by old new from id fragment given (Stopped stop) cursor plain go halts = ends_with plain go halts
 halts_by old new from id fragment given (Down end) cursor plain go halts = absurd halts
 
 -- what holds of the past without the frame and with it holds of the past behind a run that halted
-same_stop : (stop : Stop) (P : List Sent → Type 0) (from : End) (id : ℕ) (fragment : FragmentValue) (given : FateValue) (frame : Frame) (past : List Sent) → Plain fragment.kind → fragment_in (frame_value frame) ≡ in_place (Some stop) fragment
-    → sent_of frame ≡ sends_in from id (in_place (Some stop) fragment) given → P past → P (sends_in from id fragment given ∷ past) → P (add_frame (frame_value frame) past)
-same_stop Unplugged P from id fragment given frame past plain is sent without with_it =
-    subst P (sym (cond-false _ _ _ (ap (λ (f : FragmentValue). is_abort f.kind) is ∙ plain.no_abort) ∙ ap (λ (s : Sent). s ∷ past) sent)) with_it
-same_stop Aborted P from id fragment given frame past plain is sent without with_it =
-    subst P (sym (cond-true _ _ _ (ap (λ (f : FragmentValue). is_abort f.kind) is))) without
-same_stop Undetected P from id fragment given frame past plain is sent without with_it =
-    subst P (sym (cond-false _ _ _ (ap (λ (f : FragmentValue). is_abort f.kind) is ∙ plain.no_abort) ∙ ap (λ (s : Sent). s ∷ past) sent)) with_it
+same_stop : (stop : Stop) (P : List Sent → Type 0) {from : End} {id : ℕ} {fragment : FragmentValue} (given : FateValue) (frame : Frame) {past : List Sent}
+    → Plain fragment.kind → fragment_in (frame_value frame) ≡ in_place (Some stop) fragment
+    → sent_of frame ≡ sends_in from id (in_place (Some stop) fragment) given → P past → P (sends_in from id fragment given ∷ past)
+    → P (add_frame (frame_value frame) past)
+same_stop Unplugged P given frame {past} plain is sent without with_it =
+    subst P (sym (cond-false _ _ _ (ap (λ f. is_abort f.kind) is ∙ plain.no_abort) ∙ ap (λ s. s ∷ past) sent)) with_it
+same_stop Aborted P given frame plain is sent without with_it =
+    subst P (sym (cond-true _ _ _ (ap (λ f. is_abort f.kind) is))) without
+same_stop Undetected P given frame {past} plain is sent without with_it =
+    subst P (sym (cond-false _ _ _ (ap (λ f. is_abort f.kind) is ∙ plain.no_abort) ∙ ap (λ s. s ∷ past) sent)) with_it
 
-pub behind_halt : (P : List Sent → Type 0) (old new : List Frame) (from : End) (id : ℕ) (fragment : FragmentValue) (given : FateValue) (halt : Halt) → Plain fragment.kind → Halts old from id fragment given halt new
+pub behind_halt : (P : List Sent → Type 0) (old new : List Frame) {from : End} {id : ℕ} {fragment : FragmentValue} (given : FateValue) (halt : Halt)
+    → Plain fragment.kind → Halts old from id fragment given halt new
     → P (past_now old) → P (sends_in from id fragment given ∷ past_now old) → P (past_now new)
-behind_halt P old new from id fragment given NoMemory plain halts without with_it = subst (λ (fs : List Frame). P (past_now fs)) (sym halts) without
-behind_halt P old new from id fragment given (Stopped stop) plain halts without with_it =
-    let it = placed old new from id fragment given (Some stop) halts (may_bear stop id fragment given plain halts.stops) in
-    let past_is : past_now new ≡ add_frame (frame_value halts.frame) (past_now old) = ap past_now halts.is ∙ (ap (λ (fs : List FrameValue). past_behind [] fs) (map-append frame_value old (halts.frame ∷ [])) ∙ behind_push [] (map frame_value old) (frame_value halts.frame)) in
-    subst P (sym past_is) (same_stop stop P from id fragment given halts.frame (past_now old) plain it.fragment_is it.sent_is without with_it)
-behind_halt P old new from id fragment given (Down end) plain halts without with_it = absurd halts
+behind_halt P old new given NoMemory plain halts without with_it = subst (λ fs. P (past_now fs)) (sym halts) without
+behind_halt P old new {id} {fragment} given (Stopped stop) plain halts without with_it =
+    let it = placed halts (may_bear stop id fragment given plain halts.stops) in
+    let past_is : past_now new ≡ add_frame (frame_value halts.frame) (past_now old) = ap past_now halts.is
+    ∙ (ap (λ fs. past_behind [] fs) (map-append frame_value old (halts.frame ∷ [])) ∙ behind_push [] (map frame_value old) (frame_value halts.frame)) in
+    subst P (sym past_is) (same_stop stop P given halts.frame plain it.fragment_is it.sent_is without with_it)
+behind_halt P old new given (Down end) plain halts without with_it = absurd halts
 
 -- ---- what they tell
 
-pub spoken_of : (X Y : End) (talk : Talk) (cursor : End → ℕ) (past : List Sent) (x y : Side) → RepeatsHaveFaults past → cursor X ≤ length past → cursor Y ≤ length past → Talked X Y talk cursor past x y → Spoken X Y talk cursor past
-spoken_of X Y talk cursor past x y faults x_in y_in talked = record {
+pub spoken_of : {X Y : End} {talk : Talk} {cursor : End → ℕ} {past : List Sent} {x y : Side} → RepeatsHaveFaults past → cursor X ≤ length past
+    → cursor Y ≤ length past → Talked X Y talk cursor past x y → Spoken X Y talk cursor past
+spoken_of faults x_in y_in talked = record {
   faults = faults;
-  x_speaks = speaks_properly X Y talk cursor past x x_in talked.talking.x_speech;
-  y_speaks = speaks_properly Y X talk cursor past y y_in talked.talking.y_speech;
+  x_speaks = speaks_properly x_in talked.talking.x_speech;
+  y_speaks = speaks_properly y_in talked.talking.y_speech;
   x_in = x_in;
   y_in = y_in;
-  x_took = took_of X Y talk cursor past (cursor X) talked.fx x talked.talking.x_speech talked.x_heard;
-  y_took = took_of Y X talk cursor past (cursor Y) talked.fy y talked.talking.y_speech talked.y_heard;
+  x_took = took_of talked.fx talked.talking.x_speech talked.x_heard;
+  y_took = took_of talked.fy talked.talking.y_speech talked.y_heard;
 }
 
-pub spoken_now : (talk : Talk) (wire : Wire) (x y : Half) → Holds wire x y → Talks talk wire x y → Spoke talk wire x y
-spoken_now talk wire x y holds talks =
-    spoken_of x.end y.end talk (cursor_of x y) (past_now wire.frames.items) (side_of x) (side_of y) holds.line.traced.faults (omega (arith, cursor_own x.end x.taken y.taken, holds.line.core.there.cur_in))
+pub spoken_now : {talk : Talk} {wire : Wire} {x y : Half} → Holds wire x y → Talks talk wire x y → Spoke talk wire x y
+spoken_now {x} {y} holds talks =
+    spoken_of holds.line.traced.faults (omega (arith, cursor_own x.end x.taken y.taken, holds.line.core.there.cur_in))
     (omega (arith, cursor_other x.end y.end x.taken y.taken holds.apart.there, holds.line.core.back.cur_in)) talks
 
 -- with the cursor of x behind the next frame, and a frame more
-spoken_next : (talk : Talk) (wire : Wire) (x y : Half) (sent : Sent) (sx sy : Side) → Holds wire x y → x.taken < length (past_now wire.frames.items) → RepeatsHaveFaults (sent ∷ past_now wire.frames.items) → Talked x.end y.end talk (cursor_of (moved x) y) (sent ∷ past_now wire.frames.items) sx sy
+spoken_next : {talk : Talk} {wire : Wire} {x y : Half} {sent : Sent} {sx sy : Side} → Holds wire x y → x.taken < length (past_now wire.frames.items)
+    → RepeatsHaveFaults (sent ∷ past_now wire.frames.items) → Talked x.end y.end talk (cursor_of (moved x) y) (sent ∷ past_now wire.frames.items) sx sy
     → Spoken x.end y.end talk (cursor_of (moved x) y) (sent ∷ past_now wire.frames.items)
-spoken_next talk wire x y sent sx sy holds inside faults talked =
-    spoken_of x.end y.end talk (cursor_of (moved x) y) (sent ∷ past_now wire.frames.items) sx sy faults (omega (arith, cursor_own x.end (x.taken + 1) y.taken, inside))
+spoken_next {x} {y} holds inside faults talked =
+    spoken_of faults (omega (arith, cursor_own x.end (x.taken + 1) y.taken, inside))
     (omega (arith, cursor_other x.end y.end (x.taken + 1) y.taken holds.apart.there, holds.line.core.back.cur_in)) talked
 
 -- ---- the next piece was to be sent behind an acknowledgement
 
-ack_faults : (wire : Wire) (x y : Half) (key : Key) (given : FateValue) → Holds wire x y → AckNext x.end wire x.taken key → waiting_key y.sender ≡ Some key → y.sender.acknowledged + 1 < piece_count y.sender.length → RepeatsHaveFaults (next_frame y given ∷ past_now wire.frames.items)
-ack_faults wire x y key given holds it is more =
-    let at_head = head x.end wire x.taken holds.go it.next in
-    let w = waits_with y key holds.y_half is in
-    let below : y.sender.acknowledged + 1 < piece_count (length y.message.items) = subst (λ (n : ℕ). y.sender.acknowledged + 1 < piece_count n) holds.y_half.length_is more in
-    (running_next_piece x.end y.end (past_now wire.frames.items) x.taken y.taken wire.released (side_of x) (side_of y) x.receiver y.receiver holds.fx holds.fy x.sender.tries y.sender.tries (sent_of it.next.frame) (course_of given) holds.apart holds.line at_head.inside at_head.here at_head.late it.is w.waits
-    (w.key_is ∙ sym it.key_is) below).traced.faults
+module _ {wire : Wire} {x y : Half} where
+  ack_faults : {key : Key} (given : FateValue) → Holds wire x y → AckNext x.end wire x.taken key → waiting_key y.sender ≡ Some key
+      → y.sender.acknowledged + 1 < piece_count y.sender.length → RepeatsHaveFaults (next_frame y given ∷ past_now wire.frames.items)
+  ack_faults given holds it is more =
+      let at_head = head holds.go it.next in
+      let w = waits_with holds.y_half is in
+      let below : y.sender.acknowledged + 1 < piece_count (length y.message.items) =
+      subst (λ n. y.sender.acknowledged + 1 < piece_count n) holds.y_half.length_is more in
+      (running_next_piece {course = course_of given} holds.apart holds.line at_head.inside at_head.here at_head.late it.is w.waits
+      (w.key_is ∙ sym it.key_is) below).traced.faults
 
-pub halted_ack : (wire new : Wire) (x y : Half) (key : Key) (given : FateValue) (halt : Halt) → Holds wire x y → AckNext x.end wire x.taken key → waiting_key y.sender ≡ Some key → y.sender.acknowledged + 1 < piece_count y.sender.length
-    → Halts wire.frames.items y.end y.sender.id (part_now (side_of (advanced y))) given halt new.frames.items → Halted halt wire x y new (moved x) (advanced y)
-halted_ack wire new x y key given halt holds it is more halts =
-    let at_head = head x.end wire x.taken holds.go it.next in
-    let part = part_now (side_of (advanced y)) in
-    record {
-      x_end = refl;
-      y_end = refl;
-      by = halts_by wire.frames.items new.frames.items y.end y.sender.id part given halt (cursor_of (moved x) y) data_plain holds.go halts;
-      talks = λ talk talks. behind_halt (Spoken x.end y.end talk (cursor_of (moved x) y)) wire.frames.items new.frames.items y.end y.sender.id part given halt data_plain halts
-          (spoken_of x.end y.end talk (cursor_of (moved x) y) (past_now wire.frames.items) (side_of x) (side_of y) holds.line.traced.faults (omega (arith, cursor_own x.end (x.taken + 1) y.taken, at_head.inside))
-          (omega (arith, cursor_other x.end y.end (x.taken + 1) y.taken holds.apart.there, holds.line.core.back.cur_in)) (ack_other-talks talk wire x y key holds it talks))
-          (spoken_next talk wire x y (next_frame y given) _ _ holds at_head.inside (ack_faults wire x y key given holds it is more) (ack_more-told talk wire x y key given holds it is more talks));
-    }
+  pub halted_ack : {new : Wire} {key : Key} (given : FateValue) {halt : Halt} → Holds wire x y → AckNext x.end wire x.taken key
+      → waiting_key y.sender ≡ Some key → y.sender.acknowledged + 1 < piece_count y.sender.length
+      → Halts wire.frames.items y.end y.sender.id (part_now (side_of (advanced y))) given halt new.frames.items
+      → Halted halt wire x y new (moved x) (advanced y)
+  halted_ack {new} given {halt} holds it is more halts =
+      let at_head = head holds.go it.next in
+      let part = part_now (side_of (advanced y)) in
+      record {
+        x_end = refl;
+        y_end = refl;
+        by = halts_by wire.frames.items new.frames.items y.end y.sender.id part given halt (cursor_of (moved x) y) data_plain holds.go halts;
+        talks = λ talk talks. behind_halt (Spoken x.end y.end talk (cursor_of (moved x) y)) wire.frames.items new.frames.items given halt data_plain halts
+            (spoken_of holds.line.traced.faults (omega (arith, cursor_own x.end (x.taken + 1) y.taken, at_head.inside))
+            (omega (arith, cursor_other x.end y.end (x.taken + 1) y.taken holds.apart.there, holds.line.core.back.cur_in)) (ack_other-talks holds it talks))
+            (spoken_next holds at_head.inside (ack_faults given holds it is more) (ack_more-told given holds it is more talks));
+      }
 
--- ---- data was to be acknowledged
+  -- ---- data was to be acknowledged
 
--- what was taken of x then
-unacked_heard : (talk : Talk) (wire : Wire) (x y : Half) (key : Key) (taken : Taken) → DataHeard wire x y key taken → Talks talk wire x y → (fx : Bool) × HeardOf x.end (past_now wire.frames.items) (x.taken + 1) fx (side_of x)
-unacked_heard talk wire x y key taken heard talks = go taken heard where
-  new : (answer : Taken) (whole : Bool) → (it : DataHeard wire x y key answer) → it.holds.fx ≡ true
-      → Accepting x.end y.end (past_now wire.frames.items) y.taken (x.taken + 1) (side_of x) (side_of y) x.receiver it.before (sent_of it.next.frame).key (sent_of it.next.frame).bytes answer whole
+  -- what was taken of x then
+  unacked_heard : {talk : Talk} {key : Key} {taken : Taken} → DataHeard wire x y key taken → Talks talk wire x y
       → (fx : Bool) × HeardOf x.end (past_now wire.frames.items) (x.taken + 1) fx (side_of x)
-  new answer whole it fresh accepting =
-      let at_head = head x.end wire x.taken it.holds.go it.next in (
-        false,
-        heard_new x.end y.end (past_now wire.frames.items) x.taken y.taken (side_of x) (side_of y) x.receiver it.before it.holds.fx it.holds.fy (sent_of it.next.frame) it.holds.line.core it.holds.line.traced.x_acks at_head.inside at_head.here it.is it.next.comes_here fresh accepting.key_is accepting.waits
-            (x_heard_now talk wire x (record y { receiver = it.before }) it.holds talks),
-      )
+  unacked_heard {key} {taken} heard talks = go taken heard where
+    new : (answer : Taken) (whole : Bool) → (it : DataHeard wire x y key answer) → it.holds.fx ≡ true
+        → Accepting x.end y.end (past_now wire.frames.items) y.taken (x.taken + 1) (side_of x) (side_of y) x.receiver it.before (sent_of it.next.frame).key
+        (sent_of it.next.frame).bytes answer whole
+        → (fx : Bool) × HeardOf x.end (past_now wire.frames.items) (x.taken + 1) fx (side_of x)
+    new answer whole it fresh accepting =
+        let at_head = head it.holds.go it.next in (
+          false,
+          heard_new it.holds.line.core it.holds.line.traced.x_acks at_head.inside at_head.here it.is it.next.comes_here fresh accepting.key_is accepting.waits
+              (x_heard_now it.holds talks),
+        )
 
-  go : (answer : Taken) → DataHeard wire x y key answer → (fx : Bool) × HeardOf x.end (past_now wire.frames.items) (x.taken + 1) fx (side_of x)
-  go Repeated it =
-      let at_head = head x.end wire x.taken it.holds.go it.next in
-      let sent = sent_of it.next.frame in
-      let last : it.before.last ≡ Some (sent_of it.next.frame).key = it.answers ∙ ap (λ (k : Key). Some k) (sym it.key_is) in
-      let copy = copy_is x.end y.end (past_now wire.frames.items) x.taken y.taken (side_of x) (side_of y) x.receiver it.before it.holds.fx it.holds.fy (x.taken + 1) sent (at x.taken (past_now wire.frames.items)) it.holds.line.core (omega arith) (omega (arith, at_head.inside)) at_head.here it.is last in (
-        it.holds.fx,
-        heard_again x.end y.end (past_now wire.frames.items) x.taken sent it.holds.fx (side_of x) it.holds.line.traced.x_acks at_head.here (and_from (is_data_of x.end sent) (comes sent.course) it.is it.next.comes_here) copy.key
-            (x_heard_now talk wire x (record y { receiver = it.before }) it.holds talks),
-      )
-  go Accepted it = new Accepted false it ((after_heard wire x y key Accepted it).0) ((after_heard wire x y key Accepted it).1)
-  go Whole it = new Whole true it ((after_heard wire x y key Whole it).0) ((after_heard wire x y key Whole it).1)
-  go Dropped it = absurd (never_dropped wire x y key Dropped it refl)
+    go : (answer : Taken) → DataHeard wire x y key answer → (fx : Bool) × HeardOf x.end (past_now wire.frames.items) (x.taken + 1) fx (side_of x)
+    go Repeated it =
+        let at_head = head it.holds.go it.next in
+        let sent = sent_of it.next.frame in
+        let last : it.before.last ≡ Some (sent_of it.next.frame).key = it.answers ∙ ap Some (sym it.key_is) in
+        let copy = copy_is it.holds.line.core (omega arith) (omega (arith, at_head.inside)) at_head.here it.is last in (
+          it.holds.fx,
+          heard_again x.end y.end (past_now wire.frames.items) x.taken it.holds.fx (side_of x) it.holds.line.traced.x_acks at_head.here
+              (and_from (is_data_of x.end sent) (comes sent.course) it.is it.next.comes_here) copy.key
+              (x_heard_now it.holds talks),
+        )
+    go Accepted it = new Accepted false it ((after_heard it).0) ((after_heard it).1)
+    go Whole it = new Whole true it ((after_heard it).0) ((after_heard it).1)
+    go Dropped it = absurd (never_dropped it refl)
 
-unacked : (talk : Talk) (wire : Wire) (x y : Half) (key : Key) (taken : Taken) → DataHeard wire x y key taken → Talks talk wire x y → Spoken x.end y.end talk (cursor_of (moved x) y) (past_now wire.frames.items)
-unacked talk wire x y key taken heard talks =
-    let holds = heard.holds in
-    let past = past_now wire.frames.items in
-    let sent = sent_of heard.next.frame in
-    let at_head = head x.end wire x.taken holds.go heard.next in
-    let cursor = cursor_of x y in
-    let next = cursor_of (moved x) y in
-    let more = moves-more x.end y.end cursor next holds.apart.there (cursor_moves x.end y.end x.taken y.taken holds.apart.there) in
-    let same = (cursor_moves x.end y.end x.taken y.taken holds.apart.there).kept in
-    let comes_here = and_from (is_data_of x.end sent) (comes sent.course) heard.is heard.next.comes_here in
-    record {
-      faults = holds.line.traced.faults;
-      x_speaks = speaks-unacked x.end y.end talk cursor next (came_by next past) past x.taken sent (side_of x) more (cursor_own x.end x.taken y.taken) (cursor_own x.end (x.taken + 1) y.taken) at_head.inside at_head.here comes_here
-          (λ n frame older inside here. ap (is_taken next n) here) talks.talking.x_speech;
-      y_speaks = speaks_properly y.end x.end talk next past (side_of y) (omega (arith, cursor_other x.end y.end (x.taken + 1) y.taken holds.apart.there, holds.line.core.back.cur_in))
-          (speech-moves y.end x.end talk cursor next past (side_of y) more (ap (λ (k : ℕ). data_taken y.end (at k past)) same) talks.talking.y_speech);
-      x_in = omega (arith, cursor_own x.end (x.taken + 1) y.taken, at_head.inside);
-      y_in = omega (arith, cursor_other x.end y.end (x.taken + 1) y.taken holds.apart.there, holds.line.core.back.cur_in);
-      x_took = subst (λ (n : ℕ). TookMessages x.end talk past n) (sym (cursor_own x.end (x.taken + 1) y.taken))
-          (let took = unacked_heard talk wire x y key taken heard talks in took_of x.end y.end talk cursor past (x.taken + 1) took.0 (side_of x) talks.talking.x_speech took.1);
-      y_took = subst (λ (n : ℕ). TookMessages y.end talk past n) (sym (cursor_other x.end y.end (x.taken + 1) y.taken holds.apart.there))
-          (took_of y.end x.end talk cursor past y.taken holds.fy (side_of y) talks.talking.y_speech (y_heard_now talk wire x (record y { receiver = heard.before }) holds talks));
-    }
+  unacked : {talk : Talk} {key : Key} {taken : Taken} → DataHeard wire x y key taken → Talks talk wire x y
+      → Spoken x.end y.end talk (cursor_of (moved x) y) (past_now wire.frames.items)
+  unacked {talk} heard talks =
+      let holds = heard.holds in
+      let past = past_now wire.frames.items in
+      let sent = sent_of heard.next.frame in
+      let at_head = head holds.go heard.next in
+      let cursor = cursor_of x y in
+      let next = cursor_of (moved x) y in
+      let more = moves-more holds.apart.there (cursor_moves x.taken y.taken holds.apart.there) in
+      let same = (cursor_moves x.taken y.taken holds.apart.there).kept in
+      let comes_here = and_from (is_data_of x.end sent) (comes sent.course) heard.is heard.next.comes_here in
+      record {
+        faults = holds.line.traced.faults;
+        x_speaks = speaks-unacked more (cursor_own x.end x.taken y.taken) (cursor_own x.end (x.taken + 1) y.taken) at_head.inside at_head.here comes_here
+            (λ n frame older inside here. ap (is_taken next n) here) talks.talking.x_speech;
+        y_speaks = speaks_properly (omega (arith, cursor_other x.end y.end (x.taken + 1) y.taken holds.apart.there, holds.line.core.back.cur_in))
+            (speech-moves {later = next} more (ap (λ k. data_taken y.end (at k past)) same) talks.talking.y_speech);
+        x_in = omega (arith, cursor_own x.end (x.taken + 1) y.taken, at_head.inside);
+        y_in = omega (arith, cursor_other x.end y.end (x.taken + 1) y.taken holds.apart.there, holds.line.core.back.cur_in);
+        x_took = subst (λ n. TookMessages x.end talk past n) (sym (cursor_own x.end (x.taken + 1) y.taken))
+            (let took = unacked_heard heard talks in took_of took.0 talks.talking.x_speech took.1);
+        y_took = subst (λ n. TookMessages y.end talk past n) (sym (cursor_other x.end y.end (x.taken + 1) y.taken holds.apart.there))
+            (took_of holds.fy talks.talking.y_speech (y_heard_now holds talks));
+      }
 
-pub halted_data : (wire new : Wire) (x y : Half) (key : Key) (taken : Taken) (given : FateValue) (halt : Halt) (sender : _) → DataHeard wire x y key taken → NewSender taken y.sender sender → Halts wire.frames.items y.end key.id (ack_fragment key) given halt new.frames.items
-    → Halted halt wire x y new (moved x) (record y { sender = sender })
-halted_data wire new x y key taken given halt sender heard after halts =
-    let holds = heard.holds in
-    let past = past_now wire.frames.items in
-    let at_head = head x.end wire x.taken holds.go heard.next in
-    let ack = ack_frame y.end key (course_of given) in
-    record {
-      x_end = refl;
-      y_end = refl;
-      by = halts_by wire.frames.items new.frames.items y.end key.id (ack_fragment key) given halt (cursor_of (moved x) y) ack_plain holds.go halts;
-      talks = λ talk talks. behind_halt (Spoken x.end y.end talk (cursor_of (moved x) y)) wire.frames.items new.frames.items y.end key.id (ack_fragment key) given halt ack_plain halts (unacked talk wire x y key taken heard talks)
-          (spoken_next talk wire x (record y { receiver = heard.before }) ack _ _ holds at_head.inside (faults_push ack past holds.line.traced.faults (λ Z. other_no_repeat Z ack past (ack_is_no_data Z y.end key (course_of given))))
-          (took_data-told talk wire x y key taken given sender heard after talks));
-    }
+  pub halted_data : {new : Wire} {key : Key} {taken : Taken} (given : FateValue) {halt : Halt} {sender : _} → DataHeard wire x y key taken
+      → NewSender taken y.sender sender → Halts wire.frames.items y.end key.id (ack_fragment key) given halt new.frames.items
+      → Halted halt wire x y new (moved x) (record y { sender = sender })
+  halted_data {new} {key} {taken} given {halt} {sender} heard after halts =
+      let holds = heard.holds in
+      let past = past_now wire.frames.items in
+      let at_head = head holds.go heard.next in
+      let ack = ack_frame y.end key (course_of given) in
+      record {
+        x_end = refl;
+        y_end = refl;
+        by = halts_by wire.frames.items new.frames.items y.end key.id (ack_fragment key) given halt (cursor_of (moved x) y) ack_plain holds.go halts;
+        talks = λ talk talks. behind_halt (Spoken x.end y.end talk (cursor_of (moved x) y)) wire.frames.items new.frames.items given halt
+            ack_plain halts (unacked heard talks)
+            (spoken_next holds at_head.inside (faults_push ack past holds.line.traced.faults
+            (λ Z. other_no_repeat Z ack past (ack_is_no_data Z y.end key (course_of given))))
+            (took_data-told taken given sender heard after talks));
+      }
 
--- ---- a message was to begin
+  -- ---- a message was to begin
 
-more_spoken : (talk : Talk) (wire : Wire) (x y : Half) (message : List ℕ) → Turn wire x y → Talks talk wire x y → Spoken x.end y.end (say x.end message talk) (cursor_of x y) (past_now wire.frames.items)
-more_spoken talk wire x y message turn talks =
-    let past = past_now wire.frames.items in
-    let cursor = cursor_of x y in
-    let x_speech = talks.talking.x_speech in
-    let y_speech = talks.talking.y_speech in
-    let line = turn.settled.line in
-    record {
-      faults = line.traced.faults;
-      x_speaks = speaks-more x.end y.end talk (came_by cursor past) past message (omega (arith, x_speech.begun)) (speaks_properly x.end y.end talk cursor past (side_of x) (omega (arith, cursor_own x.end x.taken y.taken, line.core.there.cur_in)) x_speech);
-      y_speaks = speaks-beside y.end x.end talk (came_by cursor past) past message turn.settled.apart.back (omega (arith, y_speech.begun))
-          (speaks_properly y.end x.end talk cursor past (side_of y) (omega (arith, cursor_other x.end y.end x.taken y.taken turn.settled.apart.there, line.core.back.cur_in)) y_speech);
-      x_in = omega (arith, cursor_own x.end x.taken y.taken, line.core.there.cur_in);
-      y_in = omega (arith, cursor_other x.end y.end x.taken y.taken turn.settled.apart.there, line.core.back.cur_in);
-      x_took = subst (λ (n : ℕ). TookMessages x.end (say x.end message talk) past n) (sym (cursor_own x.end x.taken y.taken))
-          (took_more x.end y.end talk cursor past x.taken (side_of x) message x_speech (omega (arith, turn.idle)) (x_heard_as talk wire x y false line.core.there.follows talks));
-      y_took = subst (λ (n : ℕ). TookMessages y.end (say x.end message talk) past n) (sym (cursor_other x.end y.end x.taken y.taken turn.settled.apart.there))
-          (took_beside y.end x.end talk past y.taken message turn.settled.apart.back (took_of y.end x.end talk cursor past y.taken false (side_of y) y_speech (y_heard_as talk wire x y false turn.settled.apart.there line.core.back.follows talks)));
-    }
+  more_spoken : {talk : Talk} (message : List ℕ) → Turn wire x y → Talks talk wire x y
+      → Spoken x.end y.end (say x.end message talk) (cursor_of x y) (past_now wire.frames.items)
+  more_spoken {talk} message turn talks =
+      let past = past_now wire.frames.items in
+      let cursor = cursor_of x y in
+      let x_speech = talks.talking.x_speech in
+      let y_speech = talks.talking.y_speech in
+      let line = turn.settled.line in
+      record {
+        faults = line.traced.faults;
+        x_speaks = speaks-more message (omega (arith, x_speech.begun))
+            (speaks_properly (omega (arith, cursor_own x.end x.taken y.taken, line.core.there.cur_in)) x_speech);
+        y_speaks = speaks-beside message turn.settled.apart.back (omega (arith, y_speech.begun))
+            (speaks_properly (omega (arith, cursor_other x.end y.end x.taken y.taken turn.settled.apart.there, line.core.back.cur_in)) y_speech);
+        x_in = omega (arith, cursor_own x.end x.taken y.taken, line.core.there.cur_in);
+        y_in = omega (arith, cursor_other x.end y.end x.taken y.taken turn.settled.apart.there, line.core.back.cur_in);
+        x_took = subst (λ n. TookMessages x.end (say x.end message talk) past n) (sym (cursor_own x.end x.taken y.taken))
+            (took_more message x_speech (omega (arith, turn.idle)) (x_heard_as wire x y false line.core.there.follows talks));
+        y_took = subst (λ n. TookMessages y.end (say x.end message talk) past n) (sym (cursor_other x.end y.end x.taken y.taken turn.settled.apart.there))
+            (took_beside x.end message turn.settled.apart.back
+            (took_of false y_speech (y_heard_as wire x y false turn.settled.apart.there line.core.back.follows talks)));
+      }
 
-pub start_speaks : (talk : Talk) (wire new : Wire) (x y : Half) (id : ℕ) (message : Vec ℕ Global) (given : FateValue) (halt : Halt) → Turn wire x y → (id ≡ x.sender.id → ⊥) → y.receiver.awaited ≡ Some id → y.receiver.pieces ≡ []
-    → Halts wire.frames.items x.end id (part_now (beginning id message.items)) given halt new.frames.items → IsNextTo talk x y id → Talks talk wire x y → Spoke (say x.end message.items talk) new x y
-start_speaks talk wire new x y id message given halt turn different awaited none halts next talks =
-    let past = past_now wire.frames.items in
-    let line = turn.settled.line in
-    let after = running_starts x.end y.end past x.taken y.taken wire.released (side_of x) (side_of y) x.receiver y.receiver x.sender.tries y.sender.tries id message.items (course_of given) turn.settled.apart line turn.knows different awaited none (λ w. omega (arith, w, turn.last)) in
-    behind_halt (Spoken x.end y.end (say x.end message.items talk) (cursor_of x y)) wire.frames.items new.frames.items x.end id (part_now (beginning id message.items)) given halt data_plain halts (more_spoken talk wire x y message.items turn talks)
-    (spoken_of x.end y.end (say x.end message.items talk) (cursor_of x y) (first_frame x id message given ∷ past) _ _ after.traced.faults (omega (arith, cursor_own x.end x.taken y.taken, line.core.there.cur_in))
-    (omega (arith, cursor_other x.end y.end x.taken y.taken turn.settled.apart.there, line.core.back.cur_in)) (starts-told talk wire x y id message given turn different awaited none next talks))
+  pub start_speaks : {talk : Talk} (new : Wire) {id : ℕ} (message : Vec ℕ Global) (given : FateValue) (halt : Halt) → Turn wire x y → (id ≡ x.sender.id → ⊥)
+      → y.receiver.awaited ≡ Some id → y.receiver.pieces ≡ []
+      → Halts wire.frames.items x.end id (part_now (beginning id message.items)) given halt new.frames.items → IsNextTo talk x y id → Talks talk wire x y
+      → Spoke (say x.end message.items talk) new x y
+  start_speaks {talk} new message given halt turn different awaited none halts next talks =
+      let line = turn.settled.line in
+      let after = running_starts (course_of given) turn.settled.apart line turn.knows different awaited none (λ w. omega (arith, w, turn.last)) in
+      behind_halt (Spoken x.end y.end (say x.end message.items talk) (cursor_of x y)) wire.frames.items new.frames.items given halt data_plain halts
+      (more_spoken message.items turn talks)
+      (spoken_of after.traced.faults (omega (arith, cursor_own x.end x.taken y.taken, line.core.there.cur_in))
+      (omega (arith, cursor_other x.end y.end x.taken y.taken turn.settled.apart.there, line.core.back.cur_in))
+      (starts-told message given turn different awaited none next talks))
 
--- ---- a piece was to be sent again
+  -- ---- a piece was to be sent again
 
-again_faults : (wire : Wire) (x y : Half) (given : FateValue) → Holds wire x y → Blocked x.end (past_now wire.frames.items) x.taken wire.released → Blocked y.end (past_now wire.frames.items) y.taken wire.released → Waits x.sender → RepeatsHaveFaults (again_frame x given ∷ past_now wire.frames.items)
-again_faults wire x y given holds x_blocked y_blocked waits =
-    let past = past_now wire.frames.items in
-    let now = waits_now x holds.x_half waits in
-    elim (cases_lt y.sender.acknowledged (piece_count (length y.message.items))) [
-      | inl too ↦ (running_tick_two x.end y.end past x.taken y.taken wire.released (side_of x) (side_of y) x.receiver y.receiver holds.fx holds.fy x.sender.tries y.sender.tries (course_of given) (course_of given) holds.apart holds.line x_blocked y_blocked now too).traced.faults.1
-      | inr idle ↦ (running_tick_one x.end y.end past x.taken y.taken wire.released (side_of x) (side_of y) x.receiver y.receiver holds.fx holds.fy x.sender.tries y.sender.tries (course_of given) holds.apart holds.line x_blocked y_blocked now (λ w. omega (arith, w, idle))).traced.faults
-    ]
+  again_faults : (given : FateValue) → Holds wire x y → Blocked x.end (past_now wire.frames.items) x.taken wire.released
+      → Blocked y.end (past_now wire.frames.items) y.taken wire.released → Waits x.sender → RepeatsHaveFaults (again_frame x given ∷ past_now wire.frames.items)
+  again_faults given holds x_blocked y_blocked waits =
+      let now = waits_now holds.x_half waits in
+      elim (cases_lt y.sender.acknowledged (piece_count (length y.message.items))) [
+        | inl too ↦ (running_tick_two {course = course_of given} (course_of given) holds.apart holds.line x_blocked y_blocked now too).traced.faults.1
+        | inr idle ↦ (running_tick_one {course = course_of given} holds.apart holds.line x_blocked y_blocked now (λ w. omega (arith, w, idle))).traced.faults
+      ]
 
-both_faults : (wire : Wire) (x y : Half) (given next : FateValue) → Holds wire x y → Blocked x.end (past_now wire.frames.items) x.taken wire.released → Blocked y.end (past_now wire.frames.items) y.taken wire.released → Waits x.sender → Waits y.sender
-    → RepeatsHaveFaults (again_frame y next ∷ again_frame x given ∷ past_now wire.frames.items)
-both_faults wire x y given next holds x_blocked y_blocked x_waits y_waits =
-    (running_tick_two x.end y.end (past_now wire.frames.items) x.taken y.taken wire.released (side_of x) (side_of y) x.receiver y.receiver holds.fx holds.fy x.sender.tries y.sender.tries (course_of given) (course_of next) holds.apart holds.line x_blocked y_blocked
-    (waits_now x holds.x_half x_waits) (waits_now y holds.y_half y_waits)).traced.faults
+  both_faults : (given next : FateValue) → Holds wire x y → Blocked x.end (past_now wire.frames.items) x.taken wire.released
+      → Blocked y.end (past_now wire.frames.items) y.taken wire.released → Waits x.sender → Waits y.sender
+      → RepeatsHaveFaults (again_frame y next ∷ again_frame x given ∷ past_now wire.frames.items)
+  both_faults given next holds x_blocked y_blocked x_waits y_waits =
+      (running_tick_two (course_of next) holds.apart holds.line x_blocked y_blocked
+      (waits_now holds.x_half x_waits) (waits_now holds.y_half y_waits)).traced.faults
 
-again_spoken : (talk : Talk) (wire : Wire) (x y : Half) (given : FateValue) → Holds wire x y → Blocked x.end (past_now wire.frames.items) x.taken wire.released → Blocked y.end (past_now wire.frames.items) y.taken wire.released → Waits x.sender → x.sender.tries < 10 → Talks talk wire x y
-    → Spoken x.end y.end talk (cursor_of x y) (again_frame x given ∷ past_now wire.frames.items)
-again_spoken talk wire x y given holds x_blocked y_blocked waits few talks =
-    spoken_of x.end y.end talk (cursor_of x y) (again_frame x given ∷ past_now wire.frames.items) (side_of x) (side_of y) (again_faults wire x y given holds x_blocked y_blocked waits) (omega (arith, cursor_own x.end x.taken y.taken, holds.line.core.there.cur_in))
-    (omega (arith, cursor_other x.end y.end x.taken y.taken holds.apart.there, holds.line.core.back.cur_in)) (one_again-told talk wire x y given holds waits few talks)
+  again_spoken : {talk : Talk} (given : FateValue) → Holds wire x y → Blocked x.end (past_now wire.frames.items) x.taken wire.released
+      → Blocked y.end (past_now wire.frames.items) y.taken wire.released → Waits x.sender → x.sender.tries < 10 → Talks talk wire x y
+      → Spoken x.end y.end talk (cursor_of x y) (again_frame x given ∷ past_now wire.frames.items)
+  again_spoken given holds x_blocked y_blocked waits few talks =
+      spoken_of (again_faults given holds x_blocked y_blocked waits) (omega (arith, cursor_own x.end x.taken y.taken, holds.line.core.there.cur_in))
+      (omega (arith, cursor_other x.end y.end x.taken y.taken holds.apart.there, holds.line.core.back.cur_in)) (one_again-told given holds waits few talks)
 
-first_sends : (wire new : Wire) (x y : Half) (given : FateValue) (halt : Halt) → Holds wire x y → Blocked x.end (past_now wire.frames.items) x.taken wire.released → Blocked y.end (past_now wire.frames.items) y.taken wire.released → Waits x.sender → x.sender.tries < 10
-    → Halts wire.frames.items x.end x.sender.id (part_now (side_of x)) given halt new.frames.items → Halted halt wire x y new x y
-first_sends wire new x y given halt holds x_blocked y_blocked waits few halts = record {
-  x_end = refl;
-  y_end = refl;
-  by = halts_by wire.frames.items new.frames.items x.end x.sender.id (part_now (side_of x)) given halt (cursor_of x y) data_plain holds.go halts;
-  talks = λ talk talks. behind_halt (Spoken x.end y.end talk (cursor_of x y)) wire.frames.items new.frames.items x.end x.sender.id (part_now (side_of x)) given halt data_plain halts (spoken_now talk wire x y holds talks)
-      (again_spoken talk wire x y given holds x_blocked y_blocked waits few talks);
-}
+  first_sends : {new : Wire} (given : FateValue) {halt : Halt} → Holds wire x y → Blocked x.end (past_now wire.frames.items) x.taken wire.released
+      → Blocked y.end (past_now wire.frames.items) y.taken wire.released → Waits x.sender → x.sender.tries < 10
+      → Halts wire.frames.items x.end x.sender.id (part_now (side_of x)) given halt new.frames.items → Halted halt wire x y new x y
+  first_sends {new} given {halt} holds x_blocked y_blocked waits few halts = record {
+    x_end = refl;
+    y_end = refl;
+    by = halts_by wire.frames.items new.frames.items x.end x.sender.id (part_now (side_of x)) given halt (cursor_of x y) data_plain holds.go halts;
+    talks = λ talk talks. behind_halt (Spoken x.end y.end talk (cursor_of x y)) wire.frames.items new.frames.items given halt
+        data_plain halts (spoken_now holds talks)
+        (again_spoken given holds x_blocked y_blocked waits few talks);
+  }
 
-pub first_halts : (wire new : Wire) (r : ℕ) (x y : Half) (given : FateValue) (halt : Halt) → Holds wire x y → Blocked x.end (past_now wire.frames.items) x.taken wire.released → Blocked y.end (past_now wire.frames.items) y.taken wire.released → Waits x.sender
-    → NotAgain halt given x (record wire { released = r }) new → Halted halt wire x y new x y
-first_halts wire new r x y given NoMemory holds x_blocked y_blocked waits it = first_sends wire new x y given NoMemory holds x_blocked y_blocked waits it.0 it.1
-first_halts wire new r x y given (Stopped stop) holds x_blocked y_blocked waits it = first_sends wire new x y given (Stopped stop) holds x_blocked y_blocked waits it.0 it.1
-first_halts wire new r x y given (Down end) holds x_blocked y_blocked waits it =
-    subst (λ (w : Wire). Halted (Down end) wire x y w x y) (sym it.2) (subst (λ (X : End). Halted (Down X) wire x y (record wire { released = r }) x y) (sym it.0) (record {
-      x_end = refl;
-      y_end = refl;
-      by = (holds.go, first_spent wire x y holds x_blocked y_blocked waits it.1);
-      talks = λ talk talks. spoken_now talk wire x y holds talks;
-    }))
+  pub first_halts : {new : Wire} (r : ℕ) (given : FateValue) (halt : Halt) → Holds wire x y → Blocked x.end (past_now wire.frames.items) x.taken wire.released
+      → Blocked y.end (past_now wire.frames.items) y.taken wire.released → Waits x.sender
+      → NotAgain halt given x (record wire { released = r }) new → Halted halt wire x y new x y
+  first_halts r given NoMemory holds x_blocked y_blocked waits it = first_sends given holds x_blocked y_blocked waits it.0 it.1
+  first_halts r given (Stopped stop) holds x_blocked y_blocked waits it = first_sends given holds x_blocked y_blocked waits it.0 it.1
+  first_halts r given (Down end) holds x_blocked y_blocked waits it =
+      subst (λ w. Halted (Down end) wire x y w x y) (sym it.2) (subst (λ X. Halted (Down X) wire x y (record wire { released = r }) x y) (sym it.0) (record {
+        x_end = refl;
+        y_end = refl;
+        by = (holds.go, first_spent holds x_blocked y_blocked waits it.1);
+        talks = λ talk talks. spoken_now holds talks;
+      }))
 
-second_sends : (wire mid new : Wire) (r : ℕ) (x y : Half) (given next : FateValue) (halt : Halt) → Holds wire x y → Blocked x.end (past_now wire.frames.items) x.taken wire.released → Blocked y.end (past_now wire.frames.items) y.taken wire.released → Waits x.sender → Waits y.sender
-    → SendsAgain (record wire { released = r }) x given mid (again x) → y.sender.tries < 10 → Halts mid.frames.items y.end y.sender.id (part_now (side_of y)) next halt new.frames.items → Halted halt wire x y new x y
-second_sends wire mid new r x y given next halt holds x_blocked y_blocked x_waits y_waits sent few halts =
-    let longer = extends (record wire { released = r }) mid x.end x.sender.id (part_now (side_of x)) given holds.go sent.sends tt sent.released in
-    record {
-      x_end = refl;
-      y_end = refl;
-      by = halts_by mid.frames.items new.frames.items y.end y.sender.id (part_now (side_of y)) next halt (cursor_of x y) data_plain longer.go halts;
-      talks = λ talk talks. behind_halt (Spoken x.end y.end talk (cursor_of x y)) mid.frames.items new.frames.items y.end y.sender.id (part_now (side_of y)) next halt data_plain halts
-          (subst (λ (p : List Sent). Spoken x.end y.end talk (cursor_of x y) p) (sym longer.past) (again_spoken talk wire x y given holds x_blocked y_blocked x_waits sent.few talks))
-          (subst (λ (p : List Sent). Spoken x.end y.end talk (cursor_of x y) (again_frame y next ∷ p)) (sym longer.past)
-          (spoken_of x.end y.end talk (cursor_of x y) (again_frame y next ∷ again_frame x given ∷ past_now wire.frames.items) (side_of x) (side_of y) (both_faults wire x y given next holds x_blocked y_blocked x_waits y_waits)
-          (omega (arith, cursor_own x.end x.taken y.taken, holds.line.core.there.cur_in)) (omega (arith, cursor_other x.end y.end x.taken y.taken holds.apart.there, holds.line.core.back.cur_in))
-          (two_again-told talk wire x y given next holds x_waits y_waits sent.few few talks)));
-    }
+module _ {wire mid new : Wire} {r : ℕ} {x y : Half} {given : FateValue} where
+  second_sends : (next : FateValue) {halt : Halt} → Holds wire x y → Blocked x.end (past_now wire.frames.items) x.taken wire.released
+      → Blocked y.end (past_now wire.frames.items) y.taken wire.released → Waits x.sender → Waits y.sender
+      → SendsAgain (record wire { released = r }) x given mid (again x) → y.sender.tries < 10
+      → Halts mid.frames.items y.end y.sender.id (part_now (side_of y)) next halt new.frames.items → Halted halt wire x y new x y
+  second_sends next {halt} holds x_blocked y_blocked x_waits y_waits sent few halts =
+      let longer = extends (record wire { released = r }) mid x.end x.sender.id (part_now (side_of x)) given holds.go sent.sends tt sent.released in
+      record {
+        x_end = refl;
+        y_end = refl;
+        by = halts_by mid.frames.items new.frames.items y.end y.sender.id (part_now (side_of y)) next halt (cursor_of x y) data_plain longer.go halts;
+        talks = λ talk talks. behind_halt (Spoken x.end y.end talk (cursor_of x y)) mid.frames.items new.frames.items next halt data_plain halts
+            (subst (λ p. Spoken x.end y.end talk (cursor_of x y) p) (sym longer.past) (again_spoken given holds x_blocked y_blocked x_waits sent.few talks))
+            (subst (λ p. Spoken x.end y.end talk (cursor_of x y) (again_frame y next ∷ p)) (sym longer.past)
+            (spoken_of (both_faults given next holds x_blocked y_blocked x_waits y_waits)
+            (omega (arith, cursor_own x.end x.taken y.taken, holds.line.core.there.cur_in))
+            (omega (arith, cursor_other x.end y.end x.taken y.taken holds.apart.there, holds.line.core.back.cur_in))
+            (two_again-told given next holds x_waits y_waits sent.few few talks)));
+      }
 
-second_now : (wire mid new : Wire) (r : ℕ) (x y : Half) (given next : FateValue) (halt : Halt) → Holds wire x y → Blocked x.end (past_now wire.frames.items) x.taken wire.released → Blocked y.end (past_now wire.frames.items) y.taken wire.released → Waits x.sender → Waits y.sender
-    → SendsAgain (record wire { released = r }) x given mid (again x) → NotAgain halt next y mid new → Halted halt wire x y new x y
-second_now wire mid new r x y given next NoMemory holds x_blocked y_blocked x_waits y_waits sent it = second_sends wire mid new r x y given next NoMemory holds x_blocked y_blocked x_waits y_waits sent it.0 it.1
-second_now wire mid new r x y given next (Stopped stop) holds x_blocked y_blocked x_waits y_waits sent it = second_sends wire mid new r x y given next (Stopped stop) holds x_blocked y_blocked x_waits y_waits sent it.0 it.1
-second_now wire mid new r x y given next (Down end) holds x_blocked y_blocked x_waits y_waits sent it =
-    let longer = extends (record wire { released = r }) mid x.end x.sender.id (part_now (side_of x)) given holds.go sent.sends tt sent.released in
-    subst (λ (w : Wire). Halted (Down end) wire x y w x y) (sym it.2) (subst (λ (X : End). Halted (Down X) wire x y mid x y) (sym it.0) (record {
-      x_end = refl;
-      y_end = refl;
-      by = (
-        longer.go,
-        subst (λ (p : List Sent). IsSpent y.end (cursor_of x y) p) (sym longer.past)
-            (subst (λ (c : End → ℕ). IsSpent y.end c (again_frame x given ∷ past_now wire.frames.items)) (cursor_turned y.end x.end y.taken x.taken holds.apart.back) (second_spent wire x y given holds x_blocked y_blocked y_waits it.1)),
-      );
-      talks = λ talk talks. subst (λ (p : List Sent). Spoken x.end y.end talk (cursor_of x y) p) (sym longer.past) (again_spoken talk wire x y given holds x_blocked y_blocked x_waits sent.few talks);
-    }))
+  second_now : (next : FateValue) (halt : Halt) → Holds wire x y → Blocked x.end (past_now wire.frames.items) x.taken wire.released
+      → Blocked y.end (past_now wire.frames.items) y.taken wire.released → Waits x.sender → Waits y.sender
+      → SendsAgain (record wire { released = r }) x given mid (again x) → NotAgain halt next y mid new → Halted halt wire x y new x y
+  second_now next NoMemory holds x_blocked y_blocked x_waits y_waits sent it = second_sends next holds x_blocked y_blocked x_waits y_waits sent it.0 it.1
+  second_now next (Stopped stop) holds x_blocked y_blocked x_waits y_waits sent it = second_sends next holds x_blocked y_blocked x_waits y_waits sent it.0 it.1
+  second_now next (Down end) holds x_blocked y_blocked x_waits y_waits sent it =
+      let longer = extends (record wire { released = r }) mid x.end x.sender.id (part_now (side_of x)) given holds.go sent.sends tt sent.released in
+      subst (λ w. Halted (Down end) wire x y w x y) (sym it.2) (subst (λ X. Halted (Down X) wire x y mid x y) (sym it.0) (record {
+        x_end = refl;
+        y_end = refl;
+        by = (
+          longer.go,
+          subst (λ p. IsSpent y.end (cursor_of x y) p) (sym longer.past)
+              (subst (λ c. IsSpent y.end c (again_frame x given ∷ past_now wire.frames.items)) (cursor_turned y.end x.end y.taken x.taken holds.apart.back)
+              (second_spent given holds x_blocked y_blocked y_waits it.1)),
+        );
+        talks = λ talk talks. subst (λ p. Spoken x.end y.end talk (cursor_of x y) p) (sym longer.past)
+            (again_spoken given holds x_blocked y_blocked x_waits sent.few talks);
+      }))
 
-pub second_halts : (wire mid new : Wire) (r : ℕ) (x y x_later : Half) (given next : FateValue) (halt : Halt) → Holds wire x y → Blocked x.end (past_now wire.frames.items) x.taken wire.released → Blocked y.end (past_now wire.frames.items) y.taken wire.released → Waits x.sender → Waits y.sender
-    → SendsAgain (record wire { released = r }) x given mid x_later → NotAgain halt next y mid new → Halted halt wire x y new x y
-second_halts wire mid new r x y x_later given next halt holds x_blocked y_blocked x_waits y_waits sent it =
-    second_now wire mid new r x y given next halt holds x_blocked y_blocked x_waits y_waits (subst (λ (h : Half). SendsAgain (record wire { released = r }) x given mid h) sent.counted sent) it
+  pub second_halts : {x_later : Half} (next : FateValue) {halt : Halt} → Holds wire x y → Blocked x.end (past_now wire.frames.items) x.taken wire.released
+      → Blocked y.end (past_now wire.frames.items) y.taken wire.released → Waits x.sender → Waits y.sender
+      → SendsAgain (record wire { released = r }) x given mid x_later → NotAgain halt next y mid new → Halted halt wire x y new x y
+  second_halts next {halt} holds x_blocked y_blocked x_waits y_waits sent it =
+      second_now next halt holds x_blocked y_blocked x_waits y_waits (subst (λ h. SendsAgain (record wire { released = r }) x given mid h) sent.counted sent) it
 
 -- ---- the same from elsewhere
 
-spoken_turned : (X Y : End) (talk : Talk) (cursor : End → ℕ) (past : List Sent) → Spoken X Y talk cursor past → Spoken Y X talk cursor past
-spoken_turned X Y talk cursor past it = record { faults = it.faults; x_speaks = it.y_speaks; y_speaks = it.x_speaks; x_in = it.y_in; y_in = it.x_in; x_took = it.y_took; y_took = it.x_took }
+spoken_turned : {X Y : End} {talk : Talk} {cursor : End → ℕ} {past : List Sent} → Spoken X Y talk cursor past → Spoken Y X talk cursor past
+spoken_turned it = search rules
 
-pub halted_turned : (halt : Halt) (wire : Wire) (x y : Half) (new : Wire) (later_x later_y : Half) → Apart x.end y.end → Apart later_x.end later_y.end → Halted halt wire x y new later_x later_y → Halted halt wire y x new later_y later_x
-halted_turned halt wire x y new later_x later_y apart later_apart it =
-    let cursor = cursor_turned later_x.end later_y.end later_x.taken later_y.taken later_apart.there in
-    record {
-      x_end = it.y_end;
-      y_end = it.x_end;
-      by = subst (λ (c : End → ℕ). HaltsBy halt c new.frames.items) cursor it.by;
-      talks = λ talk talks. subst (λ (c : End → ℕ). Spoken later_y.end later_x.end talk c (past_now new.frames.items)) cursor
-          (spoken_turned later_x.end later_y.end talk (cursor_of later_x later_y) (past_now new.frames.items) (it.talks talk (talks_turned talk wire y x (apart_turned x.end y.end apart) talks)));
-    }
+module _ {halt : Halt} {wire : Wire} {x y : Half} {new : Wire} {later_x later_y : Half} where
+  pub halted_turned : Apart x.end y.end → Apart later_x.end later_y.end → Halted halt wire x y new later_x later_y → Halted halt wire y x new later_y later_x
+  halted_turned apart later_apart it =
+      let cursor = cursor_turned later_x.end later_y.end later_x.taken later_y.taken later_apart.there in
+      record {
+        x_end = it.y_end;
+        y_end = it.x_end;
+        by = subst (λ c. HaltsBy halt c new.frames.items) cursor it.by;
+        talks = λ talk talks. subst (λ c. Spoken later_y.end later_x.end talk c (past_now new.frames.items)) cursor
+            (spoken_turned (it.talks talk (talks_turned wire y x (apart_turned apart) talks)));
+      }
 
--- where both ends are where they were
-pub halted_there : (halt : Halt) (wire : Wire) (x y : Half) (new : Wire) (later_x later_y : Half) → Stays x later_x → Stays y later_y → Halted halt wire x y new x y → Halted halt wire x y new later_x later_y
-halted_there halt wire x y new later_x later_y x_same y_same it =
-    let cursor = same_cursors x y later_x later_y (x_same.end_is, x_same.taken_is) (y_same.end_is, y_same.taken_is) in
-    record {
-      x_end = x_same.end_is;
-      y_end = y_same.end_is;
-      by = subst (λ (c : End → ℕ). HaltsBy halt c new.frames.items) cursor it.by;
-      talks = λ talk talks. subst (λ (c : End → ℕ). Spoken later_x.end later_y.end talk c (past_now new.frames.items)) cursor (subst (λ (X : End). Spoken X later_y.end talk (cursor_of x y) (past_now new.frames.items)) (sym x_same.end_is)
-          (subst (λ (Y : End). Spoken x.end Y talk (cursor_of x y) (past_now new.frames.items)) (sym y_same.end_is) (it.talks talk talks)));
-    }
+  -- where both ends are where they were
+  pub halted_there : Stays x later_x → Stays y later_y → Halted halt wire x y new x y → Halted halt wire x y new later_x later_y
+  halted_there x_same y_same it =
+      let cursor = same_cursors x y later_x later_y (x_same.end_is, x_same.taken_is) (y_same.end_is, y_same.taken_is) in
+      record {
+        x_end = x_same.end_is;
+        y_end = y_same.end_is;
+        by = subst (λ c. HaltsBy halt c new.frames.items) cursor it.by;
+        talks = λ talk talks. subst (λ c. Spoken later_x.end later_y.end talk c (past_now new.frames.items)) cursor
+            (subst (λ X. Spoken X later_y.end talk (cursor_of x y) (past_now new.frames.items)) (sym x_same.end_is)
+            (subst (λ Y. Spoken x.end Y talk (cursor_of x y) (past_now new.frames.items)) (sym y_same.end_is) (it.talks talk talks)));
+      }
 
-pub halted_behind : (halt : Halt) (wire0 : Wire) (x0 y0 : Half) (wire : Wire) (x y : Half) (new : Wire) (later_x later_y : Half) → x.end ≡ x0.end → y.end ≡ y0.end → KeepsTalk wire0 x0 y0 wire x y → Halted halt wire x y new later_x later_y → Halted halt wire0 x0 y0 new later_x later_y
-halted_behind halt wire0 x0 y0 wire x y new later_x later_y x_same y_same keeps it = record { x_end = it.x_end ∙ x_same; y_end = it.y_end ∙ y_same; by = it.by; talks = λ talk talks. it.talks talk (keeps talk talks) }
+  pub halted_behind : {wire0 : Wire} {x0 y0 : Half} → x.end ≡ x0.end → y.end ≡ y0.end → KeepsTalk wire0 x0 y0 wire x y
+      → Halted halt wire x y new later_x later_y → Halted halt wire0 x0 y0 new later_x later_y
+  halted_behind x_same y_same keeps it =
+      record { x_end = it.x_end ∙ x_same; y_end = it.y_end ∙ y_same; by = it.by; talks = λ talk talks. it.talks talk (keeps talk talks) }
 
-pub halted_heeded : (halt : Halt) (wire : Wire) (x y h : Half) (new : Wire) (later_x later_y : Half) → Heeded y h → Halted halt wire x h new later_x later_y → Halted halt wire x y new later_x later_y
-halted_heeded halt wire x y h new later_x later_y heeded it =
-    let now = subst (λ (k : Half). Halted halt wire x k new later_x later_y) heeded it in
-    record { x_end = now.x_end; y_end = now.y_end; by = now.by; talks = now.talks }
+  pub halted_heeded : {h : Half} → Heeded y h → Halted halt wire x h new later_x later_y → Halted halt wire x y new later_x later_y
+  halted_heeded heeded it =
+      let now = subst (λ k. Halted halt wire x k new later_x later_y) heeded it in
+      record { x_end = now.x_end; y_end = now.y_end; by = now.by; talks = now.talks }
 
 -- memory ran out before anything was sent
-pub no_memory : (wire : Wire) (x y : Half) → Holds wire x y → Halted NoMemory wire x y wire x y
-no_memory wire x y holds = record { x_end = refl; y_end = refl; by = holds.go; talks = λ talk talks. spoken_now talk wire x y holds talks }
+pub no_memory : {wire : Wire} {x y : Half} → Holds wire x y → Halted NoMemory wire x y wire x y
+no_memory holds = record { x_end = refl; y_end = refl; by = holds.go; talks = λ talk talks. spoken_now holds talks }

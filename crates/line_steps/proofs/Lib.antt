@@ -30,3 +30,4 @@ pub mod TurnLaws
 pub mod UnderwayLaws
 pub mod WorkLaws
 pub mod XorLaws
+pub mod Names

@@ -1,43 +1,30 @@
 -- A frame is marked: nothing else of it changes, nor of what is told of the line.
-use Rattle.std.proofs.Common.{◌≡◌, ℕ, zero, suc, ◌⊎◌, ◌+◌, ◌<◌, ◌≤◌, true, List, [], ◌∷◌, length, map, Some, refl, sym, ap, subst, ◌∙◌}
-use Rattle.std.specs.Prelude.{slice_get, slice_set}
-use Rattle.trace_text.specs.declared.frame.Frame.{Frame}
-use Rattle.trace_text.specs.Frames.{add_frame, past_behind}
-use Rattle.padp_link.specs.Pieces.{piece_count}
-use Rattle.trace_text.specs.Past.{Sent, said, acked, at}
-use Rattle.trace_text.specs.Talks.{Talk}
-use Rattle.trace_text.specs.TraceLines.{frame_value}
-use Rattle.line_laws.specs.Line.{Line}
-use Rattle.line_laws.specs.Measure.{measure}
-use Rattle.line_steps.specs.declared.half.Half.{Half}
-use Rattle.line_steps.specs.declared.half.Wire.{Wire}
-use Rattle.line_steps.specs.declared.hearing.Heard.{Heard}
-use Rattle.line_steps.specs.Marking.{marked, Marks}
-use Rattle.line_steps.specs.Running.{past_now, side_of, AllGo, Holds}
-use Rattle.line_steps.specs.Settling.{AllTaken}
-use Rattle.line_steps.specs.Taking.{Delivers}
-use Rattle.line_steps.specs.Telling.{cursor_of, Talked, Talks}
-use Rattle.line_steps.specs.Underway.{Underway, StillUnderway}
-use Rattle.line_steps.specs.Working.{work_left}
+use Rattle.line_steps.proofs.Names.{◌≡◌, ℕ, zero, suc, ◌⊎◌, ◌+◌, ◌<◌, ◌≤◌, true, List, [], ◌∷◌, length, map, Some, refl, sym, ap, subst, ◌∙◌, slice_get}
+use Rattle.line_steps.proofs.Names.{slice_set, Frame, add_frame, past_behind, piece_count, Sent, said, acked, at, Talk, frame_value, Line, measure, Half, Wire}
+use Rattle.line_steps.proofs.Names.{Heard, marked, Marks, past_now, side_of, AllGo, Holds, AllTaken, Delivers, cursor_of, Talked, Talks, Underway}
+use Rattle.line_steps.proofs.Names.{StillUnderway, work_left}
 
 -- ---- frames
 
-pub marked_set : (frames : List Frame) (n : ℕ) (frame : Frame) → slice_get frames n ≡ Some frame → slice_set frames n (record frame { came = true }) ≡ marked n frames
-marked_set [] n frame here = absurd cc
-marked_set (first ∷ later) zero frame here = (let same : frame ≡ first = cc in ap (λ (f : Frame). record f { came = true } ∷ later) same)
-marked_set (first ∷ later) (suc n) frame here = ap (λ (fs : List Frame). first ∷ fs) (marked_set later n frame here)
+pub marked_set : (frames : List Frame) (n : ℕ) {frame : Frame} → slice_get frames n ≡ Some frame
+    → slice_set frames n (record frame { came = true }) ≡ marked n frames
+marked_set [] n here = absurd cc
+marked_set (first ∷ later) zero {frame} here = (let same : frame ≡ first = cc in ap (λ (f : Frame). record f { came = true } ∷ later) same)
+marked_set (first ∷ later) (suc n) here = ap (λ (fs : List Frame). first ∷ fs) (marked_set later n here)
 
-pub marked_at : (frames : List Frame) (n : ℕ) (frame : Frame) → slice_get frames n ≡ Some frame → slice_get (marked n frames) n ≡ Some (record frame { came = true })
-marked_at [] n frame here = absurd cc
-marked_at (first ∷ later) zero frame here = (let same : first ≡ frame = cc in ap (λ (f : Frame). Some (record f { came = true })) same)
-marked_at (first ∷ later) (suc n) frame here = marked_at later n frame here
+pub marked_at : (frames : List Frame) (n : ℕ) {frame : Frame} → slice_get frames n ≡ Some frame
+    → slice_get (marked n frames) n ≡ Some (record frame { came = true })
+marked_at [] n here = absurd cc
+marked_at (first ∷ later) zero {frame} here = (let same : first ≡ frame = cc in ap (λ (f : Frame). Some (record f { came = true })) same)
+marked_at (first ∷ later) (suc n) here = marked_at later n here
 
 pub length-marked : (n : ℕ) (frames : List Frame) → length (marked n frames) ≡ length frames
 length-marked n [] = refl
 length-marked zero (frame ∷ later) = refl
 length-marked (suc n) (frame ∷ later) = ap suc (length-marked n later)
 
-pub past_marked : (past : List Sent) (n : ℕ) (frames : List Frame) → past_behind past (map frame_value (marked n frames)) ≡ past_behind past (map frame_value frames)
+pub past_marked : (past : List Sent) (n : ℕ) (frames : List Frame)
+    → past_behind past (map frame_value (marked n frames)) ≡ past_behind past (map frame_value frames)
 past_marked past n [] = refl
 past_marked past zero (frame ∷ later) = refl
 past_marked past (suc n) (frame ∷ later) = past_marked (add_frame (frame_value frame) past) n later
@@ -56,58 +43,64 @@ go_marked number (suc n) (frame ∷ later) go = (go.0, go_marked (number + 1) n 
 
 -- ---- the line
 
-pub past-marks : (n : ℕ) (wire new : Wire) → Marks n wire new → past_now new.frames.items ≡ past_now wire.frames.items
-past-marks n wire new marks = ap past_now marks.frames_are ∙ past_marked [] n wire.frames.items
+module _ {n : ℕ} {wire new : Wire} where
+  pub past-marks : Marks n wire new → past_now new.frames.items ≡ past_now wire.frames.items
+  past-marks marks = ap past_now marks.frames_are ∙ past_marked [] n wire.frames.items
 
-pub holds_marked : (n : ℕ) (wire new : Wire) (x y : Half) → Marks n wire new → Holds wire x y → Holds new x y
-holds_marked n wire new x y marks holds = record {
-  apart = holds.apart;
-  fx = holds.fx;
-  fy = holds.fy;
-  go = subst (AllGo 1) (sym marks.frames_are) (go_marked 1 n wire.frames.items holds.go);
-  x_half = holds.x_half;
-  y_half = holds.y_half;
-  line = subst (λ (r : ℕ). Line x.end y.end (past_now new.frames.items) x.taken y.taken r (side_of x) (side_of y) x.receiver y.receiver holds.fx holds.fy x.sender.tries y.sender.tries) (sym marks.released_is)
-      (subst (λ (p : List Sent). Line x.end y.end p x.taken y.taken wire.released (side_of x) (side_of y) x.receiver y.receiver holds.fx holds.fy x.sender.tries y.sender.tries) (sym (past-marks n wire new marks)) holds.line);
-}
+  pub holds_marked : {x y : Half} → Marks n wire new → Holds wire x y → Holds new x y
+  holds_marked {x} {y} marks holds = record {
+    apart = holds.apart;
+    fx = holds.fx;
+    fy = holds.fy;
+    go = subst (AllGo 1) (sym marks.frames_are) (go_marked 1 n wire.frames.items holds.go);
+    x_half = holds.x_half;
+    y_half = holds.y_half;
+    line = subst (λ r. Line x.end y.end (past_now new.frames.items) x.taken y.taken r (side_of x) (side_of y) x.receiver y.receiver holds.fx holds.fy
+        x.sender.tries y.sender.tries) (sym marks.released_is)
+        (subst (λ p. Line x.end y.end p x.taken y.taken wire.released (side_of x) (side_of y) x.receiver y.receiver holds.fx holds.fy x.sender.tries
+        y.sender.tries) (sym (past-marks marks)) holds.line);
+  }
 
-pub delivers_marked : (X : _) (n : ℕ) (wire new : Wire) → Marks n wire new → Delivers X wire n → Delivers X new n
-delivers_marked X n wire new marks next = record {
-  frame = record next.frame { came = true };
-  here = ap (λ (fs : List Frame). slice_get fs n) marks.frames_are ∙ marked_at wire.frames.items n next.frame next.here;
-  from_is = next.from_is;
-  comes_here = next.comes_here;
-  free = λ late. subst (λ (r : ℕ). n + 1 ≤ r) (sym marks.released_is) (next.free late);
-}
+  pub delivers_marked : {X : _} → Marks n wire new → Delivers X wire n → Delivers X new n
+  delivers_marked marks next = record {
+    frame = record next.frame { came = true };
+    here = ap (λ fs. slice_get fs n) marks.frames_are ∙ marked_at wire.frames.items n next.here;
+    from_is = next.from_is;
+    comes_here = next.comes_here;
+    free = λ late. subst (λ r. n + 1 ≤ r) (sym marks.released_is) (next.free late);
+  }
 
-work-marked : (n : ℕ) (wire new : Wire) (x y : Half) → Marks n wire new → work_left new x y ≡ work_left wire x y
-work-marked n wire new x y marks = ap (λ (p : List Sent). measure x.end y.end p x.taken y.taken (side_of x) (side_of y) x.sender.tries y.sender.tries) (past-marks n wire new marks)
+  work-marked : (x y : Half) → Marks n wire new → work_left new x y ≡ work_left wire x y
+  work-marked x y marks = ap (λ p. measure x.end y.end p x.taken y.taken (side_of x) (side_of y) x.sender.tries y.sender.tries) (past-marks marks)
 
-pub less-marked : (n : ℕ) (wire new : Wire) (x y : Half) (later : Wire) (later_x later_y : Half) → Marks n wire new → work_left later later_x later_y < work_left new x y → work_left later later_x later_y < work_left wire x y
-less-marked n wire new x y later later_x later_y marks less = subst (λ (k : ℕ). work_left later later_x later_y < k) (work-marked n wire new x y marks) less
+  pub less-marked : (x y : Half) (later : Wire) (later_x later_y : Half) → Marks n wire new → work_left later later_x later_y < work_left new x y
+      → work_left later later_x later_y < work_left wire x y
+  less-marked x y later later_x later_y marks less = subst (λ k. work_left later later_x later_y < k) (work-marked x y marks) less
 
-underway_marked : (n : ℕ) (wire new : Wire) (x y : Half) → Marks n wire new → Underway wire x y → Underway new x y
-underway_marked n wire new x y marks it = record {
-  waits = it.waits;
-  due = subst (λ (p : List Sent). (length (acked y.end p) < length (said x.end p)) ⊎ (x.sender.acknowledged + 1 < piece_count (length x.message.items))) (sym (past-marks n wire new marks)) it.due;
-}
+  underway_marked : {x y : Half} → Marks n wire new → Underway wire x y → Underway new x y
+  underway_marked {x} {y} marks it = record {
+    waits = it.waits;
+    due = subst (λ p. (length (acked y.end p) < length (said x.end p)) ⊎ (x.sender.acknowledged + 1 < piece_count (length x.message.items)))
+        (sym (past-marks marks)) it.due;
+  }
 
-taken_marked : (n : ℕ) (wire new : Wire) (x y : Half) → Marks n wire new → AllTaken wire x y → AllTaken new x y
-taken_marked n wire new x y marks it = record {
-  all = subst (λ (p : List Sent). length (said x.end p) ≤ length (acked y.end p)) (sym (past-marks n wire new marks)) it.all;
-  idle = it.idle;
-  last = it.last;
-  knows = λ over. subst (λ (p : List Sent). length (said x.end p) ≤ length (acked y.end (at y.taken p))) (sym (past-marks n wire new marks)) (it.knows over);
-}
+  taken_marked : {x y : Half} → Marks n wire new → AllTaken wire x y → AllTaken new x y
+  taken_marked {x} {y} marks it = record {
+    all = subst (λ p. length (said x.end p) ≤ length (acked y.end p)) (sym (past-marks marks)) it.all;
+    idle = it.idle;
+    last = it.last;
+    knows = λ over. subst (λ p. length (said x.end p) ≤ length (acked y.end (at y.taken p))) (sym (past-marks marks)) (it.knows over);
+  }
 
-pub talks_marked : (talk : Talk) (n : ℕ) (wire new : Wire) (x y : Half) → Marks n wire new → Talks talk wire x y → Talks talk new x y
-talks_marked talk n wire new x y marks talks = subst (λ (p : List Sent). Talked x.end y.end talk (cursor_of x y) p (side_of x) (side_of y)) (sym (past-marks n wire new marks)) talks
+  pub talks_marked : {talk : Talk} (x y : Half) → Marks n wire new → Talks talk wire x y → Talks talk new x y
+  talks_marked {talk} x y marks talks = subst (λ p. Talked x.end y.end talk (cursor_of x y) p (side_of x) (side_of y)) (sym (past-marks marks)) talks
 
-pub still_marked : (heard : Heard) (n : ℕ) (wire new : Wire) (x y : Half) (later : Wire) (later_x later_y : Half) → Marks n wire new → StillUnderway heard new x y later later_x later_y → StillUnderway heard wire x y later later_x later_y
-still_marked heard n wire new x y later later_x later_y marks still = record {
-  own = λ it. still.own (underway_marked n wire new x y marks it);
-  other = λ it. still.other (underway_marked n wire new y x marks it);
-  own_taken = λ waits it. still.own_taken waits (taken_marked n wire new x y marks it);
-  other_taken = λ waits it. still.other_taken waits (taken_marked n wire new y x marks it);
-  talks = λ talk talks. still.talks talk (talks_marked talk n wire new x y marks talks);
-}
+  pub still_marked : {heard : Heard} {x y : Half} {later : Wire} {later_x later_y : Half} → Marks n wire new → StillUnderway heard new x y later later_x later_y
+      → StillUnderway heard wire x y later later_x later_y
+  still_marked {x} {y} marks still = record {
+    own = λ it. still.own (underway_marked marks it);
+    other = λ it. still.other (underway_marked marks it);
+    own_taken = λ waits it. still.own_taken waits (taken_marked marks it);
+    other_taken = λ waits it. still.other_taken waits (taken_marked marks it);
+    talks = λ talk talks. still.talks talk (talks_marked x y marks talks);
+  }

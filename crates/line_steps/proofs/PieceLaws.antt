@@ -1,14 +1,6 @@
 -- The waiting piece of an end.
-use Rattle.std.proofs.Common.{◌≡◌, ℕ, ◌+◌, ◌-◌, ◌≤◌, List, length, take, drop, Some, sym, ap, subst, ◌∙◌, arith}
-use Rattle.padp_link.specs.declared.fragment.PadpKind.TheVariants.{Data}
-use Rattle.padp_link.specs.declared.piece.Piece.{Piece}
-use Rattle.padp_link.specs.FragmentText.{FragmentValue, IsFragment}
-use Rattle.padp_link.specs.Pieces.{piece_of, fragment_of}
-use Rattle.padp_link.specs.Senders.{waiting}
-use Rattle.padp_link.proofs.WaitingLaws.{waiting-piece_of, waiting-fragment}
-use Rattle.line_laws.specs.Core.{part_now}
-use Rattle.line_steps.specs.declared.half.Half.{Half}
-use Rattle.line_steps.specs.Running.{IsHalf, side_of}
+use Rattle.line_steps.proofs.Names.{rules, ◌≡◌, ℕ, ◌+◌, ◌-◌, ◌≤◌, List, length, take, drop, Some, sym, ap, subst, ◌∙◌, arith, Data, Piece, IsFragment, piece_of}
+use Rattle.line_steps.proofs.Names.{fragment_of, waiting, waiting-piece_of, waiting-fragment, part_now, Half, IsHalf, side_of}
 
 pub record IsPiece (half : Half) (piece : Piece) : Type 0 where
   pub is : piece ≡ piece_of half.sender.id (length half.message.items) half.sender.acknowledged
@@ -17,25 +9,26 @@ pub record IsPiece (half : Half) (piece : Piece) : Type 0 where
   pub part_is : fragment_of half.message.items piece ≡ part_now (side_of half)
   pub id_is : piece.key.id ≡ half.sender.id
 
-pub is_piece : (half : Half) (piece : Piece) → IsHalf half → waiting half.sender ≡ Some piece → IsPiece half piece
-is_piece half piece is_half waits =
+pub is_piece : {half : Half} {piece : Piece} → IsHalf half → waiting half.sender ≡ Some piece → IsPiece half piece
+is_piece {half} {piece} is_half waits =
     let found = waiting-piece_of half.sender piece waits in
     let parts = waiting-fragment half.sender half.message.items piece (sym is_half.length_is) waits in
-    let is : piece ≡ piece_of half.sender.id (length half.message.items) half.sender.acknowledged = found.1 ∙ ap (λ (n : ℕ). piece_of half.sender.id n half.sender.acknowledged) is_half.length_is in
-    let part : fragment_of half.message.items piece ≡ part_now (side_of half) = ap (λ (p : Piece). fragment_of half.message.items p) is in
+    let is : piece ≡ piece_of half.sender.id (length half.message.items) half.sender.acknowledged =
+    found.1 ∙ ap (λ n. piece_of half.sender.id n half.sender.acknowledged) is_half.length_is in
+    let part : fragment_of half.message.items piece ≡ part_now (side_of half) = ap (λ p. fragment_of half.message.items p) is in
     record {
       is = is;
       within = omega (arith, parts.0, is_half.length_is);
-      fragment = subst (λ (f : FragmentValue). IsFragment f) part parts.1;
+      fragment = subst (λ f. IsFragment f) part parts.1;
       part_is = part;
-      id_is = ap (λ (p : Piece). p.key.id) is;
+      id_is = ap (λ p. p.key.id) is;
     }
 
 -- the bytes of a piece
-pub piece_bytes : (message slice : List ℕ) (piece : Piece) (place end : ℕ) → slice ≡ message → place ≡ piece.place → end ≡ place + piece.length → take (end - place) (drop place slice) ≡ take piece.length (drop piece.place message)
-piece_bytes message slice piece place end same at to =
-    let span : end - place ≡ piece.length = omega (arith, to) in
-    ap (λ (n : ℕ). take n (drop place slice)) span ∙ ap (λ (n : ℕ). take piece.length (drop n slice)) at ∙ ap (λ (s : List ℕ). take piece.length (drop piece.place s)) same
+pub piece_bytes : {message slice : List ℕ} (piece : Piece) {place end : ℕ} → slice ≡ message → place ≡ piece.place → end ≡ place + piece.length
+    → take (end - place) (drop place slice) ≡ take piece.length (drop piece.place message)
+piece_bytes piece same at to = search rules
 
-pub with_bytes : (message : List ℕ) (piece : Piece) (bytes : List ℕ) → bytes ≡ take piece.length (drop piece.place message) → record { kind = Data; flags = piece.key.flags; size = piece.key.size; bytes = bytes } ≡ fragment_of message piece
-with_bytes message piece bytes same = ap (λ (s : List ℕ). record { kind = Data; flags = piece.key.flags; size = piece.key.size; bytes = s }) same
+pub with_bytes : (message : List ℕ) (piece : Piece) {bytes : List ℕ} → bytes ≡ take piece.length (drop piece.place message)
+    → record { kind = Data; flags = piece.key.flags; size = piece.key.size; bytes = bytes } ≡ fragment_of message piece
+with_bytes message piece same = search rules

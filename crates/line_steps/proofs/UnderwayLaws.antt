@@ -1,33 +1,12 @@
 -- A message stays on its way until it is whole.
-use Rattle.std.proofs.Common.{◌≡◌, ◌⊎◌, ℕ, ◌+◌, ◌<◌, ◌≤◌, Bool, true, false, List, [], ◌∷◌, length, Vec, Some, None, refl, sym, ap, subst, ◌∙◌, arith, inl, inr}
-use Rattle.std.specs.declared.alloc.Global.{Global}
-use Rattle.std.proofs.lemmas.Bool.{both_ways, cases_lt, eqb-false}
-use Rattle.padp_link.specs.declared.piece.Key.{Key}
-use Rattle.padp_link.specs.declared.receiver.Taken.{Taken}
-use Rattle.padp_link.specs.declared.receiver.Taken.TheVariants.{Accepted, Whole, Repeated, Dropped}
-use Rattle.padp_link.specs.Pieces.{piece_count}
-use Rattle.padp_link.specs.Receivers.{ReceiverValue}
-use Rattle.padp_link.specs.Senders.{SenderValue, Waits, waiting_key}
-use Rattle.trace_text.specs.Fates.{FateValue}
-use Rattle.trace_text.specs.Frames.{course_of}
-use Rattle.trace_text.specs.Past.{Sent, said, acked}
-use Rattle.line_laws.specs.Core.{Apart, Side, Waiting, Follows, Core, key_now, part_now, data_frame, ack_frame}
-use Rattle.line_laws.proofs.RunningLaws.{running_starts}
-use Rattle.line_laws.proofs.StepLaws.{turned, again as once_more}
-use Rattle.line_laws.proofs.TakeLaws.{acknowledged, beginning, matched, take_ack}
-use Rattle.line_laws.proofs.TurnLaws.{Active, active_begun, active_taken, active_alone, active_goes_on}
-use Rattle.line_steps.specs.declared.half.Half.{Half}
-use Rattle.line_steps.specs.declared.half.Wire.{Wire}
-use Rattle.line_steps.specs.declared.hearing.Heard.{Heard}
-use Rattle.line_steps.specs.declared.hearing.Heard.TheVariants.{Nothing, Ack, Data}
-use Rattle.line_steps.specs.Running.{sent_of, past_now, side_of, IsHalf, AllGo, Holds, Heeded}
-use Rattle.line_steps.specs.Settling.{AllTaken}
-use Rattle.line_steps.specs.Sending.{Sends, ack_fragment}
-use Rattle.line_steps.specs.Taking.{AckNext, DataHeard}
-use Rattle.line_steps.specs.Telling.{KeepsTalk}
-use Rattle.line_steps.specs.Ticking.{SendsAgain}
-use Rattle.line_steps.specs.Turning.{Turn}
-use Rattle.line_steps.specs.Underway.{Underway, StillUnderway}
+use Rattle.line_steps.proofs.Names.{rules, ◌≡◌, ℕ, ◌+◌, ◌<◌, ◌≤◌, Bool, true, false, List, [], ◌∷◌, length, Vec, Some, None, refl, sym, ap, subst, ◌∙◌, arith}
+use Rattle.line_steps.proofs.Names.{Global, both_ways, eqb-false, Key, Taken, Accepted, Whole, Repeated, Dropped, piece_count, ReceiverValue, SenderValue}
+use Rattle.line_steps.proofs.Names.{Waits, waiting_key, FateValue, course_of, Sent, said, acked, Apart, Waiting, Follows, Core, part_now, ack_frame}
+use Rattle.line_steps.proofs.Names.{running_starts, turned, acknowledged, beginning, matched, take_ack, Active, active_begun, active_taken, active_goes_on}
+use Rattle.line_steps.proofs.Names.{Half, Wire, Heard, Nothing, Ack, sent_of, past_now, side_of, IsHalf, AllGo, Holds, Heeded, AllTaken, Sends, ack_fragment}
+use Rattle.line_steps.proofs.Names.{AckNext, DataHeard, KeepsTalk, SendsAgain, Turn, Underway, StillUnderway}
+use Rattle.line_laws.proofs.StepLaws.{again as once_more}
+use Rattle.line_steps.specs.declared.hearing.Heard.TheVariants.{Data}
 use Rattle.line_steps.proofs.DataLaws.{NewSender, after_heard}
 use Rattle.line_steps.proofs.HoldsLaws.{moved}
 use Rattle.line_steps.proofs.SendingLaws.{extends}
@@ -40,90 +19,77 @@ use Rattle.line_steps.proofs.TakingLaws.{head, waits_with, advanced}
 
 -- ---- by counts, and by the record of the line
 
-abbrev Due : List Key → List Key → Side → Type 0
-Due said acked x = (length acked < length said) ⊎ (x.acknowledged + 1 < piece_count (length x.message))
-
-due_active : (fx : Bool) (said acked : List Key) (x : Side) → Follows said acked fx → Waiting x → Due said acked x → Active fx x
-due_active true said acked x follows waits due = active_begun x waits
-due_active false said acked x follows waits (inl less) = absurd (omega (arith, less, ap (λ (s : List Key). length s) follows))
-due_active false said acked x follows waits (inr more) = active_taken x waits more
-
-active_due : (fx : Bool) (said acked : List Key) (x : Side) → Follows said acked fx → Active fx x → Due said acked x
-active_due true said acked x follows active = inl (omega (arith, ap (λ (s : List Key). length s) (follows.1)))
-active_due false said acked x follows active = inr active.due
-
-pub active_of : (wire : Wire) (x y : Half) → (holds : Holds wire x y) → Underway wire x y → Active holds.fx (side_of x)
-active_of wire x y holds it = due_active holds.fx (said x.end (past_now wire.frames.items)) (acked y.end (past_now wire.frames.items)) (side_of x) holds.line.core.there.follows it.waits it.due
+pub active_of : {wire : Wire} {x y : Half} → (holds : Holds wire x y) → Underway wire x y → Active holds.fx (side_of x)
+active_of holds it = search rules
 
 -- of both ends
-back_of : (wire : Wire) (x y : Half) → (holds : Holds wire x y) → Underway wire y x → Active holds.fy (side_of y)
-back_of wire x y holds it = due_active holds.fy (said y.end (past_now wire.frames.items)) (acked x.end (past_now wire.frames.items)) (side_of y) holds.line.core.back.follows it.waits it.due
+back_of : {wire : Wire} {x y : Half} → (holds : Holds wire x y) → Underway wire y x → Active holds.fy (side_of y)
+back_of holds it = search rules
 
-underway : (wire : Wire) (x y : Half) (past : List Sent) (fx : Bool) → past_now wire.frames.items ≡ past → Follows (said x.end past) (acked y.end past) fx → Active fx (side_of x) → Underway wire x y
-underway wire x y past fx same follows active = record {
-  waits = active.waits;
-  due = subst (λ (p : List Sent). Due (said x.end p) (acked y.end p) (side_of x)) (sym same) (active_due fx (said x.end past) (acked y.end past) (side_of x) follows active);
-}
+underway : {wire : Wire} {x y : Half} {past : List Sent} {fx : Bool} → past_now wire.frames.items ≡ past → Follows (said x.end past) (acked y.end past) fx
+    → Active fx (side_of x) → Underway wire x y
+underway same follows active = search rules
 
 -- ---- what was all taken
 
 none_fresh : (fresh : Bool) (said acked : List Key) → Follows said acked fresh → length said ≤ length acked → fresh ≡ false
 none_fresh false said acked follows all = refl
-none_fresh true said acked follows all = absurd (omega (arith, all, ap (λ (s : List Key). length s) (follows.1)))
+none_fresh true said acked follows all = absurd (omega (arith, all, ap length follows.1))
 
 -- so it is behind more frames, while x waits
-all_taken : (wire new : Wire) (x y later_x later_y : Half) (past : List Sent) (fresh : Bool) → Waiting (side_of later_x) → AllTaken wire x y → fresh ≡ false → past_now new.frames.items ≡ past → Follows (said later_x.end past) (acked later_y.end past) fresh
+all_taken : {wire new : Wire} {x y later_x later_y : Half} {past : List Sent} {fresh : Bool} → Waiting (side_of later_x) → AllTaken wire x y → fresh ≡ false
+    → past_now new.frames.items ≡ past → Follows (said later_x.end past) (acked later_y.end past) fresh
     → side_of later_x ≡ side_of x → side_of later_y ≡ side_of y → AllTaken new later_x later_y
-all_taken wire new x y later_x later_y past fresh waits it none same follows x_same y_same = record {
-  all = subst (λ (p : List Sent). length (said later_x.end p) ≤ length (acked later_y.end p)) (sym same) (omega (arith, ap (λ (s : List Key). length s) (subst (λ (f : Bool). Follows (said later_x.end past) (acked later_y.end past) f) none follows)));
-  idle = subst (λ (s : Side). piece_count (length s.message) ≤ s.acknowledged) (sym y_same) it.idle;
-  last = subst (λ (s : Side). piece_count (length s.message) ≤ s.acknowledged + 1) (sym x_same) it.last;
-  knows = λ over. absurd (omega (arith, waits, over));
-}
+all_taken waits it none same follows x_same y_same = search rules
 
 -- ---- an acknowledgement
 
-pub ack_other-underway : (wire : Wire) (x y : Half) (key : Key) → Holds wire x y → AckNext x.end wire x.taken key → StillUnderway (Ack key) wire x y wire (moved x) y
-ack_other-underway wire x y key holds next = record {
+pub ack_other-underway : {wire : Wire} {x y : Half} {key : Key} → Holds wire x y → AckNext x.end wire x.taken key
+    → StillUnderway (Ack key) wire x y wire (moved x) y
+ack_other-underway holds next = record {
   own = λ it. record { waits = it.waits; due = it.due };
   other = λ it. record { waits = it.waits; due = it.due };
   own_taken = λ waits it. record { all = it.all; idle = it.idle; last = it.last; knows = λ over. absurd (omega (arith, waits, over)) };
   other_taken = λ waits it. record { all = it.all; idle = it.idle; last = it.last; knows = λ over. absurd (omega (arith, waits, over)) };
-  talks = λ talk. ack_other-talks talk wire x y key holds next;
+  talks = λ talk. ack_other-talks holds next;
 }
 
-pub ack_last-underway : (wire : Wire) (x y : Half) (key : Key) → Holds wire x y → AckNext x.end wire x.taken key → waiting_key y.sender ≡ Some key → piece_count y.sender.length ≤ y.sender.acknowledged + 1 → StillUnderway (Ack key) wire x y wire (moved x) (advanced y)
-ack_last-underway wire x y key holds it is last =
-    let sent = sent_of it.next.frame in
-    let at_head = head x.end wire x.taken holds.go it.next in
-    let w = waits_with y key holds.y_half is in
-    let m = matched x.end y.end (past_now wire.frames.items) x.taken y.taken (x.taken + 1) (side_of x) (side_of y) x.receiver y.receiver holds.fx holds.fy sent _ holds.line.core (omega arith) (omega (arith, at_head.inside)) at_head.here it.is w.waits (w.key_is ∙ sym it.key_is) in
+pub ack_last-underway : {wire : Wire} {x y : Half} {key : Key} → Holds wire x y → AckNext x.end wire x.taken key → waiting_key y.sender ≡ Some key
+    → piece_count y.sender.length ≤ y.sender.acknowledged + 1 → StillUnderway (Ack key) wire x y wire (moved x) (advanced y)
+ack_last-underway holds it is last =
+    let at_head = head holds.go it.next in
+    let w = waits_with holds.y_half is in
+    let m = matched holds.line.core (omega arith) (omega (arith, at_head.inside)) at_head.here it.is w.waits (w.key_is ∙ sym it.key_is) in
     record {
       own = λ own. record { waits = own.waits; due = own.due };
-      other = λ other. absurd (omega (arith, last, ap piece_count holds.y_half.length_is, active_goes_on (side_of y) holds.fy (back_of wire x y holds other) m.none_fresh));
+      other = λ other. absurd (omega (arith, last, ap piece_count holds.y_half.length_is, active_goes_on holds.fy (back_of holds other) m.none_fresh));
       own_taken = λ waits taken. absurd (omega (arith, w.waits, taken.idle));
       other_taken = λ waits taken. record { all = taken.all; idle = taken.idle; last = omega (arith, taken.last); knows = λ over. m.knows };
-      talks = λ talk. ack_last-talks talk wire x y key holds it is last;
+      talks = λ talk. ack_last-talks holds it is last;
     }
 
-pub ack_more-underway : (wire new : Wire) (x y : Half) (key : Key) (given : FateValue) → Holds wire x y → AckNext x.end wire x.taken key → waiting_key y.sender ≡ Some key → y.sender.acknowledged + 1 < piece_count y.sender.length
-    → Sends wire.frames.items y.end y.sender.id (part_now (side_of (advanced y))) given None new.frames.items → new.released ≡ wire.released → StillUnderway (Ack key) wire x y new (moved x) (advanced y)
-ack_more-underway wire new x y key given holds it is more sends released =
+pub ack_more-underway : {wire new : Wire} {x y : Half} {key : Key} {given : FateValue} → Holds wire x y → AckNext x.end wire x.taken key
+    → waiting_key y.sender ≡ Some key → y.sender.acknowledged + 1 < piece_count y.sender.length
+    → Sends wire.frames.items y.end y.sender.id (part_now (side_of (advanced y))) given None new.frames.items → new.released ≡ wire.released
+    → StillUnderway (Ack key) wire x y new (moved x) (advanced y)
+ack_more-underway {wire} {new} {y} {given} holds it is more sends released =
     let past = past_now wire.frames.items in
     let next = acknowledged (side_of y) in
     let sent = sent_of it.next.frame in
-    let at_head = head x.end wire x.taken holds.go it.next in
-    let w = waits_with y key holds.y_half is in
-    let below : y.sender.acknowledged + 1 < piece_count (length y.message.items) = subst (λ (n : ℕ). y.sender.acknowledged + 1 < piece_count n) holds.y_half.length_is more in
-    let m = matched x.end y.end past x.taken y.taken (x.taken + 1) (side_of x) (side_of y) x.receiver y.receiver holds.fx holds.fy sent _ holds.line.core (omega arith) (omega (arith, at_head.inside)) at_head.here it.is w.waits (w.key_is ∙ sym it.key_is) in
+    let at_head = head holds.go it.next in
+    let w = waits_with holds.y_half is in
+    let below : y.sender.acknowledged + 1 < piece_count (length y.message.items) =
+    subst (λ n. y.sender.acknowledged + 1 < piece_count n) holds.y_half.length_is more in
+    let m = matched holds.line.core (omega arith) (omega (arith, at_head.inside)) at_head.here it.is w.waits (w.key_is ∙ sym it.key_is) in
     let longer = extends wire new y.end y.sender.id (part_now (side_of (advanced y))) given holds.go sends tt released in
-    let core = take_ack x.end y.end past x.taken y.taken (x.taken + 1) (side_of x) (side_of y) x.receiver y.receiver holds.fx holds.fy sent _ (course_of given) holds.apart holds.line.core (omega arith) (omega (arith, at_head.inside)) at_head.here it.is w.waits (w.key_is ∙ sym it.key_is) below in
+    let core = take_ack (course_of given) holds.apart holds.line.core (omega arith) (omega (arith, at_head.inside)) at_head.here it.is w.waits
+    (w.key_is ∙ sym it.key_is) below in
     record {
       own = λ own. absurd ((m.alone below).1 own.waits);
       own_taken = λ waits taken. absurd ((m.alone below).1 waits);
       other_taken = λ waits taken. absurd (omega (arith, below, taken.last));
-      other = λ other. underway new (advanced y) (moved x) (data_frame y.end (key_now next) ((part_now next).bytes) (course_of given) ∷ past) true longer.past core.back.follows (active_begun next below);
-      talks = λ talk. ack_more-talks talk wire new x y key given holds it is more sends released;
+      other = λ other. underway longer.past core.back.follows (active_begun below);
+      talks = λ talk. ack_more-talks new holds it is more sends released;
     }
 
 -- ---- data, by its answer
@@ -136,78 +102,81 @@ abbrev before_back : (wire : Wire) (x y : Half) (receiver : ReceiverValue) → U
 before_back wire x y receiver it = record { waits = it.waits; due = it.due }
 
 -- the past behind the acknowledgement
-acked_past : (wire new : Wire) (x y : Half) (key : Key) (taken : Taken) (given : FateValue) → (heard : DataHeard wire x y key taken) → Sends wire.frames.items y.end key.id (ack_fragment key) given None new.frames.items → new.released ≡ wire.released
+acked_past : {wire : Wire} (new : Wire) {x y : Half} {key : Key} {taken : Taken} {given : FateValue} → (heard : DataHeard wire x y key taken)
+    → Sends wire.frames.items y.end key.id (ack_fragment key) given None new.frames.items → new.released ≡ wire.released
     → past_now new.frames.items ≡ ack_frame y.end (sent_of heard.next.frame).key (course_of given) ∷ past_now wire.frames.items
-acked_past wire new x y key taken given heard sends released =
-    (extends wire new y.end key.id (ack_fragment key) given heard.holds.go sends tt released).past ∙ ap (λ (k : Key). ack_frame y.end k (course_of given) ∷ past_now wire.frames.items) (sym heard.key_is)
+acked_past {wire} new {y} {key} {given} heard sends released =
+    (extends wire new y.end key.id (ack_fragment key) given heard.holds.go sends tt released).past
+    ∙ ap (λ k. ack_frame y.end k (course_of given) ∷ past_now wire.frames.items) (sym heard.key_is)
 
-copied-underway : (wire new : Wire) (x y : Half) (key : Key) (given : FateValue) → (heard : DataHeard wire x y key Repeated) → Sends wire.frames.items y.end key.id (ack_fragment key) given None new.frames.items → new.released ≡ wire.released
+copied-underway : {wire new : Wire} {x y : Half} {key : Key} {given : FateValue} → (heard : DataHeard wire x y key Repeated)
+    → Sends wire.frames.items y.end key.id (ack_fragment key) given None new.frames.items → new.released ≡ wire.released
     → StillUnderway (Data key Repeated) wire x y new (moved x) y
-copied-underway wire new x y key given heard sends released =
+copied-underway {wire} {new} {x} {y} {given} heard sends released =
     let old = record y { receiver = heard.before } in
     let ack = ack_frame y.end (sent_of heard.next.frame).key (course_of given) in
-    let longer = acked_past wire new x y key Repeated given heard sends released in
-    let core = after_heard wire x y key Repeated heard (course_of given) in
+    let longer = acked_past new heard sends released in
+    let core = after_heard heard (course_of given) in
     record {
-      own = λ it. underway new (moved x) y (ack ∷ past_now wire.frames.items) heard.holds.fx longer core.there.follows (active_of wire x old heard.holds (before wire x y heard.before it));
-      other = λ it. underway new y (moved x) (ack ∷ past_now wire.frames.items) heard.holds.fy longer core.back.follows (back_of wire x old heard.holds (before_back wire x y heard.before it));
-      own_taken = λ waits it. all_taken wire new x y (moved x) y (ack ∷ past_now wire.frames.items) heard.holds.fx waits it (none_fresh heard.holds.fx _ _ heard.holds.line.core.there.follows it.all) longer core.there.follows refl refl;
-      other_taken = λ waits it. all_taken wire new y x y (moved x) (ack ∷ past_now wire.frames.items) heard.holds.fy waits it (none_fresh heard.holds.fy _ _ heard.holds.line.core.back.follows it.all) longer core.back.follows refl refl;
-      talks = λ talk. took_data-talks talk wire new x y key Repeated given y.sender heard refl sends released;
+      own = λ it. underway longer core.there.follows (active_of heard.holds (before wire x y heard.before it));
+      other = λ it. underway longer core.back.follows (back_of heard.holds (before_back wire x y heard.before it));
+      own_taken = λ waits it. all_taken waits it (none_fresh heard.holds.fx _ _ heard.holds.line.core.there.follows it.all) longer core.there.follows refl refl;
+      other_taken = λ waits it. all_taken waits it (none_fresh heard.holds.fy _ _ heard.holds.line.core.back.follows it.all) longer core.back.follows refl refl;
+      talks = λ talk. took_data-talks new y.sender heard refl sends released;
     }
 
 -- while a message of y is on its way, nothing new of x comes
-none_new : (wire : Wire) (x y : Half) → (holds : Holds wire x y) → holds.fx ≡ true → Underway wire y x → ⊥
-none_new wire x y holds fresh it =
-    let core = turned x.end y.end (past_now wire.frames.items) x.taken y.taken (side_of x) (side_of y) x.receiver y.receiver holds.fx holds.fy holds.line.core in
-    both_ways holds.fx (active_alone y.end x.end (past_now wire.frames.items) y.taken x.taken (side_of y) (side_of x) y.receiver x.receiver holds.fy holds.fx core (back_of wire x y holds it)) fresh
+none_new : {wire : Wire} {x y : Half} → (holds : Holds wire x y) → holds.fx ≡ true → Underway wire y x → ⊥
+none_new holds fresh it = search rules
 
-more_pieces : (acknowledged count : ℕ) → acknowledged < count → (acknowledged + 1 ≡ count → ⊥) → acknowledged + 1 < count
-more_pieces acknowledged count below other = elim (cases_lt (acknowledged + 1) count) [
-  | inl more ↦ more
-  | inr over ↦ absurd (other (omega (arith, below, over)))
-]
+more_pieces : {acknowledged count : ℕ} → acknowledged < count → (acknowledged + 1 ≡ count → ⊥) → acknowledged + 1 < count
+more_pieces below other = search rules
 
-accepted-underway : (wire new : Wire) (x y : Half) (key : Key) (given : FateValue) (sender : SenderValue) → (heard : DataHeard wire x y key Accepted) → NewSender Accepted y.sender sender → Sends wire.frames.items y.end key.id (ack_fragment key) given None new.frames.items → new.released ≡ wire.released
-    → StillUnderway (Data key Accepted) wire x y new (moved x) (record y { sender = sender })
-accepted-underway wire new x y key given sender heard idle sends released =
-    let old = record y { receiver = heard.before } in
-    let ack = ack_frame y.end (sent_of heard.next.frame).key (course_of given) in
-    let longer = acked_past wire new x y key Accepted given heard sends released in
-    let after = after_heard wire x y key Accepted heard in
-    let accepting = after.1 in
-    let core = accepting.core (piece_count (length y.message.items)) (course_of given) (omega arith) in
-    let more = more_pieces x.sender.acknowledged (piece_count (length x.message.items)) accepting.waits (eqb-false _ _ accepting.whole_is) in
-    record {
-      own = λ it. underway new (moved x) (record y { sender = sender }) (ack ∷ past_now wire.frames.items) false longer core.there.follows (active_taken (side_of x) accepting.waits more);
-      other = λ it. absurd (none_new wire x old heard.holds after.0 (before_back wire x y heard.before it));
-      own_taken = λ waits it. absurd (both_ways heard.holds.fx (none_fresh heard.holds.fx _ _ heard.holds.line.core.there.follows it.all) after.0);
-      other_taken = λ waits it. absurd (omega (arith, accepting.waits, it.idle));
-      talks = λ talk. took_data-talks talk wire new x y key Accepted given sender heard idle sends released;
-    }
+module _ {wire new : Wire} {x y : Half} {key : Key} {sender : SenderValue} where
+  accepted-underway : {given : FateValue} → (heard : DataHeard wire x y key Accepted) → NewSender Accepted y.sender sender
+      → Sends wire.frames.items y.end key.id (ack_fragment key) given None new.frames.items → new.released ≡ wire.released
+      → StillUnderway (Data key Accepted) wire x y new (moved x) (record y { sender = sender })
+  accepted-underway {given} heard idle sends released =
+      let old = record y { receiver = heard.before } in
+      let ack = ack_frame y.end (sent_of heard.next.frame).key (course_of given) in
+      let longer = acked_past new heard sends released in
+      let after = after_heard heard in
+      let accepting = after.1 in
+      let core = accepting.core (piece_count (length y.message.items)) (course_of given) (omega arith) in
+      let more = more_pieces accepting.waits (eqb-false _ _ accepting.whole_is) in
+      record {
+        own = λ it. underway longer core.there.follows (active_taken accepting.waits more);
+        other = λ it. absurd (none_new heard.holds after.0 (before_back wire x y heard.before it));
+        own_taken = λ waits it. absurd (both_ways heard.holds.fx (none_fresh heard.holds.fx _ _ heard.holds.line.core.there.follows it.all) after.0);
+        other_taken = λ waits it. absurd (omega (arith, accepting.waits, it.idle));
+        talks = λ talk. took_data-talks new sender heard idle sends released;
+      }
 
-whole-underway : (wire new : Wire) (x y : Half) (key : Key) (given : FateValue) (sender : SenderValue) → (heard : DataHeard wire x y key Whole) → NewSender Whole y.sender sender → Sends wire.frames.items y.end key.id (ack_fragment key) given None new.frames.items → new.released ≡ wire.released
-    → StillUnderway (Data key Whole) wire x y new (moved x) (record y { sender = sender })
-whole-underway wire new x y key given sender heard idle sends released = record {
-  own = λ it. tt;
-  other = λ it. absurd (none_new wire x (record y { receiver = heard.before }) heard.holds (after_heard wire x y key Whole heard).0 (before_back wire x y heard.before it));
-  own_taken = λ waits it. absurd (both_ways heard.holds.fx (none_fresh heard.holds.fx _ _ heard.holds.line.core.there.follows it.all) (after_heard wire x y key Whole heard).0);
-  other_taken = λ waits it. absurd (omega (arith, (after_heard wire x y key Whole heard).1.waits, it.idle));
-  talks = λ talk. took_data-talks talk wire new x y key Whole given sender heard idle sends released;
-}
+  whole-underway : {given : FateValue} → (heard : DataHeard wire x y key Whole) → NewSender Whole y.sender sender
+      → Sends wire.frames.items y.end key.id (ack_fragment key) given None new.frames.items → new.released ≡ wire.released
+      → StillUnderway (Data key Whole) wire x y new (moved x) (record y { sender = sender })
+  whole-underway heard idle sends released = record {
+    own = λ it. tt;
+    other = λ it. absurd (none_new heard.holds (after_heard heard).0 (before_back wire x y heard.before it));
+    own_taken = λ waits it. absurd (both_ways heard.holds.fx (none_fresh heard.holds.fx _ _ heard.holds.line.core.there.follows it.all) (after_heard heard).0);
+    other_taken = λ waits it. absurd (omega (arith, (after_heard heard).1.waits, it.idle));
+    talks = λ talk. took_data-talks new sender heard idle sends released;
+  }
 
-pub took_data-underway : (wire new : Wire) (x y : Half) (key : Key) (taken : Taken) (given : FateValue) (sender : SenderValue) → DataHeard wire x y key taken → NewSender taken y.sender sender → Sends wire.frames.items y.end key.id (ack_fragment key) given None new.frames.items → new.released ≡ wire.released
-    → StillUnderway (Data key taken) wire x y new (moved x) (record y { sender = sender })
-took_data-underway wire new x y key Repeated given sender heard same sends released =
-    subst (λ (s : SenderValue). StillUnderway (Data key Repeated) wire x y new (moved x) (record y { sender = s })) (sym same) (copied-underway wire new x y key given heard sends released)
-took_data-underway wire new x y key Accepted given sender heard idle sends released = accepted-underway wire new x y key given sender heard idle sends released
-took_data-underway wire new x y key Whole given sender heard idle sends released = whole-underway wire new x y key given sender heard idle sends released
-took_data-underway wire new x y key Dropped given sender heard none sends released = absurd none
+  pub took_data-underway : (taken : Taken) (given : FateValue) → DataHeard wire x y key taken → NewSender taken y.sender sender
+      → Sends wire.frames.items y.end key.id (ack_fragment key) given None new.frames.items → new.released ≡ wire.released
+      → StillUnderway (Data key taken) wire x y new (moved x) (record y { sender = sender })
+  took_data-underway Repeated given heard same sends released =
+      subst (λ s. StillUnderway (Data key Repeated) wire x y new (moved x) (record y { sender = s })) (sym same) (copied-underway heard sends released)
+  took_data-underway Accepted given heard idle sends released = accepted-underway heard idle sends released
+  took_data-underway Whole given heard idle sends released = whole-underway heard idle sends released
+  took_data-underway Dropped given heard none sends released = absurd none
 
 -- an end heeds what it hears first
-pub heeded-underway : (heard : Heard) (wire : Wire) (x y h : Half) (new : Wire) (later_x later_y : Half) → Heeded y h → StillUnderway heard wire x h new later_x later_y → StillUnderway heard wire x y new later_x later_y
-heeded-underway heard wire x y h new later_x later_y heeded still =
-    let now = subst (λ (k : Half). StillUnderway heard wire x k new later_x later_y) heeded still in
+pub heeded-underway : {heard : Heard} {wire : Wire} {x y h : Half} {new : Wire} {later_x later_y : Half} → Heeded y h
+    → StillUnderway heard wire x h new later_x later_y → StillUnderway heard wire x y new later_x later_y
+heeded-underway {heard} {wire} {x} {new} {later_x} {later_y} heeded still =
+    let now = subst (λ k. StillUnderway heard wire x k new later_x later_y) heeded still in
     record {
       own = λ it. now.own (record { waits = it.waits; due = it.due });
       other = λ it. now.other (record { waits = it.waits; due = it.due });
@@ -218,15 +187,16 @@ heeded-underway heard wire x y h new later_x later_y heeded still =
 
 -- ---- a message begins, and a tick
 
-pub starts-underway : (wire new : Wire) (x y : Half) (id size : ℕ) (message : Vec ℕ Global) (given : FateValue) → Turn wire x y → (id ≡ x.sender.id → ⊥) → y.receiver.awaited ≡ Some id → y.receiver.pieces ≡ [] → size ≡ length message.items
-    → Sends wire.frames.items x.end id (part_now (beginning id message.items)) given None new.frames.items → new.released ≡ wire.released → Underway new (record x { sender = begun id size; message = message }) y
-starts-underway wire new x y id size message given turn other awaited none fits sends released =
+pub starts-underway : {wire new : Wire} {x y : Half} {id size : ℕ} {message : Vec ℕ Global} {given : FateValue} → Turn wire x y → (id ≡ x.sender.id → ⊥)
+    → y.receiver.awaited ≡ Some id → y.receiver.pieces ≡ [] → size ≡ length message.items
+    → Sends wire.frames.items x.end id (part_now (beginning id message.items)) given None new.frames.items → new.released ≡ wire.released
+    → Underway new (record x { sender = begun id size; message = message }) y
+starts-underway {wire} {new} {x} {id} {message} {given} turn other awaited none fits sends released =
     let settled = turn.settled in
-    let past = past_now wire.frames.items in
     let side = beginning id message.items in
     let longer = extends wire new x.end id (part_now side) given settled.go sends tt released in
-    let line = running_starts x.end y.end past x.taken y.taken wire.released (side_of x) (side_of y) x.receiver y.receiver x.sender.tries y.sender.tries id message.items (course_of given) settled.apart settled.line turn.knows other awaited none (λ waits. omega (arith, waits, turn.last)) in
-    underway new (record x { sender = begun id size; message = message }) y (data_frame x.end (key_now side) ((part_now side).bytes) (course_of given) ∷ past) true longer.past line.core.there.follows (active_begun side (line.core.x_speaks.waits refl))
+    let line = running_starts (course_of given) settled.apart settled.line turn.knows other awaited none (λ waits. omega (arith, waits, turn.last)) in
+    underway longer.past line.core.there.follows (active_begun (line.core.x_speaks.waits refl))
 
 -- x sends again, behind a past of both ends
 record Behind (wire : Wire) (x y : Half) (fx fy : Bool) : Type 0 where
@@ -235,71 +205,70 @@ record Behind (wire : Wire) (x y : Half) (fx fy : Bool) : Type 0 where
   pub half : IsHalf x
   pub core : Core x.end y.end (past_now wire.frames.items) x.taken y.taken (side_of x) (side_of y) x.receiver y.receiver fx fy
 
-again_core : (wire new : Wire) (x y : Half) (fx fy : Bool) (given : FateValue) → Behind wire x y fx fy → Waits x.sender → SendsAgain wire x given new (again x) → Core x.end y.end (past_now new.frames.items) x.taken y.taken (side_of x) (side_of y) x.receiver y.receiver fx fy
-again_core wire new x y fx fy given behind waits sent =
-    let longer = extends wire new x.end x.sender.id (part_now (side_of x)) given behind.go sent.sends tt sent.released in
-    subst (λ (p : List Sent). Core x.end y.end p x.taken y.taken (side_of x) (side_of y) x.receiver y.receiver fx fy) (sym longer.past)
-    (once_more x.end y.end (past_now wire.frames.items) x.taken y.taken (side_of x) (side_of y) x.receiver y.receiver fx fy (course_of given) behind.apart behind.core (waits_now x behind.half waits))
+module _ {wire new : Wire} {x y : Half} where
+  again_core : {fx fy : Bool} {given : FateValue} → Behind wire x y fx fy → Waits x.sender → SendsAgain wire x given new (again x)
+      → Core x.end y.end (past_now new.frames.items) x.taken y.taken (side_of x) (side_of y) x.receiver y.receiver fx fy
+  again_core {fx} {fy} {given} behind waits sent =
+      let longer = extends wire new x.end x.sender.id (part_now (side_of x)) given behind.go sent.sends tt sent.released in
+      subst (λ p. Core x.end y.end p x.taken y.taken (side_of x) (side_of y) x.receiver y.receiver fx fy) (sym longer.past)
+      (once_more (course_of given) behind.apart behind.core (waits_now behind.half waits))
 
-keeps : (wire new : Wire) (x y : Half) → (holds : Holds wire x y) → Core x.end y.end (past_now new.frames.items) x.taken y.taken (side_of x) (side_of y) x.receiver y.receiver holds.fx holds.fy → KeepsTalk wire x y new x y → StillUnderway Nothing wire x y new x y
-keeps wire new x y holds core talks = record {
-  own = λ it. underway new x y (past_now new.frames.items) holds.fx refl core.there.follows (active_of wire x y holds it);
-  other = λ it. underway new y x (past_now new.frames.items) holds.fy refl core.back.follows (back_of wire x y holds it);
-  own_taken = λ waits it. all_taken wire new x y x y (past_now new.frames.items) holds.fx waits it (none_fresh holds.fx _ _ holds.line.core.there.follows it.all) refl core.there.follows refl refl;
-  other_taken = λ waits it. all_taken wire new y x y x (past_now new.frames.items) holds.fy waits it (none_fresh holds.fy _ _ holds.line.core.back.follows it.all) refl core.back.follows refl refl;
-  talks = talks;
-}
+  keeps : (holds : Holds wire x y)
+      → Core x.end y.end (past_now new.frames.items) x.taken y.taken (side_of x) (side_of y) x.receiver y.receiver holds.fx holds.fy
+      → KeepsTalk wire x y new x y → StillUnderway Nothing wire x y new x y
+  keeps holds core talks = search rules
 
--- tries are no part of it
-tried_x : (wire new : Wire) (x y : Half) → StillUnderway Nothing wire x y new x y → StillUnderway Nothing wire x y new (again x) y
-tried_x wire new x y still = record {
-  own = λ it. (let now : Underway new x y = still.own it in record { waits = now.waits; due = now.due });
-  other = λ it. (let now : Underway new y x = still.other it in record { waits = now.waits; due = now.due });
-  own_taken = λ waits it. (let now : AllTaken new x y = still.own_taken waits it in record { all = now.all; idle = now.idle; last = now.last; knows = now.knows });
-  other_taken = λ waits it. (let now : AllTaken new y x = still.other_taken waits it in record { all = now.all; idle = now.idle; last = now.last; knows = now.knows });
-  talks = still.talks;
-}
+  -- tries are no part of it
+  tried_x : StillUnderway Nothing wire x y new x y → StillUnderway Nothing wire x y new (again x) y
+  tried_x still = search rules
 
-tried_both : (wire new : Wire) (x y : Half) → StillUnderway Nothing wire x y new x y → StillUnderway Nothing wire x y new (again x) (again y)
-tried_both wire new x y still = record {
-  own = λ it. (let now : Underway new x y = still.own it in record { waits = now.waits; due = now.due });
-  other = λ it. (let now : Underway new y x = still.other it in record { waits = now.waits; due = now.due });
-  own_taken = λ waits it. (let now : AllTaken new x y = still.own_taken waits it in record { all = now.all; idle = now.idle; last = now.last; knows = now.knows });
-  other_taken = λ waits it. (let now : AllTaken new y x = still.other_taken waits it in record { all = now.all; idle = now.idle; last = now.last; knows = now.knows });
-  talks = still.talks;
-}
+  tried_both : StillUnderway Nothing wire x y new x y → StillUnderway Nothing wire x y new (again x) (again y)
+  tried_both still = search rules
 
-still_turned : (wire new : Wire) (x y later_x later_y : Half) → Apart x.end y.end → Apart later_x.end later_y.end → StillUnderway Nothing wire x y new later_x later_y → StillUnderway Nothing wire y x new later_y later_x
-still_turned wire new x y later_x later_y apart later_apart still =
-    record { own = still.other; other = still.own; own_taken = still.other_taken; other_taken = still.own_taken; talks = talk_turned wire x y new later_x later_y apart later_apart still.talks }
+  still_turned : {later_x later_y : Half} → Apart x.end y.end → Apart later_x.end later_y.end → StillUnderway Nothing wire x y new later_x later_y
+      → StillUnderway Nothing wire y x new later_y later_x
+  still_turned {later_x} {later_y} apart later_apart still =
+      record {
+        own = still.other;
+        other = still.own;
+        own_taken = still.other_taken;
+        other_taken = still.own_taken;
+        talks = talk_turned wire x y new later_x later_y apart later_apart still.talks;
+      }
 
-pub tick_one-underway : (wire new : Wire) (r : ℕ) (x y later : Half) (given : FateValue) → Holds wire x y → Waits x.sender → SendsAgain (record wire { released = r }) x given new later → StillUnderway Nothing wire x y new later y
-tick_one-underway wire new r x y later given holds waits sent =
-    let now = subst (λ (h : Half). SendsAgain (record wire { released = r }) x given new h) sent.counted sent in
-    let behind : Behind (record wire { released = r }) x y holds.fx holds.fy = record { apart = holds.apart; go = holds.go; half = holds.x_half; core = holds.line.core } in
-    subst (λ (h : Half). StillUnderway Nothing wire x y new h y) (sym sent.counted)
-    (tried_x wire new x y (keeps wire new x y holds (again_core (record wire { released = r }) new x y holds.fx holds.fy given behind waits now) (λ talk. one_again-talks talk wire new r x y given holds waits now)))
+pub tick_one-underway : {wire new : Wire} {r : ℕ} {x y later : Half} {given : FateValue} → Holds wire x y → Waits x.sender
+    → SendsAgain (record wire { released = r }) x given new later → StillUnderway Nothing wire x y new later y
+tick_one-underway {wire} {new} {r} {x} {y} {given} holds waits sent =
+    let now = subst (λ h. SendsAgain (record wire { released = r }) x given new h) sent.counted sent in
+    let behind : Behind (record wire { released = r }) x y holds.fx holds.fy =
+    record { apart = holds.apart; go = holds.go; half = holds.x_half; core = holds.line.core } in
+    subst (λ h. StillUnderway Nothing wire x y new h y) (sym sent.counted)
+    (tried_x (keeps holds (again_core behind waits now) (λ talk. one_again-talks holds waits now)))
 
-pub tick_other-underway : (wire new : Wire) (r : ℕ) (x y later : Half) (given : FateValue) → Holds wire x y → Waits y.sender → SendsAgain (record wire { released = r }) y given new later → StillUnderway Nothing wire x y new x later
-tick_other-underway wire new r x y later given holds waits sent =
-    let apart = apart_turned x.end y.end holds.apart in
-    still_turned wire new y x later x apart (subst (λ (h : Half). Apart h.end x.end) (sym sent.counted) apart) (tick_one-underway wire new r y x later given (holds_turned wire x y holds) waits sent)
+pub tick_other-underway : {wire new : Wire} {r : ℕ} {x y later : Half} {given : FateValue} → Holds wire x y → Waits y.sender
+    → SendsAgain (record wire { released = r }) y given new later → StillUnderway Nothing wire x y new x later
+tick_other-underway {x} holds waits sent =
+    let apart = apart_turned holds.apart in
+    still_turned apart (subst (λ h. Apart h.end x.end) (sym sent.counted) apart) (tick_one-underway (holds_turned holds) waits sent)
 
-pub tick_two-underway : (wire first new : Wire) (r : ℕ) (x y x_later y_later : Half) (given other : FateValue) → Holds wire x y → Waits x.sender → Waits y.sender → SendsAgain (record wire { released = r }) x given first x_later → SendsAgain first y other new y_later
+pub tick_two-underway : {wire first new : Wire} {r : ℕ} {x y x_later y_later : Half} {given other : FateValue} → Holds wire x y → Waits x.sender
+    → Waits y.sender → SendsAgain (record wire { released = r }) x given first x_later → SendsAgain first y other new y_later
     → StillUnderway Nothing wire x y new x_later y_later
-tick_two-underway wire first new r x y x_later y_later given other holds x_waits y_waits x_sent y_sent =
-    let x_now = subst (λ (h : Half). SendsAgain (record wire { released = r }) x given first h) x_sent.counted x_sent in
-    let y_now = subst (λ (h : Half). SendsAgain first y other new h) y_sent.counted y_sent in
-    let behind : Behind (record wire { released = r }) x y holds.fx holds.fy = record { apart = holds.apart; go = holds.go; half = holds.x_half; core = holds.line.core } in
+tick_two-underway {wire} {first} {new} {r} {x} {y} {x_later} {given} {other} holds x_waits y_waits x_sent y_sent =
+    let x_now = subst (λ h. SendsAgain (record wire { released = r }) x given first h) x_sent.counted x_sent in
+    let y_now = subst (λ h. SendsAgain first y other new h) y_sent.counted y_sent in
+    let behind : Behind (record wire { released = r }) x y holds.fx holds.fy =
+    record { apart = holds.apart; go = holds.go; half = holds.x_half; core = holds.line.core } in
     let longer = extends (record wire { released = r }) first x.end x.sender.id (part_now (side_of x)) given holds.go x_sent.sends tt x_sent.released in
-    let one = again_core (record wire { released = r }) first x y holds.fx holds.fy given behind x_waits x_now in
+    let one = again_core behind x_waits x_now in
     let back : Behind first y x holds.fy holds.fx = record {
-      apart = apart_turned x.end y.end holds.apart;
+      apart = apart_turned holds.apart;
       go = longer.go;
       half = holds.y_half;
-      core = turned x.end y.end (past_now first.frames.items) x.taken y.taken (side_of x) (side_of y) x.receiver y.receiver holds.fx holds.fy one;
+      core = turned one;
     } in
-    let two = again_core first new y x holds.fy holds.fx other back y_waits y_now in
-    let core = turned y.end x.end (past_now new.frames.items) y.taken x.taken (side_of y) (side_of x) y.receiver x.receiver holds.fy holds.fx two in
-    subst (λ (h : Half). StillUnderway Nothing wire x y new x_later h) (sym y_sent.counted) (subst (λ (h : Half). StillUnderway Nothing wire x y new h (again y)) (sym x_sent.counted)
-    (tried_both wire new x y (keeps wire new x y holds core (λ talk. two_again-talks talk wire first new r x y given other holds x_waits y_waits x_now y_now))))
+    let two = again_core back y_waits y_now in
+    let core = turned two in
+    subst (λ h. StillUnderway Nothing wire x y new x_later h) (sym y_sent.counted)
+    (subst (λ h. StillUnderway Nothing wire x y new h (again y)) (sym x_sent.counted)
+    (tried_both (keeps holds core (λ talk. two_again-talks holds x_waits y_waits x_now y_now))))

@@ -3,3 +3,4 @@ pub mod OverLaws
 pub mod MoreLaws
 pub mod EndLaws
 pub mod ToldLaws
+pub mod Names

@@ -1,55 +1,35 @@
 -- Why it is over with a line, and what its readers counted.
-use Rattle.std.proofs.Common.{◌≡◌, ℕ, List, [], ◌∷◌, length, map, Option, Some, None, refl, sym, ap, subst, ◌∙◌}
-use Rattle.std.proofs.lemmas.List.{map-append, length-map}
-use Rattle.dlp_commands.specs.declared.link.LinkFault.{LinkFault}
-use Rattle.line_script.specs.Rules.{RuleValue}
-use Rattle.line_script.specs.Scripts.{fate_by}
-use Rattle.trace_text.specs.declared.frame.End.{End}
-use Rattle.trace_text.specs.declared.frame.End.TheVariants.{Handheld, Desktop}
-use Rattle.trace_text.specs.declared.frame.Frame.{Frame}
-use Rattle.trace_text.specs.Tallies.{IsFairUpTo}
-use Rattle.trace_text.specs.TraceLines.{FrameValue, frame_value}
-use Rattle.line_steps.specs.declared.harm.Stop.{Stop}
+use Rattle.line_world.proofs.Names.{arith, common_steps, ◌≡◌, ℕ, List, length, map, Option, Some, None, refl, sym, ap, subst, ◌∙◌, length-map, LinkFault}
+use Rattle.line_world.proofs.Names.{RuleValue, fate_by, End, Handheld, Desktop, IsFairUpTo, FrameValue, frame_value, Stop, Line, Halt, IsUp, counts, HaltsBy}
+use Rattle.line_world.proofs.Names.{cursors, cursor_of, fair_is_never_down, AreEnds, LineCounts, LineRecords, Down, Break, BearsOut, EndsBy, IsCause, IsCauseOf}
+use Rattle.line_world.proofs.Names.{IsHaltOf, NamesLast, down_end, halt_of, LogValue, IsTold, AgreesWith, CountsOf}
 use Rattle.line_steps.specs.declared.harm.Stop.TheVariants as stop
-use Rattle.line_steps.specs.declared.line.Line.{Line}
-use Rattle.line_steps.specs.declared.sending.Halt.{Halt}
 use Rattle.line_steps.specs.declared.sending.Halt.TheVariants as halt
-use Rattle.line_steps.specs.Advancing.{IsUp}
-use Rattle.line_steps.specs.Counting.{counts}
-use Rattle.line_steps.specs.Halting.{EndsWith, HaltsBy}
-use Rattle.line_steps.specs.Telling.{cursors, cursor_of}
-use Rattle.line_steps.proofs.FairLaws.{fair_is_never_down}
-use Rattle.line_talk.specs.Rests.{AreEnds}
-use Rattle.line_talk.specs.Telling.{LineCounts, LineRecords}
-use Rattle.line_world.specs.declared.down.Down.{Down}
 use Rattle.line_world.specs.declared.down.Down.TheVariants as down
-use Rattle.line_world.specs.declared.stop.Break.{Break}
 use Rattle.line_world.specs.declared.stop.Break.TheVariants.{NoMemory, Line as OfLine, Keeper}
-use Rattle.line_world.specs.Causes.{BearsOut, EndsBy, IsCause, IsCauseOf, IsHaltOf, NamesLast, down_end, halt_of}
 use Rattle.line_world.proofs.FaultLaws.{ten-last}
-use Rattle.line_world.specs.Logs.{LogValue}
-use Rattle.line_world.specs.Worlds.{IsTold}
-use Rattle.line_world.specs.Counts.{AgreesWith, CountsOf}
 use Rattle.line_world.proofs.TallyLaws.{agrees}
 
 -- ---- the cause
 
-down-is : (cause : Option Down) (count : ℕ) (end : End) → down_end cause ≡ Some end → IsHaltOf cause count (halt.Down end)
-down-is None count end is = absurd cc
-down-is (Some (down.LineDown other numbers)) count end is = (let same : end ≡ other = cc in ap halt.Down same)
-down-is (Some (down.Unplugged number)) count end is = absurd cc
-down-is (Some (down.Aborted number)) count end is = absurd cc
-down-is (Some (down.Undetected number)) count end is = absurd cc
-down-is (Some down.Keeper) count end is = absurd cc
+down-is : (cause : Option Down) (count : ℕ) {end : End} → down_end cause ≡ Some end → IsHaltOf cause count (halt.Down end)
+down-is None count is = absurd cc
+down-is (Some (down.LineDown other numbers)) count {end} is = (let same : end ≡ other = cc in ap halt.Down same)
+down-is (Some (down.Unplugged number)) count is = absurd cc
+down-is (Some (down.Aborted number)) count is = absurd cc
+down-is (Some (down.Undetected number)) count is = absurd cc
+down-is (Some down.Keeper) count is = absurd cc
 
 pub halt-by : (ended : Break) (count : ℕ) (cause : Option Down) → IsCauseOf ended count cause → IsHaltOf cause count (halt_of ended)
-halt-by NoMemory count cause is = subst (λ (o : Option Down). IsHaltOf o count halt.NoMemory) (sym is) tt
-halt-by (OfLine halt.NoMemory) count cause is = subst (λ (o : Option Down). IsHaltOf o count halt.NoMemory) (sym is) tt
-halt-by (OfLine (halt.Stopped stop.Unplugged)) count cause is = subst (λ (o : Option Down). IsHaltOf o count (halt.Stopped stop.Unplugged)) (sym is) (refl, refl)
-halt-by (OfLine (halt.Stopped stop.Aborted)) count cause is = subst (λ (o : Option Down). IsHaltOf o count (halt.Stopped stop.Aborted)) (sym is) (refl, refl)
-halt-by (OfLine (halt.Stopped stop.Undetected)) count cause is = subst (λ (o : Option Down). IsHaltOf o count (halt.Stopped stop.Undetected)) (sym is) (refl, refl)
-halt-by (OfLine (halt.Down end)) count cause is = down-is cause count end is
-halt-by Keeper count cause is = subst (λ (o : Option Down). IsHaltOf o count halt.NoMemory) (sym is) tt
+halt-by NoMemory count cause is = subst (λ o. IsHaltOf o count halt.NoMemory) (sym is) tt
+halt-by (OfLine halt.NoMemory) count cause is = subst (λ o. IsHaltOf o count halt.NoMemory) (sym is) tt
+halt-by (OfLine (halt.Stopped stop.Unplugged)) count cause is =
+    subst (λ o. IsHaltOf o count (halt.Stopped stop.Unplugged)) (sym is) (refl, refl)
+halt-by (OfLine (halt.Stopped stop.Aborted)) count cause is = subst (λ o. IsHaltOf o count (halt.Stopped stop.Aborted)) (sym is) (refl, refl)
+halt-by (OfLine (halt.Stopped stop.Undetected)) count cause is =
+    subst (λ o. IsHaltOf o count (halt.Stopped stop.Undetected)) (sym is) (refl, refl)
+halt-by (OfLine (halt.Down end)) count cause is = down-is cause count is
+halt-by Keeper count cause is = subst (λ o. IsHaltOf o count halt.NoMemory) (sym is) tt
 
 -- an end that has spent its tries is the cause
 pub up-cause : (cause : Option Down) (count : ℕ) (ended : Halt) → IsHaltOf cause count ended → IsUp ended → down_end cause ≡ None
@@ -62,69 +42,81 @@ up-cause (Some down.Keeper) count ended is up = refl
 
 -- while the link answers there is none
 pub no-halt : (fault : Option LinkFault) (cause : Option Down) (count : ℕ) (ended : Halt) → IsCause fault cause → fault ≡ None → IsHaltOf cause count ended
-no-halt None cause count ended is none = subst (λ (o : Option Down). IsHaltOf o count ended) (sym is) tt
+no-halt None cause count ended is none = subst (λ o. IsHaltOf o count ended) (sym is) tt
 no-halt (Some fault) cause count ended is none = absurd cc
 
 pub no-names : (fault : Option LinkFault) (cause : Option Down) (frames : List FrameValue) → IsCause fault cause → fault ≡ None → NamesLast cause frames
-no-names None cause frames is none = subst (λ (o : Option Down). NamesLast o frames) (sym is) tt
+no-names None cause frames is none = subst (λ o. NamesLast o frames) (sym is) tt
 no-names (Some fault) cause frames is none = absurd cc
 
 -- ---- the frames bear it out
 
-ends-by : (why : Stop) (frames : List Frame) → EndsWith why frames → EndsBy why (map frame_value frames)
-ends-by why frames it = record {
-  before = map frame_value it.before;
-  last = frame_value it.last;
-  is = ap (map frame_value) it.is ∙ map-append frame_value it.before (it.last ∷ []);
-  stops = it.stops;
-}
-
-stopped : (why : Stop) (line : Line) (log : LogValue) (cause : Option Down) (number : ℕ) → IsTold line log cause → (told : Halt) → HaltsBy told (cursor_of line.handheld line.desktop) line.wire.frames.items → (number ≡ length line.wire.frames.items) × (told ≡ halt.Stopped why)
+stopped : {why : Stop} {line : Line} {log : LogValue} {cause : Option Down} {number : ℕ} → IsTold line log cause → {told : Halt}
+    → HaltsBy told (cursor_of line.handheld line.desktop) line.wire.frames.items → (number ≡ length line.wire.frames.items) × (told ≡ halt.Stopped why)
     → (number ≡ length (map frame_value line.wire.frames.items)) × EndsBy why (map frame_value line.wire.frames.items)
-stopped why line log cause number it told by is = (
-  is.0 ∙ sym (length-map line.wire.frames.items frame_value),
-  ends-by why line.wire.frames.items (subst (λ (h : Halt). HaltsBy h (cursor_of line.handheld line.desktop) line.wire.frames.items) is.1 by),
-)
+stopped it by is = grind (arith, common_steps)
 
-pub bears-out : (script : List RuleValue) (line : Line) (log : LogValue) (cause : Option Down) → LineRecords script line → IsTold line log cause → BearsOut cause (map frame_value line.wire.frames.items)
-bears-out script line log None recorded told = tt
-bears-out script line log (Some (down.LineDown end numbers)) recorded told =
-    let by = subst (λ (h : Halt). HaltsBy h (cursor_of line.handheld line.desktop) line.wire.frames.items) told.halt_is told.ends.by in
-    (record { cursor = cursor_of line.handheld line.desktop; came = recorded.came; spent = by.1 }, ten-last script line.wire.frames.items numbers recorded.by by.0 by.1.faults told.names.0 told.names.1)
-bears-out script line log (Some (down.Unplugged number)) recorded told = stopped stop.Unplugged line log (Some (down.Unplugged number)) number told told.halt told.ends.by told.halt_is
-bears-out script line log (Some (down.Aborted number)) recorded told = stopped stop.Aborted line log (Some (down.Aborted number)) number told told.halt told.ends.by told.halt_is
-bears-out script line log (Some (down.Undetected number)) recorded told = stopped stop.Undetected line log (Some (down.Undetected number)) number told told.halt told.ends.by told.halt_is
-bears-out script line log (Some down.Keeper) recorded told = tt
+module _ {script : List RuleValue} {line : Line} where
+  pub bears-out : {log : LogValue} (cause : Option Down) → LineRecords script line → IsTold line log cause
+      → BearsOut cause (map frame_value line.wire.frames.items)
+  bears-out None recorded told = tt
+  bears-out (Some (down.LineDown end numbers)) recorded told =
+      let by = subst (λ h. HaltsBy h (cursor_of line.handheld line.desktop) line.wire.frames.items) told.halt_is told.ends.by in (
+        record { cursor = cursor_of line.handheld line.desktop; came = recorded.came; spent = by.1 },
+        ten-last script line.wire.frames.items recorded.by by.0 by.1.faults told.names.0 told.names.1,
+      )
+  bears-out (Some (down.Unplugged number)) recorded told = stopped told told.ends.by told.halt_is
+  bears-out (Some (down.Aborted number)) recorded told = stopped told told.ends.by told.halt_is
+  bears-out (Some (down.Undetected number)) recorded told = stopped told told.ends.by told.halt_is
+  bears-out (Some down.Keeper) recorded told = tt
 
--- over a fair script no end spends its tries
-pub never-down : (script : List RuleValue) (line : Line) (log : LogValue) (cause : Option Down) → LineRecords script line → IsTold line log cause → IsFairUpTo (length (map frame_value line.wire.frames.items)) (fate_by script) → down_end cause ≡ None
-never-down script line log None recorded told fair = refl
-never-down script line log (Some (down.LineDown end numbers)) recorded told fair =
-    let frames = line.wire.frames.items in
-    let cursor = cursor_of line.handheld line.desktop in
-    let by = subst (λ (h : Halt). HaltsBy h cursor frames) told.halt_is told.ends.by in
-    absurd (fair_is_never_down script frames cursor end recorded.by by.0 (subst (λ (n : ℕ). IsFairUpTo n (fate_by script)) (length-map frames frame_value) fair) by.1)
-never-down script line log (Some (down.Unplugged number)) recorded told fair = refl
-never-down script line log (Some (down.Aborted number)) recorded told fair = refl
-never-down script line log (Some (down.Undetected number)) recorded told fair = refl
-never-down script line log (Some down.Keeper) recorded told fair = refl
+  -- over a fair script no end spends its tries
+  pub never-down : {log : LogValue} (cause : Option Down) → LineRecords script line → IsTold line log cause
+      → IsFairUpTo (length (map frame_value line.wire.frames.items)) (fate_by script) → down_end cause ≡ None
+  never-down None recorded told fair = refl
+  never-down (Some (down.LineDown end numbers)) recorded told fair =
+      let frames = line.wire.frames.items in
+      let cursor = cursor_of line.handheld line.desktop in
+      let by = subst (λ h. HaltsBy h cursor frames) told.halt_is told.ends.by in
+      absurd (fair_is_never_down script frames cursor end recorded.by by.0
+      (subst (λ n. IsFairUpTo n (fate_by script)) (length-map frames frame_value) fair) by.1)
+  never-down (Some (down.Unplugged number)) recorded told fair = refl
+  never-down (Some (down.Aborted number)) recorded told fair = refl
+  never-down (Some (down.Undetected number)) recorded told fair = refl
+  never-down (Some down.Keeper) recorded told fair = refl
 
--- ---- what the readers counted
+  -- ---- what the readers counted
 
-pub counts-desktop : (script : List RuleValue) (line : Line) → AreEnds line → LineRecords script line → LineCounts line → CountsOf Desktop line.handheld.reader.tally line.wire.frames.items
-counts-desktop script line ends recorded counted =
-    let frames = line.wire.frames.items in
-    let here : cursor_of line.handheld line.desktop Desktop ≡ line.desktop.taken = ap (λ (E : End). cursors E line.handheld.taken line.desktop.taken Desktop) ends.handheld_is in
-    let cursor = cursor_of line.handheld line.desktop in
-    let is : line.handheld.reader.tally ≡ counts Desktop (cursor Desktop) frames (record { bytes = 0; packets = 0 }) =
-    counted.by_x ∙ (ap (λ (E : End). counts E line.desktop.taken frames (record { bytes = 0; packets = 0 })) ends.desktop_is ∙ ap (λ (n : ℕ). counts Desktop n frames (record { bytes = 0; packets = 0 })) (sym here)) in
-    record { cursor = cursor; came = recorded.came; is = is; sums = subst (AgreesWith Desktop (map frame_value frames)) (sym is) (agrees Desktop cursor frames recorded.came) }
+  pub counts-desktop : AreEnds line → LineRecords script line → LineCounts line → CountsOf Desktop line.handheld.reader.tally line.wire.frames.items
+  counts-desktop ends recorded counted =
+      let frames = line.wire.frames.items in
+      let here : cursor_of line.handheld line.desktop Desktop ≡ line.desktop.taken =
+      ap (λ E. cursors E line.handheld.taken line.desktop.taken Desktop) ends.handheld_is in
+      let cursor = cursor_of line.handheld line.desktop in
+      let is : line.handheld.reader.tally ≡ counts Desktop (cursor Desktop) frames (record { bytes = 0; packets = 0 }) =
+      counted.by_x ∙ (ap (λ E. counts E line.desktop.taken frames (record { bytes = 0; packets = 0 })) ends.desktop_is
+      ∙ ap (λ n. counts Desktop n frames (record { bytes = 0; packets = 0 })) (sym here)) in
+      record {
+        cursor = cursor;
+        came = recorded.came;
+        is = is;
+        sums = subst (AgreesWith Desktop (map frame_value frames)) (sym is)
+            (agrees cursor frames recorded.came);
+      }
 
-pub counts-handheld : (script : List RuleValue) (line : Line) → AreEnds line → LineRecords script line → LineCounts line → CountsOf Handheld line.desktop.reader.tally line.wire.frames.items
-counts-handheld script line ends recorded counted =
-    let frames = line.wire.frames.items in
-    let here : cursor_of line.handheld line.desktop Handheld ≡ line.handheld.taken = ap (λ (E : End). cursors E line.handheld.taken line.desktop.taken Handheld) ends.handheld_is in
-    let cursor = cursor_of line.handheld line.desktop in
-    let is : line.desktop.reader.tally ≡ counts Handheld (cursor Handheld) frames (record { bytes = 0; packets = 0 }) =
-    counted.by_y ∙ (ap (λ (E : End). counts E line.handheld.taken frames (record { bytes = 0; packets = 0 })) ends.handheld_is ∙ ap (λ (n : ℕ). counts Handheld n frames (record { bytes = 0; packets = 0 })) (sym here)) in
-    record { cursor = cursor; came = recorded.came; is = is; sums = subst (AgreesWith Handheld (map frame_value frames)) (sym is) (agrees Handheld cursor frames recorded.came) }
+  pub counts-handheld : AreEnds line → LineRecords script line → LineCounts line → CountsOf Handheld line.desktop.reader.tally line.wire.frames.items
+  counts-handheld ends recorded counted =
+      let frames = line.wire.frames.items in
+      let here : cursor_of line.handheld line.desktop Handheld ≡ line.handheld.taken =
+      ap (λ E. cursors E line.handheld.taken line.desktop.taken Handheld) ends.handheld_is in
+      let cursor = cursor_of line.handheld line.desktop in
+      let is : line.desktop.reader.tally ≡ counts Handheld (cursor Handheld) frames (record { bytes = 0; packets = 0 }) =
+      counted.by_y ∙ (ap (λ E. counts E line.handheld.taken frames (record { bytes = 0; packets = 0 })) ends.handheld_is
+      ∙ ap (λ n. counts Handheld n frames (record { bytes = 0; packets = 0 })) (sym here)) in
+      record {
+        cursor = cursor;
+        came = recorded.came;
+        is = is;
+        sums = subst (AgreesWith Handheld (map frame_value frames)) (sym is)
+            (agrees cursor frames recorded.came);
+      }

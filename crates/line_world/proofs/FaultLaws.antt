@@ -1,33 +1,20 @@
 -- The last ten frames that a line did harm.
-use Rattle.std.specs.Prelude.{if◌then◌else◌}
-use Rattle.std.specs.List.{AllByRecursion}
-use Rattle.std.proofs.Common.{◌≡◌, ℕ, suc, zero, ◌+◌, ◌-◌, ◌<◌, ◌≤◌, Bool, true, false, List, [], ◌∷◌, ◌++◌, length, map, take, drop, refl, sym, ap, subst, ◌∙◌, arith, inl, inr}
-use Rattle.std.proofs.lemmas.Bool.{cases_lt}
-use Rattle.std.proofs.lemmas.List.{length-append, length-drop, length-map, map-append, take-append-drop}
-use Rattle.line_script.specs.Rules.{RuleValue}
-use Rattle.line_script.specs.Scripts.{fate_by}
-use Rattle.trace_text.specs.declared.frame.Frame.{Frame}
-use Rattle.trace_text.specs.Fates.{is_fault}
-use Rattle.trace_text.specs.Faults.{faulted, count}
-use Rattle.trace_text.specs.Past.{Sent, at}
-use Rattle.trace_text.specs.Tallies.{faults_from}
-use Rattle.trace_text.specs.TraceLines.{FrameValue, frame_value}
-use Rattle.line_steps.specs.Adding.{AllBy}
-use Rattle.line_steps.specs.Halting.{TenFaults}
-use Rattle.line_steps.specs.Running.{past_now, AllGo}
-use Rattle.line_steps.proofs.FairLaws.{count_at}
-use Rattle.line_steps.proofs.FrameLaws.{length-past}
-use Rattle.line_world.specs.Causes.{AreLastTen, AreTenFaults, faults_in}
+use Rattle.line_world.proofs.Names.{if◌then◌else◌, AllByRecursion, ◌≡◌, ℕ, suc, zero, ◌+◌, ◌-◌, ◌<◌, ◌≤◌, Bool, true, false, List, [], ◌∷◌, ◌++◌, length, map}
+use Rattle.line_world.proofs.Names.{take, drop, refl, sym, ap, subst, ◌∙◌, arith, inl, inr, cases_lt, length-append, length-drop, length-map, map-append}
+use Rattle.line_world.proofs.Names.{take-append-drop, RuleValue, fate_by, Frame, is_fault, faulted, count, at, faults_from, FrameValue, frame_value, AllBy}
+use Rattle.line_world.proofs.Names.{TenFaults, past_now, AllGo, count_at, length-past, AreLastTen, AreTenFaults, faults_in}
 
 pub faults-append : (xs ys : List FrameValue) → faults_in (xs ++ ys) ≡ faults_in xs ++ faults_in ys
 faults-append [] ys = refl
 faults-append (x ∷ xs) ys = go (is_fault x.fate) (faults-append xs ys) where
-  go : (b : Bool) → faults_in (xs ++ ys) ≡ faults_in xs ++ faults_in ys → (if b then x.number ∷ faults_in (xs ++ ys) else faults_in (xs ++ ys)) ≡ (if b then x.number ∷ faults_in xs else faults_in xs) ++ faults_in ys
-  go true later = ap (λ (l : List ℕ). x.number ∷ l) later
+  go : (b : Bool) → faults_in (xs ++ ys) ≡ faults_in xs ++ faults_in ys
+      → (if b then x.number ∷ faults_in (xs ++ ys) else faults_in (xs ++ ys)) ≡ (if b then x.number ∷ faults_in xs else faults_in xs) ++ faults_in ys
+  go true later = ap (λ l. x.number ∷ l) later
   go false later = later
 
 -- as many as the script gives
-faults-count : (script : List RuleValue) (number : ℕ) (frames : List Frame) → AllBy script number frames → length (faults_in (map frame_value frames)) ≡ faults_from (fate_by script) number (length frames)
+faults-count : (script : List RuleValue) (number : ℕ) (frames : List Frame) → AllBy script number frames
+    → length (faults_in (map frame_value frames)) ≡ faults_from (fate_by script) number (length frames)
 faults-count script number [] all = refl
 faults-count script number (frame ∷ later) all =
     let rest = faults-count script (number + 1) later all.2 in
@@ -35,76 +22,95 @@ faults-count script number (frame ∷ later) all =
     go (is_fault (frame_value frame).fate) (is_fault (fate_by script number)) here rest
   where
     go : (b c : Bool) → b ≡ c → length (faults_in (map frame_value later)) ≡ faults_from (fate_by script) (number + 1) (length later)
-        → length (if b then (frame_value frame).number ∷ faults_in (map frame_value later) else faults_in (map frame_value later)) ≡ (if c then 1 else 0) + faults_from (fate_by script) (number + 1) (length later)
+        → length (if b then (frame_value frame).number ∷ faults_in (map frame_value later) else faults_in (map frame_value later))
+        ≡ (if c then 1 else 0) + faults_from (fate_by script) (number + 1) (length later)
     go true true same rest = omega (arith, rest)
     go false false same rest = omega (arith, rest)
     go true false same rest = absurd cc
     go false true same rest = absurd cc
 
-weaken : (a b : ℕ) (xs : List ℕ) → a ≤ b → AllByRecursion (λ n. b ≤ n) xs → AllByRecursion (λ n. a ≤ n) xs
-weaken a b [] le all = tt
-weaken a b (x ∷ xs) le all = (omega (arith, le, all.0), weaken a b xs le all.1)
+weaken : {a b : ℕ} (xs : List ℕ) → a ≤ b → AllByRecursion (λ n. b ≤ n) xs → AllByRecursion (λ n. a ≤ n) xs
+weaken [] le all = tt
+weaken (x ∷ xs) le all = (omega (arith, le, all.0), weaken xs le all.1)
 
 -- and their numbers rise from the first one on
-faults-above : (script : List RuleValue) (number : ℕ) (frames : List Frame) → AllBy script number frames → AllByRecursion (λ n. number ≤ n) (faults_in (map frame_value frames))
+faults-above : (script : List RuleValue) (number : ℕ) (frames : List Frame) → AllBy script number frames
+    → AllByRecursion (λ n. number ≤ n) (faults_in (map frame_value frames))
 faults-above script number [] all = tt
 faults-above script number (frame ∷ later) all =
-    go (is_fault (frame_value frame).fate) (weaken number (number + 1) (faults_in (map frame_value later)) (omega arith) (faults-above script (number + 1) later all.2)) where
-      go : (b : Bool) → AllByRecursion (λ n. number ≤ n) (faults_in (map frame_value later)) → AllByRecursion (λ n. number ≤ n) (if b then (frame_value frame).number ∷ faults_in (map frame_value later) else faults_in (map frame_value later))
+    go (is_fault (frame_value frame).fate) (weaken (faults_in (map frame_value later)) (omega arith) (faults-above script (number + 1) later all.2)) where
+      go : (b : Bool) → AllByRecursion (λ n. number ≤ n) (faults_in (map frame_value later))
+          → AllByRecursion (λ n. number ≤ n) (if b then (frame_value frame).number ∷ faults_in (map frame_value later) else faults_in (map frame_value later))
       go true rest = (omega (arith, all.0), rest)
       go false rest = rest
 
 -- ---- the end of a list
 
-suffix : (front back before last : List ℕ) → front ++ back ≡ before ++ last → length last ≤ length back → (rest : List ℕ) × (back ≡ rest ++ last)
-suffix [] back before last same short = (before, same)
-suffix (x ∷ front) back [] last same short = absurd (omega (arith, ap (λ (l : List ℕ). length l) same, length-append front back, short))
-suffix (x ∷ front) back (y ∷ before) last same short = suffix front back before last (ap (λ (l : List ℕ). drop 1 l) same) short
+suffix : (front : List ℕ) {back : List ℕ} (before : List ℕ) {last : List ℕ} → front ++ back ≡ before ++ last → length last ≤ length back
+    → (rest : List ℕ) × (back ≡ rest ++ last)
+suffix [] before same short = (before, same)
+suffix (x ∷ front) {back} [] same short = absurd (omega (arith, ap length same, length-append front back, short))
+suffix (x ∷ front) (y ∷ before) same short = suffix front before (ap (λ l. drop 1 l) same) short
 
 all-end : (number : ℕ) (front last : List ℕ) → AllByRecursion (λ n. number ≤ n) (front ++ last) → AllByRecursion (λ n. number ≤ n) last
 all-end number [] last all = all
 all-end number (x ∷ front) last all = all-end number front last all.1
 
-near-all : (size number : ℕ) (xs : List ℕ) → size < number + 54 → AllByRecursion (λ n. number ≤ n) xs → AllByRecursion (λ n. size < n + 64) xs
-near-all size number [] less all = tt
-near-all size number (x ∷ xs) less all = (omega (arith, less, all.0), near-all size number xs less all.1)
+near-all : {size : ℕ} (number : ℕ) (xs : List ℕ) → size < number + 54 → AllByRecursion (λ n. number ≤ n) xs → AllByRecursion (λ n. size < n + 64) xs
+near-all number [] less all = tt
+near-all number (x ∷ xs) less all = (omega (arith, less, all.0), near-all number xs less all.1)
 
 -- ---- ten faults among the last frames are the last ten
 
-enough : (script : List RuleValue) (frames : List Frame) (n : ℕ) → n ≤ length frames → AllBy script 1 frames → AllGo 1 frames → 10 + count faulted (at n (past_now frames)) ≤ count faulted (past_now frames) → 10 ≤ faults_from (fate_by script) (1 + n) (length frames - n)
-enough script frames n inside all go ten = omega (arith, ten, count_at script frames n inside all go)
+enough : (script : List RuleValue) (frames : List Frame) {n : ℕ} → n ≤ length frames → AllBy script 1 frames → AllGo 1 frames
+    → 10 + count faulted (at n (past_now frames)) ≤ count faulted (past_now frames) → 10 ≤ faults_from (fate_by script) (1 + n) (length frames - n)
+enough script frames inside all go ten = omega (arith, ten, count_at script frames inside all go)
 
-by_drop : (script : List RuleValue) (number n : ℕ) (frames : List Frame) → n ≤ length frames → AllBy script number frames → AllBy script (number + n) (drop n frames)
-by_drop script number zero frames inside all = (let e : number ≡ number + 0 = omega arith in subst (λ (k : ℕ). AllBy script k frames) e all)
+by_drop : (script : List RuleValue) (number n : ℕ) (frames : List Frame) → n ≤ length frames → AllBy script number frames
+    → AllBy script (number + n) (drop n frames)
+by_drop script number zero frames inside all = (let e : number ≡ number + 0 = omega arith in subst (λ k. AllBy script k frames) e all)
 by_drop script number (suc n) [] inside all = absurd (omega arith)
-by_drop script number (suc n) (frame ∷ later) inside all = (let e : number + 1 + n ≡ number + suc n = omega arith in subst (λ (k : ℕ). AllBy script k (drop n later)) e (by_drop script (number + 1) n later (omega arith) all.2))
+by_drop script number (suc n) (frame ∷ later) inside all = (let e : number + 1 + n ≡ number + suc n = omega arith in
+    subst (λ k. AllBy script k (drop n later)) e (by_drop script (number + 1) n later (omega arith) all.2))
 
-pub ten-last : (script : List RuleValue) (frames : List Frame) (numbers : List ℕ) → AllBy script 1 frames → AllGo 1 frames → TenFaults (past_now frames) → length numbers ≡ 10 → AreLastTen numbers (map frame_value frames) → AreTenFaults numbers (map frame_value frames)
-ten-last script frames numbers all go ten length_is last =
+pub ten-last : (script : List RuleValue) (frames : List Frame) {numbers : List ℕ} → AllBy script 1 frames → AllGo 1 frames → TenFaults (past_now frames)
+    → length numbers ≡ 10 → AreLastTen numbers (map frame_value frames) → AreTenFaults numbers (map frame_value frames)
+ten-last script frames {numbers} all go ten length_is last =
     let size = length-past frames go in
     elim (cases_lt (length frames) (ten.0 - 1)) [
       | inl over ↦ absurd (let none : length (past_now frames) - (ten.0 - 1) ≡ 0 = omega (arith, over, size) in
-          let same : at (ten.0 - 1) (past_now frames) ≡ past_now frames = ap (λ (k : ℕ). drop k (past_now frames)) none in
-          omega (arith, ten.3, ap (λ (p : List Sent). count faulted p) same))
-      | inr inside ↦ found (ten.0 - 1) (omega (arith, inside)) (omega (arith, ten.1, ten.2, size)) (enough script frames (ten.0 - 1) (omega (arith, inside)) all go ten.3)
+          let same : at (ten.0 - 1) (past_now frames) ≡ past_now frames = ap (λ k. drop k (past_now frames)) none in
+          omega (arith, ten.3, ap (λ p. count faulted p) same))
+      | inr inside ↦ found (ten.0 - 1) (omega (arith, inside)) (omega (arith, ten.1, ten.2, size)) (enough script frames (omega (arith, inside)) all go ten.3)
     ]
   where
-    found : (n : ℕ) → n ≤ length frames → length frames < (1 + n) + 54 → 10 ≤ faults_from (fate_by script) (1 + n) (length frames - n) → AreTenFaults numbers (map frame_value frames)
+    found : (n : ℕ) → n ≤ length frames → length frames < (1 + n) + 54 → 10 ≤ faults_from (fate_by script) (1 + n) (length frames - n)
+        → AreTenFaults numbers (map frame_value frames)
     found n inside near many =
         let back = by_drop script 1 n frames inside all in
         let count_back : length (faults_in (map frame_value (drop n frames))) ≡ faults_from (fate_by script) (1 + n) (length frames - n) =
-        faults-count script (1 + n) (drop n frames) back ∙ ap (λ (k : ℕ). faults_from (fate_by script) (1 + n) k) (length-drop n frames) in
+        faults-count script (1 + n) (drop n frames) back ∙ ap (λ k. faults_from (fate_by script) (1 + n) k) (length-drop n frames) in
         let split : faults_in (map frame_value frames) ≡ faults_in (map frame_value (take n frames)) ++ faults_in (map frame_value (drop n frames)) =
-        ap (λ (fs : List Frame). faults_in (map frame_value fs)) (sym (take-append-drop n frames)) ∙ (ap faults_in (map-append frame_value (take n frames) (drop n frames)) ∙ faults-append (map frame_value (take n frames)) (map frame_value (drop n frames))) in
-        let whole : 10 ≤ length (faults_in (map frame_value frames)) = omega (arith, ap (λ (l : List ℕ). length l) split, length-append (faults_in (map frame_value (take n frames))) (faults_in (map frame_value (drop n frames))), count_back, many) in
+        ap (λ fs. faults_in (map frame_value fs)) (sym (take-append-drop n frames))
+        ∙ (ap faults_in (map-append frame_value (take n frames) (drop n frames)) ∙ faults-append (map frame_value (take n frames))
+        (map frame_value (drop n frames))) in
+        let whole : 10 ≤ length (faults_in (map frame_value frames)) = omega (
+          arith,
+          ap length split,
+          length-append (faults_in (map frame_value (take n frames)))
+              (faults_in (map frame_value (drop n frames))),
+          count_back,
+          many,
+        ) in
         let these = last whole in
-        let cut = suffix (faults_in (map frame_value (take n frames))) (faults_in (map frame_value (drop n frames))) these.0 numbers (sym split ∙ these.1) (omega (arith, length_is, count_back, many)) in
+        let cut = suffix (faults_in (map frame_value (take n frames))) these.0 (sym split ∙ these.1) (omega (arith, length_is, count_back, many)) in
         record {
           before = these.0;
           is = these.1;
           ten = length_is;
-          near = subst (λ (k : ℕ). AllByRecursion (λ number. k < number + 64) numbers) (sym (length-map frames frame_value))
-              (near-all (length frames) (1 + n) numbers near (all-end (1 + n) cut.0 numbers (subst (λ (l : List ℕ). AllByRecursion (λ number. 1 + n ≤ number) l) cut.1 (faults-above script (1 + n) (drop n frames) back))));
+          near = subst (λ k. AllByRecursion (λ number. k < number + 64) numbers) (sym (length-map frames frame_value))
+              (near-all (1 + n) numbers near (all-end (1 + n) cut.0 numbers
+              (subst (λ l. AllByRecursion (λ number. 1 + n ≤ number) l) cut.1 (faults-above script (1 + n) (drop n frames) back))));
         }
 
 -- ---- the loop
@@ -116,11 +122,14 @@ pub record Collected (numbers : List ℕ) (place left : ℕ) (frames : List Fram
   pub is : faults_in (map frame_value (drop left frames)) ≡ drop place numbers
 
 -- there is no more room
-pub collected-all : (numbers : List ℕ) (place left : ℕ) (frames : List Frame) → Collected numbers place left frames → place ≤ 0 → (before : List ℕ) × (faults_in (map frame_value frames) ≡ before ++ numbers)
-collected-all numbers place left frames it full =
+pub collected-all : {numbers : List ℕ} {place left : ℕ} {frames : List Frame} → Collected numbers place left frames → place ≤ 0
+    → (before : List ℕ) × (faults_in (map frame_value frames) ≡ before ++ numbers)
+collected-all {numbers} {place} {left} {frames} it full =
     let none : place ≡ 0 = omega (arith, full) in
-    let these : faults_in (map frame_value (drop left frames)) ≡ numbers = it.is ∙ ap (λ (k : ℕ). drop k numbers) none in (
+    let these : faults_in (map frame_value (drop left frames)) ≡ numbers = it.is ∙ ap (λ k. drop k numbers) none in (
       faults_in (map frame_value (take left frames)),
-      ap (λ (fs : List Frame). faults_in (map frame_value fs)) (sym (take-append-drop left frames))
-          ∙ (ap faults_in (map-append frame_value (take left frames) (drop left frames)) ∙ (faults-append (map frame_value (take left frames)) (map frame_value (drop left frames)) ∙ ap (λ (l : List ℕ). faults_in (map frame_value (take left frames)) ++ l) these)),
+      ap (λ fs. faults_in (map frame_value fs)) (sym (take-append-drop left frames))
+          ∙ (ap faults_in (map-append frame_value (take left frames) (drop left frames))
+          ∙ (faults-append (map frame_value (take left frames)) (map frame_value (drop left frames))
+          ∙ ap (λ l. faults_in (map frame_value (take left frames)) ++ l) these)),
     )

@@ -7,3 +7,4 @@ pub mod OverLaws
 pub mod CauseLaws
 pub mod FaultLaws
 pub mod TallyLaws
+pub mod Names

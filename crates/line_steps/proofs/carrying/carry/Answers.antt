@@ -1,27 +1,27 @@
-use Rattle.std.proofs.lemmas.Result.{err_from_is_err_and}
+use Rattle.line_steps.proofs.Names.{err_from_is_err_and}
 use Rattle.line_steps.proofs.AdvancingLaws.{advances_more, falls_short}
 use Rattle.line_steps.proofs.HaltedLaws.{halted_behind}
 use Rattle.line_steps.proofs.CarryingLaws.{not_over, is_over, same_trans, underway-waits}
 use Rattle.line_steps.proofs.carrying.carry.Goals as goal
 
 pub step-requires-clause-waits : goal.step-requires-clause-waits
-step-requires-clause-waits c = underway-waits c.loop.wire c.loop.x c.loop.y c.loop.invariant.0 c.loop.invariant.1
+step-requires-clause-waits c = underway-waits c.loop.invariant.0 c.loop.invariant.1
 
 pub returns-then-branch-clause-carried : goal.returns-then-branch-clause-carried
-returns-then-branch-clause-carried c = is_over c.in_ok-step.field-0 c.step.new.wire c.step.new.x c.step.new.y c.if-branch.true (c.in_ok-step.ensures.step.underway c.loop.invariant.1)
+returns-then-branch-clause-carried c = is_over c.if-branch.true (c.in_ok-step.ensures.step.underway c.loop.invariant.1)
 
 pub loop-preserved : goal.loop-preserved
 loop-preserved c =
     let step = c.in_ok-step.ensures.step in
-    let on = not_over c.in_ok-step.field-0 c.step.new.wire c.step.new.x c.step.new.y c.if-branch.false (step.underway c.loop.invariant.1) in (
+    let on = not_over c.if-branch.false (step.underway c.loop.invariant.1) in (
       step.holds,
       on,
-      same_trans c.args.x.now c.loop.x c.step.new.x c.loop.invariant.2 step.x_same,
-      same_trans c.args.y.now c.loop.y c.step.new.y c.loop.invariant.3 step.y_same,
+      same_trans c.loop.invariant.2 step.x_same,
+      same_trans c.loop.invariant.3 step.y_same,
       λ was. c.step.ensures.recorded (c.loop.invariant.4 was),
       λ talk talks. step.talks talk (c.loop.invariant.5 talk talks),
       λ was. c.step.ensures.counted (c.loop.invariant.6 was),
-      advances_more c.args.wire.now c.args.x.now c.args.y.now c.loop.wire c.loop.x c.loop.y c.step.new.wire c.step.new.x c.step.new.y c.loop.invariant.7 c.step.ensures.advances,
+      advances_more c.loop.invariant.7 c.step.ensures.advances,
     )
 
 pub returns-in_err-step-clause-recorded : goal.returns-in_err-step-clause-recorded
@@ -36,7 +36,7 @@ returns-then-branch-clause-talks c = λ talk talks. c.in_ok-step.ensures.step.ta
 pub returns-in_err-step-clause-halted : goal.returns-in_err-step-clause-halted
 returns-in_err-step-clause-halted c =
     let p = err_from_is_err_and c.from_residual.result c.from_residual.ensures.1 in
-    rw (p.1, p.2) (halted_behind c.in_err-step.field-0.0 c.args.wire.now c.args.x.now c.args.y.now c.loop.wire c.loop.x c.loop.y c.step.new.wire c.step.new.x c.step.new.y c.loop.invariant.2.end_is c.loop.invariant.3.end_is c.loop.invariant.5 c.in_err-step.ensures.halted)
+    rw (p.1, p.2) (halted_behind c.loop.invariant.2.end_is c.loop.invariant.3.end_is c.loop.invariant.5 c.in_err-step.ensures.halted)
 
 pub returns-in_err-step-clause-counted : goal.returns-in_err-step-clause-counted
 returns-in_err-step-clause-counted c = λ was. c.step.ensures.counted (c.loop.invariant.6 was)
@@ -45,13 +45,14 @@ pub returns-then-branch-clause-counted : goal.returns-then-branch-clause-counted
 returns-then-branch-clause-counted c = λ was. c.step.ensures.counted (c.loop.invariant.6 was)
 
 pub returns-in_err-step-clause-advances : goal.returns-in_err-step-clause-advances
-returns-in_err-step-clause-advances c = advances_more c.args.wire.now c.args.x.now c.args.y.now c.loop.wire c.loop.x c.loop.y c.step.new.wire c.step.new.x c.step.new.y c.loop.invariant.7 c.step.ensures.advances
+returns-in_err-step-clause-advances c = advances_more c.loop.invariant.7 c.step.ensures.advances
 
 pub returns-then-branch-clause-advances : goal.returns-then-branch-clause-advances
-returns-then-branch-clause-advances c = advances_more c.args.wire.now c.args.x.now c.args.y.now c.loop.wire c.loop.x c.loop.y c.step.new.wire c.step.new.x c.step.new.y c.loop.invariant.7 c.step.ensures.advances
+returns-then-branch-clause-advances c = advances_more c.loop.invariant.7 c.step.ensures.advances
 
 pub returns-in_err-step-clause-short : goal.returns-in_err-step-clause-short
 returns-in_err-step-clause-short c =
     let p = err_from_is_err_and c.from_residual.result c.from_residual.ensures.1 in
     let halt = c.in_err-step.field-0.0 in
-    rw (p.1, p.2) (λ talk talks. falls_short halt talk c.loop.wire c.loop.x c.loop.y c.step.new.wire c.step.new.x (c.loop.invariant.5 talk talks) c.loop.invariant.1 c.in_err-step.ensures.halted.x_end c.in_err-step.ensures.still)
+    rw (p.1, p.2) (λ talk talks. falls_short halt c.step.new.wire c.step.new.x (c.loop.invariant.5 talk talks) c.loop.invariant.1
+    c.in_err-step.ensures.halted.x_end c.in_err-step.ensures.still)

@@ -1,15 +1,11 @@
-use Rattle.line_steps.specs.Advancing.{Advances}
-use Rattle.line_steps.specs.Counting.{Counted}
-use Rattle.line_steps.specs.Carrying.{SameMessage}
-use Rattle.line_steps.specs.Running.{Holds}
-use Rattle.line_steps.specs.Telling.{KeepsTalk, Recorded}
-use Rattle.line_steps.specs.Underway.{Underway}
-use Rattle.line_steps.specs.Working.{work_left}
+use Rattle.line_steps.proofs.Names.{Advances, Counted, SameMessage, Holds, KeepsTalk, Recorded, Underway, work_left}
 use Rattle.line_steps.proofs.carrying.carry.Given as goal
 
 abbrev pub invariant-loop : goal.invariant-loop
 invariant-loop l =
-    Holds l.wire l.x l.y × Underway l.wire l.x l.y × SameMessage l.initial.x l.x × SameMessage l.initial.y l.y × (Recorded l.fn.script l.initial.wire l.initial.x l.initial.y → Recorded l.fn.script l.wire l.x l.y) × KeepsTalk l.initial.wire l.initial.x l.initial.y l.wire l.x l.y × (Counted l.initial.wire l.initial.x l.initial.y → Counted l.wire l.x l.y)
+    Holds l.wire l.x l.y × Underway l.wire l.x l.y × SameMessage l.initial.x l.x × SameMessage l.initial.y l.y
+    × (Recorded l.fn.script l.initial.wire l.initial.x l.initial.y → Recorded l.fn.script l.wire l.x l.y) × KeepsTalk l.initial.wire l.initial.x l.initial.y
+    l.wire l.x l.y × (Counted l.initial.wire l.initial.x l.initial.y → Counted l.wire l.x l.y)
     × Advances l.initial.wire l.initial.x l.initial.y l.wire l.x l.y
 
 abbrev pub decreases-loop : goal.decreases-loop

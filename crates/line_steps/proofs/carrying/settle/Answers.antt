@@ -1,6 +1,4 @@
-use Rattle.std.proofs.Common.{sym, ap, ◌∙◌}
-use Rattle.std.specs.Option.{is_some}
-use Rattle.std.proofs.lemmas.Result.{err_from_is_err_and}
+use Rattle.line_steps.proofs.Names.{sym, ap, ◌∙◌, is_some, err_from_is_err_and}
 use Rattle.line_steps.proofs.HaltedLaws.{halted_behind}
 use Rattle.line_steps.proofs.CarryingLaws.{same_refl, same_trans, taken-turn, taken-settled}
 use Rattle.line_steps.proofs.TakingLaws.{some_waits, waits_not}
@@ -9,10 +7,10 @@ use Rattle.line_steps.proofs.carrying.settle.Goals as goal
 
 pub loop-wire-init : goal.loop-wire-init
 loop-wire-init c = (
-  settled_holds c.args.wire.now c.args.x.now c.args.y.now (settled_turned c.args.wire.now c.args.y.now c.args.x.now c.requires.turn.settled),
-  taken-turn c.args.wire.now c.args.x.now c.args.y.now c.requires.turn c.requires.waits,
-  same_refl c.args.x.now,
-  same_refl c.args.y.now,
+  settled_holds (settled_turned c.requires.turn.settled),
+  taken-turn c.requires.turn c.requires.waits,
+  same_refl,
+  same_refl,
   λ was. was,
   λ talk talks. talks,
   λ was. was,
@@ -21,15 +19,22 @@ loop-wire-init c = (
 pub returns-then-is_none-clause-turn : goal.returns-then-is_none-clause-turn
 returns-then-is_none-clause-turn c =
     let idle = waits_not c.loop-wire.x.sender (ap is_some (sym c.current.ensures.piece) ∙ c.if-is_none.ensures) in
-    taken-settled c.loop-wire.wire c.loop-wire.x c.loop-wire.y c.loop-wire.invariant.0 c.loop-wire.invariant.1 idle
+    taken-settled c.loop-wire.invariant.0 c.loop-wire.invariant.1 idle
 
 pub step-requires-clause-waits : goal.step-requires-clause-waits
 step-requires-clause-waits c = some_waits c.loop-wire.x.sender (ap is_some (sym c.current.ensures.piece) ∙ c.if-is_none.ensures)
 
 pub loop-wire-preserved : goal.loop-wire-preserved
 loop-wire-preserved c =
-    let step = c.in_ok-step.ensures.step in
-    (step.holds, step.taken c.loop-wire.invariant.1, same_trans c.args.x.now c.loop-wire.x c.step.new.x c.loop-wire.invariant.2 step.x_same, same_trans c.args.y.now c.loop-wire.y c.step.new.y c.loop-wire.invariant.3 step.y_same, λ was. c.step.ensures.recorded (c.loop-wire.invariant.4 was), λ talk talks. step.talks talk (c.loop-wire.invariant.5 talk talks), λ was. c.step.ensures.counted (c.loop-wire.invariant.6 was))
+    let step = c.in_ok-step.ensures.step in (
+      step.holds,
+      step.taken c.loop-wire.invariant.1,
+      same_trans c.loop-wire.invariant.2 step.x_same,
+      same_trans c.loop-wire.invariant.3 step.y_same,
+      λ was. c.step.ensures.recorded (c.loop-wire.invariant.4 was),
+      λ talk talks. step.talks talk (c.loop-wire.invariant.5 talk talks),
+      λ was. c.step.ensures.counted (c.loop-wire.invariant.6 was),
+    )
 
 pub returns-in_err-step-clause-recorded : goal.returns-in_err-step-clause-recorded
 returns-in_err-step-clause-recorded c = λ was. c.step.ensures.recorded (c.loop-wire.invariant.4 was)
@@ -37,7 +42,7 @@ returns-in_err-step-clause-recorded c = λ was. c.step.ensures.recorded (c.loop-
 pub returns-in_err-step-clause-halted : goal.returns-in_err-step-clause-halted
 returns-in_err-step-clause-halted c =
     let p = err_from_is_err_and c.from_residual.result c.from_residual.ensures.1 in
-    rw (p.1, p.2) (halted_behind c.in_err-step.field-0.0 c.args.wire.now c.args.x.now c.args.y.now c.loop-wire.wire c.loop-wire.x c.loop-wire.y c.step.new.wire c.step.new.x c.step.new.y c.loop-wire.invariant.2.end_is c.loop-wire.invariant.3.end_is c.loop-wire.invariant.5 c.in_err-step.ensures.halted)
+    rw (p.1, p.2) (halted_behind c.loop-wire.invariant.2.end_is c.loop-wire.invariant.3.end_is c.loop-wire.invariant.5 c.in_err-step.ensures.halted)
 
 pub returns-in_err-step-clause-counted : goal.returns-in_err-step-clause-counted
 returns-in_err-step-clause-counted c = λ was. c.step.ensures.counted (c.loop-wire.invariant.6 was)

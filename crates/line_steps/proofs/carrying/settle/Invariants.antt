@@ -1,13 +1,10 @@
-use Rattle.line_steps.specs.Counting.{Counted}
-use Rattle.line_steps.specs.Carrying.{SameMessage}
-use Rattle.line_steps.specs.Running.{Holds}
-use Rattle.line_steps.specs.Settling.{AllTaken}
-use Rattle.line_steps.specs.Telling.{KeepsTalk, Recorded}
-use Rattle.line_steps.specs.Working.{work_left}
+use Rattle.line_steps.proofs.Names.{Counted, SameMessage, Holds, AllTaken, KeepsTalk, Recorded, work_left}
 use Rattle.line_steps.proofs.carrying.settle.Given as goal
 
 abbrev pub invariant-loop-wire : goal.invariant-loop-wire
-invariant-loop-wire l = Holds l.wire l.x l.y × AllTaken l.wire l.x l.y × SameMessage l.initial.x l.x × SameMessage l.initial.y l.y × (Recorded l.fn.script l.initial.wire l.initial.x l.initial.y → Recorded l.fn.script l.wire l.x l.y) × KeepsTalk l.initial.wire l.initial.x l.initial.y l.wire l.x l.y × (Counted l.initial.wire l.initial.x l.initial.y → Counted l.wire l.x l.y)
+invariant-loop-wire l = Holds l.wire l.x l.y × AllTaken l.wire l.x l.y × SameMessage l.initial.x l.x × SameMessage l.initial.y l.y
+    × (Recorded l.fn.script l.initial.wire l.initial.x l.initial.y → Recorded l.fn.script l.wire l.x l.y) × KeepsTalk l.initial.wire l.initial.x l.initial.y
+    l.wire l.x l.y × (Counted l.initial.wire l.initial.x l.initial.y → Counted l.wire l.x l.y)
 
 abbrev pub decreases-loop-wire : goal.decreases-loop-wire
 decreases-loop-wire l = work_left l.wire l.x l.y

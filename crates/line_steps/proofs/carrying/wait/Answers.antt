@@ -1,4 +1,3 @@
-use Rattle.line_steps.specs.Halting.{Halted}
 use Rattle.line_steps.proofs.CarryingLaws.{of_five, fine, still_apart, tick_step, tick_back}
 use Rattle.line_steps.proofs.HaltedLaws.{halted_turned}
 use Rattle.line_steps.proofs.HaltingLaws.{err_weaker}
@@ -9,12 +8,14 @@ use Rattle.line_steps.proofs.carrying.wait.Goals as goal
 pub returns-in-Desktop-clause-step : goal.returns-in-Desktop-clause-step
 returns-in-Desktop-clause-step c =
     let done = c.tick.ensures in
-    of_five c.tick.result (tick_step c.args.wire.now c.args.x.now c.args.y.now c.tick.new.wire c.tick.new.x c.tick.new.y (waits_now c.args.x.now c.requires.holds.x_half c.requires.waits)) done.underway done.holds done.less (fine c.tick.result done.x_stays) (fine c.tick.result done.y_stays)
+    of_five c.tick.result (tick_step (waits_now c.requires.holds.x_half c.requires.waits)) done.underway done.holds done.less (fine c.tick.result done.x_stays)
+    (fine c.tick.result done.y_stays)
 
 pub returns-in-Handheld-clause-step : goal.returns-in-Handheld-clause-step
 returns-in-Handheld-clause-step c =
     let done = c.tick-in-Handheld.ensures in
-    of_five c.tick-in-Handheld.result (tick_back c.args.wire.now c.args.x.now c.args.y.now c.tick-in-Handheld.new.wire c.tick-in-Handheld.new.y c.tick-in-Handheld.new.x c.requires.holds.apart (waits_now c.args.x.now c.requires.holds.x_half c.requires.waits)) done.underway done.holds done.less (fine c.tick-in-Handheld.result done.x_stays) (fine c.tick-in-Handheld.result done.y_stays)
+    of_five c.tick-in-Handheld.result (tick_back c.requires.holds.apart (waits_now c.requires.holds.x_half c.requires.waits)) done.underway done.holds done.less
+    (fine c.tick-in-Handheld.result done.x_stays) (fine c.tick-in-Handheld.result done.y_stays)
 
 pub returns-in-Desktop-clause-x_place : goal.returns-in-Desktop-clause-x_place
 returns-in-Desktop-clause-x_place c = (c.tick.ensures.x_stays.end_is, c.tick.ensures.x_stays.taken_is)
@@ -33,9 +34,8 @@ returns-in-Handheld-clause-halted c =
     let x = c.args.x.now in
     let y = c.args.y.now in
     let done = c.tick-in-Handheld.ensures in
-    let new = c.tick-in-Handheld.new.wire in
     let later_x = c.tick-in-Handheld.new.y in
     let later_y = c.tick-in-Handheld.new.x in
-    let apart = apart_turned x.end y.end c.requires.holds.apart in
-    err_weaker c.tick-in-Handheld.result (λ halt. Halted halt c.args.wire.now y x new later_y later_x) (λ halt. Halted halt c.args.wire.now x y new later_x later_y)
-    (λ halt it. halted_turned halt c.args.wire.now y x new later_y later_x apart (still_apart y x later_y later_x done.x_stays.end_is done.y_stays.end_is apart) it) done.halted
+    let apart = apart_turned c.requires.holds.apart in
+    err_weaker c.tick-in-Handheld.result
+    (λ halt it. halted_turned apart (still_apart y x later_y later_x done.x_stays.end_is done.y_stays.end_is apart) it) done.halted

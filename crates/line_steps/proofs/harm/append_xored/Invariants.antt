@@ -1,5 +1,4 @@
-use Rattle.std.proofs.Common.{◌≡◌, ◌++◌, take}
-use Rattle.trace_text.specs.Fates.{xored}
+use Rattle.line_steps.proofs.Names.{◌≡◌, ◌++◌, take, xored}
 use Rattle.line_steps.proofs.harm.append_xored.Given as goal
 
 -- the bytes so far

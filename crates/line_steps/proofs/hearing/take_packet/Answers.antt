@@ -1,9 +1,4 @@
-use Rattle.std.proofs.Common.{◌≡◌, ℕ, sym, ap, subst, ◌∙◌}
-use Rattle.padp_link.specs.FragmentText.{FragmentValue}
-use Rattle.padp_link.specs.FragmentValues.{fragment_value}
-use Rattle.padp_link.specs.Pieces.{key_of}
-use Rattle.padp_link.specs.Receivers.{Answers, after_answer}
-use Rattle.padp_link.proofs.TextLaws.{one_fragment}
+use Rattle.line_steps.proofs.Names.{◌≡◌, sym, ap, subst, ◌∙◌, fragment_value, key_of, Answers, after_answer, one_fragment}
 use Rattle.line_steps.proofs.hearing.take_packet.Goals as goal
 
 -- src/hearing.rt:50:1
@@ -15,8 +10,8 @@ returns-in-Data c fragment bears =
     let answer = c.on_data.result in
     let same : taken ≡ fragment = one_fragment taken fragment c.args.packet.body.now it.0.text bears.text in
     let id : c.in-Data.id ≡ c.args.packet.id = it.2 in
-    let kind = ap (λ (f : FragmentValue). f.kind) (sym same) ∙ it.1 in
-    let key = c.key-key.ensures ∙ ap (λ (n : ℕ). key_of n taken) id ∙ ap (λ (f : FragmentValue). key_of c.args.packet.id f) same in
-    let answers = subst (λ (f : FragmentValue). Answers receiver c.args.packet.id f answer) same (subst (λ (n : ℕ). Answers receiver n taken answer) id c.on_data.ensures.answer) in
-    let after = c.on_data.ensures.after ∙ ap (λ (n : ℕ). after_answer receiver n taken answer) id ∙ ap (λ (f : FragmentValue). after_answer receiver c.args.packet.id f answer) same in
+    let kind = ap (λ f. f.kind) (sym same) ∙ it.1 in
+    let key = c.key-key.ensures ∙ ap (λ n. key_of n taken) id ∙ ap (λ f. key_of c.args.packet.id f) same in
+    let answers = subst (λ f. Answers receiver c.args.packet.id f answer) same (subst (λ n. Answers receiver n taken answer) id c.on_data.ensures.answer) in
+    let after = c.on_data.ensures.after ∙ ap (λ n. after_answer receiver n taken answer) id ∙ ap (λ f. after_answer receiver c.args.packet.id f answer) same in
     (kind, key, answers, after)

@@ -1,28 +1,27 @@
-use Rattle.std.proofs.Common.{ℕ, ◌+◌, List, length, sym, ap, ◌∙◌, subst, arith}
-use Rattle.padp_link.specs.FragmentText.{FragmentValue, IsFragment}
+use Rattle.line_steps.proofs.Names.{◌+◌, length, sym, ap, ◌∙◌, subst, arith, IsFragment}
 use Rattle.line_steps.proofs.PieceLaws.{is_piece, piece_bytes, with_bytes}
 use Rattle.line_steps.proofs.pieces.fragment_with.Goals as goal
 
 -- src/pieces.rt:50:16
 pub slice_bounds-result-end : goal.slice_bounds-result-end
 slice_bounds-result-end c =
-    let it = is_piece c.args.half.now c.args.piece c.requires.half c.requires.waits in
-    omega (arith, c.from-place.ensures, c.from.ensures, it.within, ap (λ (s : List ℕ). length s) c.deref.ensures.value)
+    let it = is_piece c.requires.half c.requires.waits in
+    omega (arith, c.from-place.ensures, c.from.ensures, it.within, ap length c.deref.ensures.value)
 
 -- src/pieces.rt:37:1
 pub returns-clause-part : goal.returns-clause-part
 returns-clause-part c =
-    let it = is_piece c.args.half.now c.args.piece c.requires.half c.requires.waits in
-    let bytes = piece_bytes c.args.half.now.message.items c.deref.result.now c.args.piece c.from-place.result (c.from-place.result + c.from.result) c.deref.ensures.value c.from-place.ensures (ap (λ (n : ℕ). c.from-place.result + n) c.from.ensures) in
-    with_bytes c.args.half.now.message.items c.args.piece _ bytes ∙ it.part_is
+    let it = is_piece c.requires.half c.requires.waits in
+    let bytes = piece_bytes c.args.piece c.deref.ensures.value c.from-place.ensures (ap (λ n. c.from-place.result + n) c.from.ensures) in
+    with_bytes c.args.half.now.message.items c.args.piece bytes ∙ it.part_is
 
 -- src/pieces.rt:37:1
 pub returns-clause-fragment : goal.returns-clause-fragment
 returns-clause-fragment c =
-    let it = is_piece c.args.half.now c.args.piece c.requires.half c.requires.waits in
-    let bytes = piece_bytes c.args.half.now.message.items c.deref.result.now c.args.piece c.from-place.result (c.from-place.result + c.from.result) c.deref.ensures.value c.from-place.ensures (ap (λ (n : ℕ). c.from-place.result + n) c.from.ensures) in
-    subst (λ (f : FragmentValue). IsFragment f) (sym (with_bytes c.args.half.now.message.items c.args.piece _ bytes ∙ it.part_is)) it.fragment
+    let it = is_piece c.requires.half c.requires.waits in
+    let bytes = piece_bytes c.args.piece c.deref.ensures.value c.from-place.ensures (ap (λ n. c.from-place.result + n) c.from.ensures) in
+    subst (λ f. IsFragment f) (sym (with_bytes c.args.half.now.message.items c.args.piece bytes ∙ it.part_is)) it.fragment
 
 -- src/pieces.rt:37:1
 pub returns-clause-id : goal.returns-clause-id
-returns-clause-id c = (is_piece c.args.half.now c.args.piece c.requires.half c.requires.waits).id_is
+returns-clause-id c = (is_piece c.requires.half c.requires.waits).id_is

@@ -1,10 +1,7 @@
 use Rattle.line_steps.proofs.CountingLaws.{heard_lands, lands_same}
-use Rattle.std.proofs.Common.{refl}
-use Rattle.std.proofs.lemmas.Result.{err_from_is_err_and}
-use Rattle.std.proofs.lemmas.Option.{slice_get_read, slice_get_within}
+use Rattle.line_steps.proofs.Names.{refl, err_from_is_err_and, slice_get_read, slice_get_within}
 use Rattle.line_steps.proofs.HaltedLaws.{halted_heeded}
 use Rattle.line_steps.proofs.HeardLaws.{heard_ack-holds, heard_ack-next, heard_data, heard_something}
-use Rattle.line_steps.specs.declared.hearing.Heard.TheVariants as heard_as
 use Rattle.line_steps.proofs.UnderwayLaws.{heeded-underway}
 use Rattle.line_steps.proofs.HoldsLaws.{going}
 use Rattle.line_steps.proofs.taking.take_marked.Goals as goal
@@ -15,7 +12,7 @@ hear_frame-heard-requires-clause-goes c =
     let frames = c.args.wire.now.frames.items in
     let n = c.args.x.now.taken in
     let here = slice_get_read frames _ n c.index.result.now refl (slice_get_within frames n c.requires.next.frame c.requires.next.here) c.index.ensures in
-    (going c.args.wire.now c.args.x.now c.args.y.now n c.index.result.now c.requires.holds here).goes_on
+    (going n c.requires.holds here).goes_on
 
 -- src/taking.rt:26:9
 pub hear_frame-heard-requires-clause-bears : goal.hear_frame-heard-requires-clause-bears
@@ -23,12 +20,12 @@ hear_frame-heard-requires-clause-bears c =
     let frames = c.args.wire.now.frames.items in
     let n = c.args.x.now.taken in
     let here = slice_get_read frames _ n c.index.result.now refl (slice_get_within frames n c.requires.next.frame c.requires.next.here) c.index.ensures in
-    (going c.args.wire.now c.args.x.now c.args.y.now n c.index.result.now c.requires.holds here).bears
+    (going n c.requires.holds here).bears
 
 -- src/taking.rt:28:28
 pub take_ack-requires-clause-holds : goal.take_ack-requires-clause-holds
 take_ack-requires-clause-holds c =
-    heard_ack-holds c.args.wire.now c.args.x.now c.args.y.now c.hear_frame-heard.new.half c.requires.holds c.in-Ack.ensures.hears.2 c.in-Ack.ensures.heeded c.in-Ack.ensures.gap
+    heard_ack-holds c.requires.holds c.in-Ack.ensures.hears.2 c.in-Ack.ensures.heeded c.in-Ack.ensures.gap
 
 -- src/taking.rt:28:28
 pub take_ack-requires-clause-next : goal.take_ack-requires-clause-next
@@ -36,7 +33,7 @@ take_ack-requires-clause-next c =
     let frames = c.args.wire.now.frames.items in
     let n = c.args.x.now.taken in
     let here = slice_get_read frames _ n c.index.result.now refl (slice_get_within frames n c.requires.next.frame c.requires.next.here) c.index.ensures in
-    heard_ack-next c.args.wire.now c.args.x.now c.args.y.now c.index.result.now c.in-Ack.key c.hear_frame-heard.new.half.receiver c.requires.next here c.in-Ack.ensures.hears
+    heard_ack-next c.args.x.now c.args.y.now c.requires.next here c.in-Ack.ensures.hears
 
 -- src/taking.rt:29:36
 pub take_data-requires : goal.take_data-requires
@@ -44,7 +41,7 @@ take_data-requires c =
     let frames = c.args.wire.now.frames.items in
     let n = c.args.x.now.taken in
     let here = slice_get_read frames _ n c.index.result.now refl (slice_get_within frames n c.requires.next.frame c.requires.next.here) c.index.ensures in
-    heard_data c.args.wire.now c.args.x.now c.args.y.now c.hear_frame-heard.new.half c.index.result.now c.in-Data.key c.in-Data.taken c.requires.holds c.requires.next here c.in-Data.ensures.hears c.in-Data.ensures.heeded c.in-Data.ensures.gap
+    heard_data c.requires.holds c.requires.next here c.in-Data.ensures.hears c.in-Data.ensures.heeded c.in-Data.ensures.gap
 
 -- src/taking.rt:21:1
 pub returns-in-Nothing-clause-holds : goal.returns-in-Nothing-clause-holds
@@ -52,46 +49,46 @@ returns-in-Nothing-clause-holds c =
     let frames = c.args.wire.now.frames.items in
     let n = c.args.x.now.taken in
     let here = slice_get_read frames _ n c.index.result.now refl (slice_get_within frames n c.requires.next.frame c.requires.next.here) c.index.ensures in
-    absurd (heard_something _ c.index.result.now c.args.y.now.receiver c.hear_frame-heard.new.half.receiver (going c.args.wire.now c.args.x.now c.args.y.now n c.index.result.now c.requires.holds here) c.in-Nothing.ensures.hears)
+    absurd (heard_something c.index.result.now (going n c.requires.holds here) c.in-Nothing.ensures.hears)
 
 pub returns-in-Nothing-clause-moved : goal.returns-in-Nothing-clause-moved
 returns-in-Nothing-clause-moved c =
     let frames = c.args.wire.now.frames.items in
     let n = c.args.x.now.taken in
     let here = slice_get_read frames _ n c.index.result.now refl (slice_get_within frames n c.requires.next.frame c.requires.next.here) c.index.ensures in
-    absurd (heard_something _ c.index.result.now c.args.y.now.receiver c.hear_frame-heard.new.half.receiver (going c.args.wire.now c.args.x.now c.args.y.now n c.index.result.now c.requires.holds here) c.in-Nothing.ensures.hears)
+    absurd (heard_something c.index.result.now (going n c.requires.holds here) c.in-Nothing.ensures.hears)
 
 pub returns-in-Nothing-clause-less : goal.returns-in-Nothing-clause-less
 returns-in-Nothing-clause-less c =
     let frames = c.args.wire.now.frames.items in
     let n = c.args.x.now.taken in
     let here = slice_get_read frames _ n c.index.result.now refl (slice_get_within frames n c.requires.next.frame c.requires.next.here) c.index.ensures in
-    absurd (heard_something _ c.index.result.now c.args.y.now.receiver c.hear_frame-heard.new.half.receiver (going c.args.wire.now c.args.x.now c.args.y.now n c.index.result.now c.requires.holds here) c.in-Nothing.ensures.hears)
+    absurd (heard_something c.index.result.now (going n c.requires.holds here) c.in-Nothing.ensures.hears)
 
 pub returns-in_ok-take_ack-in-Ack-clause-underway : goal.returns-in_ok-take_ack-in-Ack-clause-underway
 returns-in_ok-take_ack-in-Ack-clause-underway c =
-    heeded-underway (heard_as.Ack c.in-Ack.key) c.args.wire.now c.args.x.now c.args.y.now c.hear_frame-heard.new.half c.take_ack.new.wire c.take_ack.new.x c.take_ack.new.y c.in-Ack.ensures.heeded c.in_ok-take_ack-in-Ack.ensures.underway
+    heeded-underway c.in-Ack.ensures.heeded c.in_ok-take_ack-in-Ack.ensures.underway
 
 pub returns-in_ok-take_data-in-Data-clause-underway : goal.returns-in_ok-take_data-in-Data-clause-underway
 returns-in_ok-take_data-in-Data-clause-underway c =
-    heeded-underway (heard_as.Data c.in-Data.key c.in-Data.taken) c.args.wire.now c.args.x.now c.args.y.now c.hear_frame-heard.new.half c.take_data.new.wire c.take_data.new.x c.take_data.new.y c.in-Data.ensures.heeded c.in_ok-take_data-in-Data.ensures.underway
+    heeded-underway c.in-Data.ensures.heeded c.in_ok-take_data-in-Data.ensures.underway
 
 pub returns-in-Nothing-clause-underway : goal.returns-in-Nothing-clause-underway
 returns-in-Nothing-clause-underway c =
     let frames = c.args.wire.now.frames.items in
     let n = c.args.x.now.taken in
     let here = slice_get_read frames _ n c.index.result.now refl (slice_get_within frames n c.requires.next.frame c.requires.next.here) c.index.ensures in
-    absurd (heard_something _ c.index.result.now c.args.y.now.receiver c.hear_frame-heard.new.half.receiver (going c.args.wire.now c.args.x.now c.args.y.now n c.index.result.now c.requires.holds here) c.in-Nothing.ensures.hears)
+    absurd (heard_something c.index.result.now (going n c.requires.holds here) c.in-Nothing.ensures.hears)
 
 pub returns-in_err-take_ack-in-Ack-clause-halted : goal.returns-in_err-take_ack-in-Ack-clause-halted
 returns-in_err-take_ack-in-Ack-clause-halted c =
     let p = err_from_is_err_and c.from_residual.result c.from_residual.ensures.1 in
-    rw (p.1, p.2) (halted_heeded c.in_err-take_ack-in-Ack.field-0.0 c.args.wire.now c.args.x.now c.args.y.now c.hear_frame-heard.new.half c.take_ack.new.wire c.take_ack.new.x c.take_ack.new.y c.in-Ack.ensures.heeded c.in_err-take_ack-in-Ack.ensures.halted)
+    rw (p.1, p.2) (halted_heeded c.in-Ack.ensures.heeded c.in_err-take_ack-in-Ack.ensures.halted)
 
 pub returns-in_err-take_data-in-Data-clause-halted : goal.returns-in_err-take_data-in-Data-clause-halted
 returns-in_err-take_data-in-Data-clause-halted c =
     let p = err_from_is_err_and c.from_residual-in_err-take_data-in-Data.result c.from_residual-in_err-take_data-in-Data.ensures.1 in
-    rw (p.1, p.2) (halted_heeded c.in_err-take_data-in-Data.field-0.0 c.args.wire.now c.args.x.now c.args.y.now c.hear_frame-heard.new.half c.take_data.new.wire c.take_data.new.x c.take_data.new.y c.in-Data.ensures.heeded c.in_err-take_data-in-Data.ensures.halted)
+    rw (p.1, p.2) (halted_heeded c.in-Data.ensures.heeded c.in_err-take_data-in-Data.ensures.halted)
 
 pub returns-in_err-take_ack-in-Ack-clause-lands : goal.returns-in_err-take_ack-in-Ack-clause-lands
 returns-in_err-take_ack-in-Ack-clause-lands c =
@@ -99,7 +96,7 @@ returns-in_err-take_ack-in-Ack-clause-lands c =
     let n = c.args.x.now.taken in
     let here = slice_get_read frames _ n c.index.result.now refl (slice_get_within frames n c.requires.next.frame c.requires.next.here) c.index.ensures in
     let half = c.hear_frame-heard.new.half in
-    let lands = heard_lands c.args.x.now.end c.args.wire.now n c.index.result.now c.args.y.now half c.requires.next here c.hear_frame-heard.ensures.tally in
+    let lands = heard_lands c.args.y.now half c.requires.next here c.hear_frame-heard.ensures.tally in
     lands_same n c.args.wire.now c.args.y.now half c.take_ack.new.y c.take_ack.ensures.reader lands
 
 pub returns-in_err-take_data-in-Data-clause-lands : goal.returns-in_err-take_data-in-Data-clause-lands
@@ -108,7 +105,7 @@ returns-in_err-take_data-in-Data-clause-lands c =
     let n = c.args.x.now.taken in
     let here = slice_get_read frames _ n c.index.result.now refl (slice_get_within frames n c.requires.next.frame c.requires.next.here) c.index.ensures in
     let half = c.hear_frame-heard.new.half in
-    let lands = heard_lands c.args.x.now.end c.args.wire.now n c.index.result.now c.args.y.now half c.requires.next here c.hear_frame-heard.ensures.tally in
+    let lands = heard_lands c.args.y.now half c.requires.next here c.hear_frame-heard.ensures.tally in
     lands_same n c.args.wire.now c.args.y.now half c.take_data.new.y c.take_data.ensures.reader lands
 
 pub returns-in_ok-take_ack-in-Ack-clause-lands : goal.returns-in_ok-take_ack-in-Ack-clause-lands
@@ -117,7 +114,7 @@ returns-in_ok-take_ack-in-Ack-clause-lands c =
     let n = c.args.x.now.taken in
     let here = slice_get_read frames _ n c.index.result.now refl (slice_get_within frames n c.requires.next.frame c.requires.next.here) c.index.ensures in
     let half = c.hear_frame-heard.new.half in
-    let lands = heard_lands c.args.x.now.end c.args.wire.now n c.index.result.now c.args.y.now half c.requires.next here c.hear_frame-heard.ensures.tally in
+    let lands = heard_lands c.args.y.now half c.requires.next here c.hear_frame-heard.ensures.tally in
     lands_same n c.args.wire.now c.args.y.now half c.take_ack.new.y c.take_ack.ensures.reader lands
 
 pub returns-in_ok-take_data-in-Data-clause-lands : goal.returns-in_ok-take_data-in-Data-clause-lands
@@ -126,7 +123,7 @@ returns-in_ok-take_data-in-Data-clause-lands c =
     let n = c.args.x.now.taken in
     let here = slice_get_read frames _ n c.index.result.now refl (slice_get_within frames n c.requires.next.frame c.requires.next.here) c.index.ensures in
     let half = c.hear_frame-heard.new.half in
-    let lands = heard_lands c.args.x.now.end c.args.wire.now n c.index.result.now c.args.y.now half c.requires.next here c.hear_frame-heard.ensures.tally in
+    let lands = heard_lands c.args.y.now half c.requires.next here c.hear_frame-heard.ensures.tally in
     lands_same n c.args.wire.now c.args.y.now half c.take_data.new.y c.take_data.ensures.reader lands
 
 pub returns-in-Nothing-clause-lands : goal.returns-in-Nothing-clause-lands
@@ -135,7 +132,7 @@ returns-in-Nothing-clause-lands c =
     let n = c.args.x.now.taken in
     let here = slice_get_read frames _ n c.index.result.now refl (slice_get_within frames n c.requires.next.frame c.requires.next.here) c.index.ensures in
     let half = c.hear_frame-heard.new.half in
-    let lands = heard_lands c.args.x.now.end c.args.wire.now n c.index.result.now c.args.y.now half c.requires.next here c.hear_frame-heard.ensures.tally in
+    let lands = heard_lands c.args.y.now half c.requires.next here c.hear_frame-heard.ensures.tally in
     lands
 
 pub returns-in_err-take_ack-in-Ack-clause-up : goal.returns-in_err-take_ack-in-Ack-clause-up

@@ -1,47 +1,41 @@
 use Rattle.line_steps.proofs.CountingLaws.{lands_marked}
-use Rattle.std.proofs.Common.{refl, subst, List}
-use Rattle.std.proofs.lemmas.Option.{slice_get_within}
-use Rattle.std.proofs.lemmas.Result.{IfOk-weaker, on_ok_weaker}
-use Rattle.trace_text.specs.Fates.{fate_value}
-use Rattle.trace_text.specs.declared.frame.Frame.{Frame}
-use Rattle.line_steps.specs.Adding.{AddsOne}
-use Rattle.line_steps.specs.Underway.{StillUnderway}
+use Rattle.line_steps.proofs.Names.{refl, subst, slice_get_within, IfOk-weaker, on_ok_weaker, fate_value, AddsOne, StillUnderway}
 use Rattle.line_steps.proofs.MarkingLaws.{holds_marked, delivers_marked, less-marked, still_marked, talks_marked}
 use Rattle.line_steps.proofs.HaltedLaws.{halted_behind}
 use Rattle.line_steps.proofs.HaltingLaws.{err_weaker}
-use Rattle.line_steps.specs.Halting.{Halted}
 use Rattle.line_steps.proofs.taking.take_next.Goals as goal
 
 pub mark-requires : goal.mark-requires
 mark-requires c = slice_get_within c.args.wire.now.frames.items c.args.x.now.taken c.requires.next.frame c.requires.next.here
 
 pub take_marked-requires-clause-holds : goal.take_marked-requires-clause-holds
-take_marked-requires-clause-holds c = holds_marked c.args.x.now.taken c.args.wire.now c.mark.new.wire c.args.x.now c.args.y.now c.mark.ensures c.requires.holds
+take_marked-requires-clause-holds c = holds_marked c.mark.ensures c.requires.holds
 
 pub take_marked-requires-clause-next : goal.take_marked-requires-clause-next
-take_marked-requires-clause-next c = delivers_marked c.args.x.now.end c.args.x.now.taken c.args.wire.now c.mark.new.wire c.mark.ensures c.requires.next
+take_marked-requires-clause-next c = delivers_marked c.mark.ensures c.requires.next
 
 pub returns-clause-underway : goal.returns-clause-underway
 returns-clause-underway c =
-    IfOk-weaker c.take_marked.result (λ heard. StillUnderway heard c.mark.new.wire c.args.x.now c.args.y.now c.take_marked.new.wire c.take_marked.new.x c.take_marked.new.y)
+    IfOk-weaker c.take_marked.result (λ heard. StillUnderway heard c.mark.new.wire c.args.x.now c.args.y.now c.take_marked.new.wire
+    c.take_marked.new.x c.take_marked.new.y)
     (λ heard. StillUnderway heard c.args.wire.now c.args.x.now c.args.y.now c.take_marked.new.wire c.take_marked.new.x c.take_marked.new.y)
-    (λ heard still. still_marked heard c.args.x.now.taken c.args.wire.now c.mark.new.wire c.args.x.now c.args.y.now c.take_marked.new.wire c.take_marked.new.x c.take_marked.new.y c.mark.ensures still) c.take_marked.ensures.underway
+    (λ heard still. still_marked c.mark.ensures still) c.take_marked.ensures.underway
 
 pub returns-clause-adds : goal.returns-clause-adds
-returns-clause-adds c = subst (λ (fs : List Frame). AddsOne (fate_value c.args.fate) fs c.take_marked.new.wire.frames.items) c.mark.ensures.frames_are c.take_marked.ensures.adds
+returns-clause-adds c =
+    subst (λ fs. AddsOne (fate_value c.args.fate) fs c.take_marked.new.wire.frames.items) c.mark.ensures.frames_are c.take_marked.ensures.adds
 
 pub returns-clause-less : goal.returns-clause-less
 returns-clause-less c =
-    on_ok_weaker c.take_marked.result (λ less. less-marked c.args.x.now.taken c.args.wire.now c.mark.new.wire c.args.x.now c.args.y.now c.take_marked.new.wire c.take_marked.new.x c.take_marked.new.y c.mark.ensures less) c.take_marked.ensures.less
+    on_ok_weaker c.take_marked.result (λ less. less-marked c.args.x.now c.args.y.now c.take_marked.new.wire c.take_marked.new.x c.take_marked.new.y
+    c.mark.ensures less) c.take_marked.ensures.less
 
 pub returns-clause-halted : goal.returns-clause-halted
 returns-clause-halted c =
-    let wire = c.args.wire.now in
-    let mid = c.mark.new.wire in
     let x = c.args.x.now in
     let y = c.args.y.now in
-    err_weaker c.take_marked.result (λ halt. Halted halt mid x y c.take_marked.new.wire c.take_marked.new.x c.take_marked.new.y) (λ halt. Halted halt wire x y c.take_marked.new.wire c.take_marked.new.x c.take_marked.new.y)
-    (λ halt it. halted_behind halt wire x y mid x y c.take_marked.new.wire c.take_marked.new.x c.take_marked.new.y refl refl (λ talk talks. talks_marked talk x.taken wire mid x y c.mark.ensures talks) it) c.take_marked.ensures.halted
+    err_weaker c.take_marked.result
+    (λ halt it. halted_behind refl refl (λ talk talks. talks_marked x y c.mark.ensures talks) it) c.take_marked.ensures.halted
 
 pub returns-clause-lands : goal.returns-clause-lands
-returns-clause-lands c = lands_marked c.args.wire.now c.mark.new.wire c.args.x.now.taken c.args.y.now c.take_marked.new.y c.mark.ensures c.take_marked.ensures.lands
+returns-clause-lands c = lands_marked c.args.y.now c.take_marked.new.y c.mark.ensures c.take_marked.ensures.lands

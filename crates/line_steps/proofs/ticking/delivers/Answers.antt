@@ -1,6 +1,4 @@
-use Rattle.std.proofs.Common.{refl, arith, inl}
-use Rattle.std.proofs.lemmas.Bool.{ltb-true, ltb-false}
-use Rattle.std.proofs.lemmas.Option.{slice_get_read}
+use Rattle.line_steps.proofs.Names.{refl, arith, inl, ltb-true, ltb-false, slice_get_read}
 use Rattle.line_steps.proofs.FrameLaws.{length-past}
 use Rattle.line_steps.proofs.StartingLaws.{comes_at, delivers_late, delivers_now, held_back}
 use Rattle.line_steps.proofs.ticking.delivers.Goals as goal
@@ -12,23 +10,23 @@ returns-then-half-len-clause-blocked c none = inl (omega (arith, c.if-half-len.t
 -- src/ticking.rt:16:1
 pub returns-in-Late-clause-there : goal.returns-in-Late-clause-there
 returns-in-Late-clause-there c below =
-    let comes = comes_at c.args.half.now.end c.args.wire.now.frames.items c.args.half.now.taken c.requires.head (λ e. omega (arith, c.if-half-len.false, c.len.ensures, e)) in
+    let comes = comes_at c.requires.head (λ e. omega (arith, c.if-half-len.false, c.len.ensures, e)) in
     let here = slice_get_read c.args.wire.now.frames.items _ c.args.half.now.taken c.index.result.now refl comes.inside c.index.ensures in
-    delivers_late c.args.half.now.end c.args.wire.now c.args.half.now.taken c.index.result.now comes here (ltb-true _ _ below)
+    delivers_late comes here (ltb-true _ _ below)
 
 -- src/ticking.rt:16:1
 pub returns-in-Late-clause-blocked : goal.returns-in-Late-clause-blocked
 returns-in-Late-clause-blocked c above =
-    let comes = comes_at c.args.half.now.end c.args.wire.now.frames.items c.args.half.now.taken c.requires.head (λ e. omega (arith, c.if-half-len.false, c.len.ensures, e)) in
+    let comes = comes_at c.requires.head (λ e. omega (arith, c.if-half-len.false, c.len.ensures, e)) in
     let here = slice_get_read c.args.wire.now.frames.items _ c.args.half.now.taken c.index.result.now refl comes.inside c.index.ensures in
-    held_back c.args.half.now.end c.args.wire.now c.args.half.now.taken c.index.result.now c.requires.go comes here c.in-Late.is (ltb-false _ _ above)
+    held_back c.args.wire.now c.requires.go comes here c.in-Late.is (ltb-false _ _ above)
 
 -- src/ticking.rt:16:1
 pub returns-in_default : goal.returns-in_default
 returns-in_default c =
-    let comes = comes_at c.args.half.now.end c.args.wire.now.frames.items c.args.half.now.taken c.requires.head (λ e. omega (arith, c.if-half-len.false, c.len.ensures, e)) in
+    let comes = comes_at c.requires.head (λ e. omega (arith, c.if-half-len.false, c.len.ensures, e)) in
     let here = slice_get_read c.args.wire.now.frames.items _ c.args.half.now.taken c.index.result.now refl comes.inside c.index.ensures in
     record {
-      there = λ is. delivers_now c.args.half.now.end c.args.wire.now c.args.half.now.taken c.index.result.now comes here c.in_default.not-Late;
+      there = λ is. delivers_now comes here c.in_default.not-Late;
       blocked = λ is. absurd cc;
     }

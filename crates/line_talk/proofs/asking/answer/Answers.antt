@@ -1,22 +1,14 @@
-use Rattle.std.proofs.Common.{ℕ, ap, map, subst, ◌∙◌, arith}
-use Rattle.std.proofs.lemmas.Result.{IfErr-weaker, on_ok_weaker}
-use Rattle.trace_text.specs.declared.frame.End.{End}
-use Rattle.trace_text.specs.declared.frame.End.TheVariants.{Desktop}
-use Rattle.trace_text.specs.TraceLines.{frame_value}
-use Rattle.line_laws.specs.Talking.{say}
-use Rattle.line_steps.specs.Acknowledging.{EndsAcknowledging, last_key}
-use Rattle.line_steps.specs.Advancing.{FallsShort, piece_total}
-use Rattle.line_steps.specs.Halting.{Spoke}
-use Rattle.line_steps.proofs.AdvancingLaws.{turn_took}
-use Rattle.line_steps.specs.Telling.{Talks}
+use Rattle.line_talk.proofs.Names.{ap, map, subst, ◌∙◌, arith, IfErr-weaker, on_ok_weaker, Desktop, frame_value, say, EndsAcknowledging, last_key, FallsShort}
+use Rattle.line_talk.proofs.Names.{piece_total, Spoke, turn_took, Talks}
 use Rattle.line_talk.proofs.AskLaws.{answers-next}
 use Rattle.line_talk.proofs.asking.answer.Goals as goal
 
 pub returns-clause-tells : goal.returns-clause-tells
 returns-clause-tells c =
     let line = c.args.line.now in
-    on_ok_weaker c.send_over.result (λ tells. λ talk said before. subst (λ (X : End). Talks (say X c.args.reply.now talk) c.send_over.new.wire c.send_over.new.x c.send_over.new.y) c.requires.answers.ends.handheld_is
-    (tells talk (answers-next line c.args.requests c.transaction.result talk c.requires.answers c.transaction.ensures said) before)) c.send_over.ensures.talks
+    on_ok_weaker c.send_over.result (λ tells. λ talk said before. subst
+    (λ X. Talks (say X c.args.reply.now talk) c.send_over.new.wire c.send_over.new.x c.send_over.new.y) c.requires.answers.ends.handheld_is
+    (tells talk (answers-next c.requires.answers c.transaction.ensures said) before)) c.send_over.ensures.talks
 
 pub returns-clause-ends : goal.returns-clause-ends
 returns-clause-ends c =
@@ -26,8 +18,8 @@ returns-clause-ends c =
     IfErr-weaker c.send_over.result _ _ (λ halt halted. λ talk said before. record {
       ends = record { handheld_is = done.own_end ∙ ends.handheld_is; desktop_is = done.other_end ∙ ends.desktop_is };
       by = halted.by;
-      spoke = subst (λ (X : End). Spoke (say X c.args.reply.now talk) c.send_over.new.wire c.send_over.new.x c.send_over.new.y) ends.handheld_is
-          (halted.talks talk (answers-next line c.args.requests c.transaction.result talk c.requires.answers c.transaction.ensures said) before);
+      spoke = subst (λ X. Spoke (say X c.args.reply.now talk) c.send_over.new.wire c.send_over.new.x c.send_over.new.y) ends.handheld_is
+          (halted.talks talk (answers-next c.requires.answers c.transaction.ensures said) before);
     }) done.halted
 
 pub returns-clause-within : goal.returns-clause-within
@@ -36,13 +28,14 @@ returns-clause-within c =
     let done = c.send_over.ensures in
     let ends = c.requires.answers.ends in
     IfErr-weaker c.send_over.result _ _ (λ halt halted talk said before. record {
-      others = omega (arith, halted.other, (turn_took talk line.wire line.handheld line.desktop c.requires.answers.turn before).1, ap (λ (X : End). piece_total X talk) ends.desktop_is);
-      short = subst (λ (X : End). FallsShort halt (say X c.args.reply.now talk) c.send_over.new.wire c.send_over.new.x) ends.handheld_is
-          (halted.short talk (answers-next line c.args.requests c.transaction.result talk c.requires.answers c.transaction.ensures said) before);
+      others = omega (arith, halted.other, (turn_took c.requires.answers.turn before).1, ap (λ X. piece_total X talk) ends.desktop_is);
+      short = subst (λ X. FallsShort halt (say X c.args.reply.now talk) c.send_over.new.wire c.send_over.new.x) ends.handheld_is
+          (halted.short talk (answers-next c.requires.answers c.transaction.ensures said) before);
     }) done.halted
 
 pub returns-clause-acked : goal.returns-clause-acked
 returns-clause-acked c =
     let frames = map frame_value c.send_over.new.wire.frames.items in
-    on_ok_weaker c.send_over.result (λ acked. subst (λ (n : ℕ). EndsAcknowledging Desktop (last_key n c.args.reply.now) frames) c.transaction.ensures
-    (subst (λ (E : End). EndsAcknowledging E (last_key c.transaction.result c.args.reply.now) frames) c.requires.answers.ends.desktop_is acked)) c.send_over.ensures.acked
+    on_ok_weaker c.send_over.result (λ acked. subst (λ n. EndsAcknowledging Desktop (last_key n c.args.reply.now) frames) c.transaction.ensures
+    (subst (λ E. EndsAcknowledging E (last_key c.transaction.result c.args.reply.now) frames) c.requires.answers.ends.desktop_is acked))
+    c.send_over.ensures.acked

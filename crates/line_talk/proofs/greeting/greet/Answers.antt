@@ -1,19 +1,7 @@
-use Rattle.std.proofs.Common.{◌≡◌, ℕ, ◌∷◌, [], refl, ap, subst, ◌∙◌}
-use Rattle.std.proofs.lemmas.Result.{err_from_is_err_and}
-use Rattle.cmp_hello.specs.declared.hello.HelloKind.TheVariants.{Init}
-use Rattle.cmp_hello.specs.HelloText.{hello_bytes}
-use Rattle.trace_text.specs.declared.frame.End.{End}
-use Rattle.line_laws.specs.Core.{Apart}
-use Rattle.line_laws.specs.Talking.{say}
-use Rattle.line_steps.specs.Halting.{Spoke}
-use Rattle.line_steps.specs.Telling.{no_talk}
-use Rattle.line_steps.proofs.RecordedLaws.{recorded_turned}
-use Rattle.line_steps.proofs.TalkedLaws.{talks_turned}
-use Rattle.line_steps.proofs.TurnLaws.{apart_turned}
-use Rattle.line_talk.specs.Telling.{greeted, wake}
+use Rattle.line_talk.proofs.Names.{◌≡◌, ◌∷◌, [], refl, ap, subst, ◌∙◌, err_from_is_err_and, Init, hello_bytes, Apart, say, Spoke, no_talk, recorded_turned}
+use Rattle.line_talk.proofs.Names.{talks_turned, apart_turned, greeted, wake, counted_turned}
 use Rattle.line_talk.proofs.AskLaws.{greeted-tells, greets-tells, wakes-next, woke-tells}
 use Rattle.line_talk.proofs.EndLaws.{ends-apart, halts-turned, inits-greeted, spoke-turned, wakes-greeted}
-use Rattle.line_steps.proofs.CountingLaws.{counted_turned}
 use Rattle.line_talk.proofs.greeting.greet.Goals as goal
 
 pub returns-in_err-send_over-clause-recorded : goal.returns-in_err-send_over-clause-recorded
@@ -23,34 +11,38 @@ pub returns-in_err-send_over-2-clause-recorded : goal.returns-in_err-send_over-2
 returns-in_err-send_over-2-clause-recorded c recorded =
     let first = c.send_over.ensures in
     let second = c.send_over-2.ensures in
-    let turned = recorded_turned c.args.script.now c.send_over.new.wire c.send_over.new.x c.send_over.new.y (apart_turned _ _ c.in_ok-send_over.ensures.turn.settled.apart) (first.recorded recorded) in
-    let apart = ends-apart c.send_over-2.new.y c.send_over-2.new.x (second.other_end ∙ first.own_end ∙ c.requires.ends.handheld_is) (second.own_end ∙ first.other_end ∙ c.requires.ends.desktop_is) in
-    recorded_turned c.args.script.now c.send_over-2.new.wire c.send_over-2.new.x c.send_over-2.new.y (apart_turned _ _ apart) (second.recorded turned)
+    let turned = recorded_turned (apart_turned c.in_ok-send_over.ensures.turn.settled.apart) (first.recorded recorded) in
+    let apart = ends-apart c.send_over-2.new.y c.send_over-2.new.x (second.other_end ∙ first.own_end ∙ c.requires.ends.handheld_is)
+    (second.own_end ∙ first.other_end ∙ c.requires.ends.desktop_is) in
+    recorded_turned (apart_turned apart) (second.recorded turned)
 
 pub returns-in_err-settle-clause-recorded : goal.returns-in_err-settle-clause-recorded
 returns-in_err-settle-clause-recorded c recorded =
     let first = c.send_over.ensures in
     let second = c.send_over-2.ensures in
     let halted = c.in_err-settle.ensures.halted in
-    let turned = recorded_turned c.args.script.now c.send_over.new.wire c.send_over.new.x c.send_over.new.y (apart_turned _ _ c.in_ok-send_over.ensures.turn.settled.apart) (first.recorded recorded) in
-    let apart = ends-apart c.settle.new.y c.settle.new.x (halted.y_end ∙ second.other_end ∙ first.own_end ∙ c.requires.ends.handheld_is) (halted.x_end ∙ second.own_end ∙ first.other_end ∙ c.requires.ends.desktop_is) in
-    recorded_turned c.args.script.now c.settle.new.wire c.settle.new.x c.settle.new.y (apart_turned _ _ apart) (c.settle.ensures.recorded (second.recorded turned))
+    let turned = recorded_turned (apart_turned c.in_ok-send_over.ensures.turn.settled.apart) (first.recorded recorded) in
+    let apart = ends-apart c.settle.new.y c.settle.new.x (halted.y_end ∙ second.other_end ∙ first.own_end ∙ c.requires.ends.handheld_is)
+    (halted.x_end ∙ second.own_end ∙ first.other_end ∙ c.requires.ends.desktop_is) in
+    recorded_turned (apart_turned apart) (c.settle.ensures.recorded (second.recorded turned))
 
 pub returns-clause-recorded : goal.returns-clause-recorded
 returns-clause-recorded c recorded =
-    let turned = recorded_turned c.args.script.now c.send_over.new.wire c.send_over.new.x c.send_over.new.y (apart_turned _ _ c.in_ok-send_over.ensures.turn.settled.apart) (c.send_over.ensures.recorded recorded) in
-    recorded_turned c.args.script.now c.settle.new.wire c.settle.new.x c.settle.new.y c.in_ok-settle.ensures.turn.settled.apart (c.settle.ensures.recorded (c.send_over-2.ensures.recorded turned))
+    let turned = recorded_turned (apart_turned c.in_ok-send_over.ensures.turn.settled.apart) (c.send_over.ensures.recorded recorded) in
+    recorded_turned c.in_ok-settle.ensures.turn.settled.apart (c.settle.ensures.recorded (c.send_over-2.ensures.recorded turned))
 
 pub returns-clause-tells : goal.returns-clause-tells
 returns-clause-tells c before =
     let first = c.in_ok-send_over.ensures in
     let second = c.in_ok-send_over-2.ensures in
     let d_end = first.other_same.end_is ∙ c.requires.ends.desktop_is in
-    let both = greets-tells c.args.line.now c.send_over.new.wire c.send_over-2.new.wire c.send_over.new.x c.send_over.new.y c.send_over-2.new.y c.send_over-2.new.x c.greeting-wake.result c.greeting-init.result (apart_turned _ _ first.turn.settled.apart) c.requires.ends.handheld_is d_end first.talks second.talks before in
+    let both = greets-tells c.args.line.now c.send_over.new.wire c.send_over-2.new.wire c.send_over-2.new.y c.send_over-2.new.x
+    (apart_turned first.turn.settled.apart) c.requires.ends.handheld_is d_end first.talks second.talks before in
     let rate : c.rate_of-rate.result ≡ 9600 = c.rate_of-rate.ensures wake c.greeting-wake.result first.whole c.greeting-wake.ensures.text in
-    let init_is = c.greeting-init.ensures.bytes ∙ ap (λ (r : ℕ). hello_bytes (record { kind = Init; flags = 0; minor = 1; rate = r }) (0 ∷ 0 ∷ [])) rate in
-    talks_turned greeted c.settle.new.wire c.settle.new.x c.settle.new.y c.in_ok-settle.ensures.turn.settled.apart
-    (c.in_ok-settle.ensures.talks greeted (greeted-tells c.send_over-2.new.wire c.send_over-2.new.x c.send_over-2.new.y c.greeting-wake.result c.greeting-init.result c.greeting-wake.ensures.bytes init_is both))
+    let init_is = c.greeting-init.ensures.bytes ∙ ap (λ r. hello_bytes (record { kind = Init; flags = 0; minor = 1; rate = r }) (0 ∷ 0 ∷ [])) rate in
+    talks_turned c.settle.new.wire c.settle.new.x c.settle.new.y c.in_ok-settle.ensures.turn.settled.apart
+    (c.in_ok-settle.ensures.talks greeted (greeted-tells c.send_over-2.new.wire c.send_over-2.new.x c.send_over-2.new.y
+    c.greeting-wake.ensures.bytes init_is both))
 
 pub returns-in_err-send_over-clause-ends : goal.returns-in_err-send_over-clause-ends
 returns-in_err-send_over-clause-ends c =
@@ -64,8 +56,9 @@ returns-in_err-send_over-clause-ends c =
     rw (p.1, p.2) (λ before. record {
       ends = record { handheld_is = handheld; desktop_is = desktop };
       by = halted.by;
-      spoke = wakes-greeted c.send_over.new.wire c.send_over.new.x c.send_over.new.y c.greeting-wake.result handheld desktop c.greeting-wake.ensures.bytes
-          (subst (λ (X : End). Spoke (say X c.greeting-wake.result no_talk) c.send_over.new.wire c.send_over.new.x c.send_over.new.y) ends.handheld_is (halted.talks no_talk (wakes-next line 255 ends.handheld_is refl) before));
+      spoke = wakes-greeted c.send_over.new.wire c.send_over.new.x c.send_over.new.y handheld desktop c.greeting-wake.ensures.bytes
+          (subst (λ X. Spoke (say X c.greeting-wake.result no_talk) c.send_over.new.wire c.send_over.new.x c.send_over.new.y) ends.handheld_is
+          (halted.talks no_talk (wakes-next line ends.handheld_is refl) before));
     })
 
 pub returns-in_err-send_over-2-clause-ends : goal.returns-in_err-send_over-2-clause-ends
@@ -78,15 +71,17 @@ returns-in_err-send_over-2-clause-ends c =
     let d_end = first.other_same.end_is ∙ ends.desktop_is in
     let handheld = c.send_over-2.ensures.other_end ∙ c.send_over.ensures.own_end ∙ ends.handheld_is in
     let desktop = c.send_over-2.ensures.own_end ∙ d_end in
-    let later : Apart c.send_over-2.new.x.end c.send_over-2.new.y.end = apart_turned _ _ (ends-apart c.send_over-2.new.y c.send_over-2.new.x handheld desktop) in
+    let later : Apart c.send_over-2.new.x.end c.send_over-2.new.y.end = apart_turned (ends-apart c.send_over-2.new.y c.send_over-2.new.x handheld desktop) in
     let rate : c.rate_of-rate.result ≡ 9600 = c.rate_of-rate.ensures wake c.greeting-wake.result first.whole c.greeting-wake.ensures.text in
-    let init_is = c.greeting-init.ensures.bytes ∙ ap (λ (r : ℕ). hello_bytes (record { kind = Init; flags = 0; minor = 1; rate = r }) (0 ∷ 0 ∷ [])) rate in
+    let init_is = c.greeting-init.ensures.bytes ∙ ap (λ r. hello_bytes (record { kind = Init; flags = 0; minor = 1; rate = r }) (0 ∷ 0 ∷ [])) rate in
     rw (p.1, p.2) (λ before. record {
       ends = record { handheld_is = handheld; desktop_is = desktop };
       by = halts-turned _ c.send_over-2.new.wire c.send_over-2.new.x c.send_over-2.new.y later halted.by;
-      spoke = spoke-turned greeted c.send_over-2.new.wire c.send_over-2.new.x c.send_over-2.new.y later
-          (inits-greeted c.send_over.new.wire c.send_over-2.new.wire c.send_over.new.x c.send_over.new.y c.send_over-2.new.x c.send_over-2.new.y c.greeting-wake.result c.greeting-init.result d_end c.greeting-wake.ensures.bytes init_is halted.talks
-          (woke-tells c.args.line.now c.send_over.new.wire c.send_over.new.x c.send_over.new.y c.greeting-wake.result (apart_turned _ _ first.turn.settled.apart) ends.handheld_is first.talks before));
+      spoke = spoke-turned c.send_over-2.new.wire c.send_over-2.new.x c.send_over-2.new.y later
+          (inits-greeted c.send_over.new.wire c.send_over-2.new.wire c.send_over-2.new.x c.send_over-2.new.y d_end
+          c.greeting-wake.ensures.bytes init_is halted.talks
+          (woke-tells c.args.line.now c.send_over.new.wire c.send_over.new.x c.send_over.new.y (apart_turned first.turn.settled.apart)
+          ends.handheld_is first.talks before));
     })
 
 pub returns-in_err-settle-clause-ends : goal.returns-in_err-settle-clause-ends
@@ -99,25 +94,26 @@ returns-in_err-settle-clause-ends c =
     let d_end = first.other_same.end_is ∙ ends.desktop_is in
     let handheld = halted.y_end ∙ c.send_over-2.ensures.other_end ∙ c.send_over.ensures.own_end ∙ ends.handheld_is in
     let desktop = halted.x_end ∙ c.send_over-2.ensures.own_end ∙ d_end in
-    let later : Apart c.settle.new.x.end c.settle.new.y.end = apart_turned _ _ (ends-apart c.settle.new.y c.settle.new.x handheld desktop) in
+    let later : Apart c.settle.new.x.end c.settle.new.y.end = apart_turned (ends-apart c.settle.new.y c.settle.new.x handheld desktop) in
     let rate : c.rate_of-rate.result ≡ 9600 = c.rate_of-rate.ensures wake c.greeting-wake.result first.whole c.greeting-wake.ensures.text in
-    let init_is = c.greeting-init.ensures.bytes ∙ ap (λ (r : ℕ). hello_bytes (record { kind = Init; flags = 0; minor = 1; rate = r }) (0 ∷ 0 ∷ [])) rate in
+    let init_is = c.greeting-init.ensures.bytes ∙ ap (λ r. hello_bytes (record { kind = Init; flags = 0; minor = 1; rate = r }) (0 ∷ 0 ∷ [])) rate in
     rw (p.1, p.2) (λ before. record {
       ends = record { handheld_is = handheld; desktop_is = desktop };
       by = halts-turned _ c.settle.new.wire c.settle.new.x c.settle.new.y later halted.by;
-      spoke = spoke-turned greeted c.settle.new.wire c.settle.new.x c.settle.new.y later (halted.talks greeted
-          (greeted-tells c.send_over-2.new.wire c.send_over-2.new.x c.send_over-2.new.y c.greeting-wake.result c.greeting-init.result c.greeting-wake.ensures.bytes init_is
-          (greets-tells c.args.line.now c.send_over.new.wire c.send_over-2.new.wire c.send_over.new.x c.send_over.new.y c.send_over-2.new.y c.send_over-2.new.x c.greeting-wake.result c.greeting-init.result (apart_turned _ _ first.turn.settled.apart) ends.handheld_is d_end first.talks second.talks before)));
+      spoke = spoke-turned c.settle.new.wire c.settle.new.x c.settle.new.y later (halted.talks greeted
+          (greeted-tells c.send_over-2.new.wire c.send_over-2.new.x c.send_over-2.new.y c.greeting-wake.ensures.bytes init_is
+          (greets-tells c.args.line.now c.send_over.new.wire c.send_over-2.new.wire c.send_over-2.new.y c.send_over-2.new.x
+          (apart_turned first.turn.settled.apart) ends.handheld_is d_end first.talks second.talks before)));
     })
 
 pub returns-in_err-send_over-2-clause-counted : goal.returns-in_err-send_over-2-clause-counted
 returns-in_err-send_over-2-clause-counted c counted =
-    counted_turned c.send_over-2.new.wire c.send_over-2.new.x c.send_over-2.new.y (c.send_over-2.ensures.counted (counted_turned c.send_over.new.wire c.send_over.new.x c.send_over.new.y (c.send_over.ensures.counted counted)))
+    counted_turned (c.send_over-2.ensures.counted (counted_turned (c.send_over.ensures.counted counted)))
 
 pub returns-in_err-settle-clause-counted : goal.returns-in_err-settle-clause-counted
 returns-in_err-settle-clause-counted c counted =
-    counted_turned c.settle.new.wire c.settle.new.x c.settle.new.y (c.settle.ensures.counted (c.send_over-2.ensures.counted (counted_turned c.send_over.new.wire c.send_over.new.x c.send_over.new.y (c.send_over.ensures.counted counted))))
+    counted_turned (c.settle.ensures.counted (c.send_over-2.ensures.counted (counted_turned (c.send_over.ensures.counted counted))))
 
 pub returns-clause-counted : goal.returns-clause-counted
 returns-clause-counted c counted =
-    counted_turned c.settle.new.wire c.settle.new.x c.settle.new.y (c.settle.ensures.counted (c.send_over-2.ensures.counted (counted_turned c.send_over.new.wire c.send_over.new.x c.send_over.new.y (c.send_over.ensures.counted counted))))
+    counted_turned (c.settle.ensures.counted (c.send_over-2.ensures.counted (counted_turned (c.send_over.ensures.counted counted))))

@@ -1,12 +1,10 @@
-use Rattle.std.proofs.Common.{◌≡◌, ℕ, List, Some, sym, ap, subst, ◌∙◌}
-use Rattle.cmp_hello.specs.declared.hello.Hello.{Hello}
-use Rattle.cmp_hello.specs.HelloText.{HelloText}
+use Rattle.line_talk.proofs.Names.{◌≡◌, Some, sym, ap, subst, ◌∙◌, HelloText}
 use Rattle.line_talk.proofs.greeting.rate_of.Goals as goal
 
 pub returns-in-Ok : goal.returns-in-Ok
 returns-in-Ok c hello bytes whole text =
     let there : Some c.in-Some.bytes.now ≡ Some bytes = c.in-Some.ensures.message ∙ whole in
     let same : c.in-Some.bytes.now ≡ bytes = cc in
-    let read = c.in-Ok.ensures.only hello (subst (λ (b : List ℕ). HelloText hello b) (sym same) text) in
+    let read = c.in-Ok.ensures.only hello (subst (λ b. HelloText hello b) (sym same) text) in
     let is : c.in-Ok.hello ≡ hello = cc in
-    ap (λ (h : Hello). h.rate) is
+    ap (λ h. h.rate) is

@@ -1,17 +1,5 @@
-use Rattle.std.proofs.Common.{◌≡◌, ◌≤◌, List, length, map, Some, refl, subst, sym, arith, inl, inr}
-use Rattle.std.proofs.lemmas.List.{length-map}
-use Rattle.dlp_args.specs.Messages.{MessageTextValue}
-use Rattle.dlp_commands.specs.declared.link.LinkFault.{LinkFault}
-use Rattle.dlp_commands.specs.Links.{MayExchange}
-use Rattle.dlp_commands.specs.Talks.{Answered, Unanswered}
-use Rattle.handheld_server.specs.SaidThings.{downs_of}
-use Rattle.trace_text.specs.declared.frame.Frame.{Frame}
-use Rattle.trace_text.specs.TraceLines.{frame_value}
-use Rattle.line_world.specs.Causes.{IsCauseOf, NamesLast}
-use Rattle.line_world.specs.Conversing.{Served}
-use Rattle.line_world.specs.Logs.{log_value}
-use Rattle.line_world.specs.SinceLaws.{since_itself}
-use Rattle.line_world.specs.Worlds.{IsWorld, WorldSince, WorldValue, world_talk}
+use Rattle.line_world.proofs.Names.{◌≡◌, ◌≤◌, length, map, Some, refl, subst, sym, arith, inl, inr, length-map, MayExchange, Answered, Unanswered, downs_of}
+use Rattle.line_world.proofs.Names.{frame_value, IsCauseOf, NamesLast, Served, log_value, since_itself, IsWorld, WorldSince, WorldValue, world_talk}
 use Rattle.line_world.proofs.TalkLaws.{talk-answered, talk-broke}
 use Rattle.line_world.proofs.WentLaws.{since-went}
 use Rattle.line_world.proofs.WorldLaws.{begun-of, tells-of, world-answered, world-broke}
@@ -24,69 +12,151 @@ pub invariant_of-self : goal.invariant_of-self
 invariant_of-self g c =
     let w = c.self.inside in
     let later = c.converse.new.log in
-    let may = subst (λ (v : WorldValue g.row.F.Denot). MayExchange v.begun v.fault) (sym c.self.view_is) c.requires in
-    let first = begun-of w.begun w.fault c.in_default.is may in
+    let may = subst (λ v. MayExchange v.begun v.fault) (sym c.self.view_is) c.requires in
+    let first = begun-of w.fault c.in_default.is may in
     let running = c.self.invariant.running c.in_default.is in
-    let count : c.len-self-inside.result ≡ length (log_value later).replies = omega (arith, c.len-self-inside.ensures, length-map later.replies.items (λ (t : MessageTextValue). t.bytes)) in
-    world-answered g.F.Folder.contents g.F.Folder.moments g.F.Folder.paths g.F.Folder.faults w.server c.converse.new.server w.line c.converse.new.line w.script (log_value w.log) (log_value later) w.answered c.len-self-inside.result w.begun w.fault w.cause c.args.request.now c.converse.new.reply
-    c.self.invariant c.in_default.is first (c.converse.ensures.recorded c.self.invariant.recorded) (c.converse.ensures.counted c.self.invariant.counted) c.in-Ok.ensures.answers (c.in-Ok.ensures.tells (tells-of w.begun w.line (log_value w.log) w.answered first running.at_rest)) count
+    let count : c.len-self-inside.result ≡ length (log_value later).replies =
+    omega (arith, c.len-self-inside.ensures, length-map later.replies.items (λ t. t.bytes)) in
+    world-answered
+    c.self.invariant c.in_default.is first (c.converse.ensures.recorded c.self.invariant.recorded) (c.converse.ensures.counted c.self.invariant.counted)
+    c.in-Ok.ensures.answers (c.in-Ok.ensures.tells (tells-of w.begun w.line (log_value w.log) w.answered first running.at_rest)) count
 
 pub invariant_of-self-in-Err : goal.invariant_of-self-in-Err
 invariant_of-self-in-Err g c =
     let w = c.self.inside in
     let later = c.converse.new.log in
-    let may = subst (λ (v : WorldValue g.row.F.Denot). MayExchange v.begun v.fault) (sym c.self.view_is) c.requires in
-    let first = begun-of w.begun w.fault c.in_default.is may in
+    let may = subst (λ v. MayExchange v.begun v.fault) (sym c.self.view_is) c.requires in
+    let first = begun-of w.fault c.in_default.is may in
     let running = c.self.invariant.running c.in_default.is in
-    subst (λ (f : LinkFault). IsWorld c.converse.new.line w.script (log_value later) c.converse.new.server.sound w.answered w.begun (Some f) c.cause_of-cause.result) (sym c.fault_of-fault.ensures)
-    (world-broke g.F.Folder.contents g.F.Folder.moments g.F.Folder.paths g.F.Folder.faults w.server c.converse.new.server w.line c.converse.new.line w.script (log_value w.log) (log_value later) w.answered w.begun w.fault w.cause c.cause_of-cause.result c.args.request.now c.in-Err.ended
-    c.self.invariant c.in_default.is first (c.converse.ensures.recorded c.self.invariant.recorded) (c.converse.ensures.counted c.self.invariant.counted) (c.in-Err.ensures.ends (tells-of w.begun w.line (log_value w.log) w.answered first running.at_rest))
-    (subst (λ (fs : List Frame). IsCauseOf c.in-Err.ended (length fs) c.cause_of-cause.result) c.deref.ensures.value c.cause_of-cause.ensures.is) c.cause_of-cause.ensures.keeper
-    (subst (λ (fs : List Frame). NamesLast c.cause_of-cause.result (map frame_value fs)) c.deref.ensures.value c.cause_of-cause.ensures.names) c.in-Err.ensures.breaks
+    subst (λ f. IsWorld c.converse.new.line w.script (log_value later) c.converse.new.server.sound w.answered w.begun (Some f)
+    c.cause_of-cause.result) (sym c.fault_of-fault.ensures)
+    (world-broke
+    c.self.invariant c.in_default.is first (c.converse.ensures.recorded c.self.invariant.recorded) (c.converse.ensures.counted c.self.invariant.counted)
+    (c.in-Err.ensures.ends (tells-of w.begun w.line (log_value w.log) w.answered first running.at_rest))
+    (subst (λ fs. IsCauseOf c.in-Err.ended (length fs) c.cause_of-cause.result) c.deref.ensures.value c.cause_of-cause.ensures.is)
+    c.cause_of-cause.ensures.keeper
+    (subst (λ fs. NamesLast c.cause_of-cause.result (map frame_value fs)) c.deref.ensures.value
+    c.cause_of-cause.ensures.names) c.in-Err.ensures.breaks
     (c.in-Err.ensures.heard (tells-of w.begun w.line (log_value w.log) w.answered first running.at_rest)) c.in-Err.ensures.unsent)
 
 pub returns-in-Ok-clause-answered : goal.returns-in-Ok-clause-answered
 returns-in-Ok-clause-answered g c =
     let w = c.self.inside in
     let later = c.converse.new.log in
-    let old : WorldValue g.row.F.Denot = record { server = w.server; script = w.script; log = log_value w.log; answered = w.answered; frames = map frame_value w.line.wire.frames.items; begun = w.begun; fault = w.fault; cause = w.cause } in
-    let new : WorldValue g.row.F.Denot = record { server = c.converse.new.server; script = w.script; log = log_value later; answered = c.len-self-inside.result; frames = map frame_value c.converse.new.line.wire.frames.items; begun = w.begun; fault = w.fault; cause = w.cause } in
-    let count : c.len-self-inside.result ≡ length (log_value later).replies = omega (arith, c.len-self-inside.ensures, length-map later.replies.items (λ (t : MessageTextValue). t.bytes)) in
-    subst (λ (v : WorldValue g.row.F.Denot). Answered (Some (world_talk v)) c.args.request.now c.converse.new.reply (Some (world_talk new))) c.self.view_is
-    (talk-answered g.F.Folder.contents g.F.Folder.moments g.F.Folder.paths g.F.Folder.faults old new c.args.request.now c.converse.new.reply c.self.invariant.is_log (c.self.invariant.running c.in_default.is).all count c.in-Ok.ensures.answers.performs)
+    let old : WorldValue g.row.F.Denot = record {
+      server = w.server;
+      script = w.script;
+      log = log_value w.log;
+      answered = w.answered;
+      frames = map frame_value w.line.wire.frames.items;
+      begun = w.begun;
+      fault = w.fault;
+      cause = w.cause;
+    } in
+    let new : WorldValue g.row.F.Denot = record {
+      server = c.converse.new.server;
+      script = w.script;
+      log = log_value later;
+      answered = c.len-self-inside.result;
+      frames = map frame_value c.converse.new.line.wire.frames.items;
+      begun = w.begun;
+      fault = w.fault;
+      cause = w.cause;
+    } in
+    let count : c.len-self-inside.result ≡ length (log_value later).replies =
+    omega (arith, c.len-self-inside.ensures, length-map later.replies.items (λ t. t.bytes)) in
+    subst (λ v. Answered (Some (world_talk v)) c.args.request.now c.converse.new.reply (Some (world_talk new))) c.self.view_is
+    (talk-answered old new c.self.invariant.is_log (c.self.invariant.running c.in_default.is).all count c.in-Ok.ensures.answers.performs)
 
 pub returns-in-Ok-clause-since : goal.returns-in-Ok-clause-since
 returns-in-Ok-clause-since g c =
     let w = c.self.inside in
     let later = c.converse.new.log in
     let performs = c.in-Ok.ensures.answers.performs in
-    let old : WorldValue g.row.F.Denot = record { server = w.server; script = w.script; log = log_value w.log; answered = w.answered; frames = map frame_value w.line.wire.frames.items; begun = w.begun; fault = w.fault; cause = w.cause } in
-    let new : WorldValue g.row.F.Denot = record { server = c.converse.new.server; script = w.script; log = log_value later; answered = c.len-self-inside.result; frames = map frame_value c.converse.new.line.wire.frames.items; begun = w.begun; fault = w.fault; cause = w.cause } in
-    subst (λ (v : WorldValue g.row.F.Denot). WorldSince g.F.Folder.contents g.F.Folder.moments g.F.Folder.paths g.F.Folder.faults v new) c.self.view_is
-    (since-went g.F.Folder.contents g.F.Folder.moments g.F.Folder.paths g.F.Folder.faults (Served c.converse.new.reply) old new c.args.request.now refl (λ is. inl is) (performs.since, performs.log_is))
+    let old : WorldValue g.row.F.Denot = record {
+      server = w.server;
+      script = w.script;
+      log = log_value w.log;
+      answered = w.answered;
+      frames = map frame_value w.line.wire.frames.items;
+      begun = w.begun;
+      fault = w.fault;
+      cause = w.cause;
+    } in
+    let new : WorldValue g.row.F.Denot = record {
+      server = c.converse.new.server;
+      script = w.script;
+      log = log_value later;
+      answered = c.len-self-inside.result;
+      frames = map frame_value c.converse.new.line.wire.frames.items;
+      begun = w.begun;
+      fault = w.fault;
+      cause = w.cause;
+    } in
+    subst (λ v. WorldSince g.F.Folder.contents g.F.Folder.moments g.F.Folder.paths g.F.Folder.faults v new) c.self.view_is
+    (since-went (Served c.converse.new.reply) c.args.request.now refl (λ is. inl is) (performs.since, performs.log_is))
 
 pub returns-in-Err-clause-unanswered : goal.returns-in-Err-clause-unanswered
 returns-in-Err-clause-unanswered g c =
     let w = c.self.inside in
     let later = c.converse.new.log in
     let breaks = c.in-Err.ensures.breaks in
-    let old : WorldValue g.row.F.Denot = record { server = w.server; script = w.script; log = log_value w.log; answered = w.answered; frames = map frame_value w.line.wire.frames.items; begun = w.begun; fault = w.fault; cause = w.cause } in
-    let new : WorldValue g.row.F.Denot = record { server = c.converse.new.server; script = w.script; log = log_value later; answered = w.answered; frames = map frame_value c.converse.new.line.wire.frames.items; begun = w.begun; fault = Some c.fault_of-fault.result; cause = c.cause_of-cause.result } in
-    subst (λ (v : WorldValue g.row.F.Denot). Unanswered (Some (world_talk v)) c.args.request.now (Some (world_talk new))) c.self.view_is
-    (talk-broke g.F.Folder.contents g.F.Folder.moments g.F.Folder.paths g.F.Folder.faults old new c.args.request.now breaks.went c.self.invariant.is_log (c.self.invariant.running c.in_default.is).all refl breaks.is)
+    let old : WorldValue g.row.F.Denot = record {
+      server = w.server;
+      script = w.script;
+      log = log_value w.log;
+      answered = w.answered;
+      frames = map frame_value w.line.wire.frames.items;
+      begun = w.begun;
+      fault = w.fault;
+      cause = w.cause;
+    } in
+    let new : WorldValue g.row.F.Denot = record {
+      server = c.converse.new.server;
+      script = w.script;
+      log = log_value later;
+      answered = w.answered;
+      frames = map frame_value c.converse.new.line.wire.frames.items;
+      begun = w.begun;
+      fault =
+          Some c.fault_of-fault.result;
+      cause = c.cause_of-cause.result;
+    } in
+    subst (λ v. Unanswered (Some (world_talk v)) c.args.request.now (Some (world_talk new))) c.self.view_is
+    (talk-broke g.F.Folder.contents g.F.Folder.moments g.F.Folder.paths g.F.Folder.faults old new breaks.went c.self.invariant.is_log
+    (c.self.invariant.running c.in_default.is).all refl breaks.is)
 
 pub returns-in-Err-clause-since : goal.returns-in-Err-clause-since
 returns-in-Err-clause-since g c =
     let w = c.self.inside in
     let later = c.converse.new.log in
     let breaks = c.in-Err.ensures.breaks in
-    let old : WorldValue g.row.F.Denot = record { server = w.server; script = w.script; log = log_value w.log; answered = w.answered; frames = map frame_value w.line.wire.frames.items; begun = w.begun; fault = w.fault; cause = w.cause } in
-    let new : WorldValue g.row.F.Denot = record { server = c.converse.new.server; script = w.script; log = log_value later; answered = w.answered; frames = map frame_value c.converse.new.line.wire.frames.items; begun = w.begun; fault = Some c.fault_of-fault.result; cause = c.cause_of-cause.result } in
-    subst (λ (v : WorldValue g.row.F.Denot). WorldSince g.F.Folder.contents g.F.Folder.moments g.F.Folder.paths g.F.Folder.faults v new) c.self.view_is
-    (since-went g.F.Folder.contents g.F.Folder.moments g.F.Folder.paths g.F.Folder.faults breaks.went old new c.args.request.now refl (λ is. inr (breaks.keeper (c.cause_of-cause.ensures.keeper is))) breaks.is)
+    let old : WorldValue g.row.F.Denot = record {
+      server = w.server;
+      script = w.script;
+      log = log_value w.log;
+      answered = w.answered;
+      frames = map frame_value w.line.wire.frames.items;
+      begun = w.begun;
+      fault = w.fault;
+      cause = w.cause;
+    } in
+    let new : WorldValue g.row.F.Denot = record {
+      server = c.converse.new.server;
+      script = w.script;
+      log = log_value later;
+      answered = w.answered;
+      frames = map frame_value c.converse.new.line.wire.frames.items;
+      begun = w.begun;
+      fault =
+          Some c.fault_of-fault.result;
+      cause = c.cause_of-cause.result;
+    } in
+    subst (λ v. WorldSince g.F.Folder.contents g.F.Folder.moments g.F.Folder.paths g.F.Folder.faults v new) c.self.view_is
+    (since-went breaks.went c.args.request.now refl (λ is. inr (breaks.keeper (c.cause_of-cause.ensures.keeper is))) breaks.is)
 
 pub returns-in-Ok-clause-cause : goal.returns-in-Ok-clause-cause
 returns-in-Ok-clause-cause g c = record {
-  later = subst (λ (v : WorldValue g.row.F.Denot). downs_of v.fault ≤ downs_of c.self.inside.fault) c.self.view_is (omega arith);
+  later = subst (λ v. downs_of v.fault ≤ downs_of c.self.inside.fault) c.self.view_is (omega arith);
   rose = λ is. absurd cc;
 }

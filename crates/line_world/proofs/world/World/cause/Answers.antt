@@ -1,21 +1,17 @@
-use Rattle.std.proofs.Common.{◌≡◌, length, None, subst}
-use Rattle.line_script.specs.Scripts.{fate_by}
-use Rattle.trace_text.specs.Tallies.{IsFairUpTo}
-use Rattle.line_world.specs.Causes.{BearsOut, IsCause, down_end}
-use Rattle.line_world.specs.Logs.{log_value}
-use Rattle.line_world.specs.Worlds.{WorldValue}
+use Rattle.line_world.proofs.Names.{◌≡◌, length, None, subst, fate_by, IsFairUpTo, BearsOut, IsCause, down_end}
 use Rattle.line_world.proofs.CauseLaws.{bears-out, never-down}
 use Rattle.line_world.proofs.world.World.cause.Goals as goal
 
 pub returns-clause-caused : goal.returns-clause-caused
-returns-clause-caused g c = subst (λ (v : WorldValue g.row.F.Denot). IsCause v.fault v.cause) c.self.view_is c.self.invariant.caused
+returns-clause-caused g c = subst (λ v. IsCause v.fault v.cause) c.self.view_is c.self.invariant.caused
 
 pub returns-clause-borne_out : goal.returns-clause-borne_out
 returns-clause-borne_out g c =
     let w = c.self.inside in
-    subst (λ (v : WorldValue g.row.F.Denot). BearsOut v.cause v.frames) c.self.view_is (bears-out w.script w.line (log_value w.log) w.cause c.self.invariant.recorded c.self.invariant.told)
+    subst (λ v. BearsOut v.cause v.frames) c.self.view_is (bears-out w.cause c.self.invariant.recorded c.self.invariant.told)
 
 pub returns-clause-fair : goal.returns-clause-fair
 returns-clause-fair g c =
     let w = c.self.inside in
-    subst (λ (v : WorldValue g.row.F.Denot). IsFairUpTo (length v.frames) (fate_by v.script) → down_end v.cause ≡ None) c.self.view_is (never-down w.script w.line (log_value w.log) w.cause c.self.invariant.recorded c.self.invariant.told)
+    subst (λ v. IsFairUpTo (length v.frames) (fate_by v.script) → down_end v.cause ≡ None) c.self.view_is
+    (never-down w.cause c.self.invariant.recorded c.self.invariant.told)
