@@ -9,7 +9,7 @@ use Rattle.pdb_values.specs.declared.record.Record.{Record}
 use Rattle.palm_device.specs.Records.{place_of_id, new_record, put_record, without_record, clean}
 use Rattle.palm_device.proofs.RecordLaws.{put_record_new}
 use Rattle.conduit_rules.specs.ById.{id_bound, each_below, each_id, with_id, at}
-use Rattle.conduit_rules.specs.States.{Held, nothing, live, archived, first}
+use Rattle.conduit_rules.specs.States.{Held, nothing, first}
 use Rattle.conduit_rules.specs.Choices.{Choice}
 use Rattle.conduit_rules.specs.Plans.{replacement, is_purged, replaced_rows, purged_ids}
 use Rattle.conduit_rules.proofs.ByIdLaws.{each_below-zero, each_below-suc, each_below-same}
@@ -39,12 +39,7 @@ new_of e = new_record e.0 e.1
 after-adding : (es : List (ℕ × ContentValue)) (records : List Record) → AreFree es records → after (adding es) records ≡ records ++ map new_of es
 after-adding [] records free = sym (append-nil records)
 after-adding (e ∷ es) records free =
-    after-adding es (put_record e.0 e.1 records) free.1
-    ∙ ap (λ rs. rs ++ map new_of es) (put_record_new e.0 e.1 records free.0.none)
-    ∙ glue records
-  where
-    glue : (rs : List Record) → (rs ++ new_of e ∷ []) ++ map new_of es ≡ rs ++ map new_of (e ∷ es)
-    glue rs = grind (arith, common_steps)
+    grind (arith, common_steps, after-adding es (put_record e.0 e.1 records) free.1, put_record_new e.0 e.1 records free.0.none)
 
 pub differ-put_all : (es : List (ℕ × ContentValue)) (records : List Record) → RowsDiffer records → RowsDiffer (put_all es records)
 differ-put_all [] records differ = differ
@@ -58,26 +53,22 @@ none_here i (r ∷ records) none = grind (arith, nat_tests, none, none_here i re
 
 without-is : (i : ℕ) (records : List Record) → RowsDiffer records → without_record i records ≡ filter (λ r. not (r.id == i)) records
 without-is i [] differ = without_record-nil i
-without-is i (r ∷ records) differ = without_record-cons i r records ∙ split (r.id == i) refl (without-is i records differ.1)
-  where
-    split : (b : Bool) → (r.id == i) ≡ b → without_record i records ≡ filter (λ x. not (x.id == i)) records
-        → (if r.id == i then records else r ∷ without_record i records) ≡ filter (λ x. not (x.id == i)) (r ∷ records)
-    split true is ih = grind (arith, nat_tests, is, differ.0, none_here i records)
-    split false is ih = grind (arith, nat_tests, is, ih)
+without-is i (r ∷ records) differ = grind (arith, without_record-cons i r records, without-is i records differ.1, none_here i records)
 
 pub first-filter_none : (keep : Record → Bool) (i : ℕ) (records : List Record) → first i records ≡ None → first i (filter keep records) ≡ None
 first-filter_none keep i [] none = refl
 first-filter_none keep i (r ∷ records) none = grind (arith, none, first-filter_none keep i records)
 
 differ_by : (b : Bool) (r : Record) (records kept : List Record) → first r.id kept ≡ None → RowsDiffer kept → RowsDiffer (if b then r ∷ kept else kept)
-differ_by true r records kept none differ = (none, differ)
-differ_by false r records kept none differ = differ
+differ_by b r records kept none differ = grind arith
 
 pub differ-filter : (keep : Record → Bool) (records : List Record) → RowsDiffer records → RowsDiffer (filter keep records)
 differ-filter keep [] differ = tt
-differ-filter keep (r ∷ records) differ = differ_by (keep r) r records (filter keep records) (first-filter_none keep r.id records differ.0) (differ-filter keep records differ.1)
+differ-filter keep (r ∷ records) differ =
+    differ_by (keep r) r records (filter keep records) (first-filter_none keep r.id records differ.0) (differ-filter keep records differ.1)
 
-filter-both : (i : ℕ) (is : List ℕ) (records : List Record) → filter (λ r. not (has r.id is)) (filter (λ r. not (r.id == i)) records) ≡ filter (λ r. not (has r.id (i ∷ is))) records
+filter-both : (i : ℕ) (is : List ℕ) (records : List Record)
+    → filter (λ r. not (has r.id is)) (filter (λ r. not (r.id == i)) records) ≡ filter (λ r. not (has r.id (i ∷ is))) records
 filter-both i is [] = refl
 filter-both i is (r ∷ records) = grind (arith, nat_tests, filter-both i is records)
 
@@ -96,10 +87,10 @@ after-purges (i ∷ is) records differ =
 abbrev pub finished : List ℕ → List Record → List Record
 finished is records = map clean (filter is_live (filter (λ r. not (has r.id is)) records))
 
-pub after-clearing : (ch : Choice) (h : ℕ → Held) (records : List Record) → RowsDiffer records → after (clearing ch h) records ≡ finished (purged_ids ch.keep h) records
+pub after-clearing : (ch : Choice) (h : ℕ → Held) (records : List Record) → RowsDiffer records
+    → after (clearing ch h) records ≡ finished (purged_ids ch.keep h) records
 after-clearing ch h records differ =
-    after-append (purges (purged_ids ch.keep h)) (clean_up ∷ reset ∷ []) records
-    ∙ ap (λ rs. map clean (filter is_live rs)) (after-purges (purged_ids ch.keep h) records differ)
+    grind (arith, after-append (purges (purged_ids ch.keep h)) (clean_up ∷ reset ∷ []) records, after-purges (purged_ids ch.keep h) records differ)
 
 finished-append : (is : List ℕ) (xs ys : List Record) → finished is (xs ++ ys) ≡ finished is xs ++ finished is ys
 finished-append is [] ys = refl
@@ -107,25 +98,23 @@ finished-append is (x ∷ xs) ys = grind (arith, common_steps, finished-append i
 
 -- ---- the records that stay
 
-finished_one : (k : Option ContentValue) (h : Held) (r : Record) → is_held_live h ≡ is_live r → (if not (is_purged k h) && is_live (written_over (replacement k h) r) then clean (written_over (replacement k h) r) ∷ [] else []) ≡ kept_record k h r
-finished_one None nothing r shown = grind (arith, shown)
-finished_one None (live x) r shown = grind (arith, shown)
-finished_one None (archived x) r shown = grind (arith, shown)
-finished_one (Some c) nothing r shown = refl
-finished_one (Some c) (live x) r shown = grind (arith, shown)
-finished_one (Some c) (archived x) r shown = refl
+finished_one : (k : Option ContentValue) (h : Held) (r : Record) → is_held_live h ≡ is_live r
+    → (if not (is_purged k h) && is_live (written_over (replacement k h) r) then clean (written_over (replacement k h) r) ∷ [] else []) ≡ kept_record k h r
+finished_one k h r shown = grind arith
 
 id_stays : (o : Option ContentValue) (r : Record) → (written_over o r).id ≡ r.id
-id_stays None r = refl
-id_stays (Some c) r = refl
+id_stays o r = grind arith
 
-finished-cons : (is : List ℕ) (x : Record) (xs : List Record) → finished is (x ∷ xs) ≡ (if not (has x.id is) && is_live x then clean x ∷ [] else []) ++ finished is xs
+finished-cons : (is : List ℕ) (x : Record) (xs : List Record)
+    → finished is (x ∷ xs) ≡ (if not (has x.id is) && is_live x then clean x ∷ [] else []) ++ finished is xs
 finished-cons is x xs = grind (arith, common_steps)
 
-pub at-replaced : (keep : ℕ → Option ContentValue) (h : ℕ → Held) (i : ℕ) → nat_lt i id_bound ≡ true → at i (replaced_rows keep h) ≡ replacement (keep i) (h i)
+pub at-replaced : (keep : ℕ → Option ContentValue) (h : ℕ → Held) (i : ℕ) → nat_lt i id_bound ≡ true
+    → at i (replaced_rows keep h) ≡ replacement (keep i) (h i)
 at-replaced keep h i within = at-each_below (λ j. replacement (keep j) (h j)) id_bound i ∙ ap (λ b. if b then replacement (keep i) (h i) else None) within
 
-pub has-purged : (keep : ℕ → Option ContentValue) (h : ℕ → Held) (i : ℕ) → nat_lt i id_bound ≡ true → has i (purged_ids keep h) ≡ is_purged (keep i) (h i)
+pub has-purged : (keep : ℕ → Option ContentValue) (h : ℕ → Held) (i : ℕ) → nat_lt i id_bound ≡ true
+    → has i (purged_ids keep h) ≡ is_purged (keep i) (h i)
 has-purged keep h i within = has-each_below (λ j. is_purged (keep j) (h j)) id_bound i ∙ ap (λ b. b && is_purged (keep i) (h i)) within
 
 finished-kept : (keep : ℕ → Option ContentValue) (h : ℕ → Held) (records : List Record) → AreShown h records
@@ -135,11 +124,15 @@ finished-kept keep h (r ∷ records) shown =
     finished-cons (purged_ids keep h) (replaced (replaced_rows keep h) r) (map (replaced (replaced_rows keep h)) records)
     ∙ ap {A = List Record × List Record} (λ p. p.0 ++ p.1) (λ k. (here k, finished-kept keep h records shown.2 k))
   where
-    here : (if not (has (replaced (replaced_rows keep h) r).id (purged_ids keep h)) && is_live (replaced (replaced_rows keep h) r) then clean (replaced (replaced_rows keep h) r) ∷ [] else []) ≡ kept_record (keep r.id) (h r.id) r
+    here : (if not (has (replaced (replaced_rows keep h) r).id (purged_ids keep h)) && is_live (replaced (replaced_rows keep h) r) then clean
+        (replaced (replaced_rows keep h) r) ∷ [] else []) ≡ kept_record (keep r.id) (h r.id) r
     here =
-        ap (λ o. if not (has (written_over o r).id (purged_ids keep h)) && is_live (written_over o r) then clean (written_over o r) ∷ [] else []) (at-replaced keep h r.id shown.0)
-        ∙ ap (λ i. if not (has i (purged_ids keep h)) && is_live (written_over (replacement (keep r.id) (h r.id)) r) then clean (written_over (replacement (keep r.id) (h r.id)) r) ∷ [] else []) (id_stays (replacement (keep r.id) (h r.id)) r)
-        ∙ ap (λ b. if not b && is_live (written_over (replacement (keep r.id) (h r.id)) r) then clean (written_over (replacement (keep r.id) (h r.id)) r) ∷ [] else []) (has-purged keep h r.id shown.0)
+        ap (λ o. if not (has (written_over o r).id (purged_ids keep h)) && is_live (written_over o r) then clean (written_over o r) ∷ [] else [])
+        (at-replaced keep h r.id shown.0)
+        ∙ ap (λ i. if not (has i (purged_ids keep h)) && is_live (written_over (replacement (keep r.id) (h r.id)) r) then clean
+        (written_over (replacement (keep r.id) (h r.id)) r) ∷ [] else []) (id_stays (replacement (keep r.id) (h r.id)) r)
+        ∙ ap (λ b. if not b && is_live (written_over (replacement (keep r.id) (h r.id)) r) then clean
+        (written_over (replacement (keep r.id) (h r.id)) r) ∷ [] else []) (has-purged keep h r.id shown.0)
         ∙ finished_one (keep r.id) (h r.id) r shown.1
 
 -- ---- the records that are new
@@ -150,7 +143,7 @@ Unpurged is (e ∷ es) = (has e.0 is ≡ false) × Unpurged is es
 
 finished-new : (is : List ℕ) (es : List (ℕ × ContentValue)) → Unpurged is es → finished is (map new_of es) ≡ map settled_record es
 finished-new is [] un = refl
-finished-new is (e ∷ es) un = finished-cons is (new_of e) (map new_of es) ∙ grind (arith, common_steps, un.0, finished-new is es un.1)
+finished-new is (e ∷ es) un = grind (arith, finished-new is es un.1)
 
 abbrev pub unheld : List Record → ℕ × ContentValue → Bool
 unheld records e = is_none (first e.0 records)
@@ -165,22 +158,19 @@ filter-append p (x ∷ xs) ys = grind (arith, common_steps, filter-append p xs y
 
 filter-each_below : {A : Type 0} (p : A → Bool) (f : ℕ → List A) (n : ℕ) → filter p (each_below f n) ≡ each_below (λ i. filter p (f i)) n
 filter-each_below p f zero = ap (filter p) (each_below-zero f) ∙ sym (each_below-zero (λ i. filter p (f i)))
-filter-each_below p f (suc n) = ap (filter p) (each_below-suc f n) ∙ filter-append p (each_below f n) (f n) ∙ ap (λ ys. ys ++ filter p (f n)) (filter-each_below p f n) ∙ sym (each_below-suc (λ i. filter p (f i)) n)
+filter-each_below p f (suc n) = ap (filter p) (each_below-suc f n) ∙ filter-append p (each_below f n) (f n)
+    ∙ ap (λ ys. ys ++ filter p (f n)) (filter-each_below p f n) ∙ sym (each_below-suc (λ i. filter p (f i)) n)
 
-new_one : (i : ℕ) (o : Option Record) (k : Option ContentValue) (h : Held) (records : List Record) → first i records ≡ o → (o ≡ None → h ≡ nothing) → filter (unheld records) (with_id i (replacement k h)) ≡ new_under i o k
-new_one i None None h records is shown = grind (arith, is, shown refl)
-new_one i None (Some c) h records is shown = grind (arith, is, shown refl)
-new_one i (Some r) k h records is shown = by (replacement k h)
-  where
-    by : (q : Option ContentValue) → filter (unheld records) (with_id i q) ≡ []
-    by None = refl
-    by (Some c) = grind (arith, is)
+new_one : (i : ℕ) (o : Option Record) (k : Option ContentValue) (h : Held) (records : List Record) → first i records ≡ o → (o ≡ None → h ≡ nothing)
+    → filter (unheld records) (with_id i (replacement k h)) ≡ new_under i o k
+new_one i o k h records is shown = grind arith
 
 new-are : (keep : ℕ → Option ContentValue) (h : ℕ → Held) (records : List Record) → ShowsNoOther h records
     → filter (unheld records) (replaced_rows keep h) ≡ each_id (λ i. new_under i (first i records) (keep i))
 new-are keep h records shown =
     filter-each_below (unheld records) (λ i. with_id i (replacement (keep i) (h i))) id_bound
-    ∙ each_below-same (λ i. filter (unheld records) (with_id i (replacement (keep i) (h i)))) (λ i. new_under i (first i records) (keep i)) id_bound (λ i l. new_one i (first i records) (keep i) (h i) records refl (shown i))
+    ∙ each_below-same (λ i. filter (unheld records) (with_id i (replacement (keep i) (h i)))) (λ i. new_under i (first i records) (keep i)) id_bound
+    (λ i l. new_one i (first i records) (keep i) (h i) records refl (shown i))
 
 unpurged-append : (is : List ℕ) (xs ys : List (ℕ × ContentValue)) → Unpurged is xs → Unpurged is ys → Unpurged is (xs ++ ys)
 unpurged-append is [] ys un more = more
@@ -188,19 +178,22 @@ unpurged-append is (x ∷ xs) ys un more = (un.0, unpurged-append is xs ys un.1 
 
 unpurged-each_below : (is : List ℕ) (f : ℕ → List (ℕ × ContentValue)) (n : ℕ) → ((i : ℕ) → Unpurged is (f i)) → Unpurged is (each_below f n)
 unpurged-each_below is f zero un = subst (Unpurged is) (sym (each_below-zero f)) tt
-unpurged-each_below is f (suc n) un = subst (Unpurged is) (sym (each_below-suc f n)) (unpurged-append is (each_below f n) (f n) (unpurged-each_below is f n un) (un n))
+unpurged-each_below is f (suc n) un =
+    subst (Unpurged is) (sym (each_below-suc f n)) (unpurged-append is (each_below f n) (f n) (unpurged-each_below is f n un) (un n))
 
-kept_unpurged : (b : Bool) (k : Option ContentValue) (h : Held) (c : ContentValue) → k ≡ Some c → (b && is_purged k h) ≡ false
-kept_unpurged false k h c is = refl
-kept_unpurged true k h c is = grind (arith, is)
+kept_unpurged : (b : Bool) {k : Option ContentValue} (h : Held) {c : ContentValue} → k ≡ Some c → (b && is_purged k h) ≡ false
+kept_unpurged b h is = grind arith
 
-unpurged_one : (keep : ℕ → Option ContentValue) (h : ℕ → Held) (i : ℕ) (o : Option Record) (k : Option ContentValue) → keep i ≡ k → Unpurged (purged_ids keep h) (new_under i o k)
+unpurged_one : (keep : ℕ → Option ContentValue) (h : ℕ → Held) (i : ℕ) (o : Option Record) (k : Option ContentValue) → keep i ≡ k
+    → Unpurged (purged_ids keep h) (new_under i o k)
 unpurged_one keep h i None None is = tt
-unpurged_one keep h i None (Some c) is = (has-each_below (λ j. is_purged (keep j) (h j)) id_bound i ∙ kept_unpurged (nat_lt i id_bound) (keep i) (h i) c is, tt)
+unpurged_one keep h i None (Some c) is = (has-each_below (λ j. is_purged (keep j) (h j)) id_bound i ∙ kept_unpurged (nat_lt i id_bound) (h i) is, tt)
 unpurged_one keep h i (Some r) k is = tt
 
-unpurged-new : (keep : ℕ → Option ContentValue) (h : ℕ → Held) (records : List Record) → Unpurged (purged_ids keep h) (each_id (λ i. new_under i (first i records) (keep i)))
-unpurged-new keep h records = unpurged-each_below (purged_ids keep h) (λ i. new_under i (first i records) (keep i)) id_bound (λ i. unpurged_one keep h i (first i records) (keep i) refl)
+unpurged-new : (keep : ℕ → Option ContentValue) (h : ℕ → Held) (records : List Record)
+    → Unpurged (purged_ids keep h) (each_id (λ i. new_under i (first i records) (keep i)))
+unpurged-new keep h records = unpurged-each_below (purged_ids keep h) (λ i. new_under i (first i records) (keep i)) id_bound
+    (λ i. unpurged_one keep h i (first i records) (keep i) refl)
 
 -- ---- the adds
 
@@ -215,16 +208,15 @@ pub free_before_all : (es : List (ℕ × ContentValue)) (records : List Record) 
 free_before_all [] records g none = none
 free_before_all (e ∷ es) records g none = free_before e.0 e.1 records g (free_before_all es (put_record e.0 e.1 records) g none)
 
-nothing_unpurged : (b : Bool) (k : Option ContentValue) (h : Held) → h ≡ nothing → (b && is_purged k h) ≡ false
-nothing_unpurged false k h is = refl
-nothing_unpurged true None h is = grind (arith, is)
-nothing_unpurged true (Some c) h is = refl
+nothing_unpurged : (b : Bool) (k : Option ContentValue) {h : Held} → h ≡ nothing → (b && is_purged k h) ≡ false
+nothing_unpurged b k is = grind arith
 
-unpurged-adds : (keep : ℕ → Option ContentValue) (h : ℕ → Held) (records now : List Record) → ShowsNoOther h records → ((g : ℕ) → first g now ≡ None → first g records ≡ None)
-    → (adds : List (ℕ × ContentValue)) → AreFree adds now → Unpurged (purged_ids keep h) adds
+unpurged-adds : (keep : ℕ → Option ContentValue) (h : ℕ → Held) (records now : List Record) → ShowsNoOther h records
+    → ((g : ℕ) → first g now ≡ None → first g records ≡ None) → (adds : List (ℕ × ContentValue)) → AreFree adds now → Unpurged (purged_ids keep h) adds
 unpurged-adds keep h records now shown back [] free = tt
 unpurged-adds keep h records now shown back (e ∷ es) free = (
-  has-each_below (λ j. is_purged (keep j) (h j)) id_bound e.0 ∙ nothing_unpurged (nat_lt e.0 id_bound) (keep e.0) (h e.0) (shown e.0 (back e.0 (place-first e.0 now free.0.none))),
+  has-each_below (λ j. is_purged (keep j) (h j)) id_bound e.0
+      ∙ nothing_unpurged (nat_lt e.0 id_bound) (keep e.0) (shown e.0 (back e.0 (place-first e.0 now free.0.none))),
   unpurged-adds keep h records (put_record e.0 e.1 now) shown (λ g none. back g (free_before e.0 e.1 now g none)) es free.1,
 )
 
@@ -249,7 +241,8 @@ after-all ch h given records differ shown no_other free =
     let adds = numbered given ch.adds in
     let is = purged_ids ch.keep h in
     let free_then : AreFree adds (put_all es records) = subst (AreFree adds) (after-replaces es records) free in
-    let given_all : after (giving ch h given) records ≡ put_all adds (put_all es records) = after-append (replaces es) (adding adds) records ∙ ap (after (adding adds)) (after-replaces es records) ∙ after-adding_all adds (put_all es records) in
+    let given_all : after (giving ch h given) records ≡ put_all adds (put_all es records) = after-append (replaces es) (adding adds) records
+    ∙ ap (after (adding adds)) (after-replaces es records) ∙ after-adding_all adds (put_all es records) in
     let list_5 : put_all adds (put_all es records) ≡ (map (replaced es) records ++ appended records es) ++ map new_of adds =
     sym (after-adding_all adds (put_all es records)) ∙ after-adding adds (put_all es records) free_then
     ∙ ap (λ rs. rs ++ map new_of adds) (put_all-is es records (apart-rising 0 id_bound es (replaced_rise ch.keep h)) differ) in
@@ -259,10 +252,20 @@ after-all ch h given records differ shown no_other free =
     ∙ ap (finished is) list_5
     ∙ finished-append is (map (replaced es) records ++ appended records es) (map new_of adds)
     ∙ ap (λ rs. rs ++ finished is (map new_of adds)) (finished-append is (map (replaced es) records) (appended records es))
-    ∙ ap {A = List Record × (List Record × List Record)} (λ p. (p.0 ++ p.1.0) ++ p.1.1) (λ k. (finished-kept ch.keep h records shown k, (mid k, finished-new is adds (unpurged-adds ch.keep h records (put_all es records) no_other (λ g none. free_before_all es records g none) adds free_then) k)))
-    ∙ glue (flat_map (λ r. kept_record (ch.keep r.id) (h r.id) r) records) (map settled_record (each_id (λ i. new_under i (first i records) (ch.keep i)))) (map settled_record adds)
+    ∙ ap {A = List Record × (List Record × List Record)} (λ p. (p.0 ++ p.1.0) ++ p.1.1)
+    (λ k. (
+      finished-kept ch.keep h records shown k,
+      (
+        mid k,
+        finished-new is adds (unpurged-adds ch.keep h records (put_all es records) no_other (λ g none. free_before_all es records g none) adds
+            free_then) k,
+      ),
+    ))
+    ∙ glue (flat_map (λ r. kept_record (ch.keep r.id) (h r.id) r) records)
+    (map settled_record (each_id (λ i. new_under i (first i records) (ch.keep i)))) (map settled_record adds)
   where
-    mid : finished (purged_ids ch.keep h) (appended records (replaced_rows ch.keep h)) ≡ map settled_record (each_id (λ i. new_under i (first i records) (ch.keep i)))
+    mid : finished (purged_ids ch.keep h) (appended records (replaced_rows ch.keep h)) ≡ map settled_record
+        (each_id (λ i. new_under i (first i records) (ch.keep i)))
     mid =
         ap (finished (purged_ids ch.keep h)) (appended-is records (replaced_rows ch.keep h) ∙ ap (map new_of) (new-are ch.keep h records no_other))
         ∙ finished-new (purged_ids ch.keep h) (each_id (λ i. new_under i (first i records) (ch.keep i))) (unpurged-new ch.keep h records)

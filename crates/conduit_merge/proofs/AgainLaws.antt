@@ -1,6 +1,5 @@
 -- A database that was merged is merged again to the same, whichever side it goes by.
-use Rattle.std.proofs.Common.{◌≡◌, ℕ, ◌==◌, List, [], ◌++◌, refl, ap, ◌∙◌, sym, subst, arith, Option, Some, None, Bool, true, false, map, option_to_list, if◌then◌else◌, nat_lt}
-use Rattle.std.specs.Option.{option_or}
+use Rattle.std.proofs.Common.{◌≡◌, ℕ, ◌==◌, List, [], ◌++◌, refl, ap, ◌∙◌, sym, subst, arith, Option, Some, None, Bool, map, option_to_list}
 use Rattle.pdb_values.specs.Contents.{ContentValue}
 use Rattle.pdb_values.specs.declared.record.Record.{Record}
 use Rattle.palm_device.specs.Soundness.{ids_of, AreIds}
@@ -10,7 +9,7 @@ use Rattle.conduit_rules.specs.Contents.{count_of}
 use Rattle.conduit_rules.specs.Fates.{Fate, fate_under}
 use Rattle.conduit_rules.specs.News.{unpaired, live_contents, archived_records}
 use Rattle.conduit_rules.specs.Plans.{gone_rows, replaced_rows}
-use Rattle.conduit_rules.specs.States.{Held, nothing, live_of, held, held_where, Based, no_base, row, gone, base_at}
+use Rattle.conduit_rules.specs.States.{Held, nothing, held, held_where, Based, no_base, base_at}
 use Rattle.conduit_rules.specs.Views.{view_held, slow_view}
 use Rattle.conduit_rules.specs.declared.action.Action.{Action}
 use Rattle.conduit_rules.specs.declared.action.Action.TheVariants.{Sync, Handheld, Desktop}
@@ -30,34 +29,29 @@ use Rattle.conduit_merge.proofs.ShownLaws.{slow_shows}
 abbrev only : Option ContentValue → Fate
 only k = record { keep = k; archive = []; news = None }
 
-by_handheld : (k : Option ContentValue) (b : Based) (h d : Held) → h ≡ live_or k → fate_under Handheld b h d ≡ only k
-by_handheld None b h d is = ap (λ x. fate_under Handheld b x d) is
-by_handheld (Some c) b h d is = ap (λ x. fate_under Handheld b x d) is
+by_handheld : (k : Option ContentValue) (b : Based) {h : Held} (d : Held) → h ≡ live_or k → fate_under Handheld b h d ≡ only k
+by_handheld k b d is = grind arith
 
 by_desktop : (k : Option ContentValue) (b : Based) (h d : Held) → IsSettled k b h d → fate_under Desktop b h d ≡ only k
-by_desktop (Some c) b h d is = ap {A = Based × Held} (λ p. fate_under Desktop p.0 h p.1) (λ i. (is.0 i, is.2 i))
-by_desktop None no_base h d is = refl
-by_desktop None (row b) h d is = absurd is
-by_desktop None (gone b) h d is = refl
+by_desktop k b h d is = grind arith
 
 -- what becomes of an id that was merged
-fate-merged : (a : Action) (k : Option ContentValue) (b : Based) (h d : Held) → IsSettled k b h d → h ≡ live_or k → fate_under a b h d ≡ only k
-fate-merged Sync k b h d is shown = fate-settled k b h d is
-fate-merged Handheld k b h d is shown = by_handheld k b h d shown
-fate-merged Desktop k b h d is shown = by_desktop k b h d is
+fate-merged : (a : Action) (k : Option ContentValue) (b : Based) {h : Held} (d : Held) → IsSettled k b h d → h ≡ live_or k → fate_under a b h d ≡ only k
+fate-merged Sync k b {h} d is shown = fate-settled k b h d is
+fate-merged Handheld k b d is shown = by_handheld k b d shown
+fate-merged Desktop k b {h} d is shown = by_desktop k b h d is
 
-none_for : {A : Type 0} (a : Action) (xs : List A) → xs ≡ [] → loose_for a xs ≡ []
-none_for Sync xs is = is
-none_for Handheld xs is = refl
-none_for Desktop xs is = is
+none_for : {A : Type 0} (a : Action) {xs : List A} → xs ≡ [] → loose_for a xs ≡ []
+none_for a is = grind arith
 
-settled_choice : (a : Action) (t : Sides) (keep : ℕ → Option ContentValue) → ((i : ℕ) → fate_for a t i ≡ only (keep i)) → t.loose_live ≡ [] → t.loose_archived ≡ []
+settled_choice : (a : Action) (t : Sides) (keep : ℕ → Option ContentValue) → ((i : ℕ) → fate_for a t i ≡ only (keep i)) → t.loose_live ≡ []
+    → t.loose_archived ≡ []
     → choice_for a t ≡ record { keep = keep; archive = []; adds = [] }
 settled_choice a t keep fates no_live no_archived =
     let news = each_below-none (λ i. option_to_list (fate_for a t i).news) id_bound (λ i. ap (λ f. option_to_list (Fate.news f)) (fates i)) in
     let put_away = each_below-none (λ i. map (λ c. (i, c)) (fate_for a t i).archive) id_bound (λ i. ap (λ f. map (λ c. (i, c)) (Fate.archive f)) (fates i)) in
-    let live_none = none_for a t.loose_live no_live in
-    let archived_none = none_for a t.loose_archived no_archived in
+    let live_none = none_for a no_live in
+    let archived_none = none_for a no_archived in
     λ k. record {
       keep = λ i. (fates i k).keep;
       archive = map (λ c. (0, c)) (archived_none k) ++ put_away k;
@@ -65,48 +59,51 @@ settled_choice a t keep fates no_live no_archived =
     }
 
 -- whatever was chosen, by whichever side: once it is merged, each action chooses the rows again, and archives and adds nothing
-pub choice-merged_for : (a : Action) (ch : Choice) (h : ℕ → Held) (given : List ℕ) (records : List Record) (view : List Seen) (gone_counts : Bool) → RowsDiffer records → AreBounded records
-    → ((i : ℕ) → h i ≡ held records i) → GotFreeIds ch h given records → row_under ch given 0 ≡ None → ((i : ℕ) → view_held view i ≡ held (after (whole ch h given) records) i)
+pub choice-merged_for : (a : Action) (ch : Choice) (h : ℕ → Held) (given : List ℕ) (records : List Record) (view : List Seen) (gone_counts : Bool)
+    → RowsDiffer records → AreBounded records
+    → ((i : ℕ) → h i ≡ held records i) → GotFreeIds ch h given records → row_under ch given 0 ≡ None
+    → ((i : ℕ) → view_held view i ≡ held (after (whole ch h given) records) i)
     → choice_for a (sides_of view (merged_rows ch given) (merged_base ch h given) gone_counts) ≡ record { keep = row_under ch given; archive = []; adds = [] }
 choice-merged_for a ch h given records view gone_counts differ bounded shows free none then_shows =
     let t = sides_of view (merged_rows ch given) (merged_base ch h given) gone_counts in
     let shown : (i : ℕ) → view_held view i ≡ live_or (row_under ch given i) = λ i. then_shows i ∙ held-merged ch h given records differ bounded shows free i in
     settled_choice a t (row_under ch given)
-    (λ i. fate-merged a (row_under ch given i) (base_at (merged_base ch h given) gone_counts i) (view_held view i) (held (merged_rows ch given) i)
+    (λ i. fate-merged a (row_under ch given i) (base_at (merged_base ch h given) gone_counts i) (held (merged_rows ch given) i)
     (subst (λ b. IsSettled (row_under ch given i) b (view_held view i) (held (merged_rows ch given) i)) (sym (based-merged ch h given gone_counts i))
-    (settled_by (i == 0) gone_counts (row_under ch given i) (at i (gone_rows ch.keep h)) (view_held view i) (held (merged_rows ch given) i) (at_zero ch given i none) (shown i) (held-rows ch given i)))
-    (shown i))
-    (ap live_contents (none_loose ch h given none)) (ap archived_records (none_loose ch h given none))
+    (settled_by (i == 0) gone_counts (row_under ch given i) (at i (gone_rows ch.keep h)) (at_zero ch given i none) (shown i) (held-rows ch given i)))
+    (shown i)) (ap live_contents (none_loose ch h given none)) (ap archived_records (none_loose ch h given none))
 
 -- ---- no row under id 0
 
-zero_by : (b : Bool) (k o : Option ContentValue) → k ≡ None → o ≡ None → (if b then option_or k o else None) ≡ None
-zero_by true k o none too = grind (arith, none, too)
-zero_by false k o none too = refl
-
 kept_zero : (a : Action) (s : Sides) → s.base 0 ≡ no_base → s.handheld 0 ≡ nothing → (fate_for a s 0).keep ≡ None
-kept_zero Sync s none free = ap {A = Based × Held} (λ p. Fate.keep (fate_under Sync p.0 p.1 (s.desktop 0))) (λ k. (none k, free k))
-kept_zero Handheld s none free = ap live_of free
-kept_zero Desktop s none free = ap (λ b. Fate.keep (fate_under Desktop b (s.handheld 0) (s.desktop 0))) none
+kept_zero a s none free = grind arith
 
-add_zero : (given : List ℕ) (cs : List ContentValue) (now : List Record) (o : Option ContentValue) → AreFree (numbered given cs) now → at 0 (numbered given cs) ≡ o → o ≡ None
+add_zero : (given : List ℕ) (cs : List ContentValue) (now : List Record) (o : Option ContentValue) → AreFree (numbered given cs) now
+    → at 0 (numbered given cs) ≡ o → o ≡ None
 add_zero given cs now None free e = refl
 add_zero given cs now (Some c) free e = let l = at-bounded (numbered given cs) now 0 c free e in absurd (omega (arith, l.0))
 
-no_zero_for : (a : Action) (view : List Seen) (rows base records : List Record) (gone_counts : Bool) (given : List ℕ) (ch : Choice) (now : List Record) → ch ≡ choice_for a (sides_of view rows base gone_counts)
-    → AreIds (ids_of records) → ((i : ℕ) → view_held view i ≡ held records i) → AreFree (numbered given ch.adds) now → row_under ch given 0 ≡ None
+no_zero_for : (a : Action) (view : List Seen) (rows base records : List Record) (gone_counts : Bool) (given : List ℕ) (ch : Choice) (now : List Record)
+    → ch ≡ choice_for a (sides_of view rows base gone_counts) → AreIds (ids_of records) → ((i : ℕ) → view_held view i ≡ held records i)
+    → AreFree (numbered given ch.adds) now → row_under ch given 0 ≡ None
 no_zero_for a view rows base records gone_counts given ch now is ids shows free =
-    let none : (choice_for a (sides_of view rows base gone_counts)).keep 0 ≡ None = kept_zero a (sides_of view rows base gone_counts) refl (shows 0 ∙ ap held_where (first-zero records ids)) in
-    zero_by (nat_lt 0 id_bound) (ch.keep 0) (at 0 (numbered given ch.adds)) (ap (λ x. Choice.keep x 0) is ∙ none) (add_zero given ch.adds now (at 0 (numbered given ch.adds)) free refl)
+    grind (
+      arith,
+      kept_zero a (sides_of view rows base gone_counts) refl (shows 0 ∙ ap held_where (first-zero records ids)),
+      add_zero given ch.adds now (at 0 (numbered given ch.adds)) free refl,
+    )
 
 -- two sessions, both read slow, by whichever sides: the second chooses the rows of the first, and archives and adds nothing
-pub choice-again_for : (a then_a : Action) (rows base records : List Record) (gone_counts then_counts : Bool) (given : List ℕ) → AreIds (ids_of records) → AreBounded records
+pub choice-again_for : (a then_a : Action) (rows base records : List Record) (gone_counts then_counts : Bool) (given : List ℕ) → AreIds (ids_of records)
+    → AreBounded records
     → (ch : Choice) → ch ≡ choice_for a (sides_of (slow_view records) rows base gone_counts) → GotFreeIds ch (view_held (slow_view records)) given records
-    → choice_for then_a (sides_of (slow_view (after (whole ch (view_held (slow_view records)) given) records)) (merged_rows ch given) (merged_base ch (view_held (slow_view records)) given) then_counts)
+    → choice_for then_a (sides_of (slow_view (after (whole ch (view_held (slow_view records)) given) records)) (merged_rows ch given)
+    (merged_base ch (view_held (slow_view records)) given) then_counts)
     ≡ record { keep = row_under ch given; archive = []; adds = [] }
 choice-again_for a then_a rows base records gone_counts then_counts given ids bounded ch is free =
     let h = view_held (slow_view records) in
     let then_records = after (whole ch h given) records in
     choice-merged_for then_a ch h given records (slow_view then_records) then_counts (differ-ids records ids) bounded (slow_shows records bounded) free
-    (no_zero_for a (slow_view records) rows base records gone_counts given ch (after (replaces (replaced_rows ch.keep h)) records) is ids (slow_shows records bounded) free)
+    (no_zero_for a (slow_view records) rows base records gone_counts given ch (after (replaces (replaced_rows ch.keep h)) records) is ids
+    (slow_shows records bounded) free)
     (slow_shows then_records (bounded-after ch h given records (differ-ids records ids) bounded free))

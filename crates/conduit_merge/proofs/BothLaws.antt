@@ -1,7 +1,6 @@
 -- The rows of a session that takes up another: under the ids that both gave.
-use Rattle.std.proofs.Common.{◌≡◌, ℕ, ◌==◌, List, [], ◌∷◌, ◌++◌, refl, ap, ◌∙◌, sym, arith, Option, Some, None, Bool, true, false, if◌then◌else◌}
+use Rattle.std.proofs.Common.{◌≡◌, ℕ, ◌==◌, List, [], ◌∷◌, ◌++◌, refl, ap, ◌∙◌, arith, Option, Some, None, Bool, true, false, if◌then◌else◌}
 use Rattle.std.specs.Option.{option_or}
-use Rattle.std.proofs.lemmas.Bool.Decides.{nat_tests}
 use Rattle.pdb_values.specs.Contents.{ContentValue}
 use Rattle.conduit_rules.specs.ById.{id_bound, put, at}
 use Rattle.conduit_rules.specs.Choices.{Choice}
@@ -14,11 +13,12 @@ no_contents [] = refl
 no_contents (g ∷ gs) = refl
 
 -- under other ids the same is kept
-new-put : (keep : ℕ → Option ContentValue) (g : ℕ) (a : ContentValue) (es : List (ℕ × ContentValue)) (n : ℕ) → at g es ≡ None → AreNew keep es n → AreNew (put keep g (Some a)) es n
+new-put : (keep : ℕ → Option ContentValue) (g : ℕ) (a : ContentValue) (es : List (ℕ × ContentValue)) (n : ℕ) → at g es ≡ None → AreNew keep es n
+    → AreNew (put keep g (Some a)) es n
 new-put keep g a [] n apart new = tt
 new-put keep g a (e ∷ es) n apart new =
-    let other : (e.0 == g) ≡ false = differs (e.0 == g) apart in
-    let rest : at g es ≡ None = behind_it (e.0 == g) apart in
+    let other = differs (e.0 == g) apart in
+    let rest = behind_it (e.0 == g) apart in
     (grind (arith, other, new.0), new.1, new.2, new-put keep g a es n rest new.3)
   where
     differs : (b : Bool) → (if b then Some e.1 else at g es) ≡ None → b ≡ false
@@ -29,32 +29,23 @@ new-put keep g a (e ∷ es) n apart new =
     behind_it true is = absurd (cc)
     behind_it false is = is
 
-one_more : (same : Bool) (k o : Option ContentValue) (a : ContentValue) → (same ≡ true → k ≡ None) → option_or (if same then Some a else k) o ≡ option_or k (if same then Some a else o)
-one_more true k o a none = sym (ap (λ x. option_or x (Some a)) (none refl))
-one_more false k o a none = refl
-
-swapped : (i g : ℕ) → (i == g) ≡ (g == i)
-swapped i g = grind (arith, nat_tests)
-
-kept_at : (keep : ℕ → Option ContentValue) (g i : ℕ) → keep g ≡ None → (g == i) ≡ true → keep i ≡ None
-kept_at keep g i none same = let is : g ≡ i = grind (arith, nat_tests, same) in ap keep (sym is) ∙ none
+one_more : (same : Bool) (k o : Option ContentValue) (a : ContentValue) → (same ≡ true → k ≡ None)
+    → option_or (if same then Some a else k) o ≡ option_or k (if same then Some a else o)
+one_more same k o a none = grind arith
 
 -- with the next add kept under its id
 added : (ch : Choice) (g : ℕ) (gs : List ℕ) (a : ContentValue) (cs : List ContentValue) (i : ℕ) → ch.keep g ≡ None
     → option_or (put ch.keep g (Some a) i) (at i (numbered gs cs)) ≡ option_or (ch.keep i) (at i ((g, a) ∷ numbered gs cs))
-added ch g gs a cs i none =
-    ap (λ b. option_or (if b then Some a else ch.keep i) (at i (numbered gs cs))) (swapped i g)
-    ∙ one_more (g == i) (ch.keep i) (at i (numbered gs cs)) a (kept_at ch.keep g i none)
+added ch g gs a cs i none = grind arith
 
 both : (given later : List ℕ) (cs : List ContentValue) (ch : Choice) (i : ℕ) → ch.adds ≡ cs → AreNew ch.keep (numbered given cs) id_bound
     → row_at (rest_of (adding (numbered given cs)) ch) later i ≡ option_or (ch.keep i) (at i (numbered (given ++ later) cs))
 both [] later cs ch i is new = ap (λ xs. option_or (ch.keep i) (at i (numbered later xs))) is
-both (g ∷ gs) later [] ch i is new =
-    ap (λ xs. option_or (ch.keep i) (at i (numbered later xs))) is
-    ∙ ap (λ es. option_or (ch.keep i) (at i es)) (no_contents later)
+both (g ∷ gs) later [] ch i is new = grind (arith, no_contents later)
 both (g ∷ gs) later (c ∷ cs) ch i is new =
     both gs later cs (with_add ch g c) i (ap behind is) (new-put ch.keep g c (numbered gs cs) id_bound new.1 new.3)
     ∙ added ch g (gs ++ later) c cs i new.0
 
-pub row_at-both : (ch : Choice) (given later : List ℕ) (i : ℕ) → AreNew ch.keep (numbered given ch.adds) id_bound → row_at (rest_of (adding (numbered given ch.adds)) ch) later i ≡ row_at ch (given ++ later) i
+pub row_at-both : (ch : Choice) (given later : List ℕ) (i : ℕ) → AreNew ch.keep (numbered given ch.adds) id_bound
+    → row_at (rest_of (adding (numbered given ch.adds)) ch) later i ≡ row_at ch (given ++ later) i
 row_at-both ch given later i new = both given later ch.adds ch i refl new

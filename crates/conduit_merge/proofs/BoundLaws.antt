@@ -1,10 +1,10 @@
 -- Ids stay below the bound over a session.
-use Rattle.std.proofs.Common.{◌≡◌, ℕ, suc, ◌≤◌, ◌^◌, ◌==◌, List, [], ◌∷◌, ◌++◌, ap, ◌∙◌, sym, subst, arith, true, false, Bool, not, map, filter, if◌then◌else◌, nat_lt}
+use Rattle.std.proofs.Common.{◌≡◌, ℕ, suc, ◌≤◌, ◌^◌, List, [], ◌∷◌, ◌++◌, ap, ◌∙◌, sym, subst, arith, true, Bool, not, map, filter, nat_lt}
 use Rattle.std.proofs.lemmas.Bool.Decides.{nat_tests}
 use Rattle.pdb_values.specs.Contents.{ContentValue}
 use Rattle.pdb_values.specs.Records.{is_live}
 use Rattle.pdb_values.specs.declared.record.Record.{Record}
-use Rattle.palm_device.specs.Records.{put_record, rewritten, clean}
+use Rattle.palm_device.specs.Records.{put_record, clean}
 use Rattle.conduit_rules.specs.ById.{id_bound}
 use Rattle.conduit_rules.specs.States.{Held}
 use Rattle.conduit_rules.specs.Choices.{Choice}
@@ -20,11 +20,7 @@ use Rattle.conduit_merge.proofs.AfterLaws.{finished, after-append, after-replace
 
 bounded-put : (i : ℕ) (c : ContentValue) (records : List Record) → nat_lt i id_bound ≡ true → AreBounded records → AreBounded (put_record i c records)
 bounded-put i c [] l bounded = subst AreBounded (sym (put_record-nil i c)) (l, tt)
-bounded-put i c (r ∷ records) l bounded = subst AreBounded (sym (put_record-cons i c r records)) (by (r.id == i) (bounded-put i c records l bounded.1))
-  where
-    by : (b : Bool) → AreBounded (put_record i c records) → AreBounded (if b then rewritten c r ∷ records else r ∷ put_record i c records)
-    by true later = bounded
-    by false later = (bounded.0, later)
+bounded-put i c (r ∷ records) l bounded = grind (arith, put_record-cons i c r records, bounded-put i c records l bounded.1)
 
 abbrev HaveIds : List (ℕ × ContentValue) → Type 0
 HaveIds [] = Unit {0}
@@ -36,14 +32,11 @@ bounded-put_all (e ∷ es) records have bounded = bounded-put_all es (put_record
 
 end-of : (low end : ℕ) (is : List ℕ) → IsRisingFrom low is end → low ≤ end
 end-of low end [] rising = rising
-end-of low end (i ∷ is) rising = let l : suc i ≤ end = end-of (suc i) end is rising.1 in omega (arith, rising.0, l)
+end-of low end (i ∷ is) rising = let l = end-of (suc i) end is rising.1 in omega (arith, rising.0, l)
 
 have-rising : (low : ℕ) (es : List (ℕ × ContentValue)) → IsRisingFrom low (pair_ids es) id_bound → HaveIds es
 have-rising low [] rising = tt
-have-rising low (e ∷ es) rising = (below e.0 id_bound (end-of (suc e.0) id_bound (pair_ids es) rising.1), have-rising (suc e.0) es rising.1)
-  where
-    below : (i n : ℕ) → suc i ≤ n → nat_lt i n ≡ true
-    below i n l = grind (arith, nat_tests, l)
+have-rising low (e ∷ es) rising = grind (arith, end-of (suc e.0) id_bound (pair_ids es) rising.1, have-rising (suc e.0) es rising.1)
 
 have-free : (es : List (ℕ × ContentValue)) (now : List Record) → AreFree es now → HaveIds es
 have-free [] now free = tt
@@ -54,11 +47,7 @@ have-free (e ∷ es) now free = (subst (λ n. nat_lt e.0 n ≡ true) (sym id_bou
 
 bounded-filter : (keep : Record → Bool) (records : List Record) → AreBounded records → AreBounded (filter keep records)
 bounded-filter keep [] bounded = tt
-bounded-filter keep (r ∷ records) bounded = by (keep r) (bounded-filter keep records bounded.1)
-  where
-    by : (b : Bool) → AreBounded (filter keep records) → AreBounded (if b then r ∷ filter keep records else filter keep records)
-    by true later = (bounded.0, later)
-    by false later = later
+bounded-filter keep (r ∷ records) bounded = grind (arith, bounded-filter keep records bounded.1)
 
 bounded-clean : (records : List Record) → AreBounded records → AreBounded (map clean records)
 bounded-clean [] bounded = tt
@@ -66,12 +55,19 @@ bounded-clean (r ∷ records) bounded = (bounded.0, bounded-clean records bounde
 
 -- ids stay those of records
 pub bounded-after : (ch : Choice) (h : ℕ → Held) (given : List ℕ) (records : List Record) → RowsDiffer records → AreBounded records
-    → AreFree (numbered given ch.adds) (after (replaces (replaced_rows ch.keep h)) records) → AreBounded (after (giving ch h given ++ clearing ch h) records)
+    → AreFree (numbered given ch.adds) (after (replaces (replaced_rows ch.keep h)) records)
+    → AreBounded (after (giving ch h given ++ clearing ch h) records)
 bounded-after ch h given records differ bounded free =
     let es = replaced_rows ch.keep h in
     let adds = numbered given ch.adds in
     let now = put_all adds (put_all es records) in
-    let given_all : after (giving ch h given) records ≡ now = after-append (replaces es) (adding adds) records ∙ ap (after (adding adds)) (after-replaces es records) ∙ after-adding_all adds (put_all es records) in
-    let all : after (giving ch h given ++ clearing ch h) records ≡ finished (purged_ids ch.keep h) now = after-append (giving ch h given) (clearing ch h) records ∙ ap (after (clearing ch h)) given_all ∙ after-clearing ch h now (differ-put_all adds (put_all es records) (differ-put_all es records differ)) in
-    let now_bounded : AreBounded now = bounded-put_all adds (put_all es records) (have-free adds (after (replaces es) records) free) (bounded-put_all es records (have-rising 0 es (replaced_rise ch.keep h)) bounded) in
-    subst AreBounded (sym all) (bounded-clean (filter is_live (filter (λ r. not (has r.id (purged_ids ch.keep h))) now)) (bounded-filter is_live (filter (λ r. not (has r.id (purged_ids ch.keep h))) now) (bounded-filter (λ r. not (has r.id (purged_ids ch.keep h))) now now_bounded)))
+    let given_all : after (giving ch h given) records ≡ now = after-append (replaces es) (adding adds) records
+    ∙ ap (after (adding adds)) (after-replaces es records) ∙ after-adding_all adds (put_all es records) in
+    let all : after (giving ch h given ++ clearing ch h) records ≡ finished (purged_ids ch.keep h) now =
+    after-append (giving ch h given) (clearing ch h) records ∙ ap (after (clearing ch h)) given_all
+    ∙ after-clearing ch h now (differ-put_all adds (put_all es records) (differ-put_all es records differ)) in
+    let now_bounded = bounded-put_all adds (put_all es records) (have-free adds (after (replaces es) records) free)
+    (bounded-put_all es records (have-rising 0 es (replaced_rise ch.keep h)) bounded) in
+    subst AreBounded (sym all) (bounded-clean (filter is_live (filter (λ r. not (has r.id (purged_ids ch.keep h))) now))
+    (bounded-filter is_live (filter (λ r. not (has r.id (purged_ids ch.keep h))) now)
+    (bounded-filter (λ r. not (has r.id (purged_ids ch.keep h))) now now_bounded)))

@@ -1,4 +1,6 @@
 -- What becomes of an item, by its kind.
+use Rattle.std.proofs.lemmas.Grind.{common_steps}
+use Rattle.std.proofs.lemmas.Bool.Decides.{nat_tests}
 use Rattle.std.proofs.Common.{◌≡◌, ◌<◌, ◌+◌, ℕ, zero, suc, ◌==◌, ◌&&◌, ◌||◌, true, false, not, refl, sym, ap, arith, [], length, Option, Some, None, option_to_list}
 use Rattle.std.specs.Prelude.{cond, nat_lt, filter, if◌then◌else◌}
 use Rattle.std.specs.Option.{option_map, option_and_then}
@@ -68,7 +70,7 @@ unread_is item r is clean = let same : record_with item 114 ≡ r = cc in sym (a
 
 dirty_not : (item : Item) (b : ContentValue) (r : Record) → ◌≡◌ {A = Option Record} (Some (record_with item 104)) (Some r)
     → (not r.dirty && not r.deleted) ≡ true → r.content ≡ b
-dirty_not item b r is clean = let same : record_with item 104 ≡ r = cc in grind (arith, clean, sym (ap (λ (x : Record). x.dirty) same))
+dirty_not item b r is clean = grind arith
 
 -- what becomes of it, and what is read of it
 pub record Facts (item : Item) : Type 0 where
@@ -76,8 +78,9 @@ pub record Facts (item : Item) : Type 0 where
   pub replaced : length (with_id item.number (replacement (kept_on item) (held_on Handheld (Some item)))) ≡ cond (item.kind == 6) 1 0
   pub purged : length (purged_at (kept_on item) (held_on Handheld (Some item)) item.number) ≡ cond (item.kind == 7) 1 0
   pub mate : option_to_list (partner (base_on (Some item)) (held_on Handheld (Some item))) ≡ mate_contents item
-  pub received : length (filter (λ (seen : Seen). was_received seen.state)
-      (option_to_list (option_map (seen_on (base_on (Some item))) (known_on Handheld item)))) ≡ cond (item.kind == 5) 1 0 + cond (item.kind == 8) 1 0
+  pub received : length
+      (filter (λ (seen : Seen). was_received seen.state) (option_to_list (option_map (seen_on (base_on (Some item))) (known_on Handheld item)))) ≡ cond
+      (item.kind == 5) 1 0 + cond (item.kind == 8) 1 0
   pub honest : (r : Record) → known_on Handheld item ≡ Some r → IsHonestUnder (base_on (Some item)) r
   pub based : nat_lt item.kind 7 ≡ true → is_row (base_on (Some item)) ≡ true
   pub kept : length (with_id item.number (kept_on item)) + (cond (item.kind == 9) 1 0 + cond (item.kind == 7) 1 0) ≡ 1
@@ -85,88 +88,36 @@ pub record Facts (item : Item) : Type 0 where
 abbrev item_of_kind : ℕ → ℕ → ℕ → Item
 item_of_kind number kind fill = record { number = number; kind = kind; fill = fill }
 
-facts_of : (kind : ℕ) → kind < 10 → (number fill : ℕ) → Facts (record { number = number; kind = kind; fill = fill })
-facts_of zero few number fill = record {
-  becomes = cell-settled (content_with 114 (item_of_kind number 0 fill));
-  replaced = grind (arith, stays_not (content_with 114 (item_of_kind number 0 fill)));
+facts_of : (kind : ℕ) → kind < 10 → (number fill : ℕ) → Facts (item_of_kind number kind fill)
+facts_of (suc (suc (suc (suc (suc zero))))) few number fill = let item = item_of_kind number 5 fill in record {
+  becomes = held_cell (content_with 114 item) (content_with 104 item) (other_letter 104 114 item refl);
+  replaced = grind (arith, stays_not (content_with 104 item));
   purged = refl;
   kept = refl;
   mate = refl;
   received = refl;
   based = λ e. refl;
-  honest = unread_is (item_of_kind number 0 fill);
+  honest = dirty_not item (content_with 114 item);
 }
-facts_of (suc zero) few number fill = record {
-  becomes = cell-settled (content_with 114 (item_of_kind number 1 fill));
-  replaced = grind (arith, stays_not (content_with 114 (item_of_kind number 1 fill)));
+facts_of (suc (suc (suc (suc (suc (suc zero)))))) few number fill = let item = item_of_kind number 6 fill in record {
+  becomes = desk_cell (content_with 114 item) (content_with 100 item) (other_letter 100 114 item refl);
+  replaced = grind (arith, other_letter 114 100 item refl);
   purged = refl;
   kept = refl;
   mate = refl;
   received = refl;
   based = λ e. refl;
-  honest = unread_is (item_of_kind number 1 fill);
+  honest = unread_is item;
 }
-facts_of (suc (suc zero)) few number fill = record {
-  becomes = cell-settled (content_with 114 (item_of_kind number 2 fill));
-  replaced = grind (arith, stays_not (content_with 114 (item_of_kind number 2 fill)));
-  purged = refl;
-  kept = refl;
-  mate = refl;
-  received = refl;
-  based = λ e. refl;
-  honest = unread_is (item_of_kind number 2 fill);
-}
-facts_of (suc (suc (suc zero))) few number fill = record {
-  becomes = cell-settled (content_with 114 (item_of_kind number 3 fill));
-  replaced = grind (arith, stays_not (content_with 114 (item_of_kind number 3 fill)));
-  purged = refl;
-  kept = refl;
-  mate = refl;
-  received = refl;
-  based = λ e. refl;
-  honest = unread_is (item_of_kind number 3 fill);
-}
-facts_of (suc (suc (suc (suc zero)))) few number fill = record {
-  becomes = cell-settled (content_with 114 (item_of_kind number 4 fill));
-  replaced = grind (arith, stays_not (content_with 114 (item_of_kind number 4 fill)));
-  purged = refl;
-  kept = refl;
-  mate = refl;
-  received = refl;
-  based = λ e. refl;
-  honest = unread_is (item_of_kind number 4 fill);
-}
-facts_of (suc (suc (suc (suc (suc zero))))) few number fill = record {
-  becomes = held_cell (content_with 114 (item_of_kind number 5 fill)) (content_with 104 (item_of_kind number 5 fill))
-      (other_letter 104 114 (item_of_kind number 5 fill) refl);
-  replaced = grind (arith, stays_not (content_with 104 (item_of_kind number 5 fill)));
-  purged = refl;
-  kept = refl;
-  mate = refl;
-  received = refl;
-  based = λ e. refl;
-  honest = dirty_not (item_of_kind number 5 fill) (content_with 114 (item_of_kind number 5 fill));
-}
-facts_of (suc (suc (suc (suc (suc (suc zero)))))) few number fill = record {
-  becomes = desk_cell (content_with 114 (item_of_kind number 6 fill)) (content_with 100 (item_of_kind number 6 fill))
-      (other_letter 100 114 (item_of_kind number 6 fill) refl);
-  replaced = grind (arith, other_letter 114 100 (item_of_kind number 6 fill) refl);
-  purged = refl;
-  kept = refl;
-  mate = refl;
-  received = refl;
-  based = λ e. refl;
-  honest = unread_is (item_of_kind number 6 fill);
-}
-facts_of (suc (suc (suc (suc (suc (suc (suc zero))))))) few number fill = record {
-  becomes = purged_cell (content_with 114 (item_of_kind number 7 fill));
+facts_of (suc (suc (suc (suc (suc (suc (suc zero))))))) few number fill = let item = item_of_kind number 7 fill in record {
+  becomes = purged_cell (content_with 114 item);
   replaced = refl;
   purged = refl;
   kept = refl;
   mate = refl;
   received = refl;
   based = λ e. cc;
-  honest = unread_is (item_of_kind number 7 fill);
+  honest = unread_is item;
 }
 facts_of (suc (suc (suc (suc (suc (suc (suc (suc zero)))))))) few number fill = record {
   becomes = refl;
@@ -182,14 +133,24 @@ facts_of (suc (suc (suc (suc (suc (suc (suc (suc (suc zero))))))))) few number f
   becomes = refl;
   replaced = refl;
   purged = refl;
-  kept =
-      refl;
+  kept = refl;
   mate = refl;
   received = refl;
   based = λ e. cc e;
   honest = λ r is. tt;
 }
 facts_of (suc (suc (suc (suc (suc (suc (suc (suc (suc (suc kind)))))))))) few number fill = absurd (omega (arith, few))
+-- the kinds from 0 to 4, of which nothing is to be done
+facts_of kind few number fill = let item = item_of_kind number kind fill in record {
+  becomes = cell-settled (content_with 114 item);
+  replaced = grind (arith, stays_not (content_with 114 item));
+  purged = refl;
+  kept = refl;
+  mate = refl;
+  received = refl;
+  based = λ e. refl;
+  honest = unread_is item;
+}
 
 pub facts : (item : Item) → item.kind < 10 → Facts item
 facts item few = facts_of item.kind few item.number item.fill

@@ -1,4 +1,5 @@
 -- What is made by id of made items is made of the items in their order.
+use Rattle.std.proofs.lemmas.Grind.{common_steps}
 use Rattle.std.proofs.Common.{◌≡◌, ◌≤◌, ◌<◌, ◌+◌, ℕ, zero, suc, ◌==◌, Bool, refl, sym, ap, ◌∙◌, arith, List, [], ◌∷◌, ◌++◌, length, Some, None, append_assoc, append-nil, filter}
 use Rattle.std.specs.Prelude.{flat_map, cond, sum_by}
 use Rattle.std.proofs.lemmas.Bool.Decides.{nat_tests}
@@ -11,13 +12,10 @@ use Rattle.made_folders.specs.declared.item.Item.{Item}
 use Rattle.made_merge.specs.Numbers.{AreMade, item_at, kinds}
 use Rattle.made_merge.proofs.NumberLaws.{item_at-before, item_at-behind}
 
-numbered : {A : Type 0} (g : ℕ → List A) (n from : ℕ) (items : List Item) → AreMade from items → n ≡ length items + from → each_below g n
-    ≡ each_below g from ++ flat_map (λ (item : Item). g item.number) items
-numbered g n from [] are is = let same : n ≡ from = omega arith in ap (each_below g) same ∙ sym (append-nil (each_below g from))
-numbered g n from (item ∷ items) are is =
-    numbered g n (suc from) items are.1.1 (omega arith)
-    ∙ ap (λ ys. ys ++ flat_map (λ (item : Item). g item.number) items) (each_below-suc g from ∙ ap (λ i. each_below g from ++ g i) (sym are.0))
-    ∙ append_assoc (each_below g from) (g item.number) (flat_map (λ (item : Item). g item.number) items)
+numbered : {A : Type 0} (g : ℕ → List A) (n from : ℕ) (items : List Item) → AreMade from items → n ≡ length items + from
+    → each_below g n ≡ each_below g from ++ flat_map (λ (item : Item). g item.number) items
+numbered g n from [] are is = grind (arith, nat_tests, common_steps)
+numbered g n from (item ∷ items) are is = grind (arith, common_steps, numbered g n (suc from) items are.1.1 (omega arith), each_below-suc g from)
 
 -- what an item of a list is under its number
 abbrev IsUnder : {A : Type 0} → List Item → (ℕ → List A) → (Item → List A) → Type 0
@@ -25,8 +23,8 @@ IsUnder whole g made = (item : Item) → item_at item.number whole ≡ Some item
     → g item.number ≡ made item
 
 in_order : {A : Type 0} (whole : List Item) (g : ℕ → List A) (made : Item → List A) (from : ℕ) (items : List Item) → IsUnder whole g made
-    → AreMade from items → 0 < from → length items + from ≤ id_bound
-    → ((number : ℕ) → from ≤ number → item_at number whole ≡ item_at number items) → flat_map (λ (item : Item). g item.number) items ≡ flat_map made items
+    → AreMade from items → 0 < from → length items + from ≤ id_bound → ((number : ℕ) → from ≤ number → item_at number whole ≡ item_at number items)
+    → flat_map (λ (item : Item). g item.number) items ≡ flat_map made items
 in_order whole g made from [] under are some within same = refl
 in_order {A} whole g made from (item ∷ items) under are some within same =
     let found : item_at item.number whole ≡ Some item = same item.number (omega (arith, are.0)) ∙ grind (arith, nat_tests) in
@@ -38,8 +36,7 @@ in_order {A} whole g made from (item ∷ items) under are some within same =
 
 -- what is made by id, where nothing is made of an id without an item
 pub each_of : {A : Type 0} (g : ℕ → List A) (made : Item → List A) (items : List Item) → AreMade 1 items → length items ≤ 5000
-    → ((number : ℕ) → item_at number items ≡ None → number < id_bound → g number ≡ [])
-    → IsUnder items g made → each_id g ≡ flat_map made items
+    → ((number : ℕ) → item_at number items ≡ None → number < id_bound → g number ≡ []) → IsUnder items g made → each_id g ≡ flat_map made items
 each_of g made items are few none under =
     let bound : id_bound ≡ 16777216 = id_bound-is in
     each_below-gap g (length items + 1) id_bound (omega (arith, bound))
@@ -76,8 +73,7 @@ of_kind made kind from items are is = length-flat_map made items ∙ sums from i
   where
     sums : (from : ℕ) (items : List Item) → AreMade from items → sum_by (λ (item : Item). length (made item)) items ≡ kinds kind items
     sums from [] are = refl
-    sums from (item ∷ items) are =
-        let later = sums (suc from) items are.1.1 in omega (arith, more_made made item items, more_of kind item items, is item are.1.0, later)
+    sums from (item ∷ items) are = omega (arith, more_made made item items, more_of kind item items, is item are.1.0, sums (suc from) items are.1.1)
 
 -- as many as there are items of two kinds
 pub of_kinds : {A : Type 0} (made : Item → List A) (one other from : ℕ) (items : List Item) → AreMade from items
@@ -85,18 +81,11 @@ pub of_kinds : {A : Type 0} (made : Item → List A) (one other from : ℕ) (ite
     → length (flat_map made items) ≡ kinds one items + kinds other items
 of_kinds made one other from items are is = length-flat_map made items ∙ sums from items are
   where
-    sums : (from : ℕ) (items : List Item) → AreMade from items → sum_by (λ (item : Item). length (made item)) items ≡ kinds one items + kinds other items
+    sums : (from : ℕ) (items : List Item) → AreMade from items
+        → sum_by (λ (item : Item). length (made item)) items ≡ kinds one items + kinds other items
     sums from [] are = refl
     sums from (item ∷ items) are =
-        let later = sums (suc from) items are.1.1 in omega (
-          arith,
-          more_made made item items,
-          more_of one item items,
-          more_of other item items,
-          is
-              item are.1.0,
-          later,
-        )
+        omega (arith, more_made made item items, more_of one item items, more_of other item items, is item are.1.0, sums (suc from) items are.1.1)
 
 -- as many as there are items, but for two kinds
 pub but_kinds : {A : Type 0} (made : Item → List A) (one other from : ℕ) (items : List Item) → AreMade from items
@@ -104,16 +93,8 @@ pub but_kinds : {A : Type 0} (made : Item → List A) (one other from : ℕ) (it
     → length (flat_map made items) + (kinds one items + kinds other items) ≡ length items
 but_kinds made one other from items are is = ap (λ n. n + (kinds one items + kinds other items)) (length-flat_map made items) ∙ sums from items are
   where
-    sums : (from : ℕ) (items : List Item) → AreMade from items → sum_by (λ (item : Item). length (made item)) items
-        + (kinds one items + kinds other items) ≡ length items
+    sums : (from : ℕ) (items : List Item) → AreMade from items
+        → sum_by (λ (item : Item). length (made item)) items + (kinds one items + kinds other items) ≡ length items
     sums from [] are = refl
     sums from (item ∷ items) are =
-        let later = sums (suc from) items are.1.1 in omega (
-          arith,
-          more_made made item items,
-          more_of one item items,
-          more_of other item items,
-          is
-              item are.1.0,
-          later,
-        )
+        omega (arith, more_made made item items, more_of one item items, more_of other item items, is item are.1.0, sums (suc from) items are.1.1)

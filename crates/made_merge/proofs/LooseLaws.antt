@@ -1,4 +1,5 @@
 -- The desktop's rows without a base row: those that it made.
+use Rattle.std.proofs.lemmas.Grind.{common_steps}
 use Rattle.std.proofs.Common.{◌≡◌, ◌<◌, ◌+◌, ℕ, suc, ◌==◌, Bool, true, false, refl, ap, ◌∙◌, arith, List, [], ◌∷◌, ◌++◌, if◌then◌else◌, Option, Some, None, option_to_list}
 use Rattle.std.specs.Prelude.{cond, flat_map, nat_lt}
 use Rattle.std.specs.Option.{option_map}
@@ -29,17 +30,8 @@ based_later based number from [] are before rows = tt
 based_later based number from (item ∷ items) are before rows =
     (λ (old : nat_lt item.kind 7 ≡ true). grind (arith, nat_tests, are.0, rows.0 old), based_later based number (suc from) items are.1.1 (omega arith) rows.1)
 
--- a row is passed where it has a base row
-step : (based : ℕ → Bool) (item : Item) (letter : Option ℕ) (rows : List Record) → 0 < item.number → based 0 ≡ false
-    → ◌≡◌ {A = Option ℕ} letter (letter_on Desktop item.kind) → (nat_lt item.kind 7 ≡ true → based item.number ≡ true) → item.kind < 10
-    → live_contents (loose based (option_to_list (option_map (record_with item) letter) ++ rows)) ≡ new_contents item ++ live_contents
-    (loose (if nat_lt item.kind 7 then put based item.number false else based) rows)
-step based item None rows some zero_free is old few = grind (arith, nat_tests, is)
-step based item (Some letter) rows some zero_free is old few = grind (arith, nat_tests, is, zero_free, old)
-
 still_free : (is : Bool) (based : ℕ → Bool) (number : ℕ) → 0 < number → based 0 ≡ false → (if is then put based number false else based) 0 ≡ false
-still_free true based number some free = grind (arith, nat_tests, free)
-still_free false based number some free = free
+still_free is based number e f = grind arith
 
 still_based : (is : Bool) (based : ℕ → Bool) (number from : ℕ) (items : List Item) → AreMade from items → number < from → AreBased based items
     → AreBased (if is then put based number false else based) items
@@ -51,18 +43,17 @@ pub loose_made : (based : ℕ → Bool) (from : ℕ) (items : List Item) → Are
     → live_contents (loose based (records_on Desktop items)) ≡ flat_map new_contents items
 loose_made based from [] are some free rows = refl
 loose_made based from (item ∷ items) are some free rows =
-    let number : 0 < item.number = omega (arith, are.0, some) in
-    let before : item.number < suc from = omega (arith, are.0) in
-    step based item (letter_on Desktop item.kind) (records_on Desktop items) number free refl rows.0 are.1.0
-    ∙ ap (λ ys. new_contents item ++ ys)
-    (loose_made (if nat_lt item.kind 7 then put based item.number false else based) (suc from) items are.1.1 (omega arith)
-    (still_free (nat_lt item.kind 7) based item.number number free)
-    (still_based (nat_lt item.kind 7) based item.number (suc from) items are.1.1 before rows.1))
+    grind (
+      arith,
+      loose_made (if nat_lt item.kind 7 then put based item.number false else based) (suc from) items are.1.1 (omega arith)
+          (still_free (nat_lt item.kind 7) based item.number (omega (arith, are.0, some)) free)
+          (still_based (nat_lt item.kind 7) based item.number (suc from) items are.1.1 (omega (arith, are.0)) rows.1),
+    )
 
-none_archived : (based : ℕ → Bool) (item : Item) (letter : Option ℕ) (rows : List Record) → ((other : ℕ → Bool) → archived_records (loose other rows) ≡ [])
+none_archived : (based : ℕ → Bool) (item : Item) (letter : Option ℕ) (rows : List Record)
+    → ((other : ℕ → Bool) → archived_records (loose other rows) ≡ [])
     → archived_records (loose based (option_to_list (option_map (record_with item) letter) ++ rows)) ≡ []
-none_archived based item None rows none = none based
-none_archived based item (Some letter) rows none = grind (arith, none based, none (put based (record_with item letter).id false))
+none_archived based item letter rows e = grind arith
 
 -- none of them is archived
 pub loose_archived : (items : List Item) (based : ℕ → Bool) → archived_records (loose based (records_on Desktop items)) ≡ []
@@ -71,19 +62,17 @@ loose_archived (item ∷ items) based = none_archived based item (letter_on Desk
 
 -- ---- none of them has a partner
 
-one_new : (free : ContentValue → ℕ) (item : Item) (rest later : List ContentValue) (is : Bool)
+one_new : (free : ContentValue → ℕ) (item : Item) (rest : List ContentValue) {later : List ContentValue} (is : Bool)
     → free (record { category = 0; secret = false; bytes = text_of 100 item }) ≡ 0 → unpaired free rest ≡ later
     → unpaired free ((if is then record { category = 0; secret = false; bytes = text_of 100 item } ∷ [] else []) ++ rest)
     ≡ (if is then record { category = 0; secret = false; bytes = text_of 100 item } ∷ [] else []) ++ later
-one_new free item rest later true none same = grind (arith, nat_tests, none, same)
-one_new free item rest later false none same = same
+one_new free item rest is e f = grind arith
 
 pub new_unpaired : (free : ContentValue → ℕ) (items : List Item)
     → ((item : Item) → free (record { category = 0; secret = false; bytes = text_of 100 item }) ≡ 0) → unpaired free (flat_map new_contents items)
     ≡ flat_map new_contents items
 new_unpaired free [] none = refl
-new_unpaired free (item ∷ items) none = one_new free item (flat_map new_contents items) (flat_map new_contents items) (item.kind == 9) (none item)
-    (new_unpaired free items none)
+new_unpaired free (item ∷ items) none = one_new free item (flat_map new_contents items) (item.kind == 9) (none item) (new_unpaired free items none)
 
 -- what the handheld made
 abbrev pub mate_contents : Item → List ContentValue
@@ -97,12 +86,7 @@ other_letter item other = grind arith
 one_mate : (c : ContentValue) (item : Item) (rest : List ContentValue) (is : Bool)
     → same_content (record { category = 0; secret = false; bytes = text_of 104 item }) c ≡ false
     → count_of c ((if is then record { category = 0; secret = false; bytes = text_of 104 item } ∷ [] else []) ++ rest) ≡ count_of c rest
-one_mate c item rest true differ =
-    let mate : ContentValue = record { category = 0; secret = false; bytes = text_of 104 item } in
-    let total : count_of c (mate ∷ rest) ≡ cond (same_content mate c) 1 0 + count_of c rest = sum_by-cons (λ x. cond (same_content x c) 1 0) mate rest in
-    let none : ◌≡◌ {A = ℕ} (cond (same_content mate c) 1 0) 0 = ap (λ b. cond b 1 0) differ in
-    omega (arith, total, none)
-one_mate c item rest false differ = refl
+one_mate c item rest is e = grind arith
 
 pub no_mate : (other : Item) (items : List Item) → count_of (record { category = 0; secret = false; bytes = text_of 100 other })
     (flat_map mate_contents items) ≡ 0

@@ -1,4 +1,5 @@
 -- Made folders are merged by the kinds of their items.
+use Rattle.std.proofs.lemmas.Grind.{common_steps}
 use Rattle.std.proofs.Common.{◌≡◌, ◌<◌, ◌≤◌, ◌+◌, ℕ, zero, suc, ◌==◌, Bool, true, false, refl, sym, subst, ap, ◌∙◌, arith, List, [], ◌∷◌, ◌++◌, length, if◌then◌else◌, append-nil, Option, Some, None, option_to_list, map}
 use Rattle.std.specs.Prelude.{cond, filter, flat_map, nat_lt}
 use Rattle.std.specs.Option.{option_map, option_and_then}
@@ -29,35 +30,33 @@ use Rattle.made_merge.proofs.NumberLaws.{drawn_are_made, first_on, item_at-befor
 
 -- ---- what lies under a number
 
-at_step : (one : Item) (number : ℕ) (items : List Item) (item : Item) (P : Item → Type 0) (is : Bool) → (one.number == number) ≡ is
-    → item_at number (one ∷ items) ≡ Some item
-    → (one.number ≡ number → P one) → (item_at number items ≡ Some item → P item) → P item
-at_step one number items item P true is found here later =
-    let same_option : Some one ≡ Some item = grind (arith, is, found) in
-    let same : one ≡ item = cc in
-    let equal : one.number ≡ number = grind (arith, nat_tests, is) in
-    subst P same (here equal)
-at_step one number items item P false is found here later = later (grind (arith, is, found))
+module _ (number : ℕ) {item : Item} where
+  at_step : (one : Item) (items : List Item) (P : Item → Type 0) (is : Bool) → (one.number == number) ≡ is → item_at number (one ∷ items) ≡ Some item
+      → (one.number ≡ number → P one) → (item_at number items ≡ Some item → P item) → P item
+  at_step one items P true is found here later =
+      let same_option : Some one ≡ Some item = grind (arith, is, found) in
+      let same : one ≡ item = cc in
+      let equal : one.number ≡ number = grind (arith, nat_tests, is) in
+      subst P same (here equal)
+  at_step one items P false is found here later = later (grind (arith, is, found))
 
-found_few : (number from : ℕ) (items : List Item) (item : Item) → AreMade from items → item_at number items ≡ Some item → item.kind < 10
-found_few number from [] item are found = absurd (cc)
-found_few number from (one ∷ items) item are found =
-    at_step one number items item (λ (x : Item). x.kind < 10) (one.number == number) refl found (λ equal. are.1.0)
-    (found_few number (suc from) items item are.1.1)
+  found_few : (from : ℕ) (items : List Item) → AreMade from items → item_at number items ≡ Some item → item.kind < 10
+  found_few from [] are found = absurd (cc)
+  found_few from (one ∷ items) are found =
+      at_step one items (λ (x : Item). x.kind < 10) (one.number == number) refl found (λ equal. are.1.0) (found_few (suc from) items are.1.1)
 
-found_number : (number : ℕ) (items : List Item) (item : Item) → item_at number items ≡ Some item → item.number ≡ number
-found_number number [] item found = absurd (cc)
-found_number number (one ∷ items) item found =
-    at_step one number items item (λ (x : Item). x.number ≡ number) (one.number == number) refl found (λ equal. equal) (found_number number items item)
+  found_number : (items : List Item) → item_at number items ≡ Some item → item.number ≡ number
+  found_number [] found = absurd (cc)
+  found_number (one ∷ items) found =
+      at_step one items (λ (x : Item). x.number ≡ number) (one.number == number) refl found (λ equal. equal) (found_number items)
 
-base_is : (number : ℕ) (items : List Item) → AreMade 1 items → 0 < number → base_at (records_on Base items) false number ≡ base_on (item_at number items)
+base_is : (number : ℕ) (items : List Item) → AreMade 1 items → 0 < number
+    → base_at (records_on Base items) false number ≡ base_on (item_at number items)
 base_is number items are some = grind (arith, nat_tests, first_on Base number 1 items are some)
 
 no_letter : (item : Item) (letter : Option ℕ) (records : List Record) → ◌≡◌ {A = Option ℕ} letter (letter_on Handheld item.kind) → 0 < item.number
-    → first 0 records ≡ None
-    → first 0 (option_to_list (option_map (record_with item) letter) ++ records) ≡ None
-no_letter item None records is some none = none
-no_letter item (Some letter) records is some none = grind (arith, nat_tests, is, none)
+    → first 0 records ≡ None → first 0 (option_to_list (option_map (record_with item) letter) ++ records) ≡ None
+no_letter item letter records e f g = grind arith
 
 first_zero : (from : ℕ) (items : List Item) → AreMade from items → 0 < from → first 0 (records_on Handheld items) ≡ None
 first_zero from [] are some = refl
@@ -69,7 +68,7 @@ first_zero from (item ∷ items) are some =
 honest_under : (number : ℕ) (items : List Item) (r : Record) (o : Option Item) → AreMade 1 items → item_at number items ≡ o
     → option_and_then (known_on Handheld) o ≡ Some r → IsHonestUnder (base_on o) r
 honest_under number items r None are is found = absurd (cc)
-honest_under number items r (Some item) are is found = (facts item (found_few number 1 items item are is)).honest r found
+honest_under number items r (Some item) are is found = (facts item (found_few number 1 items are is)).honest r found
 
 is_honest : (items : List Item) → AreMade 1 items → IsHonest (records_on Base items) (records_on Handheld items)
 is_honest items are zero r found = tt
@@ -78,106 +77,96 @@ is_honest items are (suc i) r found =
     (honest_under (suc i) items r (item_at (suc i) items) are refl (sym (first_on Handheld (suc i) 1 items are (omega arith)) ∙ found))
 
 -- what the handheld holds, as it was seen
-seen_is : (number : ℕ) (items : List Item) → AreMade 1 items → number < id_bound → view_held (made_view items) number
-    ≡ held (records_on Handheld items) number
+seen_is : (number : ℕ) (items : List Item) → AreMade 1 items → number < id_bound
+    → view_held (made_view items) number ≡ held (records_on Handheld items) number
 seen_is number items are within = view_held-fast (records_on Base items) (records_on Handheld items) number (grind (arith, nat_tests, within))
     (is_honest items are)
 
-pub handheld_is : (number : ℕ) (items : List Item) → AreMade 1 items → number < id_bound → (made_sides items).handheld number
-    ≡ held_on Handheld (item_at number items)
-handheld_is zero items are within = seen_is zero items are within ∙ ap held_where (first_zero 1 items are (omega arith))
-    ∙ sym (ap (λ o. held_on Handheld o) (item_at-before 0 1 items are (omega arith)))
+pub handheld_is : (number : ℕ) (items : List Item) → AreMade 1 items → number < id_bound
+    → (made_sides items).handheld number ≡ held_on Handheld (item_at number items)
+handheld_is zero items are within =
+    grind (arith, seen_is zero items are within, first_zero 1 items are (omega arith), item_at-before 0 1 items are (omega arith))
 handheld_is (suc i) items are within = seen_is (suc i) items are within ∙ ap held_where (first_on Handheld (suc i) 1 items are (omega arith))
 
 abbrev becomes_at : Option Item → Fate
 becomes_at None = only None
 becomes_at (Some item) = only (kept_on item)
 
-becomes_is : (number : ℕ) (items : List Item) (o : Option Item) → AreMade 1 items → item_at number items ≡ o → fate (base_on o) (held_on Handheld o)
-    (held_on Desktop o) ≡ becomes_at o
+becomes_is : (number : ℕ) (items : List Item) (o : Option Item) → AreMade 1 items → item_at number items ≡ o
+    → fate (base_on o) (held_on Handheld o) (held_on Desktop o) ≡ becomes_at o
 becomes_is number items None are is = refl
-becomes_is number items (Some item) are is = (facts item (found_few number 1 items item are is)).becomes
+becomes_is number items (Some item) are is = (facts item (found_few number 1 items are is)).becomes
 
-pub fate_is : (number : ℕ) (items : List Item) → AreMade 1 items → number < id_bound → fate_at (made_sides items) number ≡ becomes_at (item_at number items)
-fate_is zero items are within =
-    ap (λ h. fate no_base h ((made_sides items).desktop 0)) (handheld_is 0 items are within ∙ ap (λ o. held_on Handheld o)
-    (item_at-before 0 1 items are (omega arith)))
-    ∙ sym (ap becomes_at (item_at-before 0 1 items are (omega arith)))
+pub fate_is : (number : ℕ) (items : List Item) → AreMade 1 items → number < id_bound
+    → fate_at (made_sides items) number ≡ becomes_at (item_at number items)
+fate_is zero items are within = grind (arith, handheld_is 0 items are within, item_at-before 0 1 items are (omega arith))
 fate_is (suc i) items are within =
-    ap {A = Based × Held × Held} (λ x. fate x.0 x.1 x.2)
-    (λ k. (
+    ap {A = Based × Held × Held} (λ x. fate x.0 x.1 x.2) (λ k. (
       base_is (suc i) items are (omega arith) k,
       handheld_is (suc i) items are within k,
-      ap held_where
-          (first_on Desktop (suc i) 1 items are (omega arith)) k,
+      ap held_where (first_on Desktop (suc i) 1 items are (omega arith)) k,
     ))
     ∙ becomes_is (suc i) items (item_at (suc i) items) are refl
 
 -- ---- what is kept, replaced and purged
 
-keep_is : (number : ℕ) (items : List Item) (o : Option Item) → AreMade 1 items → number < id_bound → item_at number items ≡ o
-    → (made_choice items).keep number ≡ (becomes_at o).keep
-keep_is number items o are within is = ap (λ (f : Fate). f.keep) (fate_is number items are within ∙ ap becomes_at is)
+module _ (items : List Item) (are : AreMade 1 items) where
+  keep_is : (number : ℕ) {o : Option Item} → number < id_bound → item_at number items ≡ o → (made_choice items).keep number ≡ (becomes_at o).keep
+  keep_is number within is = ap (λ (f : Fate). f.keep) (fate_is number items are within ∙ ap becomes_at is)
 
-held_is : (number : ℕ) (items : List Item) (o : Option Item) → AreMade 1 items → number < id_bound → item_at number items ≡ o
-    → (made_sides items).handheld number ≡ held_on Handheld o
-held_is number items o are within is = handheld_is number items are within ∙ ap (λ x. held_on Handheld x) is
+  held_is : (number : ℕ) {o : Option Item} → number < id_bound → item_at number items ≡ o → (made_sides items).handheld number ≡ held_on Handheld o
+  held_is number within is = handheld_is number items are within ∙ ap (λ x. held_on Handheld x) is
 
-kept_by : (items : List Item) → AreMade 1 items → length items ≤ 5000
-    → each_id (λ i. with_id i ((made_choice items).keep i)) ≡ flat_map (λ (item : Item). with_id item.number (kept_on item)) items
-kept_by items are few =
-    each_of (λ i. with_id i ((made_choice items).keep i)) (λ (item : Item). with_id item.number (kept_on item)) items are few
-    (λ number none within. ap (with_id number) (keep_is number items None are within none))
-    (λ item found ten some within. ap (with_id item.number) (keep_is item.number items (Some item) are within found))
+  kept_by : length items ≤ 5000
+      → each_id (λ i. with_id i ((made_choice items).keep i)) ≡ flat_map (λ (item : Item). with_id item.number (kept_on item)) items
+  kept_by few =
+      each_of (λ i. with_id i ((made_choice items).keep i)) (λ (item : Item). with_id item.number (kept_on item)) items are few
+      (λ number none within. ap (with_id number) (keep_is number within none))
+      (λ item found ten some within. ap (with_id item.number) (keep_is item.number within found))
 
-replaced_by : (items : List Item) → AreMade 1 items → length items ≤ 5000
-    → each_id (λ i. with_id i (replacement ((made_choice items).keep i) ((made_sides items).handheld i)))
-    ≡ flat_map (λ (item : Item). with_id item.number (replacement (kept_on item) (held_on Handheld (Some item)))) items
-replaced_by items are few =
-    each_of (λ i. with_id i (replacement ((made_choice items).keep i) ((made_sides items).handheld i)))
-    (λ (item : Item). with_id item.number (replacement (kept_on item) (held_on Handheld (Some item)))) items are few
-    (λ number none within. ap {A = Option ContentValue × Held} (λ x. with_id number (replacement x.0 x.1))
-    (λ k. (keep_is number items None are within none k, held_is number items None are within none k)))
-    (λ item found ten some within. ap {A = Option ContentValue × Held} (λ x. with_id item.number (replacement x.0 x.1))
-    (λ k. (keep_is item.number items (Some item) are within found k, held_is item.number items (Some item) are within found k)))
+  replaced_by : length items ≤ 5000
+      → each_id (λ i. with_id i (replacement ((made_choice items).keep i) ((made_sides items).handheld i))) ≡ flat_map
+      (λ (item : Item). with_id item.number (replacement (kept_on item) (held_on Handheld (Some item)))) items
+  replaced_by few =
+      each_of (λ i. with_id i (replacement ((made_choice items).keep i) ((made_sides items).handheld i)))
+      (λ (item : Item). with_id item.number (replacement (kept_on item) (held_on Handheld (Some item)))) items are few
+      (λ number none within. ap {A = Option ContentValue × Held} (λ x. with_id number (replacement x.0 x.1))
+      (λ k. (keep_is number within none k, held_is number within none k)))
+      (λ item found ten some within. ap {A = Option ContentValue × Held} (λ x. with_id item.number (replacement x.0 x.1))
+      (λ k. (keep_is item.number within found k, held_is item.number within found k)))
 
-purged_by : (items : List Item) → AreMade 1 items → length items ≤ 5000
-    → each_id (λ i. purged_at ((made_choice items).keep i) ((made_sides items).handheld i) i)
-    ≡ flat_map (λ (item : Item). purged_at (kept_on item) (held_on Handheld (Some item)) item.number) items
-purged_by items are few =
-    each_of (λ i. purged_at ((made_choice items).keep i) ((made_sides items).handheld i) i) (λ (item : Item). purged_at (kept_on item)
-    (held_on Handheld (Some item)) item.number) items are few
-    (λ number none within. ap {A = Option ContentValue × Held} (λ x. purged_at x.0 x.1 number)
-    (λ k. (keep_is number items None are within none k, held_is number items None are within none k)))
-    (λ item found ten some within. ap {A = Option ContentValue × Held} (λ x. purged_at x.0 x.1 item.number)
-    (λ k. (keep_is item.number items (Some item) are within found k, held_is item.number items (Some item) are within found k)))
+  purged_by : length items ≤ 5000
+      → each_id (λ i. purged_at ((made_choice items).keep i) ((made_sides items).handheld i) i) ≡ flat_map
+      (λ (item : Item). purged_at (kept_on item) (held_on Handheld (Some item)) item.number) items
+  purged_by few =
+      each_of (λ i. purged_at ((made_choice items).keep i) ((made_sides items).handheld i) i) (λ (item : Item). purged_at (kept_on item)
+      (held_on Handheld (Some item)) item.number) items are few
+      (λ number none within. ap {A = Option ContentValue × Held} (λ x. purged_at x.0 x.1 number)
+      (λ k. (keep_is number within none k, held_is number within none k)))
+      (λ item found ten some within. ap {A = Option ContentValue × Held} (λ x. purged_at x.0 x.1 item.number)
+      (λ k. (keep_is item.number within found k, held_is item.number within found k)))
 
--- ---- nothing is archived, and what the desktop made is added
+  -- ---- nothing is archived, and what the desktop made is added
 
-news_none : (items : List Item) (number : ℕ) → AreMade 1 items → number < id_bound → option_to_list (fate_at (made_sides items) number).news ≡ []
-news_none items number are within = ap (λ (f : Fate). option_to_list f.news) (fate_is number items are within ∙ ap becomes_at refl)
-    ∙ no_news (item_at number items)
-  where
-    no_news : (o : Option Item) → option_to_list (becomes_at o).news ≡ []
-    no_news None = refl
-    no_news (Some item) = refl
+  news_none : (number : ℕ) → number < id_bound → option_to_list (fate_at (made_sides items) number).news ≡ []
+  news_none number within = ap (λ (f : Fate). option_to_list f.news) (fate_is number items are within ∙ ap becomes_at refl)
+      ∙ no_news (item_at number items)
+    where
+      no_news : (o : Option Item) → option_to_list (becomes_at o).news ≡ []
+      no_news None = refl
+      no_news (Some item) = refl
 
 abbrev under : ℕ → List ContentValue → List (ℕ × ContentValue)
 under number contents = map (λ c. (number, c)) contents
 
 archive_none : (items : List Item) (number : ℕ) → AreMade 1 items → number < id_bound → under number (fate_at (made_sides items) number).archive ≡ []
-archive_none items number are within = ap (λ (f : Fate). under number f.archive) (fate_is number items are within) ∙ no_archive (item_at number items)
-  where
-    no_archive : (o : Option Item) → under number (becomes_at o).archive ≡ []
-    no_archive None = refl
-    no_archive (Some item) = refl
+archive_none items number are within = grind (arith, fate_is number items are within)
 
 base_zero : (items : List Item) → has_row (records_on Base items) 0 ≡ false
 base_zero items = refl
 
 based_from : (whole : List Item) (from : ℕ) (items : List Item) → AreMade 1 whole → AreMade from items → 0 < from
-    → ((number : ℕ) → from ≤ number → item_at number whole ≡ item_at number items)
-    → AreBased (has_row (records_on Base whole)) items
+    → ((number : ℕ) → from ≤ number → item_at number whole ≡ item_at number items) → AreBased (has_row (records_on Base whole)) items
 based_from whole from [] are rest some same = tt
 based_from whole from (item ∷ items) are rest some same =
     let found : item_at item.number whole ≡ Some item = same item.number (omega (arith, rest.0)) ∙ grind (arith, nat_tests) in (
@@ -186,37 +175,31 @@ based_from whole from (item ∷ items) are rest some same =
       based_from whole (suc from) items are rest.1.1 (omega arith) (λ number behind. same number (omega arith) ∙ grind (arith, nat_tests, rest.0)),
     )
 
-mate_at : Option Item → List ContentValue
-mate_at None = []
-mate_at (Some item) = mate_contents item
-
-partner_is : (number : ℕ) (items : List Item) (o : Option Item) → AreMade 1 items → number < id_bound → item_at number items ≡ o
-    → option_to_list (partner (base_at (records_on Base items) false number) ((made_sides items).handheld number))
-    ≡ option_to_list (partner (base_on o) (held_on Handheld o))
-partner_is zero items o are within is =
+partner_is : (number : ℕ) (items : List Item) {o : Option Item} → AreMade 1 items → number < id_bound → item_at number items ≡ o
+    → option_to_list (partner (base_at (records_on Base items) false number) ((made_sides items).handheld number)) ≡ option_to_list
+    (partner (base_on o) (held_on Handheld o))
+partner_is zero items {o} are within is =
     let none : o ≡ None = sym is ∙ item_at-before 0 1 items are (omega arith) in
-    ap (λ h. option_to_list (partner no_base h)) (held_is 0 items o are within is)
+    ap (λ h. option_to_list (partner no_base h)) (held_is items are 0 within is)
     ∙ ap (λ x. option_to_list (partner (base_on x) (held_on Handheld o))) (sym none)
-partner_is (suc i) items o are within is =
+partner_is (suc i) items are within is =
     ap {A = Based × Held} (λ x. option_to_list (partner x.0 x.1)) (λ k. (
       (base_is (suc i) items are (omega arith) ∙ ap base_on is) k,
-      held_is (suc i)
-          items o are within is k,
+      held_is items are (suc i) within is k,
     ))
 
 mates_are : (items : List Item) → AreMade 1 items → length items ≤ 5000 → partners (made_sides items) ≡ flat_map mate_contents items
 mates_are items are few =
     each_of (λ i. option_to_list (partner (base_at (records_on Base items) false i) ((made_sides items).handheld i))) mate_contents items are few
-    (λ number none within. partner_is number items None are within none)
-    (λ item found ten some within. partner_is item.number items (Some item) are within found ∙ (facts item ten).mate)
+    (λ number none within. partner_is number items are within none)
+    (λ item found ten some within. partner_is item.number items are within found ∙ (facts item ten).mate)
 
 adds_are : (items : List Item) → AreMade 1 items → length items ≤ 5000 → (made_choice items).adds ≡ flat_map new_contents items
 adds_are items are few =
     let rows = loose_made (has_row (records_on Base items)) 1 items are (omega arith) (base_zero items)
     (based_from items 1 items are are (omega arith) (λ number behind. refl)) in
-    let news = each_nothing (λ i. option_to_list (fate_at (made_sides items) i).news) (λ number within. news_none items number are within) in
-    ap {A = List ContentValue × List ContentValue} (λ x. unpaired (λ c. count_of c x.0) x.1)
-    (λ k. (
+    let news = each_nothing (λ i. option_to_list (fate_at (made_sides items) i).news) (λ number within. news_none items are number within) in
+    ap {A = List ContentValue × List ContentValue} (λ x. unpaired (λ c. count_of c x.0) x.1) (λ k. (
       mates_are items are few k,
       (ap {A = List ContentValue × List ContentValue} (λ x. x.0 ++ x.1) (λ m. (rows m, news m))
           ∙ append-nil (flat_map new_contents items)) k,
@@ -225,22 +208,15 @@ adds_are items are few =
 
 archive_is : (items : List Item) → AreMade 1 items → (made_choice items).archive ≡ []
 archive_is items are =
-    ap {A = List ContentValue × List (ℕ × ContentValue)} (λ x. under 0 x.0 ++ x.1)
-    (λ k. (
+    ap {A = List ContentValue × List (ℕ × ContentValue)} (λ x. under 0 x.0 ++ x.1) (λ k. (
       loose_archived items (has_row (records_on Base items)) k,
-      each_nothing (λ i. under i (fate_at (made_sides items) i).archive)
-          (λ number within. archive_none items number are within) k,
+      each_nothing (λ i. under i (fate_at (made_sides items) i).archive) (λ number within. archive_none items number are within) k,
     ))
 
 -- ---- what is received
 
 abbrev is_received : Seen → Bool
 is_received seen = was_received seen.state
-
-shown_is : (base : List Record) (number : ℕ) (o : Option Record) (b : Based) → ((r : Record) → o ≡ Some r → r.id ≡ number)
-    → base_at base false number ≡ b → option_map (fast_seen base) o ≡ option_map (seen_on b) o
-shown_is base number None b bears is = refl
-shown_is base number (Some r) b bears is = ap (λ x. Some (seen_on x r)) (ap (base_at base false) (bears r refl) ∙ is)
 
 -- what a reading receives of a number
 abbrev received_at : List Item → ℕ → List Seen
@@ -250,22 +226,12 @@ abbrev received_of : Item → List Seen
 received_of item = filter is_received (option_to_list (option_map (seen_on (base_on (Some item))) (known_on Handheld item)))
 
 none_received : (items : List Item) (number : ℕ) → AreMade 1 items → item_at number items ≡ None → received_at items number ≡ []
-none_received items zero are none = ap (λ o. filter is_received (option_to_list (option_map (fast_seen (records_on Base items)) o)))
-    (first_zero 1 items are (omega arith))
-none_received items (suc i) are none =
-    ap (λ o. filter is_received (option_to_list (option_map (fast_seen (records_on Base items)) o)))
-    (first_on Handheld (suc i) 1 items are (omega arith) ∙ ap (option_and_then (known_on Handheld)) none)
+none_received items zero are none = grind (arith, first_zero 1 items are (omega arith))
+none_received items (suc i) are none = grind (arith, first_on Handheld (suc i) 1 items are (omega arith))
 
 one_received : (items : List Item) (item : Item) → AreMade 1 items → item_at item.number items ≡ Some item → 0 < item.number
     → received_at items item.number ≡ received_of item
-one_received items item are found some =
-    let known : first item.number (records_on Handheld items) ≡ known_on Handheld item = first_on Handheld item.number 1 items are some
-    ∙ ap (option_and_then (known_on Handheld)) found in
-    let based : base_at (records_on Base items) false item.number ≡ base_on (Some item) = base_is item.number items are some ∙ ap base_on found in
-    ap (λ o. filter is_received (option_to_list o))
-    (shown_is (records_on Base items) item.number (first item.number (records_on Handheld items)) (base_on (Some item))
-    (λ r is. first-id item.number (records_on Handheld items) r is) based
-    ∙ ap (option_map (seen_on (base_on (Some item)))) known)
+one_received items item are found some = grind (arith, first_on Handheld item.number 1 items are some, base_is item.number items are some)
 
 received_is : (items : List Item) → AreMade 1 items → length items ≤ 5000 → filter is_received (made_view items) ≡ flat_map received_of items
 received_is items are few =
@@ -276,11 +242,7 @@ received_is items are few =
 -- ---- the law
 
 one_if_new : (item : Item) → length (new_contents item) ≡ cond (item.kind == 9) 1 0
-one_if_new item = by (item.kind == 9)
-  where
-    by : (is : Bool) → length {A = ContentValue} (if is then record { category = 0; secret = false; bytes = text_of 100 item } ∷ [] else []) ≡ cond is 1 0
-    by true = refl
-    by false = refl
+one_if_new item = grind arith
 
 merged_by_kinds : (items : List Item) → AreMade 1 items → length items ≤ 5000 → IsMadeMerge items
 merged_by_kinds items are few = record {

@@ -1,4 +1,5 @@
 -- Items by their numbers, and the records that the sides have under them.
+use Rattle.std.proofs.lemmas.Grind.{common_steps}
 use Rattle.std.proofs.Common.{◌≡◌, ◌≤◌, ◌<◌, ◌+◌, ℕ, zero, suc, ◌==◌, ◌%◌, Bool, true, false, refl, sym, subst, ap, ◌∙◌, arith, List, [], ◌∷◌, length, if◌then◌else◌, Option, Some, None, option_to_list}
 use Rattle.std.specs.Option.{option_map, option_and_then, option_or}
 use Rattle.std.proofs.lemmas.Bool.Decides.{nat_tests}
@@ -37,29 +38,25 @@ item_at-behind number from (item ∷ items) are behind = grind (arith, nat_tests
 -- ---- records under a number
 
 one_letter : (number : ℕ) (item : Item) (letter : Option ℕ) → 0 < number
-    → first number (option_to_list (option_map (record_with item) letter))
-    ≡ (if item.number == number then (if item.kind == 9 then None else option_map (record_with item) letter) else None)
-one_letter number item None some = grind (arith, nat_tests)
-one_letter number item (Some letter) some = grind (arith, nat_tests)
+    → first number (option_to_list (option_map (record_with item) letter)) ≡
+    (if item.number == number then (if item.kind == 9 then None else option_map (record_with item) letter) else None)
+one_letter number item letter e = grind arith
 
-one_record : (side : MadeSide) (number : ℕ) (item : Item) → 0 < number → first number (option_to_list (record_on side item))
-    ≡ (if item.number == number then known_on side item else None)
+one_record : (side : MadeSide) (number : ℕ) (item : Item) → 0 < number
+    → first number (option_to_list (record_on side item)) ≡ (if item.number == number then known_on side item else None)
 one_record side number item some = one_letter number item (letter_on side item.kind) some
 
 or_none : {A : Type 0} (o : Option A) → option_or o None ≡ o
-or_none None = refl
-or_none (Some a) = refl
+or_none o = grind arith
 
 here_or_later : (side : MadeSide) (item : Item) (later : Option Item) (is : Bool) → (is ≡ true → later ≡ None)
     → option_or (if is then known_on side item else None) (option_and_then (known_on side) later) ≡ option_and_then (known_on side)
     (if is then Some item else later)
-here_or_later side item later true none = ap (λ o. option_or (known_on side item) (option_and_then (known_on side) o)) (none refl)
-    ∙ or_none (known_on side item)
-here_or_later side item later false none = refl
+here_or_later side item later is e = grind arith
 
 -- the first record of a number is that of its item
-pub first_on : (side : MadeSide) (number from : ℕ) (items : List Item) → AreMade from items → 0 < number → first number (records_on side items)
-    ≡ option_and_then (known_on side) (item_at number items)
+pub first_on : (side : MadeSide) (number from : ℕ) (items : List Item) → AreMade from items → 0 < number
+    → first number (records_on side items) ≡ option_and_then (known_on side) (item_at number items)
 first_on side number from [] are some = refl
 first_on side number from (item ∷ items) are some =
     find-append (λ (r : Record). r.id == number) (option_to_list (record_on side item)) (records_on side items)

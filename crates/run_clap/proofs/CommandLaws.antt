@@ -1,4 +1,5 @@
 -- Words in the form are taken by the command of what they ask for, and its matches hold that.
+use Rattle.std.proofs.lemmas.Grind.{common_steps}
 use Rattle.std.proofs.Common.{◌≡◌, ℕ, suc, ◌<◌, ◌==◌, ◌&&◌, Bool, true, false, cond, List, [], ◌∷◌, length, refl, ap, ◌∙◌, arith, Option, Some, None}
 use Rattle.std.specs.Prelude.{option_and_then, not}
 use Rattle.std.specs.Char.{is_ascii_digit}
@@ -15,18 +16,13 @@ use Rattle.run_words.specs.Words.{is_hex, is_hex_length, is_lower_digit, is_plai
 use Rattle.run_clap.specs.Apps.{file_app, make_app, packet_app, run_app}
 use Rattle.run_clap.specs.Reads.{HoldsTask, task_app}
 use Rattle.run_clap.proofs.FormLaws.{takes_run, matches_run, run_is_simple}
-use Rattle.run_clap.proofs.PlainLaws.{file_takes, file_matches, packet_takes, packet_matches, make_takes, seed_matches, count_matches}
+use Rattle.run_clap.proofs.PlainLaws.{file_takes, file_matches, packet_takes, packet_matches, make_takes, make_matches}
 use Rattle.run_clap.proofs.TaskLaws.{Asks, words_ask}
 
 -- ---- hexadecimal and numbers are plain words
 
 plain_digits : (word : Text) → list_all is_lower_digit word ≡ true → 0 < length word → is_plain word ≡ true
-plain_digits [] all some = absurd (omega (arith, some))
-plain_digits (x ∷ xs) all some =
-    let digit = (and_parts (is_lower_digit x) (list_all is_lower_digit xs) all).0 in
-    let apart : (x == 45) ≡ false = grind (arith, nat_tests, digit) in
-    let long : (suc (length xs) == 0) ≡ false = grind (arith, nat_tests) in
-    rw (long, apart) refl
+plain_digits word e f = grind (arith, common_steps)
 
 long_hex : (count : ℕ) → is_hex_length count ≡ true → 0 < count
 long_hex count e = grind (arith, nat_tests, e)
@@ -37,30 +33,23 @@ hex_is_plain word e =
     plain_digits word parts.1 (long_hex (length word) parts.0)
 
 plain_number : (word : Text) → list_all is_ascii_digit word ≡ true → not (length word == 0) ≡ true → is_plain word ≡ true
-plain_number [] all some = let no : ◌≡◌ {A = Bool} false true = some in cc
-plain_number (x ∷ xs) all some =
-    let digit = (and_parts (is_ascii_digit x) (list_all is_ascii_digit xs) all).0 in
-    let apart : (x == 45) ≡ false = grind (arith, nat_tests, digit) in
-    let long : (suc (length xs) == 0) ≡ false = grind (arith, nat_tests) in
-    rw (long, apart) refl
+plain_number word e f = grind (arith, common_steps)
 
-tested : (b : Bool) (n : ℕ) (number : ℕ) → cond b (Some n) None ≡ Some number → b ≡ true
-tested true n number e = refl
-tested false n number e = cc
+tested : (b : Bool) (n : ℕ) {number : ℕ} → cond b (Some n) None ≡ Some number → b ≡ true
+tested b n e = grind arith
 
-number_is_plain : (word : Text) (number : ℕ) → number_of word ≡ Some number → is_plain word ≡ true
-number_is_plain word number e =
-    let passes = and_parts (is_number word) _ (tested _ _ number e) in
+number_is_plain : (word : Text) {number : ℕ} → number_of word ≡ Some number → is_plain word ≡ true
+number_is_plain word e =
+    let passes = and_parts (is_number word) _ (tested _ _ e) in
     let parts = and_parts (not (length word == 0) && list_all is_ascii_digit word) _ passes.0 in
     let digits = and_parts (not (length word == 0)) (list_all is_ascii_digit word) parts.0 in
     plain_number word digits.1 digits.0
 
-some_number : (o : Option ℕ) (count : ℕ) → option_and_then as_count o ≡ Some count → (number : ℕ) × (o ≡ Some number)
-some_number None count e = cc
-some_number (Some number) count e = (number, refl)
+some_number : (o : Option ℕ) {count : ℕ} → option_and_then as_count o ≡ Some count → (number : ℕ) × (o ≡ Some number)
+some_number o e = grind arith
 
-count_is_plain : (word : Text) (count : ℕ) → count_of word ≡ Some count → is_plain word ≡ true
-count_is_plain word count e = let number = some_number (number_of word) count e in number_is_plain word number.0 number.1
+count_is_plain : (word : Text) {count : ℕ} → count_of word ≡ Some count → is_plain word ≡ true
+count_is_plain word e = let number = some_number (number_of word) e in number_is_plain word number.1
 
 -- ---- each command
 
@@ -72,32 +61,24 @@ task_is_simple (Scan bytes) = refl
 task_is_simple (Make seed count) = refl
 
 asked_takes : (words : List Text) (task : Task) → Asks words task → takes (task_app task) words ≡ true
-asked_takes words (Sync run) a = ap (takes run_app) a.2 ∙ takes_run a.0 a.1 run a.3
+asked_takes words (Sync run) a = ap (takes run_app) a.2 ∙ takes_run a.0 a.1 a.3
 asked_takes words (LookAt look file) a = ap (takes file_app) a.1 ∙ file_takes a.0 file a.2
 asked_takes words (Scan bytes) a = ap (takes packet_app) a.2 ∙ packet_takes a.0 a.1 (hex_is_plain a.1 a.3)
-asked_takes words (Make seed count) a = ap (takes make_app) a.3 ∙ make_takes a.0 a.1 a.2 (number_is_plain a.1 seed a.4) (count_is_plain a.2 count a.5)
+asked_takes words (Make seed count) a = ap (takes make_app) a.3 ∙ make_takes a.0 a.1 a.2 (number_is_plain a.1 a.4) (count_is_plain a.2 a.5)
 
-asked_matches : (words : List Text) (task : Task) (found : Found) → Asks words task → rows_of found ≡ matches_of (task_app task) words → HoldsTask found task
+asked_matches : (words : List Text) (task : Task) (found : Found) → Asks words task → rows_of found ≡ matches_of (task_app task) words
+    → HoldsTask found task
 asked_matches words (Sync run) found a rows = matches_run a.0 a.1 run found a.3 (rows ∙ ap (matches_of run_app) a.2)
 asked_matches words (LookAt look file) found a rows = file_matches a.0 file found a.2 (rows ∙ ap (matches_of file_app) a.1)
 asked_matches words (Scan bytes) found a rows =
     record { hex = a.1; held = packet_matches a.0 a.1 found (hex_is_plain a.1 a.3) (rows ∙ ap (matches_of packet_app) a.2); stands = a.4 }
 asked_matches words (Make seed count) found a rows =
-    let one = number_is_plain a.1 seed a.4 in
-    let two = count_is_plain a.2 count a.5 in
-    let same = rows ∙ ap (matches_of make_app) a.3 in
-    record {
-      one = a.1;
-      two = a.2;
-      held = seed_matches a.0 a.1 a.2 found one two same;
-      held_too = count_matches a.0 a.1 a.2 found one two same;
-      number = a.4;
-      counted = a.5;
-    }
+    let matches = make_matches a.0 a.1 a.2 found (number_is_plain a.1 a.4) (count_is_plain a.2 a.5) (rows ∙ ap (matches_of make_app) a.3) in
+    record { one = a.1; two = a.2; held = matches.0; held_too = matches.1; number = a.4; counted = a.5 }
 
 pub task_takes : (words : List Text) (task : Task) → task_of words ≡ Some task → takes (task_app task) words ≡ true
-task_takes words task e = asked_takes words task (words_ask words task e)
+task_takes words task e = asked_takes words task (words_ask words e)
 
 pub task_matches : (words : List Text) (task : Task) (found : Found) → task_of words ≡ Some task → rows_of found ≡ matches_of (task_app task) words
     → HoldsTask found task
-task_matches words task found e rows = asked_matches words task found (words_ask words task e) rows
+task_matches words task found e rows = asked_matches words task found (words_ask words e) rows

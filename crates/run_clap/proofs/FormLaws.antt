@@ -1,8 +1,9 @@
 -- Words that ask for a run are taken by `clap`, which gives the same run.
+use Rattle.std.proofs.lemmas.Grind.{common_steps}
 use Rattle.std.proofs.Common.{◌≡◌, ℕ, ◌==◌, Bool, true, false, List, [], ◌∷◌, ◌++◌, ◌||◌, length, subst, cond, refl, sym, ap, ◌∙◌, codes, Option, Some, None, option_map, arith}
 use Rattle.clap.specs.Walk.{row_text, rows_of}
 use Rattle.clap.specs.Simple.{matches_of, is_simple}
-use Rattle.clap.specs.Matches.{first_value}
+use Rattle.clap.specs.Matches.{first_value, one_text}
 use Rattle.clap.specs.declared.parser.matches.Found.{Found}
 use Rattle.clap.proofs.WalkLemmas.{first_value-rows, one_text-rows}
 use Rattle.run_clap.specs.Reads.{HoldsRun}
@@ -19,21 +20,17 @@ use Rattle.run_words.specs.Actions.{is_actions_text}
 use Rattle.run_words.specs.Runs.{Given, Run, whole, whole_of, run_of, nothing, once, actions_once, date_once, with_plain, with_word, with_words}
 use Rattle.run_words.specs.Words.{after, Kind, plain_word, date_value, script_value, trace_value, actions_value, slow_word, add_user_word, unknown_word, or_kind, is_plain, kind_of}
 use Rattle.run_clap.specs.Apps.{run_app}
-use Rattle.run_clap.proofs.WalkLaws.{find_row, row_for, flag_row, find-append, or_none, at_row-none, Fits, Turns, at, shape, rules, script_turns, trace_turns, actions_turns, date_turns, slow_turns, add_user_turns, handheld_turns, desktop_turns}
+use Rattle.run_clap.proofs.WalkLaws.{find_row, row_for, flag_row, find-append, or_none, at_row-none, Argument, of_handheld, of_desktop, of_date, of_script, of_trace, of_actions, of_slow, of_add_user, id_of, row_in, Fits, Turns, at, shape, rules, named_turns, date_turns, handheld_turns, desktop_turns}
 
-kept : (b : Bool) (o : Option Text) (rest : Text) → cond b o None ≡ Some rest → (b ≡ true) × (o ≡ Some rest)
-kept true o rest e = (refl, e)
-kept false o rest e = cc
+kept : (b : Bool) (o : Option Text) {rest : Text} → cond b o None ≡ Some rest → (b ≡ true) × (o ≡ Some rest)
+kept b o e = grind arith
 
 -- ---- what a word of a kind is
 
 after-is : (name text rest : Text) → after name text ≡ Some rest → text ≡ name ++ rest
 after-is [] text rest e = cc
 after-is (x ∷ xs) [] rest e = cc
-after-is (x ∷ xs) (y ∷ ys) rest e =
-    let parts = kept (x == y) (after xs ys) rest e in
-    let same : x ≡ y = grind (arith, nat_tests, parts.0) in
-    rw (same, after-is xs ys rest parts.1) refl
+after-is (x ∷ xs) (y ∷ ys) rest e = grind (arith, after-is xs ys rest (kept (x == y) (after xs ys) e).1)
 
 pub record IsPlain (word : Text) : Type 0 where
   pub first : ℕ
@@ -57,8 +54,7 @@ plain-is (x ∷ xs) e = record { first = x; rest = xs; is = refl; no_dash = grin
 
 chain : (word : Text) (a b c d : Option Text) (s u p : Bool)
     → ((v : Text) → a ≡ Some v → word ≡ codes "--date=" ++ v) → ((v : Text) → b ≡ Some v → word ≡ codes "--script=" ++ v)
-    → ((v : Text) → c ≡ Some v → word ≡ codes "--trace=" ++ v)
-    → ((v : Text) → d ≡ Some v → word ≡ codes "--actions=" ++ v)
+    → ((v : Text) → c ≡ Some v → word ≡ codes "--trace=" ++ v) → ((v : Text) → d ≡ Some v → word ≡ codes "--actions=" ++ v)
     → (s ≡ true → word ≡ codes "--slow") → (u ≡ true → word ≡ codes "--add-user") → (p ≡ true → IsPlain word)
     → IsOfKind (or_kind (option_map date_value a) (or_kind (option_map script_value b) (or_kind (option_map trace_value c) (or_kind (option_map actions_value d)
     (cond s slow_word (cond u add_user_word (cond p (plain_word word) unknown_word))))))) word
@@ -82,99 +78,58 @@ kind-is word =
 
 -- ---- what a word gave
 
-over : (b : Bool) (slot : Option Text) (f : Option Text → Given) → cond b None (Some (f slot)) ≡ option_map f (cond b None (Some slot))
-over true slot f = refl
-over false slot f = refl
+one_not : (b : Bool) {one more : Given} → cond b None (Some one) ≡ Some more → (b ≡ false) × (one ≡ more)
+one_not b e = grind arith
 
-some_of : (b : Bool) (one more : Given) → cond b None (Some one) ≡ Some more → one ≡ more
-some_of true one more e = cc
-some_of false one more e = cc
-
-once-is : (slot : Option Text) (value : Text) (f : Option Text → Given) (more : Given) → option_map f (once slot value) ≡ Some more
+once-is : (slot : Option Text) (value : Text) (f : Option Text → Given) {more : Given} → option_map f (once slot value) ≡ Some more
     → (slot ≡ None) × (f (Some value) ≡ more)
-once-is None value f more e = (refl, some_of (length value == 0) (f (Some value)) more (over (length value == 0) (Some value) f ∙ e))
-once-is (Some x) value f more e = cc
+once-is slot value f e = grind arith
 
-under : (b : Bool) (slot : Option Text) (f : Option Text → Given) → option_map f (cond b (Some slot) None) ≡ cond b (Some (f slot)) None
-under true slot f = refl
-under false slot f = refl
-
-some_when : (b : Bool) (one more : Given) → cond b (Some one) None ≡ Some more → one ≡ more
-some_when true one more e = cc
-some_when false one more e = cc
-
-actions-is : (slot : Option Text) (value : Text) (f : Option Text → Given) (more : Given) → option_map f (actions_once slot value) ≡ Some more
+actions-is : (slot : Option Text) (value : Text) (f : Option Text → Given) {more : Given} → option_map f (actions_once slot value) ≡ Some more
     → (slot ≡ None) × (f (Some value) ≡ more)
-actions-is None value f more e = (refl, some_when (is_actions_text value) (f (Some value)) more (sym (under (is_actions_text value) (Some value) f) ∙ e))
-actions-is (Some x) value f more e = cc
+actions-is slot value f e = grind arith
 
-read-is : (o : Option ℕ) (f : Option ℕ → Given) (more : Given) → option_map f (option_map (λ seconds. Some seconds) o) ≡ Some more
-    → (seconds : ℕ) × (o ≡ Some seconds) × (f (Some seconds) ≡ more)
-read-is None f more e = cc
-read-is (Some seconds) f more e = (seconds, refl, cc)
-
-date-is : (slot : Option ℕ) (value : Text) (f : Option ℕ → Given) (more : Given) → option_map f (date_once slot value) ≡ Some more
+date-is : (slot : Option ℕ) (value : Text) (f : Option ℕ → Given) {more : Given} → option_map f (date_once slot value) ≡ Some more
     → (slot ≡ None) × ((seconds : ℕ) × (read_text value ≡ Some seconds) × (f (Some seconds) ≡ more))
-date-is None value f more e = (refl, read-is (read_text value) f more e)
-date-is (Some x) value f more e = cc
-
-slow-is : (given more : Given) (b : Bool) → cond b None (Some (record given { slow = true })) ≡ Some more → (b ≡ false) × (record given { slow = true } ≡ more)
-slow-is given more true e = cc
-slow-is given more false e = (refl, cc)
-
-add_user-is : (given more : Given) (b : Bool) → cond b None (Some (record given { add_user = true })) ≡ Some more
-    → (b ≡ false) × (record given { add_user = true } ≡ more)
-add_user-is given more true e = cc
-add_user-is given more false e = (refl, cc)
+date-is slot value f e = grind arith
 
 -- ---- one word
 
-plain_turns : (given more : Given) (word : Text) (place : ℕ) (h : Held) (a b : Option Text) → Fits given place h → IsPlain word → given.handheld ≡ a
-    → given.desktop ≡ b → with_plain given a b word ≡ Some more → Turns word more place h
-plain_turns given more word place h None b f plain handheld desktop e =
-    let same : record given { handheld = Some word } ≡ more = cc in
-    let turns = handheld_turns given plain.first plain.rest place h f plain.no_dash handheld in
-    subst (λ g. Turns word g place h) same (subst (λ w. Turns w (record given { handheld = Some w }) place h) (sym plain.is) turns)
-plain_turns given more word place h (Some first) None f plain handheld desktop e =
-    let same : record given { desktop = Some word } ≡ more = cc in
-    let turns = desktop_turns given first plain.first plain.rest place h f plain.no_dash handheld desktop in
-    subst (λ g. Turns word g place h) same (subst (λ w. Turns w (record given { desktop = Some w }) place h) (sym plain.is) turns)
-plain_turns given more word place h (Some first) (Some second) f plain handheld desktop e = cc
+module _ {given more : Given} (word : Text) {place : ℕ} {h : Held} (f : Fits given place h) where
+  turned : {other : Text} {as_given : Given} → word ≡ other → as_given ≡ more → Turns other as_given place h → Turns word more place h
+  turned {as_given = as_given} is same turns = subst (λ g. Turns word g place h) same (subst (λ w. Turns w as_given place h) (sym is) turns)
 
-kind_turns : (given more : Given) (word : Text) (place : ℕ) (h : Held) → Fits given place h → (k : Kind) → IsOfKind k word
-    → with_word given k ≡ Some more → Turns word more place h
-unfolding with_word
-kind_turns given more word place h f (plain_word same) is e =
-    plain_turns given more word place h given.handheld given.desktop f is.1 refl refl (rw is.0 at e)
-kind_turns given more word place h f (date_value value) is e =
-    let parts = date-is given.date value (λ slot. record given { date = slot }) more e in
-    let text = text_is_date_text value parts.1.0 parts.1.1 in
-    subst (λ g. Turns word g place h) parts.1.2 (subst (λ w. Turns w (record given { date = Some parts.1.0 }) place h) (sym is)
-    (date_turns given parts.1.0 value place h f parts.0 text.0 (ap read_text (sym text.0) ∙ parts.1.1)))
-kind_turns given more word place h f (script_value value) is e =
-    let parts = once-is given.script value (λ slot. record given { script = slot }) more e in
-    subst (λ g. Turns word g place h) parts.1 (subst (λ w. Turns w (record given { script = Some value }) place h) (sym is)
-    (script_turns given value place h f parts.0))
-kind_turns given more word place h f (trace_value value) is e =
-    let parts = once-is given.trace value (λ slot. record given { trace = slot }) more e in
-    subst (λ g. Turns word g place h) parts.1 (subst (λ w. Turns w (record given { trace = Some value }) place h) (sym is)
-    (trace_turns given value place h f parts.0))
-kind_turns given more word place h f (actions_value value) is e =
-    let parts = actions-is given.actions value (λ slot. record given { actions = slot }) more e in
-    subst (λ g. Turns word g place h) parts.1 (subst (λ w. Turns w (record given { actions = Some value }) place h) (sym is)
-    (actions_turns given value place h f parts.0))
-kind_turns given more word place h f add_user_word is e =
-    let parts = add_user-is given more given.add_user e in
-    subst (λ g. Turns word g place h) parts.1 (subst (λ w. Turns w (record given { add_user = true }) place h) (sym is)
-    (add_user_turns given place h f parts.0))
-kind_turns given more word place h f slow_word is e =
-    let parts = slow-is given more given.slow e in
-    subst (λ g. Turns word g place h) parts.1 (subst (λ w. Turns w (record given { slow = true }) place h) (sym is) (slow_turns given place h f parts.0))
-kind_turns given more word place h f unknown_word is e = cc
+  plain_turns : (a b : Option Text) → IsPlain word → given.handheld ≡ a → given.desktop ≡ b → with_plain given a b word ≡ Some more
+      → Turns word more place h
+  plain_turns None b plain handheld desktop e = turned plain.is (rw (sym plain.is) cc) (handheld_turns plain.first plain.rest f plain.no_dash handheld)
+  plain_turns (Some first) None plain handheld desktop e =
+      turned plain.is (rw (sym plain.is) cc) (desktop_turns plain.first plain.rest f plain.no_dash handheld desktop)
+  plain_turns (Some first) (Some second) plain handheld desktop e = cc
 
-word_turns : (given more : Given) (word : Text) (place : ℕ) (h : Held) → Fits given place h → with_word given (kind_of word) ≡ Some more
-    → Turns word more place h
-word_turns given more word place h f e = kind_turns given more word place h f (kind_of word) (kind-is word) e
+  kind_turns : (k : Kind) → IsOfKind k word → with_word given k ≡ Some more → Turns word more place h
+  unfolding with_word
+  kind_turns (plain_word same) is e = plain_turns given.handheld given.desktop is.1 refl refl (rw is.0 at e)
+  kind_turns (date_value value) is e =
+      let parts = date-is given.date value (λ slot. record given { date = slot }) e in
+      let text = text_is_date_text value parts.1.0 parts.1.1 in
+      turned (is ∙ ap (λ t. codes "--date=" ++ t) text.0) parts.1.2 (date_turns parts.1.0 f parts.0 (ap read_text (sym text.0) ∙ parts.1.1))
+  kind_turns (script_value value) is e =
+      let parts = once-is given.script value (λ slot. record given { script = slot }) e in
+      turned is parts.1 (named_turns of_script value refl f (ap (row_for (codes "script")) parts.0))
+  kind_turns (trace_value value) is e =
+      let parts = once-is given.trace value (λ slot. record given { trace = slot }) e in
+      turned is parts.1 (named_turns of_trace value refl f (ap (row_for (codes "trace")) parts.0))
+  kind_turns (actions_value value) is e =
+      let parts = actions-is given.actions value (λ slot. record given { actions = slot }) e in
+      turned is parts.1 (named_turns of_actions value refl f (ap (row_for (codes "actions")) parts.0))
+  kind_turns slow_word is e =
+      let parts = one_not given.slow e in turned is parts.1 (named_turns of_slow [] refl f (ap (flag_row (codes "slow")) parts.0))
+  kind_turns add_user_word is e =
+      let parts = one_not given.add_user e in turned is parts.1 (named_turns of_add_user [] refl f (ap (flag_row (codes "add-user")) parts.0))
+  kind_turns unknown_word is e = cc
+
+  word_turns : with_word given (kind_of word) ≡ Some more → Turns word more place h
+  word_turns e = kind_turns (kind_of word) (kind-is word) e
 
 -- ---- all words
 
@@ -185,20 +140,20 @@ record Ends (words : List Text) (more : Given) (place : ℕ) (h : Held) : Type 0
   pub goes : fold (walked rules []) (at place h) words ≡ at next_place next_held
   pub fits : Fits more next_place next_held
 
-after_one : (o : Option Given) (f : Given → Option Given) (more : Given) → option_and_then f o ≡ Some more
+after_one : (o : Option Given) (f : Given → Option Given) {more : Given} → option_and_then f o ≡ Some more
     → (mid : Given) × (o ≡ Some mid) × (f mid ≡ Some more)
-after_one None f more e = cc
-after_one (Some mid) f more e = (mid, refl, e)
+after_one o f e = grind arith
 
-words_end : (words : List Text) (given more : Given) (place : ℕ) (h : Held) → Fits given place h → with_words given words ≡ Some more → Ends words more place h
+words_end : (words : List Text) {given more : Given} {place : ℕ} {h : Held} → Fits given place h → with_words given words ≡ Some more
+    → Ends words more place h
 unfolding with_words walk_passes run_app
-words_end [] given more place h f e =
+words_end [] {given} {more} {place} {h} f e =
     let same : given ≡ more = cc in
     record { next_place = place; next_held = h; passes = refl; goes = refl; fits = subst (λ g. Fits g place h) same f }
-words_end (word ∷ words) given more place h f e =
-    let mid = after_one (with_word given (kind_of word)) (λ g. with_words g words) more e in
-    let turns = word_turns given mid.0 word place h f mid.1 in
-    let rest = words_end words mid.0 more turns.next_place turns.next_held turns.fits mid.2 in
+words_end (word ∷ words) {given} f e =
+    let mid = after_one (with_word given (kind_of word)) (λ g. with_words g words) e in
+    let turns = word_turns word f mid.1 in
+    let rest = words_end words turns.fits mid.2 in
     let passes = turns.passes in
     let goes = turns.goes in
     record {
@@ -212,7 +167,7 @@ words_end (word ∷ words) given more place h f e =
 fits_nothing : Fits nothing 1 nothing_held
 fits_nothing = record {
   settles = refl;
-  holds = record { handheld = refl; desktop = refl; date = refl; script = refl; trace = refl; actions = refl; slow = refl; add_user = refl };
+  holds = record { each = elim [ of_handheld ↦ refl | argument ↦ refl ] };
   position = refl;
   order = λ e. refl;
   dated = λ seconds e. cc;
@@ -221,8 +176,7 @@ fits_nothing = record {
 -- ---- the defaults
 
 cond_same : (b : Bool) (rows : List Row) → cond b rows rows ≡ rows
-cond_same true rows = refl
-cond_same false rows = refl
+cond_same b rows = grind arith
 
 -- a flag that wasn't given is `false`
 abbrev with_default : Text → Bool → List Row → List Row
@@ -253,8 +207,7 @@ find_default : (flag id : Text) (b : Bool) (rows : List Row) → has_row flag ro
     → find_row id (with_default flag b rows) ≡ find_row id rows
 find_default flag id true rows has apart = refl
 find_default flag id false rows none apart =
-    let added = at_row-none flag (more_values DefaultValue (codes "false" ∷ [])) (default_row flag ∷ []) rows none in
-    rw added (find-append id rows (default_row flag) ∙ rw apart (or_none (find_row id rows)))
+    grind (arith, at_row-none flag (more_values DefaultValue (codes "false" ∷ [])) (default_row flag ∷ []) rows none, find-append id rows (default_row flag))
 
 find_both : (id : Text) (rows : List Row) → bytes_eq (codes "slow") id ≡ false → bytes_eq (codes "add-user") id ≡ false
     → find_row id (with_both rows) ≡ find_row id rows
@@ -279,9 +232,9 @@ record IsRun (given : Given) (run : Run) : Type 0 where
   pub slow : given.slow ≡ run.slow
   pub add_user : given.add_user ≡ run.add_user
 
-whole-is : (given : Given) (a b : Option Text) (d : Option ℕ) (run : Run) → given.handheld ≡ a → given.desktop ≡ b → given.date ≡ d
+whole-is : (given : Given) (a b : Option Text) (d : Option ℕ) {run : Run} → given.handheld ≡ a → given.desktop ≡ b → given.date ≡ d
     → whole_of given a b d ≡ Some run → IsRun given run
-whole-is given (Some a) (Some b) (Some d) run ea eb ed e = record {
+whole-is given (Some a) (Some b) (Some d) ea eb ed e = record {
   handheld = ea ∙ cc;
   desktop = eb ∙ cc;
   date = ed ∙ cc;
@@ -291,23 +244,23 @@ whole-is given (Some a) (Some b) (Some d) run ea eb ed e = record {
   slow = cc;
   add_user = cc;
 }
-whole-is given None b d run ea eb ed e = cc
-whole-is given (Some a) None d run ea eb ed e = cc
-whole-is given (Some a) (Some b) None run ea eb ed e = cc
+whole-is given None b d ea eb ed e = cc
+whole-is given (Some a) None d ea eb ed e = cc
+whole-is given (Some a) (Some b) None ea eb ed e = cc
 
 -- `clap` takes the words of a run
-takes_given : (first : Text) (words : List Text) (given : Given) (run : Run) → with_words nothing words ≡ Some given → IsRun given run
+takes_given : (first : Text) (words : List Text) {given : Given} {run : Run} → with_words nothing words ≡ Some given → IsRun given run
     → takes run_app (first ∷ words) ≡ true
 unfolding run_app
-takes_given first words given run e is =
-    let end = words_end words nothing given 1 nothing_held fits_nothing e in
+takes_given first words e is =
+    let end = words_end words fits_nothing e in
     let passes = end.passes in
     let goes = end.goes in
     let settles = end.fits.settles in
     let holds = end.fits.holds in
-    let handheld = find_finished (codes "handheld") end.next_held refl refl ∙ holds.handheld ∙ ap (row_for (codes "handheld")) is.handheld in
-    let desktop = find_finished (codes "desktop") end.next_held refl refl ∙ holds.desktop ∙ ap (row_for (codes "desktop")) is.desktop in
-    let date = find_finished (codes "date") end.next_held refl refl ∙ holds.date ∙ ap (λ o. row_for (codes "date") (option_map date_text o)) is.date in
+    let handheld = find_finished (codes "handheld") end.next_held refl refl ∙ holds.each of_handheld ∙ ap (row_for (codes "handheld")) is.handheld in
+    let desktop = find_finished (codes "desktop") end.next_held refl refl ∙ holds.each of_desktop ∙ ap (row_for (codes "desktop")) is.desktop in
+    let date = find_finished (codes "date") end.next_held refl refl ∙ holds.each of_date ∙ ap (λ o. row_for (codes "date") (option_map date_text o)) is.date in
     rw (goes, passes, settles, handheld, desktop, date) refl
 
 -- and gives the run
@@ -315,16 +268,11 @@ abbrev value_in : Option Row → Option Text
 value_in = option_and_then (λ r. slice_get r.values 0)
 
 in_row : (id : Text) (o : Option Text) → value_in (row_for id o) ≡ o
-in_row id None = refl
-in_row id (Some v) = refl
-
-some_cond : (b : Bool) (x : Row) (o : Option Row) → (b || is_some o) ≡ is_some (cond b (Some x) o)
-some_cond true x o = refl
-some_cond false x o = refl
+in_row id o = grind arith
 
 has_row-find : (id : Text) (rows : List Row) → has_row id rows ≡ is_some (find_row id rows)
 has_row-find id [] = refl
-has_row-find id (x ∷ xs) = ap (λ b. bytes_eq x.id id || b) (has_row-find id xs) ∙ some_cond (bytes_eq x.id id) x (find_row id xs)
+has_row-find id (x ∷ xs) = grind (arith, has_row-find id xs)
 
 flag_in : (id : Text) (b c : Bool) (rows : List Row) → bytes_eq id id ≡ true → find_row id rows ≡ flag_row id b → has_row id rows ≡ c
     → option_and_then row_text (find_row id (with_default id c rows)) ≡ Some (cond b (codes "true") (codes "false"))
@@ -332,15 +280,16 @@ flag_in id true true rows same e has = rw e refl
 flag_in id true false rows same e has = let none = sym has ∙ has_row-find id rows ∙ ap is_some e in cc
 flag_in id false true rows same e has = let none = sym has ∙ has_row-find id rows ∙ ap is_some e in cc
 flag_in id false false rows same e has =
-    let added = at_row-none id (more_values DefaultValue (codes "false" ∷ [])) (default_row id ∷ []) rows has in
-    let found = find-append id rows (default_row id) in
-    rw (added, found, e, same) refl
+    grind (arith, at_row-none id (more_values DefaultValue (codes "false" ∷ [])) (default_row id ∷ []) rows has, find-append id rows (default_row id))
 
 slow_in : (b : Bool) (rows : List Row) → find_row (codes "slow") rows ≡ flag_row (codes "slow") b
     → option_and_then row_text (find_row (codes "slow") (with_both rows)) ≡ Some (cond b (codes "true") (codes "false"))
 slow_in b rows e =
-    ap (option_and_then row_text) (find_default (codes "add-user") (codes "slow") (has_row (codes "add-user") (with_slow rows)) (with_slow rows) refl refl)
-    ∙ flag_in (codes "slow") b (has_row (codes "slow") rows) rows refl e refl
+    grind (
+      arith,
+      find_default (codes "add-user") (codes "slow") (has_row (codes "add-user") (with_slow rows)) (with_slow rows) refl refl,
+      flag_in (codes "slow") b (has_row (codes "slow") rows) rows refl e refl,
+    )
 
 add_user_in : (b : Bool) (rows : List Row) → find_row (codes "add-user") rows ≡ flag_row (codes "add-user") b
     → option_and_then row_text (find_row (codes "add-user") (with_both rows)) ≡ Some (cond b (codes "true") (codes "false"))
@@ -348,55 +297,54 @@ add_user_in b rows e =
     flag_in (codes "add-user") b (has_row (codes "add-user") (with_slow rows)) (with_slow rows) refl
     (find_default (codes "slow") (codes "add-user") (has_row (codes "slow") rows) rows refl refl ∙ e) refl
 
-matches_given : (first : Text) (words : List Text) (given : Given) (run : Run) (found : Found) → with_words nothing words ≡ Some given → IsRun given run
+matches_given : (first : Text) (words : List Text) {given : Given} (run : Run) (found : Found) → with_words nothing words ≡ Some given → IsRun given run
     → rows_of found ≡ matches_of run_app (first ∷ words) → HoldsRun found run
 unfolding run_app
-matches_given first words given run found e is rows =
-    let end = words_end words nothing given 1 nothing_held fits_nothing e in
+matches_given first words {given} run found e is rows =
+    let end = words_end words fits_nothing e in
     let goes = end.goes in
     let holds = end.fits.holds in
     let last = (settled rules end.next_held).rows in
     let at_end : rows_of found ≡ finished rules end.next_held = rows ∙ rw goes refl in
-    let value : (id : Text) → bytes_eq (codes "slow") id ≡ false → bytes_eq (codes "add-user") id ≡ false → first_value found id ≡ value_in
-    (find_row id (settled rules end.next_held).rows) = λ id slow add_user.
-    first_value-rows found id ∙ ap (first_of id) at_end ∙ ap value_in (find_finished id end.next_held slow add_user) in
+    let value : (argument : Argument) → bytes_eq (codes "slow") (id_of argument) ≡ false → bytes_eq (codes "add-user") (id_of argument) ≡ false
+    → first_value found (id_of argument) ≡ value_in (row_in given argument) =
+    λ argument slow add_user. first_value-rows found (id_of argument) ∙ ap (first_of (id_of argument)) at_end
+    ∙ ap value_in (find_finished (id_of argument) end.next_held slow add_user ∙ holds.each argument) in
+    let flag : (argument : Argument) → one_text found (id_of argument) ≡ option_and_then row_text (find_row (id_of argument) (with_both last)) =
+    λ argument. one_text-rows found (id_of argument) ∙ ap (one_of (id_of argument)) (at_end ∙ finished-is end.next_held) in
     record {
-      handheld = value (codes "handheld") refl refl ∙ ap value_in holds.handheld ∙ in_row (codes "handheld") given.handheld ∙ is.handheld;
-      desktop = value (codes "desktop") refl refl ∙ ap value_in holds.desktop ∙ in_row (codes "desktop") given.desktop ∙ is.desktop;
+      handheld = value of_handheld refl refl ∙ in_row (codes "handheld") given.handheld ∙ is.handheld;
+      desktop = value of_desktop refl refl ∙ in_row (codes "desktop") given.desktop ∙ is.desktop;
       dated = end.fits.dated run.date is.date;
-      date = value (codes "date") refl refl ∙ ap value_in holds.date ∙ in_row (codes "date") (option_map date_text given.date)
-          ∙ ap (option_map date_text) is.date;
-      script = value (codes "script") refl refl ∙ ap value_in holds.script ∙ in_row (codes "script") given.script ∙ is.script;
-      trace = value (codes "trace") refl refl ∙ ap value_in holds.trace ∙ in_row (codes "trace") given.trace ∙ is.trace;
-      actions = value (codes "actions") refl refl ∙ ap value_in holds.actions ∙ in_row (codes "actions") given.actions ∙ is.actions;
-      slow = one_text-rows found (codes "slow") ∙ ap (one_of (codes "slow")) (at_end ∙ finished-is end.next_held) ∙ slow_in given.slow last holds.slow
-          ∙ ap (λ b. Some (cond b (codes "true") (codes "false"))) is.slow;
-      add_user = one_text-rows found (codes "add-user") ∙ ap (one_of (codes "add-user")) (at_end ∙ finished-is end.next_held)
-          ∙ add_user_in given.add_user last holds.add_user
+      date = value of_date refl refl ∙ in_row (codes "date") (option_map date_text given.date) ∙ ap (option_map date_text) is.date;
+      script = value of_script refl refl ∙ in_row (codes "script") given.script ∙ is.script;
+      trace = value of_trace refl refl ∙ in_row (codes "trace") given.trace ∙ is.trace;
+      actions = value of_actions refl refl ∙ in_row (codes "actions") given.actions ∙ is.actions;
+      slow = flag of_slow ∙ slow_in given.slow last (holds.each of_slow) ∙ ap (λ b. Some (cond b (codes "true") (codes "false"))) is.slow;
+      add_user = flag of_add_user ∙ add_user_in given.add_user last (holds.each of_add_user)
           ∙ ap (λ b. Some (cond b (codes "true") (codes "false"))) is.add_user;
     }
 
 -- the same of the words as a whole
-given_is : (o : Option Given) (run : Run) → option_and_then whole o ≡ Some run → (given : Given) × (o ≡ Some given) × (whole given ≡ Some run)
-given_is None run e = cc
-given_is (Some given) run e = (given, refl, e)
+given_is : (o : Option Given) {run : Run} → option_and_then whole o ≡ Some run → (given : Given) × (o ≡ Some given) × (whole given ≡ Some run)
+given_is o e = grind arith
 
-run_parts : (words : List Text) (run : Run) → run_of words ≡ Some run → (given : Given) × (with_words nothing words ≡ Some given) × IsRun given run
+run_parts : (words : List Text) {run : Run} → run_of words ≡ Some run → (given : Given) × (with_words nothing words ≡ Some given) × IsRun given run
 unfolding run_of whole
-run_parts words run e =
-    let given = given_is (with_words nothing words) run e in
-    (given.0, given.1, whole-is given.0 given.0.handheld given.0.desktop given.0.date run refl refl refl given.2)
+run_parts words e =
+    let given = given_is (with_words nothing words) e in
+    (given.0, given.1, whole-is given.0 given.0.handheld given.0.desktop given.0.date refl refl refl given.2)
 
-pub takes_run : (first : Text) (words : List Text) (run : Run) → run_of words ≡ Some run → takes run_app (first ∷ words) ≡ true
-takes_run first words run e =
-    let parts = run_parts words run e in
-    takes_given first words parts.0 run parts.1 parts.2
+pub takes_run : (first : Text) (words : List Text) {run : Run} → run_of words ≡ Some run → takes run_app (first ∷ words) ≡ true
+takes_run first words e =
+    let parts = run_parts words e in
+    takes_given first words parts.1 parts.2
 
 pub matches_run : (first : Text) (words : List Text) (run : Run) (found : Found) → run_of words ≡ Some run
     → rows_of found ≡ matches_of run_app (first ∷ words) → HoldsRun found run
 matches_run first words run found e rows =
-    let parts = run_parts words run e in
-    matches_given first words parts.0 run found parts.1 parts.2 rows
+    let parts = run_parts words e in
+    matches_given first words run found parts.1 parts.2 rows
 
 pub run_is_simple : is_simple run_app ≡ true
 unfolding run_app

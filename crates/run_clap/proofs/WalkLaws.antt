@@ -1,5 +1,7 @@
 -- What `clap` makes of the words of a run.
-use Rattle.std.proofs.Common.{◌≡◌, ℕ, ◌==◌, Bool, true, false, List, [], ◌∷◌, ◌++◌, ◌||◌, ◌&&◌, subst, cond, append-nil, refl, sym, ap, ◌∙◌, codes, Option, Some, None, option_map}
+use Rattle.std.proofs.lemmas.Grind.{common_steps}
+use Rattle.std.proofs.lemmas.Bool.Decides.{nat_tests}
+use Rattle.std.proofs.Common.{arith, ◌≡◌, ℕ, ◌==◌, Bool, true, false, List, [], ◌∷◌, ◌++◌, ◌||◌, ◌&&◌, subst, cond, append-nil, refl, sym, ap, ◌∙◌, codes, Option, Some, None, option_map}
 use Rattle.std.specs.Prelude.{find}
 use Rattle.std.specs.Option.{option_or}
 use Rattle.clap.specs.declared.parser.matches.ValueSource.TheVariants.{CommandLine}
@@ -22,10 +24,6 @@ abbrev pub rules : List Rule
 rules = handheld_in ∷ desktop_in ∷ filled date_rule ∷ filled script_rule ∷ filled trace_rule ∷ filled actions_rule ∷ filled slow_rule ∷ filled
     add_user_rule ∷ []
 
-rules_are : (built run_app).top.rules ≡ rules
-unfolding run_app
-rules_are = refl
-
 -- ---- rows
 
 abbrev pub row : Text → List Text → Row
@@ -35,42 +33,30 @@ abbrev pub find_row : Text → List Row → Option Row
 find_row id rows = find (λ r. bytes_eq r.id id) rows
 
 or_cond : (b : Bool) (x : Row) (o q : Option Row) → cond b (Some x) (option_or o q) ≡ option_or (cond b (Some x) o) q
-or_cond true x o q = refl
-or_cond false x o q = refl
+or_cond b x o q = grind arith
 
-pub find-append : (id : Text) (rows : List Row) (x : Row) → find_row id (rows ++ x ∷ []) ≡ option_or (find_row id rows) (cond (bytes_eq x.id id) (Some x) None)
+pub find-append : (id : Text) (rows : List Row) (x : Row)
+    → find_row id (rows ++ x ∷ []) ≡ option_or (find_row id rows) (cond (bytes_eq x.id id) (Some x) None)
 find-append id [] x = refl
 find-append id (y ∷ ys) x = rw (find-append id ys x) (or_cond (bytes_eq y.id id) y _ _)
 
 pub or_none : (o : Option Row) → option_or o None ≡ o
-or_none None = refl
-or_none (Some x) = refl
-
-find_other : (id k : Text) (values : List Text) (rows : List Row) → bytes_eq k id ≡ false → find_row id (rows ++ row k values ∷ []) ≡ find_row id rows
-find_other id k values rows apart = find-append id rows (row k values) ∙ rw apart (or_none (find_row id rows))
-
-find_new : (k : Text) (values : List Text) (rows : List Row) → bytes_eq k k ≡ true → find_row k rows ≡ None
-    → find_row k (rows ++ row k values ∷ []) ≡ Some (row k values)
-find_new k values rows same none = find-append k rows (row k values) ∙ rw (none, same) refl
+or_none o = grind arith
 
 no_test : (b : Bool) (x : Row) (o : Option Row) → cond b (Some x) o ≡ None → (b ≡ false) × (o ≡ None)
-no_test true x o e = cc
-no_test false x o e = (refl, e)
+no_test b x o e = grind arith
 
 no_row : (id : Text) (rows : List Row) → find_row id rows ≡ None → has_row id rows ≡ false
 no_row id [] e = refl
 no_row id (x ∷ xs) e = let parts = no_test (bytes_eq x.id id) x (find_row id xs) e in let test = parts.0 in rw test (no_row id xs parts.1)
 
 no_or : (a b : Bool) → (a || b) ≡ false → (a ≡ false) × (b ≡ false)
-no_or true b e = cc
-no_or false b e = (refl, e)
+no_or a b e = grind arith
 
-pub at_row-none : (id : Text) (change : Row → List Row) (missing rows : List Row) → has_row id rows ≡ false → at_row id change missing rows ≡ rows ++ missing
+pub at_row-none : (id : Text) (change : Row → List Row) (missing rows : List Row) → has_row id rows ≡ false
+    → at_row id change missing rows ≡ rows ++ missing
 at_row-none id change missing [] e = refl
-at_row-none id change missing (x ∷ xs) e =
-    let parts = no_or (bytes_eq x.id id) (has_row id xs) e in
-    let test = parts.0 in
-    rw test (ap (λ rest. x ∷ rest) (at_row-none id change missing xs parts.1))
+at_row-none id change missing (x ∷ xs) e = grind (arith, at_row-none id change missing xs (no_or (bytes_eq x.id id) (has_row id xs) e).1)
 
 -- a first use of an argument adds its row
 with_values-new : (id : Text) (values : List Text) (rows : List Row) → has_row id rows ≡ false
@@ -81,21 +67,38 @@ with_values-new id values rows none =
 
 -- ---- what was given, as rows
 
+pub data Argument : Type 0 where
+  of_handheld of_desktop of_date of_script of_trace of_actions of_slow of_add_user : Argument
+
+abbrev pub id_of : Argument → Text
+id_of of_handheld = codes "handheld"
+id_of of_desktop = codes "desktop"
+id_of of_date = codes "date"
+id_of of_script = codes "script"
+id_of of_trace = codes "trace"
+id_of of_actions = codes "actions"
+id_of of_slow = codes "slow"
+id_of of_add_user = codes "add-user"
+
 abbrev pub row_for : Text → Option Text → Option Row
 row_for id = option_map (λ value. row id (value ∷ []))
 
 abbrev pub flag_row : Text → Bool → Option Row
 flag_row id given = cond given (Some (row id (codes "true" ∷ []))) None
 
+-- the row of an argument
+abbrev pub row_in : Given → Argument → Option Row
+row_in given of_handheld = row_for (codes "handheld") given.handheld
+row_in given of_desktop = row_for (codes "desktop") given.desktop
+row_in given of_date = row_for (codes "date") (option_map date_text given.date)
+row_in given of_script = row_for (codes "script") given.script
+row_in given of_trace = row_for (codes "trace") given.trace
+row_in given of_actions = row_for (codes "actions") given.actions
+row_in given of_slow = flag_row (codes "slow") given.slow
+row_in given of_add_user = flag_row (codes "add-user") given.add_user
+
 pub record Holds (given : Given) (rows : List Row) : Type 0 where
-  pub handheld : find_row (codes "handheld") rows ≡ row_for (codes "handheld") given.handheld
-  pub desktop : find_row (codes "desktop") rows ≡ row_for (codes "desktop") given.desktop
-  pub date : find_row (codes "date") rows ≡ row_for (codes "date") (option_map date_text given.date)
-  pub script : find_row (codes "script") rows ≡ row_for (codes "script") given.script
-  pub trace : find_row (codes "trace") rows ≡ row_for (codes "trace") given.trace
-  pub actions : find_row (codes "actions") rows ≡ row_for (codes "actions") given.actions
-  pub slow : find_row (codes "slow") rows ≡ flag_row (codes "slow") given.slow
-  pub add_user : find_row (codes "add-user") rows ≡ flag_row (codes "add-user") given.add_user
+  pub each : (argument : Argument) → find_row (id_of argument) rows ≡ row_in given argument
 
 abbrev pub position_of : Option Text → Option Text → ℕ
 position_of None _ = 1
@@ -116,115 +119,30 @@ abbrev pub shape : Shape
 shape = (built run_app).top
 
 and_false : (b : Bool) → (b && false) ≡ false
-and_false true = refl
-and_false false = refl
+and_false b = grind arith
 
 -- ---- the rows after one more word
 
-handheld_holds : (given : Given) (v : Text) (rows : List Row) → Holds given rows → given.handheld ≡ None
-    → Holds (record given { handheld = Some v }) (rows ++ row (codes "handheld") (v ∷ []) ∷ [])
-handheld_holds given v rows h e = record {
-  handheld = find_new (codes "handheld") (v ∷ []) rows refl (h.handheld ∙ ap (row_for (codes "handheld")) e);
-  desktop = find_other (codes "desktop") (codes "handheld") (v ∷ []) rows refl ∙ h.desktop;
-  date = find_other (codes "date") (codes "handheld") (v ∷ []) rows refl ∙ h.date;
-  script = find_other (codes "script") (codes "handheld") (v ∷ []) rows refl ∙ h.script;
-  trace = find_other (codes "trace") (codes "handheld") (v ∷ []) rows refl ∙ h.trace;
-  actions = find_other (codes "actions") (codes "handheld") (v ∷ []) rows refl ∙ h.actions;
-  slow = find_other (codes "slow") (codes "handheld") (v ∷ []) rows refl ∙ h.slow;
-  add_user = find_other (codes "add-user") (codes "handheld") (v ∷ []) rows refl ∙ h.add_user;
-}
+-- what an argument with these values adds to the row of another
+abbrev with_row : Argument → List Text → Option Row → Argument → Option Row
+with_row argument values before other = option_or before (cond (bytes_eq (id_of argument) (id_of other)) (Some (row (id_of argument) values)) None)
 
-desktop_holds : (given : Given) (v : Text) (rows : List Row) → Holds given rows → given.desktop ≡ None
-    → Holds (record given { desktop = Some v }) (rows ++ row (codes "desktop") (v ∷ []) ∷ [])
-desktop_holds given v rows h e = record {
-  handheld = find_other (codes "handheld") (codes "desktop") (v ∷ []) rows refl ∙ h.handheld;
-  desktop = find_new (codes "desktop") (v ∷ []) rows refl (h.desktop ∙ ap (row_for (codes "desktop")) e);
-  date = find_other (codes "date") (codes "desktop") (v ∷ []) rows refl ∙ h.date;
-  script = find_other (codes "script") (codes "desktop") (v ∷ []) rows refl ∙ h.script;
-  trace = find_other (codes "trace") (codes "desktop") (v ∷ []) rows refl ∙ h.trace;
-  actions = find_other (codes "actions") (codes "desktop") (v ∷ []) rows refl ∙ h.actions;
-  slow = find_other (codes "slow") (codes "desktop") (v ∷ []) rows refl ∙ h.slow;
-  add_user = find_other (codes "add-user") (codes "desktop") (v ∷ []) rows refl ∙ h.add_user;
-}
+-- an argument that is given for the first time
+record IsNew (given more : Given) (argument : Argument) (values : List Text) : Type 0 where
+  none : row_in given argument ≡ None
+  adds : (other : Argument) → with_row argument values (row_in given other) other ≡ row_in more other
 
-date_holds : (given : Given) (seconds : ℕ) (v : Text) (rows : List Row) → Holds given rows → given.date ≡ None → v ≡ date_text seconds
-    → Holds (record given { date = Some seconds }) (rows ++ row (codes "date") (v ∷ []) ∷ [])
-date_holds given seconds v rows h e text = record {
-  handheld = find_other (codes "handheld") (codes "date") (v ∷ []) rows refl ∙ h.handheld;
-  desktop = find_other (codes "desktop") (codes "date") (v ∷ []) rows refl ∙ h.desktop;
-  date = find_new (codes "date") (v ∷ []) rows refl (h.date ∙ ap (λ o. row_for (codes "date") (option_map date_text o)) e)
-      ∙ ap (λ t. Some (row (codes "date") (t ∷ []))) text;
-  script = find_other (codes "script") (codes "date") (v ∷ []) rows refl ∙ h.script;
-  trace = find_other (codes "trace") (codes "date") (v ∷ []) rows refl ∙ h.trace;
-  actions = find_other (codes "actions") (codes "date") (v ∷ []) rows refl ∙ h.actions;
-  slow = find_other (codes "slow") (codes "date") (v ∷ []) rows refl ∙ h.slow;
-  add_user = find_other (codes "add-user") (codes "date") (v ∷ []) rows refl ∙ h.add_user;
-}
+missing : {given : Given} (argument : Argument) {rows : List Row} → Holds given rows → row_in given argument ≡ None
+    → has_row (id_of argument) rows ≡ false
+missing argument {rows} h none = no_row (id_of argument) rows (h.each argument ∙ none)
 
-script_holds : (given : Given) (v : Text) (rows : List Row) → Holds given rows → given.script ≡ None
-    → Holds (record given { script = Some v }) (rows ++ row (codes "script") (v ∷ []) ∷ [])
-script_holds given v rows h e = record {
-  handheld = find_other (codes "handheld") (codes "script") (v ∷ []) rows refl ∙ h.handheld;
-  desktop = find_other (codes "desktop") (codes "script") (v ∷ []) rows refl ∙ h.desktop;
-  date = find_other (codes "date") (codes "script") (v ∷ []) rows refl ∙ h.date;
-  script = find_new (codes "script") (v ∷ []) rows refl (h.script ∙ ap (row_for (codes "script")) e);
-  trace = find_other (codes "trace") (codes "script") (v ∷ []) rows refl ∙ h.trace;
-  actions = find_other (codes "actions") (codes "script") (v ∷ []) rows refl ∙ h.actions;
-  slow = find_other (codes "slow") (codes "script") (v ∷ []) rows refl ∙ h.slow;
-  add_user = find_other (codes "add-user") (codes "script") (v ∷ []) rows refl ∙ h.add_user;
-}
-
-trace_holds : (given : Given) (v : Text) (rows : List Row) → Holds given rows → given.trace ≡ None
-    → Holds (record given { trace = Some v }) (rows ++ row (codes "trace") (v ∷ []) ∷ [])
-trace_holds given v rows h e = record {
-  handheld = find_other (codes "handheld") (codes "trace") (v ∷ []) rows refl ∙ h.handheld;
-  desktop = find_other (codes "desktop") (codes "trace") (v ∷ []) rows refl ∙ h.desktop;
-  date = find_other (codes "date") (codes "trace") (v ∷ []) rows refl ∙ h.date;
-  script = find_other (codes "script") (codes "trace") (v ∷ []) rows refl ∙ h.script;
-  trace = find_new (codes "trace") (v ∷ []) rows refl (h.trace ∙ ap (row_for (codes "trace")) e);
-  actions = find_other (codes "actions") (codes "trace") (v ∷ []) rows refl ∙ h.actions;
-  slow = find_other (codes "slow") (codes "trace") (v ∷ []) rows refl ∙ h.slow;
-  add_user = find_other (codes "add-user") (codes "trace") (v ∷ []) rows refl ∙ h.add_user;
-}
-
-actions_holds : (given : Given) (v : Text) (rows : List Row) → Holds given rows → given.actions ≡ None
-    → Holds (record given { actions = Some v }) (rows ++ row (codes "actions") (v ∷ []) ∷ [])
-actions_holds given v rows h e = record {
-  handheld = find_other (codes "handheld") (codes "actions") (v ∷ []) rows refl ∙ h.handheld;
-  desktop = find_other (codes "desktop") (codes "actions") (v ∷ []) rows refl ∙ h.desktop;
-  date = find_other (codes "date") (codes "actions") (v ∷ []) rows refl ∙ h.date;
-  script = find_other (codes "script") (codes "actions") (v ∷ []) rows refl ∙ h.script;
-  trace = find_other (codes "trace") (codes "actions") (v ∷ []) rows refl ∙ h.trace;
-  actions = find_new (codes "actions") (v ∷ []) rows refl (h.actions ∙ ap (row_for (codes "actions")) e);
-  slow = find_other (codes "slow") (codes "actions") (v ∷ []) rows refl ∙ h.slow;
-  add_user = find_other (codes "add-user") (codes "actions") (v ∷ []) rows refl ∙ h.add_user;
-}
-
-slow_holds : (given : Given) (rows : List Row) → Holds given rows → given.slow ≡ false
-    → Holds (record given { slow = true }) (rows ++ row (codes "slow") (codes "true" ∷ []) ∷ [])
-slow_holds given rows h e = record {
-  handheld = find_other (codes "handheld") (codes "slow") (codes "true" ∷ []) rows refl ∙ h.handheld;
-  desktop = find_other (codes "desktop") (codes "slow") (codes "true" ∷ []) rows refl ∙ h.desktop;
-  date = find_other (codes "date") (codes "slow") (codes "true" ∷ []) rows refl ∙ h.date;
-  script = find_other (codes "script") (codes "slow") (codes "true" ∷ []) rows refl ∙ h.script;
-  trace = find_other (codes "trace") (codes "slow") (codes "true" ∷ []) rows refl ∙ h.trace;
-  actions = find_other (codes "actions") (codes "slow") (codes "true" ∷ []) rows refl ∙ h.actions;
-  slow = find_new (codes "slow") (codes "true" ∷ []) rows refl (h.slow ∙ ap (flag_row (codes "slow")) e);
-  add_user = find_other (codes "add-user") (codes "slow") (codes "true" ∷ []) rows refl ∙ h.add_user;
-}
-
-add_user_holds : (given : Given) (rows : List Row) → Holds given rows → given.add_user ≡ false
-    → Holds (record given { add_user = true }) (rows ++ row (codes "add-user") (codes "true" ∷ []) ∷ [])
-add_user_holds given rows h e = record {
-  handheld = find_other (codes "handheld") (codes "add-user") (codes "true" ∷ []) rows refl ∙ h.handheld;
-  desktop = find_other (codes "desktop") (codes "add-user") (codes "true" ∷ []) rows refl ∙ h.desktop;
-  date = find_other (codes "date") (codes "add-user") (codes "true" ∷ []) rows refl ∙ h.date;
-  script = find_other (codes "script") (codes "add-user") (codes "true" ∷ []) rows refl ∙ h.script;
-  trace = find_other (codes "trace") (codes "add-user") (codes "true" ∷ []) rows refl ∙ h.trace;
-  actions = find_other (codes "actions") (codes "add-user") (codes "true" ∷ []) rows refl ∙ h.actions;
-  slow = find_other (codes "slow") (codes "add-user") (codes "true" ∷ []) rows refl ∙ h.slow;
-  add_user = find_new (codes "add-user") (codes "true" ∷ []) rows refl (h.add_user ∙ ap (flag_row (codes "add-user")) e);
-}
+holds_more : {given more : Given} {argument : Argument} {values : List Text} {rows : List Row} → Holds given rows → IsNew given more argument values
+    → Holds more (with_values (id_of argument) AsWritten CommandLine values (without (id_of argument) rows))
+holds_more {more = more} {argument} {values} {rows} h new =
+    subst (Holds more) (sym (with_values-new (id_of argument) values rows (missing argument h new.none))) (record {
+      each = λ other. find-append (id_of other) rows (row (id_of argument) values)
+          ∙ ap (λ before. with_row argument values before other) (h.each other) ∙ new.adds other;
+    })
 
 -- ---- one word
 
@@ -236,139 +154,96 @@ pub record Turns (word : Text) (more : Given) (place : ℕ) (h : Held) : Type 0 
   pub goes : walked rules [] (at place h) word ≡ at next_place next_held
   pub fits : Fits more next_place next_held
 
-pub script_turns : (given : Given) (v : Text) (place : ℕ) (h : Held) → Fits given place h → given.script ≡ None
-    → Turns (codes "--script=" ++ v) (record given { script = Some v }) place h
+-- arguments that are given by their names, but for the date: the word, what it gives, its rule, and the values of its row
+abbrev is_named : Argument → Bool
+is_named of_handheld = false
+is_named of_desktop = false
+is_named of_date = false
+is_named argument = true
+
+abbrev pub word_for : Argument → Text → Text
+word_for of_script value = codes "--script=" ++ value
+word_for of_trace value = codes "--trace=" ++ value
+word_for of_actions value = codes "--actions=" ++ value
+word_for of_slow value = codes "--slow"
+word_for of_add_user value = codes "--add-user"
+word_for argument value = value
+
+abbrev pub with_named : Argument → Text → Given → Given
+with_named of_script value given = record given { script = Some value }
+with_named of_trace value given = record given { trace = Some value }
+with_named of_actions value given = record given { actions = Some value }
+with_named of_slow value given = record given { slow = true }
+with_named of_add_user value given = record given { add_user = true }
+with_named argument value given = given
+
+abbrev rule_for : Argument → Rule
+rule_for of_trace = trace_rule
+rule_for of_actions = actions_rule
+rule_for of_slow = slow_rule
+rule_for of_add_user = add_user_rule
+rule_for argument = script_rule
+
+abbrev is_flag : Argument → Bool
+is_flag of_slow = true
+is_flag of_add_user = true
+is_flag argument = false
+
+abbrev values_for : Argument → Text → List Text
+values_for argument value = cond (is_flag argument) (codes "true") value ∷ []
+
+pub named_turns : (argument : Argument) (value : Text) {given : Given} {place : ℕ} {h : Held} → is_named argument ≡ true → Fits given place h
+    → row_in given argument ≡ None → Turns (word_for argument value) (with_named argument value given) place h
 unfolding run_app walked
-script_turns given v place h f e =
-    let none = no_row (codes "script") (settled rules h).rows (f.holds.script ∙ ap (row_for (codes "script")) e) in
+named_turns of_handheld value is f none = cc
+named_turns of_desktop value is f none = cc
+named_turns of_date value is f none = cc
+named_turns argument value {given} {place} {h} is f none =
     let settles = f.settles in
-    let added = with_values-new (codes "script") (v ∷ []) (settled rules h).rows none in
+    let no = missing argument f.holds none in
+    let own : option_or (row_in given argument) (Some (row (id_of argument) (values_for argument value)))
+    ≡ Some (row (id_of argument) (values_for argument value)) =
+    rw none refl in
+    let new : IsNew given (with_named argument value given) argument (values_for argument value) =
+    record { none = none; adds = elim [ of_handheld ↦ or_none (row_in given of_handheld) | other ↦ cc (or_none (row_in given other), own) ] } in
     record {
       next_place = place;
-      next_held = reacted rules (filled script_rule) (v ∷ []) h;
-      passes = rw (settles, none) refl;
+      next_held = reacted rules (filled (rule_for argument)) (cond (is_flag argument) [] (value ∷ [])) h;
+      passes = rw (settles, no) refl;
       goes = refl;
-      fits = record {
-        settles = refl;
-        holds = subst (Holds (record given { script = Some v })) (sym added) (script_holds given v _ f.holds e);
-        position = f.position;
-        order = f.order;
-        dated = f.dated;
-      };
+      fits = record { settles = refl; holds = holds_more f.holds new; position = f.position; order = f.order; dated = f.dated };
     }
 
-pub trace_turns : (given : Given) (v : Text) (place : ℕ) (h : Held) → Fits given place h → given.trace ≡ None
-    → Turns (codes "--trace=" ++ v) (record given { trace = Some v }) place h
+pub date_turns : {given : Given} (seconds : ℕ) {place : ℕ} {h : Held} → Fits given place h → given.date ≡ None
+    → read_text (date_text seconds) ≡ Some seconds → Turns (codes "--date=" ++ date_text seconds) (record given { date = Some seconds }) place h
 unfolding run_app walked
-trace_turns given v place h f e =
-    let none = no_row (codes "trace") (settled rules h).rows (f.holds.trace ∙ ap (row_for (codes "trace")) e) in
+date_turns {given} seconds {place} {h} f e reads =
     let settles = f.settles in
-    let added = with_values-new (codes "trace") (v ∷ []) (settled rules h).rows none in
+    let new : IsNew given (record given { date = Some seconds }) of_date (date_text seconds ∷ []) =
+    record { none = rw e refl; adds = elim [ of_date ↦ rw e refl | other ↦ or_none (row_in given other) ] } in
+    let no = missing of_date f.holds new.none in
     record {
       next_place = place;
-      next_held = reacted rules (filled trace_rule) (v ∷ []) h;
-      passes = rw (settles, none) refl;
+      next_held = reacted rules (filled date_rule) (date_text seconds ∷ []) h;
+      passes = rw (settles, no) refl;
       goes = refl;
       fits = record {
         settles = refl;
-        holds = subst (Holds (record given { trace = Some v })) (sym added) (trace_holds given v _ f.holds e);
-        position = f.position;
-        order = f.order;
-        dated = f.dated;
-      };
-    }
-
-pub actions_turns : (given : Given) (v : Text) (place : ℕ) (h : Held) → Fits given place h → given.actions ≡ None
-    → Turns (codes "--actions=" ++ v) (record given { actions = Some v }) place h
-unfolding run_app walked
-actions_turns given v place h f e =
-    let none = no_row (codes "actions") (settled rules h).rows (f.holds.actions ∙ ap (row_for (codes "actions")) e) in
-    let settles = f.settles in
-    let added = with_values-new (codes "actions") (v ∷ []) (settled rules h).rows none in
-    record {
-      next_place = place;
-      next_held = reacted rules (filled actions_rule) (v ∷ []) h;
-      passes = rw (settles, none) refl;
-      goes = refl;
-      fits = record {
-        settles = refl;
-        holds = subst (Holds (record given { actions = Some v })) (sym added) (actions_holds given v _ f.holds e);
-        position = f.position;
-        order = f.order;
-        dated = f.dated;
-      };
-    }
-
-pub date_turns : (given : Given) (seconds : ℕ) (v : Text) (place : ℕ) (h : Held) → Fits given place h → given.date ≡ None → v ≡ date_text seconds
-    → read_text (date_text seconds) ≡ Some seconds → Turns (codes "--date=" ++ v) (record given { date = Some seconds }) place h
-unfolding run_app walked
-date_turns given seconds v place h f e text reads =
-    let none = no_row (codes "date") (settled rules h).rows (f.holds.date ∙ ap (λ o. row_for (codes "date") (option_map date_text o)) e) in
-    let settles = f.settles in
-    let added = with_values-new (codes "date") (v ∷ []) (settled rules h).rows none in
-    record {
-      next_place = place;
-      next_held = reacted rules (filled date_rule) (v ∷ []) h;
-      passes = rw (settles, none) refl;
-      goes = refl;
-      fits = record {
-        settles = refl;
-        holds = subst (Holds (record given { date = Some seconds })) (sym added) (date_holds given seconds v _ f.holds e text);
+        holds = holds_more f.holds new;
         position = f.position;
         order = f.order;
         dated = λ s same. let is : seconds ≡ s = cc in subst (λ n. read_text (date_text n) ≡ Some n) is reads;
       };
     }
 
-pub slow_turns : (given : Given) (place : ℕ) (h : Held) → Fits given place h → given.slow ≡ false
-    → Turns (codes "--slow") (record given { slow = true }) place h
-unfolding run_app walked
-slow_turns given place h f e =
-    let none = no_row (codes "slow") (settled rules h).rows (f.holds.slow ∙ ap (flag_row (codes "slow")) e) in
-    let settles = f.settles in
-    let added = with_values-new (codes "slow") (codes "true" ∷ []) (settled rules h).rows none in
-    record {
-      next_place = place;
-      next_held = reacted rules (filled slow_rule) [] h;
-      passes = rw (settles, none) refl;
-      goes = refl;
-      fits = record {
-        settles = refl;
-        holds = subst (Holds (record given { slow = true })) (sym added) (slow_holds given _ f.holds e);
-        position = f.position;
-        order = f.order;
-        dated = f.dated;
-      };
-    }
-
-pub add_user_turns : (given : Given) (place : ℕ) (h : Held) → Fits given place h → given.add_user ≡ false
-    → Turns (codes "--add-user") (record given { add_user = true }) place h
-unfolding run_app walked
-add_user_turns given place h f e =
-    let none = no_row (codes "add-user") (settled rules h).rows (f.holds.add_user ∙ ap (flag_row (codes "add-user")) e) in
-    let settles = f.settles in
-    let added = with_values-new (codes "add-user") (codes "true" ∷ []) (settled rules h).rows none in
-    record {
-      next_place = place;
-      next_held = reacted rules (filled add_user_rule) [] h;
-      passes = rw (settles, none) refl;
-      goes = refl;
-      fits = record {
-        settles = refl;
-        holds = subst (Holds (record given { add_user = true })) (sym added) (add_user_holds given _ f.holds e);
-        position = f.position;
-        order = f.order;
-        dated = f.dated;
-      };
-    }
-
-pub handheld_turns : (given : Given) (x : ℕ) (xs : Text) (place : ℕ) (h : Held) → Fits given place h → (x == 45) ≡ false → given.handheld ≡ None
+pub handheld_turns : {given : Given} (x : ℕ) (xs : Text) {place : ℕ} {h : Held} → Fits given place h → (x == 45) ≡ false → given.handheld ≡ None
     → Turns (x ∷ xs) (record given { handheld = Some (x ∷ xs) }) place h
 unfolding run_app walked
-handheld_turns given x xs place h f apart e =
-    let none = no_row (codes "handheld") (settled rules h).rows (f.holds.handheld ∙ ap (row_for (codes "handheld")) e) in
+handheld_turns {given} x xs {place} {h} f apart e =
     let settles = f.settles in
-    let added = with_values-new (codes "handheld") ((x ∷ xs) ∷ []) (settled rules h).rows none in
+    let new : IsNew given (record given { handheld = Some (x ∷ xs) }) of_handheld ((x ∷ xs) ∷ []) =
+    record { none = rw e refl; adds = elim [ of_handheld ↦ rw e refl | other ↦ or_none (row_in given other) ] } in
+    let no = missing of_handheld f.holds new.none in
     let first : place ≡ 1 = f.position ∙ ap (λ o. position_of o given.desktop) e in
     let desktop = f.order e in
     record {
@@ -376,33 +251,22 @@ handheld_turns given x xs place h f apart e =
       next_held = pushed (codes "handheld") (x ∷ xs) (settled rules h);
       passes = rw (first, apart, apart, settles, and_false (is_pending handheld_in h.pending)) refl;
       goes = rw (first, apart, apart, and_false (is_pending handheld_in h.pending)) refl;
-      fits = record {
-        settles = rw none refl;
-        holds = subst (Holds (record given { handheld = Some (x ∷ xs) })) (sym added) (handheld_holds given (x ∷ xs) _ f.holds e);
-        position = rw desktop refl;
-        order = λ other. cc;
-        dated = f.dated;
-      };
+      fits = record { settles = rw no refl; holds = holds_more f.holds new; position = rw desktop refl; order = λ other. cc; dated = f.dated };
     }
 
-pub desktop_turns : (given : Given) (first : Text) (x : ℕ) (xs : Text) (place : ℕ) (h : Held) → Fits given place h → (x == 45) ≡ false
+pub desktop_turns : {given : Given} {first : Text} (x : ℕ) (xs : Text) {place : ℕ} {h : Held} → Fits given place h → (x == 45) ≡ false
     → given.handheld ≡ Some first → given.desktop ≡ None → Turns (x ∷ xs) (record given { desktop = Some (x ∷ xs) }) place h
 unfolding run_app walked
-desktop_turns given first x xs place h f apart other e =
-    let none = no_row (codes "desktop") (settled rules h).rows (f.holds.desktop ∙ ap (row_for (codes "desktop")) e) in
+desktop_turns {given} x xs {place} {h} f apart handheld e =
     let settles = f.settles in
-    let added = with_values-new (codes "desktop") ((x ∷ xs) ∷ []) (settled rules h).rows none in
-    let second : place ≡ 2 = f.position ∙ rw (other, e) refl in
+    let new : IsNew given (record given { desktop = Some (x ∷ xs) }) of_desktop ((x ∷ xs) ∷ []) =
+    record { none = rw e refl; adds = elim [ of_desktop ↦ rw e refl | other ↦ or_none (row_in given other) ] } in
+    let no = missing of_desktop f.holds new.none in
+    let second : place ≡ 2 = f.position ∙ rw (handheld, e) refl in
     record {
       next_place = 3;
       next_held = pushed (codes "desktop") (x ∷ xs) (settled rules h);
       passes = rw (second, apart, apart, settles, and_false (is_pending desktop_in h.pending)) refl;
       goes = rw (second, apart, apart, and_false (is_pending desktop_in h.pending)) refl;
-      fits = record {
-        settles = rw none refl;
-        holds = subst (Holds (record given { desktop = Some (x ∷ xs) })) (sym added) (desktop_holds given (x ∷ xs) _ f.holds e);
-        position = rw other refl;
-        order = λ absent. cc;
-        dated = f.dated;
-      };
+      fits = record { settles = rw no refl; holds = holds_more f.holds new; position = rw handheld refl; order = λ absent. cc; dated = f.dated };
     }

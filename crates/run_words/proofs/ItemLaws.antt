@@ -14,33 +14,28 @@ unfolding are_items
 are_items-nil = refl
 
 -- what is left begins with an item
-next : {X : Type 0} (f : List (List ℕ) → X) (rest : Option (List ℕ)) (text item : List ℕ) (more : Option (List ℕ)) (whole : X)
-    → f (items_of rest) ≡ whole → rest ≡ Some text
-    → items_of (Some text) ≡ item ∷ items_of more → f (item ∷ items_of more) ≡ whole
-next f rest text item more whole so_far is split = ap f (sym split) ∙ ap (λ o. f (items_of o)) (sym is) ∙ so_far
+module _ {rest : Option (List ℕ)} {text item : List ℕ} (more : Option (List ℕ)) (is : rest ≡ Some text)
+    (split : items_of (Some text) ≡ item ∷ items_of more) where
+  next : {X : Type 0} (f : List (List ℕ) → X) {whole : X} → f (items_of rest) ≡ whole → f (item ∷ items_of more) ≡ whole
+  next f so_far = ap f (sym split) ∙ ap (λ o. f (items_of o)) (sym is) ∙ so_far
 
-pub items_stop : (rest : Option (List ℕ)) (text item : List ℕ) (more : Option (List ℕ)) (whole : Bool) → are_items (items_of rest) ≡ whole → rest ≡ Some text
-    → items_of (Some text) ≡ item ∷ items_of more → is_next item (items_of more) ≡ false → false ≡ whole
-items_stop rest text item more whole so_far is split bad =
-    sym (are_items-more item (items_of more) ∙ ap (λ b. b && are_items (items_of more)) bad) ∙ next are_items rest text item more whole so_far is split
+  pub items_stop : {whole : Bool} → are_items (items_of rest) ≡ whole → is_next item (items_of more) ≡ false → false ≡ whole
+  items_stop so_far bad = sym (are_items-more item (items_of more) ∙ ap (λ b. b && are_items (items_of more)) bad) ∙ next are_items so_far
 
-pub items_go_on : (rest : Option (List ℕ)) (text item : List ℕ) (more : Option (List ℕ)) (whole : Bool) → are_items (items_of rest) ≡ whole → rest ≡ Some text
-    → items_of (Some text) ≡ item ∷ items_of more → is_next item (items_of more) ≡ true → are_items (items_of more) ≡ whole
-items_go_on rest text item more whole so_far is split good =
-    sym (are_items-more item (items_of more) ∙ ap (λ b. b && are_items (items_of more)) good) ∙ next are_items rest text item more whole so_far is split
+  pub items_go_on : {whole : Bool} → are_items (items_of rest) ≡ whole → is_next item (items_of more) ≡ true → are_items (items_of more) ≡ whole
+  items_go_on so_far good =
+      sym (are_items-more item (items_of more) ∙ ap (λ b. b && are_items (items_of more)) good) ∙ next are_items so_far
 
-pub item_is_read : (actions : List NamedAction) (rest : Option (List ℕ)) (text item : List ℕ) (more : Option (List ℕ)) (action : NamedAction)
-    (whole : List NamedAction)
-    → actions ++ filter_map item_of (items_of rest) ≡ whole → rest ≡ Some text → items_of (Some text) ≡ item ∷ items_of more → Some action ≡ item_of item
-    → (actions ++ action ∷ []) ++ filter_map item_of (items_of more) ≡ whole
-item_is_read actions rest text item more action whole so_far is split says =
-    append_assoc actions (action ∷ []) (filter_map item_of (items_of more))
-    ∙ ap (λ o. actions ++ cons_option o (filter_map item_of (items_of more))) says
-    ∙ next (λ items. actions ++ filter_map item_of items) rest text item more whole so_far is split
+  pub item_is_read : (actions : List NamedAction) (action : NamedAction) {whole : List NamedAction}
+      → actions ++ filter_map item_of (items_of rest) ≡ whole → Some action ≡ item_of item
+      → (actions ++ action ∷ []) ++ filter_map item_of (items_of more) ≡ whole
+  item_is_read actions action so_far says =
+      append_assoc actions (action ∷ []) (filter_map item_of (items_of more))
+      ∙ ap (λ o. actions ++ cons_option o (filter_map item_of (items_of more))) says
+      ∙ next (λ items. actions ++ filter_map item_of items) so_far
 
-pub item_is_skipped : (actions : List NamedAction) (rest : Option (List ℕ)) (text item : List ℕ) (more : Option (List ℕ)) (whole : List NamedAction)
-    → actions ++ filter_map item_of (items_of rest) ≡ whole → rest ≡ Some text → items_of (Some text) ≡ item ∷ items_of more → None ≡ item_of item
-    → actions ++ filter_map item_of (items_of more) ≡ whole
-item_is_skipped actions rest text item more whole so_far is split says =
-    ap (λ o. actions ++ cons_option o (filter_map item_of (items_of more))) says
-    ∙ next (λ items. actions ++ filter_map item_of items) rest text item more whole so_far is split
+  pub item_is_skipped : (actions : List NamedAction) {whole : List NamedAction} → actions ++ filter_map item_of (items_of rest) ≡ whole
+      → None ≡ item_of item → actions ++ filter_map item_of (items_of more) ≡ whole
+  item_is_skipped actions so_far says =
+      ap (λ o. actions ++ cons_option o (filter_map item_of (items_of more))) says
+      ∙ next (λ items. actions ++ filter_map item_of items) so_far

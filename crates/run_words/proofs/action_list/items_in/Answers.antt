@@ -8,9 +8,8 @@ use Rattle.run_words.proofs.action_list.items_in.Goals as goal
 
 pub loop-rest-preserved : goal.loop-rest-preserved
 loop-rest-preserved c =
-    item_is_skipped c.loop-rest.actions.items (option_copied c.loop-rest.rest) c.in-Some.items.now c.first_item.result.0.now
-    (option_copied c.first_item.result.1) _
-    c.loop-rest.invariant (ap option_copied c.in-Some.is) c.first_item.ensures.items c.in_default-item_in.ensures
+    item_is_skipped (option_copied c.first_item.result.1) (ap option_copied c.in-Some.is) c.first_item.ensures.items c.loop-rest.actions.items
+    c.loop-rest.invariant c.in_default-item_in.ensures
 
 pub returns : goal.returns
 returns c =

@@ -13,14 +13,14 @@ pub returns-then-is_err : goal.returns-then-is_err
 returns-then-is_err c =
     let some : (length c.loop-rest.rest.now == 0) ≡ false = grind (arith, nat_tests) in
     let full : length c.loop-rest.bytes.items ≡ 31 = OnErr-at_err c.try_push.result _ c.if-is_err.ensures.value c.try_push.ensures.full in
-    stem_is_long c.args.stem.now c.loop-rest.rest.now c.loop-rest.bytes.items c.in_ok-byte.byte c.in_ok-byte.more.now c.loop-rest.invariant some
+    stem_is_long c.args.stem.now c.loop-rest.rest.now c.loop-rest.bytes.items c.loop-rest.invariant some c.in_ok-byte.byte c.in_ok-byte.more.now
     c.in_ok-byte.ensures.value full
 
 pub loop-rest-preserved : goal.loop-rest-preserved
 loop-rest-preserved c =
     let some : (length c.loop-rest.rest.now == 0) ≡ false = grind (arith, nat_tests) in
-    let step = stem_goes_on c.args.stem.now c.loop-rest.rest.now c.loop-rest.bytes.items c.in_ok-byte.byte c.in_ok-byte.more.now
-    c.loop-rest.invariant some c.in_ok-byte.ensures.value in
+    let step = stem_goes_on c.args.stem.now c.loop-rest.rest.now c.loop-rest.bytes.items c.loop-rest.invariant some c.in_ok-byte.byte c.in_ok-byte.more.now
+    c.in_ok-byte.ensures.value in
     let pushed : c.try_push.new.self.items ≡ c.loop-rest.bytes.items ++ c.in_ok-byte.byte ∷ [] = OnOk-at_ok c.try_push.result _
     c.if-is_err.ensures.value c.try_push.ensures.ok in
     rw pushed step
