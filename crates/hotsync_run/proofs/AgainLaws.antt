@@ -1,6 +1,7 @@
 -- What a stopped run left is what the next one meets: so the last one takes up all that stopped.
-use Rattle.std.proofs.Common.{◌≡◌, ◌⊎◌, ◌∙◌, ◌≤◌, ◌<◌, ap, refl, sym, subst, arith, inl, inr, ℕ, suc, Bool, true, false, List, [], ◌∷◌, length, map}
-use Rattle.std.specs.Prelude.{Option, Some, None, IfSome, IsSome, filter, if◌then◌else◌, replicate}
+use Rattle.std.proofs.lemmas.Grind.{common_steps}
+use Rattle.std.proofs.Common.{◌≡◌, ◌⊎◌, ◌∙◌, ◌≤◌, ◌<◌, ap, refl, sym, subst, arith, inl, inr, ℕ, Bool, List, [], ◌∷◌, length, map}
+use Rattle.std.specs.Prelude.{Option, Some, None, IfSome, IsSome, filter, replicate}
 use Rattle.std.specs.Option.{option_map}
 use Rattle.std.proofs.lemmas.List.{length-append, map-append}
 use Rattle.hs_folders.specs.FileMaps.{FileMap}
@@ -13,10 +14,7 @@ use Rattle.desk_store.specs.Desks.{IsDesk}
 use Rattle.desk_store.specs.Shelves.{slot_at}
 use Rattle.desk_store.proofs.OpenLaws.{picked_number}
 use Rattle.desktop_session.specs.Acts.{text}
-use Rattle.desktop_session.specs.Says.{IsPrefix}
 use Rattle.line_script.specs.Rules.{RuleValue}
-use Rattle.run_words.specs.Actions.{action_for}
-use Rattle.sync_session.specs.Choosing.{action_or_sync}
 use Rattle.sync_session.specs.Fronts.{Front}
 use Rattle.sync_session.specs.Limits.{first_over}
 use Rattle.sync_session.specs.Merges.{merged_device, merged_slot, merged_slots}
@@ -24,7 +22,7 @@ use Rattle.sync_session.specs.News.{all_news}
 use Rattle.sync_session.specs.Outcomes.{StandsForSlots}
 use Rattle.sync_session.specs.Sessions.{adds_of, after_commit, before_commit, before_writes, requests, writes_before_commit}
 use Rattle.sync_session.specs.Skips.{active}
-use Rattle.sync_session.specs.Tasks.{Meeting, action_of_word, meeting_of, place_for, slot_of}
+use Rattle.sync_session.specs.Tasks.{Meeting, meeting_of, place_for, slot_of}
 use Rattle.sync_session.specs.Users.{agreed_user, begin_mark}
 use Rattle.sync_session.proofs.QuietLaws.{quiet-before_writes}
 use Rattle.session_laws.specs.Meetings.{AsksTheSame, IsActive, action_at, found_of, ids_at}
@@ -43,7 +41,6 @@ use Rattle.hotsync_run.specs.Told.{CallTold}
 use Rattle.hotsync_run.specs.Wishes.{actions_by}
 use Rattle.hotsync_run.specs.declared.report.Report.{Report}
 use Rattle.hotsync_run.specs.declared.report.SessionEnd.{SessionEnd}
-use Rattle.hotsync_run.specs.declared.report.SessionEnd.TheVariants.{Ended, Stopped}
 use Rattle.hotsync_run.proofs.EndLaws.{count-append, performed-prefix, prefix-count}
 use Rattle.hotsync_run.proofs.FrontLaws.{front_of}
 use Rattle.hotsync_run.proofs.LeftLaws.{no-limit, parts-are, writes-before}
@@ -75,44 +72,37 @@ given_in ran = ran.report.given.items
 some_writes : (m : Meeting) → 1 ≤ writes_before_commit m
 unfolding writes_before_commit before_commit text
 some_writes m =
-    let news = map text (all_news m (active m) (replicate (adds_of m) 0)) in
-    let parts =
-    ap (λ (l : List (List ℕ)). length (filter changes l)) (map-append text (before_writes m) (begin_mark m ∷ all_news m (active m) (replicate (adds_of m) 0)))
-    ∙ count-append (map text (before_writes m)) (text (begin_mark m) ∷ news) in
-    let one = by news (changes (text (begin_mark m))) (changes-text (begin_mark m).asks) in
-    omega (arith, parts, one)
-  where
-    by : (news : List (List ℕ)) (b : Bool) → b ≡ true
-        → length (if b then text (begin_mark m) ∷ filter changes news else filter changes news) ≡ suc (length (filter changes news))
-    by news true is = refl
-    by news false is = absurd (cc)
+    grind (
+      arith,
+      map text (all_news m (active m) (replicate (adds_of m) 0)),
+      map-append text (before_writes m) (begin_mark m ∷ all_news m (active m) (replicate (adds_of m) 0)),
+      count-append (map text (before_writes m)) (text (begin_mark m) ∷ (map text (all_news m (active m) (replicate (adds_of m) 0)))),
+      changes-text (begin_mark m).asks,
+    )
 
 -- where a session ended it passed no limit, and wrote all
 none-over : (ran : Ran) → EndedSession ran.meeting ran.after.palm ran.after.desk ran.report → first_over ran.meeting ≡ None
 none-over ran ended =
-    let none : List ℕ = replicate (adds_of ran.meeting) 0 in
-    let parts =
-    ap length (ended.issued ∙ sym (parts-are ran.meeting none))
+    let none = replicate (adds_of ran.meeting) 0 in
+    let parts = ap length (ended.issued ∙ sym (parts-are ran.meeting none))
     ∙ length-append (map text (before_commit ran.meeting none)) (map text (after_commit ran.meeting)) in
     no-limit ran.meeting none (log_in ran.report).issued (first_over ran.meeting) (omega (arith, parts)) ran.left.over
 
 all-written : (ran : Ran) → EndedSession ran.meeting ran.after.palm ran.after.desk ran.report → writes_before_commit ran.meeting ≤ ran.report.writes
 unfolding write_count
 all-written ran ended =
-    let m : Meeting = ran.meeting in
-    let none : List ℕ = replicate (adds_of m) 0 in
-    let counted : ran.report.writes ≡ length (filter changes (requests m)) =
-    ran.line.writes ∙ ap (λ (l : List (List ℕ)). length (filter changes l)) ended.performed in
-    let parts =
-    ap (λ (l : List (List ℕ)). length (filter changes l)) (sym (parts-are m none))
-    ∙ count-append (map text (before_commit m none)) (map text (after_commit m)) in
-    omega (arith, counted, parts, writes-before m none)
+    grind (
+      arith,
+      length (filter changes (requests ran.meeting)),
+      parts-are ran.meeting (replicate (adds_of ran.meeting) 0),
+      count-append (map text (before_commit ran.meeting (replicate (adds_of ran.meeting) 0))) (map text (after_commit ran.meeting)),
+      writes-before ran.meeting (replicate (adds_of ran.meeting) 0),
+    )
 
 -- ---- a limit
 
 no_items : (xs : List (List ℕ)) → length xs ≤ 0 → xs ≡ []
-no_items [] few = refl
-no_items (x ∷ xs) few = absurd (omega (arith, few))
+no_items xs few = grind (arith, common_steps)
 
 -- nothing was written
 record WroteNone (ran : Ran) : Type 0 where
@@ -123,13 +113,12 @@ record WroteNone (ran : Ran) : Type 0 where
 wrote_none : (ran : Ran) → IsSome (first_over ran.meeting) → WroteNone ran
 unfolding write_count
 wrote_none ran over =
-    let m : Meeting = ran.meeting in
+    let m = ran.meeting in
     let log = log_in ran.report in
-    let begins : IsPrefix log.performed (map text (before_writes m)) =
-    performed-prefix log ran.line.answered (map text (before_writes m)) ran.line.log (ran.left.over over) in
-    let few = prefix-count log.performed (map text (before_writes m)) begins in
+    let begins = performed-prefix ran.line.log (ran.left.over over) in
+    let few = prefix-count begins in
     let count : length (filter changes (map text (before_writes m))) ≡ 0 = ap length (quiet-before_writes m) in
-    let none : filter changes log.performed ≡ [] = no_items (filter changes log.performed) (omega (arith, few, count)) in
+    let none = no_items (filter changes log.performed) (omega (arith, few, count)) in
     record { kept = quiet-run log.performed log.replies m.device ran.line.last none ran.line.ran.ran; none = ran.line.writes ∙ ap length none }
 
 -- ---- what the next one meets
@@ -142,38 +131,26 @@ pub record Precedes (ran next : Ran) : Type 0 where
   pub stopped : StoppedBefore ran.meeting ran.before.desk ran.after.desk ran.report ⊎ StoppedBehind ran.meeting ran.after.desk ran.report
 
 -- the handheld is the one that the stopped session left
-met-device : (ran next : Ran) → Precedes ran next
+met-device : {ran next : Ran} → Precedes ran next
     → IsOne next.meeting.device.databases ran.line.last.databases next.meeting.device.user ran.line.last.user
-met-device ran next is =
+met-device {ran} {next} is =
     same_handheld next.before.palm.contents ran.line.last next.meeting.device next.told.palm
     (subst (λ (told : Option FileMap). Stands told ran.line.last.databases ran.line.last.user) (sym is.palm) ran.line.stands) next.handheld
 
-met-front : (ran next : Ran) → Precedes ran next → Front ran.meeting ran.report.writes (given_in ran) next.meeting.device
-met-front ran next is =
-    let one = met-device ran next is in
-    let front = front_of ran.meeting ran.rules ran.before.palm ran.after.palm ran.report ran.line ran.left.issued in
-    record {
-      count = front.count;
-      replies = front.replies;
-      reached = front.reached;
-      run = front.run;
-      holds = front.holds;
-      ids = front.ids;
-      databases = one.databases ∙ front.databases;
-      user = one.user_is ∙ front.user;
-    }
+met-front : {ran next : Ran} → Precedes ran next → Front ran.meeting ran.report.writes (given_in ran) next.meeting.device
+met-front {ran} is = grind (arith, met-device is, front_of ran.meeting ran.line ran.left.issued)
 
 -- before the commit the slots are as they were, and behind it they are merged
-slots-before : (ran next : Ran) → Precedes ran next → StoppedBefore ran.meeting ran.before.desk ran.after.desk ran.report
+slots-before : {ran next : Ran} → Precedes ran next → StoppedBefore ran.meeting ran.before.desk ran.after.desk ran.report
     → next.meeting.slots ≡ ran.meeting.slots
-slots-before ran next is b =
-    same_slots ran.before.desk.contents next.before.desk.contents ran.meeting.slots next.meeting.slots ran.told.desk next.told.desk
+slots-before {ran} {next} is b =
+    same_slots ran.before.desk.contents next.before.desk.contents ran.told.desk next.told.desk
     (subst (λ (told : Option FileMap). StandsAs ran.before.desk.contents told) (sym is.desk) b.stands) ran.desktop next.desktop
 
 slots-behind : (ran next : Ran) → Precedes ran next → StoppedBehind ran.meeting ran.after.desk ran.report
     → next.meeting.slots ≡ merged_slots ran.meeting (given_in ran)
 slots-behind ran next is b =
-    merged_met next.before.desk.contents (merged_slots ran.meeting (given_in ran)) next.meeting.slots next.told.desk
+    merged_met next.before.desk.contents (merged_slots ran.meeting (given_in ran)) next.told.desk
     (subst (λ (told : Option FileMap). StandsForSlots (merged_slots ran.meeting (given_in ran)) told) (sym is.desk) b.stands)
     (merged-ordered ran.meeting (given_in ran) (picked-near ran.meeting ran.add ran.picked) ran.desktop.ordered) next.desktop
 
@@ -185,8 +162,8 @@ first-none ran next is none_next = by (first_over ran.meeting) refl
         → StoppedBefore ran.meeting ran.before.desk ran.after.desk ran.report ⊎ StoppedBehind ran.meeting ran.after.desk ran.report → ⊥
     met name over (inl b) =
         let wrote = wrote_none ran (subst IsSome (sym over) refl) in
-        let one = met-device ran next is in
-        let slots = slots-before ran next is b in
+        let one = met-device is in
+        let slots = slots-before is b in
         let user : next.meeting.device.user ≡ ran.meeting.device.user = one.user_is ∙ wrote.kept.user in
         let same : MeetsTheSame ran.meeting next.meeting = record {
           databases = one.databases ∙ wrote.kept.databases;
@@ -196,7 +173,7 @@ first-none ran next is none_next = by (first_over ran.meeting) refl
           actions = is.asks.actions;
           slow = is.asks.slow;
         } in
-        let no : ◌≡◌ {A = Option (List ℕ)} (Some name) None = sym over ∙ sym (over-same ran.meeting next.meeting same) ∙ none_next in
+        let no : ◌≡◌ {A = Option (List ℕ)} (Some name) None = sym over ∙ sym (over-same same) ∙ none_next in
         cc
     met name over (inr b) =
         let wrote = wrote_none ran (subst IsSome (sym over) refl) in
@@ -209,22 +186,16 @@ first-none ran next is none_next = by (first_over ran.meeting) refl
 
 -- ---- it runs again
 
-number-of : (told : Option FileMap) (m : Meeting) → IsDesk told m.slots → 0 < (slot_of m).marks.pc
-number-of told m is = subst (λ n. 0 < n) (sym (picked_number told m.slots m.picked is)) is.formed.number
+number-of : {told : Option FileMap} (m : Meeting) → IsDesk told m.slots → 0 < (slot_of m).marks.pc
+number-of {told} m is = subst (λ n. 0 < n) (sym (picked_number told m.slots m.picked is)) is.formed.number
 
-user-begun : (m next : Meeting) (given : List ℕ) → StandsAmongNews m given next.device → next.device.user.user ≡ m.device.user.user
-user-begun m next given stands = elim stands.begun [
-  | inl begun ↦ ap (λ (u : UserInfo). u.user) begun
-  | inr (user, databases) ↦ ap (λ (u : UserInfo). u.user) user
-]
+user-begun : {m : Meeting} (next : Meeting) {given : List ℕ} → StandsAmongNews m given next.device → next.device.user.user ≡ m.device.user.user
+user-begun next stands = grind arith
 
-user-done : (m next : Meeting) (given : List ℕ) → StandsBehindCommit m given next.device
+user-done : {m : Meeting} (next : Meeting) {given : List ℕ} → StandsBehindCommit m given next.device
     → (next.device.user.user ≡ m.device.user.user) ⊎ (next.device.user.user ≡ agreed_user m.device.user (slot_of m).marks)
 unfolding merged_device
-user-done m next given stands = elim stands.ended [
-  | inl begun ↦ inl (ap (λ (u : UserInfo). u.user) begun)
-  | inr (user, databases) ↦ inr (ap (λ (u : UserInfo). u.user) user)
-]
+user-done next stands = grind arith
 
 -- where the one stopped, as the next one finds it
 pub record IsFound (m next : Meeting) (writes : ℕ) (given : List ℕ) : Type 0 where
@@ -232,47 +203,38 @@ pub record IsFound (m next : Meeting) (writes : ℕ) (given : List ℕ) : Type 0
   pub slot : HasSlot m next writes given
   pub kept : (name : List ℕ) → IsActive m name → IsActive next name
 
-found-before : (ran next : Ran) → Precedes ran next → first_over ran.meeting ≡ None
-    → StoppedBefore ran.meeting ran.before.desk ran.after.desk ran.report → IsFound ran.meeting next.meeting ran.report.writes (given_in ran)
-found-before ran next is none b =
-    let m : Meeting = ran.meeting in
-    let stands = front-among m ran.report.writes (given_in ran) next.meeting.device ran.left.sound none (met-front ran next is) b.writes in
-    let slots = slots-before ran next is b in
-    let picked = same-place m next.meeting ran.add next.add ran.picked next.picked slots (user-begun m next.meeting (given_in ran) stands) in
-    let slot : slot_of next.meeting ≡ slot_of m = (λ k. slot_at (slots k) (picked k)) in
-    record { picked = picked; slot = inl (slot, b.writes); kept = λ name active. active-among m next.meeting (given_in ran) stands name active is.asks slot }
+module _ {ran next : Ran} (is : Precedes ran next) (none : first_over ran.meeting ≡ None) where
+  found-before : StoppedBefore ran.meeting ran.before.desk ran.after.desk ran.report → IsFound ran.meeting next.meeting ran.report.writes (given_in ran)
+  found-before b =
+      let m = ran.meeting in
+      let stands = front-among m ran.report.writes (given_in ran) next.meeting.device ran.left.sound none (met-front is) b.writes in
+      let slots = slots-before is b in
+      let picked = same-place m next.meeting ran.add next.add ran.picked next.picked slots (user-begun next.meeting stands) in
+      let slot : slot_of next.meeting ≡ slot_of m = (λ k. slot_at (slots k) (picked k)) in
+      record { picked = picked; slot = inl (slot, b.writes); kept = λ name active. active-among m next.meeting (given_in ran) stands name active is.asks slot }
 
-found-behind : (ran next : Ran) → Precedes ran next → first_over ran.meeting ≡ None
-    → StoppedBehind ran.meeting ran.after.desk ran.report → IsFound ran.meeting next.meeting ran.report.writes (given_in ran)
-found-behind ran next is none b =
-    let m : Meeting = ran.meeting in
-    let stands = front-behind m ran.report.writes (given_in ran) next.meeting.device ran.left.sound none (met-front ran next is) b.writes in
-    let slots = slots-behind ran next is b in
-    let picked = merged-place m next.meeting (given_in ran) ran.add next.add ran.picked next.picked slots (user-done m next.meeting (given_in ran) stands) in
-    let slot : slot_of next.meeting ≡ merged_slot m (given_in ran) =
-    (λ k. slot_at (slots k) (picked k)) ∙ merged-picked m (given_in ran) (picked-near m ran.add ran.picked) in
-    record { picked = picked; slot = inr (slot, b.writes); kept = λ name active. active-behind m next.meeting (given_in ran) stands name active is.asks slot }
+  found-behind : StoppedBehind ran.meeting ran.after.desk ran.report → IsFound ran.meeting next.meeting ran.report.writes (given_in ran)
+  found-behind b =
+      let m = ran.meeting in
+      let stands = front-behind m ran.report.writes (given_in ran) next.meeting.device ran.left.sound none (met-front is) b.writes in
+      let slots = slots-behind ran next is b in
+      let picked = merged-place m next.meeting (given_in ran) ran.add next.add ran.picked next.picked slots (user-done next.meeting stands) in
+      let slot : slot_of next.meeting ≡ merged_slot m (given_in ran) =
+      (λ k. slot_at (slots k) (picked k)) ∙ merged-picked m (given_in ran) (picked-near m ran.add ran.picked) in
+      record { picked = picked; slot = inr (slot, b.writes); kept = λ name active. active-behind m next.meeting (given_in ran) stands name active is.asks slot }
 
-pub is-found : (ran next : Ran) → Precedes ran next → first_over ran.meeting ≡ None → IsFound ran.meeting next.meeting ran.report.writes (given_in ran)
-is-found ran next is none = elim is.stopped [
-  | inl b ↦ found-before ran next is none b
-  | inr b ↦ found-behind ran next is none b
-]
+  pub is-found : IsFound ran.meeting next.meeting ran.report.writes (given_in ran)
+  is-found = grind (arith, found-before, found-behind)
 
-pub runs-of : (ran next : Ran) → Precedes ran next → first_over ran.meeting ≡ None → RunsAgain ran.meeting next.meeting ran.report.writes (given_in ran)
-runs-of ran next is none = record {
-  front = met-front ran next is;
-  slot = (is-found ran next is none).slot;
-  asks = is.asks;
-  number = number-of (option_map finished ran.before.desk.contents) ran.meeting ran.desktop;
-}
+  pub runs-of : RunsAgain ran.meeting next.meeting ran.report.writes (given_in ran)
+  runs-of = grind (arith, met-front is, is-found, number-of ran.meeting ran.desktop)
 
 -- the ids that the new records of a database got in a session that ended
 got-of : (ran : Ran) → EndedSession ran.meeting ran.after.palm ran.after.desk ran.report → (name : List ℕ) → IsActive ran.meeting name
     → GotAllIds (action_at ran.meeting name) (found_of ran.meeting name) (ids_at ran.meeting (given_in ran) name)
 got-of ran ended name active =
     (front-behind ran.meeting ran.report.writes (given_in ran) ran.line.last ran.left.sound (none-over ran ended)
-    (front_of ran.meeting ran.rules ran.before.palm ran.after.palm ran.report ran.line ran.left.issued) (all-written ran ended)).free name active
+    (front_of ran.meeting ran.line ran.left.issued) (all-written ran ended)).free name active
 
 -- ---- one behind another
 
@@ -306,7 +268,7 @@ runs-all : (ran : Ran) (later : List Ran) → AllPrecede ran later → AllRunAga
 runs-all ran [] all = tt
 runs-all ran (next ∷ later) all =
     let none = none-all ran (next ∷ later) all in
-    (ran.left.sound, none, runs-of ran next all.0 none, runs-all next later all.1)
+    (ran.left.sound, none, runs-of all.0 none, runs-all next later all.1)
 
 -- what goes on to the last one
 record GoesOn (ran : Ran) (last : Meeting) : Type 0 where
@@ -316,22 +278,15 @@ record GoesOn (ran : Ran) (last : Meeting) : Type 0 where
 
 goes-on : (ran : Ran) (later : List Ran) → AllPrecede ran later → GoesOn ran (last_ran ran later).meeting
 goes-on ran [] all = record { picked = refl; kept = λ name active. active; action = λ name. refl }
-goes-on ran (next ∷ later) all =
-    let rest = goes-on next later all.1 in
-    let found = is-found ran next all.0 (none-all ran (next ∷ later) all) in
-    record {
-      picked = rest.picked ∙ found.picked;
-      kept = λ name active. rest.kept name (found.kept name active);
-      action = λ name. rest.action name ∙ ap (λ items. action_or_sync (action_of_word (action_for name items))) all.0.asks.actions;
-    }
+goes-on ran (next ∷ later) all = grind (arith, goes-on next later all.1, is-found all.0 (none-all ran (next ∷ later) all))
 
 taken-up : (ran : Ran) (later : List Ran) → AllPrecede ran later
     → TakesUp ran.meeting (laters ran later) (given_in (last_ran ran later)) (last_ran ran later).after
 taken-up ran later all =
-    let last : Ran = last_ran ran later in
-    let given : List ℕ = given_in last in
-    let ended : EndedSession last.meeting last.after.palm last.after.desk last.report = ended-last ran later all in
-    let on : GoesOn ran last.meeting = goes-on ran later all in
+    let last = last_ran ran later in
+    let given = given_in last in
+    let ended = ended-last ran later all in
+    let on = goes-on ran later all in
     let now : last.meeting ≡ last_run ran.meeting (laters ran later) = sym (last-is ran later) in
     record {
       handheld = subst (λ (m : Meeting). Stands last.after.palm.contents (merged_device m given).databases (merged_device m given).user) now ended.handheld;
@@ -344,18 +299,14 @@ taken-up ran later all =
           (all-run_again ran.meeting (laters ran later) given new name ran.left.sound (runs-all ran later all) active fresh
           (subst (λ (m : Meeting). GotAllIds (action_at ran.meeting name) (found_of m name) (ids_at m given name)) now
           (subst (λ a. GotAllIds a (found_of last.meeting name) (ids_at last.meeting given name)) (on.action name)
-          (got-of last ended name (on.kept name active))))
-          can.got can.unknown).1;
+          (got-of last ended name (on.kept name active)))) can.got can.unknown).1;
     }
 
 -- ---- calls
 
-session_in : (call : RunCall) (end : SessionEnd) → call.report.end ≡ end → DidRun call
+session_in : (call : RunCall) {end : SessionEnd} → call.report.end ≡ end → DidRun call
     → ByEnd end (SentNothing call.run call.before call.after call.status call.report) (SessionRan call.run call.before call.after call.status call.report)
-session_in call end is did =
-    subst
-    (λ e. ByEnd e (SentNothing call.run call.before call.after call.status call.report)
-    (SessionRan call.run call.before call.after call.status call.report)) is did.1.ran.shown
+session_in call is did = grind arith
 
 abbrev ran-of : (call : RunCall) → SessionRan call.run call.before call.after call.status call.report → AreTold call.before → Ran
 ran-of call ran told = record {
@@ -375,7 +326,7 @@ ran-of call ran told = record {
 
 meets-of : (call : RunCall) (ran : SessionRan call.run call.before call.after call.status call.report)
     → Meets call.run call.before (meeting_of ran.device ran.slots ran.talked.wishes)
-meets-of call ran = record { handheld = ran.handheld; closed = ran.closed; desktop = ran.desktop; picked = refl; asked = ran.talked.asked }
+meets-of call ran = grind arith
 
 -- the sessions of calls
 record AreSessions (call : RunCall) (later : List RunCall) : Type 0 where
@@ -390,8 +341,8 @@ record AreSessions (call : RunCall) (later : List RunCall) : Type 0 where
 
 are-sessions : (call : RunCall) (later : List RunCall) → AllRan call later → AreSessions call later
 are-sessions call [] all =
-    let session : SessionRan call.run call.before call.after call.status call.report = session_in call Ended all.1 all.0 in
-    let ran : Ran = ran-of call session all.0.0 in
+    let session = session_in call all.1 all.0 in
+    let ran = ran-of call session all.0.0 in
     record {
       ran = ran;
       others = [];
@@ -403,8 +354,8 @@ are-sessions call [] all =
       last_after = refl;
     }
 are-sessions call (next ∷ later) all =
-    let session : SessionRan call.run call.before call.after call.status call.report = session_in call Stopped all.1 all.0 in
-    let ran : Ran = ran-of call session all.0.0 in
+    let session = session_in call all.1 all.0 in
+    let ran = ran-of call session all.0.0 in
     let rest = are-sessions next later all.3 in
     let asked = rest.meets.asked in
     record {
@@ -437,11 +388,8 @@ end-as_one call later all =
       meets = sessions.meets;
       others = laters sessions.ran sessions.others;
       meet = sessions.meet;
-      takes_up = subst
-          (λ (after : CallTold). TakesUp sessions.ran.meeting (laters sessions.ran sessions.others)
-          (log_in (last_call call later).report).given after) sessions.last_after
-          (subst
+      takes_up = subst (λ (after : CallTold). TakesUp sessions.ran.meeting (laters sessions.ran sessions.others)
+          (log_in (last_call call later).report).given after) sessions.last_after (subst
           (λ (given : List ℕ). TakesUp sessions.ran.meeting (laters sessions.ran sessions.others) given
-          (last_ran sessions.ran sessions.others).after) sessions.last_given
-          (taken-up sessions.ran sessions.others sessions.precede));
+          (last_ran sessions.ran sessions.others).after) sessions.last_given (taken-up sessions.ran sessions.others sessions.precede));
     }

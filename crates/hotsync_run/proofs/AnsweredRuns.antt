@@ -1,27 +1,23 @@
 -- No request of a run is refused.
-use Rattle.std.proofs.Common.{◌≡◌, ap, refl, sym, subst, ℕ, List, length, take}
-use Rattle.std.specs.Prelude.{Option, Some, None, IsSome, map}
+use Rattle.std.proofs.Common.{arith, ◌≡◌, refl, sym, subst, ℕ, List, length, take}
+use Rattle.std.specs.Prelude.{Option, Some, None, IsSome}
 use Rattle.std.specs.List.{AllByRecursion}
 use Rattle.palm_device.specs.Devices.{Device}
 use Rattle.dlp_commands.specs.DeviceRuns.{DeviceRun, exchanged}
-use Rattle.desktop_session.specs.Acts.{text}
 use Rattle.desktop_session.specs.Says.{IsPrefix}
 use Rattle.line_script.specs.Rules.{RuleValue}
-use Rattle.line_world.specs.Logs.{texts}
 use Rattle.desk_store.specs.Shelves.{SlotValue}
 use Rattle.made_folders.specs.Items.{made}
-use Rattle.made_folders.specs.Sides.{desktop_files, handheld_files}
 use Rattle.made_folders.specs.declared.item.Item.{Item}
 use Rattle.run_words.specs.Runs.{Run}
 use Rattle.sync_session.specs.Limits.{first_over}
-use Rattle.sync_session.specs.Sessions.{before_writes, requests}
-use Rattle.sync_session.specs.Tasks.{Meeting, meeting_of}
+use Rattle.sync_session.specs.Tasks.{Meeting}
 use Rattle.session_fronts.specs.Answered.{IsAnsweredExchange}
 use Rattle.session_fronts.proofs.OrderRuns.{read-answered, whole-answered}
 use Rattle.hotsync_run.specs.Causes.{ByEnd}
 use Rattle.hotsync_run.specs.Ends.{SessionLeft}
 use Rattle.hotsync_run.specs.LineRuns.{LineRan, exchanges_in, log_in}
-use Rattle.hotsync_run.specs.Makes.{IsMake, MadeNothing, MadeRan, files_told, made_run, made_script}
+use Rattle.hotsync_run.specs.Makes.{IsMake, MadeNothing, MadeRan}
 use Rattle.hotsync_run.specs.Reports.{IsNotStarted}
 use Rattle.hotsync_run.specs.Runs.{IsRun, SentNothing, SessionRan}
 use Rattle.hotsync_run.specs.Talks.{Talked}
@@ -36,36 +32,29 @@ abbrev AreAnswered : Report → Type 0
 AreAnswered report = AllByRecursion IsAnsweredExchange (exchanges_in report)
 
 -- where the performed requests begin these, of which none is refused
-run_by : (whole : List (List ℕ)) (rules : List RuleValue) (device : Device) (before after : FolderTold) (report : Report)
-    → LineRan rules device before after report → IsPrefix (log_in report).issued whole
-    → ((count : ℕ) (replies : List (List ℕ)) (last : Device) → DeviceRun device (take count whole) replies last
-    → AllByRecursion IsAnsweredExchange (exchanged (take count whole) replies)) → AreAnswered report
-run_by whole rules device before after report line prefix answered =
-    let replies : List (List ℕ) = (log_in report).replies in
-    let is = performed-begins whole rules device before after report line prefix in
-    subst (λ (asked : List (List ℕ)). AllByRecursion IsAnsweredExchange (exchanged asked replies)) (sym is)
-    (answered (length replies) replies line.last (subst (λ (asked : List (List ℕ)). DeviceRun device asked replies line.last) is line.ran))
+module _ {rules : List RuleValue} {before after : FolderTold} {report : Report} where
+  run_by : {whole : List (List ℕ)} {device : Device} → LineRan rules device before after report → IsPrefix (log_in report).issued whole
+      → ((count : ℕ) (replies : List (List ℕ)) (last : Device) → DeviceRun device (take count whole) replies last
+      → AllByRecursion IsAnsweredExchange (exchanged (take count whole) replies))
+      → AreAnswered report
+  run_by line prefix answered = grind (arith, performed-begins line prefix, length ((log_in report).replies))
 
-session_answered : (meeting : Meeting) (rules : List RuleValue) (before after desk desk_after : FolderTold) (report : Report)
-    → LineRan rules meeting.device before after report → SessionLeft meeting after desk desk_after report → AreAnswered report
-session_answered meeting rules before after desk desk_after report line left = by (first_over meeting) refl
-  where
-    by : (o : Option (List ℕ)) → first_over meeting ≡ o → AreAnswered report
-    by None none =
-        run_by (requests meeting) rules meeting.device before after report line left.issued
-        (λ count replies last run. whole-answered meeting count replies last left.sound none run)
-    by (Some name) over =
-        run_by (map text (before_writes meeting)) rules meeting.device before after report line (left.over (subst IsSome (sym over) refl))
-        (λ count replies last run. read-answered meeting count replies last left.sound run)
+  session_answered : {meeting : Meeting} {desk desk_after : FolderTold} → LineRan rules meeting.device before after report
+      → SessionLeft meeting after desk desk_after report → AreAnswered report
+  session_answered {meeting} line left = by (first_over meeting) refl
+    where
+      by : (o : Option (List ℕ)) → first_over meeting ≡ o → AreAnswered report
+      by None none =
+          run_by line left.issued (λ count replies last run. whole-answered meeting count replies last left.sound none run)
+      by (Some name) over =
+          run_by line (left.over (subst IsSome (sym over) refl)) (λ count replies last run. read-answered meeting count replies last left.sound run)
 
-talked_answered : (run : Run) (rules : List RuleValue) (device : Device) (slots : List SlotValue) (palm palm_after desk desk_after : FolderTold)
-    (status : Status) (report : Report) → Talked run rules device slots palm palm_after desk desk_after status report → AreAnswered report
-talked_answered run rules device slots palm palm_after desk desk_after status report talked =
-    session_answered (meeting_of device slots talked.wishes) rules palm palm_after desk desk_after report talked.line talked.left
+talked_answered : {run : Run} {rules : List RuleValue} {device : Device} {slots : List SlotValue} {palm palm_after desk desk_after : FolderTold}
+    {status : Status} {report : Report} → Talked run rules device slots palm palm_after desk desk_after status report → AreAnswered report
+talked_answered talked = session_answered talked.line talked.left
 
-not_started : (report : Report) → IsNotStarted report → AreAnswered report
-not_started report is =
-    subst (AllByRecursion IsAnsweredExchange) (sym (ap (λ items. exchanged (texts items) (texts report.replies.items)) is.performed)) tt
+not_started : {report : Report} → IsNotStarted report → AreAnswered report
+not_started is = grind arith
 
 -- ---- runs, and sessions between made folders
 
@@ -74,10 +63,10 @@ pub run-answered : (run : Run) (before after : CallTold) (out out_after : SinkTo
 run-answered run before after out out_after status report is = by report.end is.ran.shown
   where
     session : SessionRan run before after status report → AreAnswered report
-    session ran = talked_answered run ran.rules ran.device ran.slots before.palm after.palm before.desk after.desk status report ran.talked
+    session ran = talked_answered ran.talked
 
     by : (end : SessionEnd) → ByEnd end (SentNothing run before after status report) (SessionRan run before after status report) → AreAnswered report
-    by NotStarted sent = not_started report sent.report_is
+    by NotStarted sent = not_started sent.report_is
     by Ended ran = session ran
     by Stopped ran = session ran
 
@@ -90,10 +79,9 @@ made-answered seed count out out_after status report is = by report.end is.ran
 
     session : MadeRan items status report → AreAnswered report
     session ran =
-        talked_answered made_run made_script ran.device ran.slots (files_told (handheld_files items)) ran.palm_after (files_told (desktop_files items))
-        ran.desk_after status report ran.talked
+        talked_answered ran.talked
 
     by : (end : SessionEnd) → ByEnd end (MadeNothing status report) (MadeRan items status report) → AreAnswered report
-    by NotStarted nothing = not_started report nothing.report_is
+    by NotStarted nothing = not_started nothing.report_is
     by Ended ran = session ran
     by Stopped ran = session ran

@@ -1,6 +1,6 @@
 -- A run without a script: each frame goes through, so nothing is said twice and the line stops nothing.
-use Rattle.std.proofs.Common.{◌≡◌, ◌∙◌, ◌+◌, ℕ, zero, suc, Bool, true, false, List, [], ◌∷◌, length, inl, inr, refl, sym, subst, ap, arith}
-use Rattle.std.specs.Prelude.{map, Option, None, if◌then◌else◌}
+use Rattle.std.proofs.Common.{◌≡◌, ◌+◌, ℕ, zero, suc, Bool, true, false, List, [], ◌∷◌, length, inl, refl, subst, ap, arith}
+use Rattle.std.specs.Prelude.{None, if◌then◌else◌}
 use Rattle.std.specs.List.{AllByRecursion}
 use Rattle.trace_text.specs.declared.frame.End.{End}
 use Rattle.trace_text.specs.Fates.{FateValue, Untouched}
@@ -9,19 +9,15 @@ use Rattle.trace_text.specs.Frames.{add_frame, course_of, fragment_in, is_abort,
 use Rattle.trace_text.specs.Past.{Sent, is_repeat}
 use Rattle.trace_text.specs.Proper.{AreNumbered}
 use Rattle.trace_text.specs.Tallies.{IsFairUpTo, faults_from}
-use Rattle.trace_text.specs.TraceLines.{FrameValue, frame_value}
-use Rattle.trace_text.specs.declared.frame.Frame.{Frame}
-use Rattle.line_script.specs.Rules.{RuleValue}
+use Rattle.trace_text.specs.TraceLines.{FrameValue}
 use Rattle.line_script.specs.Scripts.{fate_by}
 use Rattle.line_steps.specs.declared.harm.Stop.{Stop}
-use Rattle.line_steps.specs.declared.harm.Stop.TheVariants as stop
 use Rattle.line_world.specs.Causes.{BearsOut, EndsBy}
 use Rattle.run_words.specs.Runs.{Run}
 use Rattle.hotsync_run.specs.Causes.{IsLineDown, cause_in}
 use Rattle.hotsync_run.specs.Clean.{AreSaidOnce, GoesThrough, IsLineStop}
 use Rattle.hotsync_run.specs.LineRuns.{frames_in}
 use Rattle.hotsync_run.specs.Runs.{HasRun, SentNothing, SessionRan}
-use Rattle.hotsync_run.specs.Scripts.{IsScripted}
 use Rattle.hotsync_run.specs.Told.{CallTold}
 use Rattle.hotsync_run.specs.declared.report.Report.{Report}
 use Rattle.hotsync_run.specs.declared.status.Status.{Status}
@@ -33,14 +29,16 @@ use Rattle.hotsync_run.proofs.UndisturbedLaws.{last_fate}
 
 -- ---- nothing is said twice
 
-go_through : (number : ℕ) (frames : List FrameValue) → AreNumbered number (fate_by []) frames → AllByRecursion (λ (frame : FrameValue). frame.fate ≡ Untouched) frames
+go_through : (number : ℕ) (frames : List FrameValue) → AreNumbered number (fate_by []) frames
+    → AllByRecursion (λ (frame : FrameValue). frame.fate ≡ Untouched) frames
 go_through number [] are = tt
 go_through number (frame ∷ later) are = (are.1, go_through (number + 1) later are.3)
 
 abbrev IsWell : Sent → Type 0
 IsWell frame = faulted frame ≡ false
 
-past_is_well : (past : List Sent) (frames : List FrameValue) → AllByRecursion IsWell past → AllByRecursion (λ (frame : FrameValue). frame.fate ≡ Untouched) frames → AllByRecursion IsWell (past_behind past frames)
+past_is_well : (past : List Sent) (frames : List FrameValue) → AllByRecursion IsWell past
+    → AllByRecursion (λ (frame : FrameValue). frame.fate ≡ Untouched) frames → AllByRecursion IsWell (past_behind past frames)
 past_is_well past [] well through = well
 past_is_well past (frame ∷ later) well through = past_is_well (add_frame frame past) later (by (is_abort (fragment_in frame).kind)) through.1
   where
@@ -50,7 +48,7 @@ past_is_well past (frame ∷ later) well through = past_is_well (add_frame frame
 
 none_faulted : (past : List Sent) → AllByRecursion IsWell past → newest faulted past ≡ 0
 none_faulted [] well = refl
-none_faulted (frame ∷ past) well = ap (λ (b : Bool). if b then length past + 1 else newest faulted past) well.0 ∙ none_faulted past well.1
+none_faulted (frame ∷ past) well = grind (arith, length past, none_faulted past well.1)
 
 said_once : (past : List Sent) → AllByRecursion IsWell past → RepeatsHaveFaults past → AreSaidOnce past
 said_once [] well repeats = tt
@@ -69,38 +67,40 @@ no_faults number (suc count) = let rest = no_faults (number + 1) count in omega 
 always_fair : (last : ℕ) → IsFairUpTo last (fate_by [])
 always_fair last number count some short near = let none = no_faults number count in omega (arith, none)
 
-none_ends : (why : Stop) (frames : List FrameValue) → AreNumbered 1 (fate_by []) frames → EndsBy why frames → ⊥
-none_ends why frames are ends =
+none_ends : {why : Stop} {frames : List FrameValue} → AreNumbered 1 (fate_by []) frames → EndsBy why frames → ⊥
+none_ends {why} are ends =
     let found = last_fate 1 (fate_by []) ends.before ends.last (subst (AreNumbered 1 (fate_by [])) ends.is are) in
-    no_stop ends.last.fate ends.last.bytes why (inl found.1) ends.stops
+    no_stop ends.last.bytes why (inl found.1) ends.stops
 
-stands : (status : Status) (numbers : List ℕ) (frames : List FrameValue) → ¬ IsLineDown status → BearsOut (cause_in status numbers) frames → AreNumbered 1 (fate_by []) frames → ¬ IsLineStop status
+stands : (status : Status) (numbers : List ℕ) (frames : List FrameValue) → ¬ IsLineDown status → BearsOut (cause_in status numbers) frames
+    → AreNumbered 1 (fate_by []) frames → ¬ IsLineStop status
 stands (LineDown end) numbers frames up caused are = λ is. up tt
-stands (Unplugged number) numbers frames up caused are = λ is. none_ends stop.Unplugged frames are caused.1
-stands (Aborted number) numbers frames up caused are = λ is. none_ends stop.Aborted frames are caused.1
-stands (Undetected number) numbers frames up caused are = λ is. none_ends stop.Undetected frames are caused.1
+stands (Unplugged number) numbers frames up caused are = λ is. none_ends are caused.1
+stands (Aborted number) numbers frames up caused are = λ is. none_ends are caused.1
+stands (Undetected number) numbers frames up caused are = λ is. none_ends are caused.1
 stands _ numbers frames up caused are = λ is. is
 
 -- ---- a run
 
-session_through : (run : Run) (before after : CallTold) (status : Status) (report : Report) → run.script ≡ None → SessionRan run before after status report → GoesThrough status report
-session_through run before after status report without ran =
-    let none : ran.rules ≡ [] = subst (λ (o : Option (List ℕ)). IsScripted o before.source.left ran.rules) without ran.scripted in
-    let line = ran.talked.line in
-    let numbered : AreNumbered 1 (fate_by []) (frames_in report) = subst (λ (rules : List RuleValue). AreNumbered 1 (fate_by rules) (frames_in report)) none line.proper.numbered in
-    let fair : IsFairUpTo (length (frames_in report)) (fate_by ran.rules) = subst (λ (rules : List RuleValue). IsFairUpTo (length (frames_in report)) (fate_by rules)) (sym none) (always_fair (length (frames_in report))) in
-    record {
-      once = said_once (past_of (frames_in report)) (past_is_well [] (frames_in report) tt (go_through 1 (frames_in report) numbered)) line.proper.faults;
-      stands = stands status report.faulted.items (frames_in report) (ran.talked.fair fair) ran.talked.caused numbered;
-    }
+module _ {run : Run} {before after : CallTold} {status : Status} {report : Report} where
+  session_through : run.script ≡ None → SessionRan run before after status report → GoesThrough status report
+  session_through without ran =
+      grind (
+        arith,
+        [],
+        length (frames_in report),
+        always_fair (length (frames_in report)),
+        said_once (past_of (frames_in report)),
+        past_is_well [] (frames_in report) tt,
+        go_through 1 (frames_in report),
+        stands,
+        stands status report.faulted.items (frames_in report),
+      )
 
-silent_through : (run : Run) (before after : CallTold) (status : Status) (report : Report) → SentNothing run before after status report → GoesThrough status report
-silent_through run before after status report sent = record {
-  once = subst (λ (frames : List Frame). AreSaidOnce (past_of (map frame_value frames))) (sym sent.report_is.frames) tt;
-  stands = elim sent.judged [ inl memory ↦ subst (λ (s : Status). ¬ IsLineStop s) (sym memory) (λ is. is) | inr refused ↦ refused_not_stopped run before status refused ];
-}
+  silent_through : SentNothing run before after status report → GoesThrough status report
+  silent_through sent = grind (arith, stands, refused_not_stopped run before status)
 
-pub goes_through_whole : (run : Run) (before after : CallTold) (status : Status) (report : Report) → run.script ≡ None → HasRun run before after status report → GoesThrough status report
-goes_through_whole run before after status report without has =
-    by_end_both report.end {A = SentNothing run before after status report} {B = SessionRan run before after status report} {C = GoesThrough status report}
-    (silent_through run before after status report) (session_through run before after status report without) has.shown
+  pub goes_through_whole : run.script ≡ None → HasRun run before after status report → GoesThrough status report
+  goes_through_whole without has =
+      by_end_both report.end {A = SentNothing run before after status report} {B = SessionRan run before after status report} {C = GoesThrough status report}
+      silent_through (session_through without) has.shown

@@ -33,27 +33,29 @@ same_length [] = refl
 same_length (exchange ∷ exchanges) = ap (λ (n : ℕ). suc n) (same_length exchanges)
 
 -- behind some of the exchanges the handheld is at a front
-front_at : (meeting : Meeting) (rules : List RuleValue) (before after : FolderTold) (report : Report) → LineRan rules meeting.device before after report → IsPrefix (log_in report).issued (requests meeting)
-    → (told : Option FileMap) → StoodAfterSome meeting.device (exchanges_in report) told → StandsAtFront meeting told
-front_at meeting rules before after report line prefix told stood =
-    let asked : List (List ℕ) = requests_of stood.before in
-    let count : ℕ = length asked in
-    let begins = performed-prefix (log_in report) line.answered (requests meeting) line.log prefix in
+front_at : (meeting : Meeting) {rules : List RuleValue} {before after : FolderTold} {report : Report} → LineRan rules meeting.device before after report
+    → IsPrefix (log_in report).issued (requests meeting) → (told : Option FileMap) → StoodAfterSome meeting.device (exchanges_in report) told
+    → StandsAtFront meeting told
+front_at meeting {report} line prefix told stood =
+    let asked = requests_of stood.before in
+    let count = length asked in
+    let begins = performed-prefix line.log prefix in
     let same = line.ran.same in
-    let all : requests_of (exchanges_in report) ≡ (log_in report).performed =
-    exchanged-requests (log_in report).performed (log_in report).replies (omega (arith, same)) in
+    let all = exchanged-requests (log_in report).performed (log_in report).replies (omega (arith, same)) in
     let parts : asked ++ requests_of stood.after ≡ (log_in report).performed =
     sym (map-append (λ (exchange : Exchange). exchange.request) stood.before stood.after) ∙ ap requests_of (sym stood.is) ∙ all in
     let whole : asked ++ (requests_of stood.after ++ begins.rest) ≡ requests meeting =
     sym (append_assoc asked (requests_of stood.after) begins.rest) ∙ ap (λ (l : List (List ℕ)). l ++ begins.rest) parts ∙ begins.is in
-    let first : take count (requests meeting) ≡ asked = ap (λ (l : List (List ℕ)). take count l) (sym whole) ∙ take-append_seam asked (requests_of stood.after ++ begins.rest) in
+    let first : take count (requests meeting) ≡ asked = ap (λ (l : List (List ℕ)). take count l) (sym whole)
+    ∙ take-append_seam asked (requests_of stood.after ++ begins.rest) in
     let run : DeviceRun meeting.device asked (replies_of stood.before) stood.device = record {
       same = same_length stood.before;
       ran = subst (λ (l : List Exchange). Ran meeting.device l stood.device) (sym (exchanged-parts stood.before)) stood.ran;
     } in
     record {
       writes = length (filter changes (take count (requests meeting)));
-      given = flat_map (λ (exchange : Exchange). given_in exchange.request exchange.reply) (exchanged (take count (requests meeting)) (replies_of stood.before));
+      given = flat_map (λ (exchange : Exchange). given_in exchange.request exchange.reply)
+          (exchanged (take count (requests meeting)) (replies_of stood.before));
       device = stood.device;
       front = record {
         count = count;
@@ -69,8 +71,9 @@ front_at meeting rules before after report line prefix told stood =
     }
 
 -- so is each moment
-pub fronts_at_moments : (meeting : Meeting) (rules : List RuleValue) (before after : FolderTold) (report : Report) → LineRan rules meeting.device before after report → IsPrefix (log_in report).issued (requests meeting)
+pub fronts_at_moments : (meeting : Meeting) {rules : List RuleValue} (before : FolderTold) {after : FolderTold} {report : Report}
+    → LineRan rules meeting.device before after report → IsPrefix (log_in report).issued (requests meeting)
     → EachMomentSince (StandsAtFront meeting) before.moments after.moments
-fronts_at_moments meeting rules before after report line prefix =
+fronts_at_moments meeting before {after} {report} line prefix =
     moments_weaken (StoodAfterSome meeting.device (exchanges_in report)) (StandsAtFront meeting) before.moments after.moments line.moments
-    (front_at meeting rules before after report line prefix)
+    (front_at meeting line prefix)

@@ -1,8 +1,8 @@
 -- What a session left of both sides, from what its call answered over a world.
-use Rattle.std.proofs.Common.{◌≡◌, ◌⊎◌, ◌∙◌, ◌+◌, ◌^◌, ◌≤◌, ◌<◌, ap, append_assoc, refl, sym, subst, arith, inl, inr, ℕ, List, [], ◌∷◌, ◌++◌, length}
+use Rattle.std.proofs.Common.{◌≡◌, ◌⊎◌, ◌∙◌, ◌^◌, ◌≤◌, ◌<◌, ap, append_assoc, refl, sym, subst, arith, inl, inr, ℕ, List, [], ◌∷◌, ◌++◌, length}
 use Rattle.std.specs.Prelude.{Option, Some, None, IsErr, IsSome, Result, Ok, Err, filter, map, replicate}
 use Rattle.std.specs.Global.{Vec}
-use Rattle.std.specs.List.{AllByRecursion, flat_map}
+use Rattle.std.specs.List.{flat_map}
 use Rattle.std.proofs.lemmas.List.{append-nil, length-append, map-append}
 use Rattle.hs_folders.specs.FileMaps.{FileMap}
 use Rattle.hs_folders.specs.Moments.{EachMomentSince, Moments}
@@ -14,16 +14,16 @@ use Rattle.dlp_commands.specs.declared.link.LinkFault.{LinkFault}
 use Rattle.dlp_commands.proofs.StepLaws.{given-append}
 use Rattle.palm_device.specs.Bounds.{IsBounded}
 use Rattle.palm_device.specs.Handles.{no_handles}
-use Rattle.handheld_files.specs.Openings.{AreKept, Stands, opened_device}
+use Rattle.handheld_files.specs.Openings.{AreKept, Stands}
 use Rattle.handheld_files.proofs.BoundLaws.{opened-device}
 use Rattle.desk_store.specs.Bounds.{AreBounded}
 use Rattle.desk_store.specs.Shelves.{SlotValue}
 use Rattle.desk_store.proofs.BoundLaws.{bounded_at}
 use Rattle.desk_journal.specs.Overlays.{StandsAs}
 use Rattle.desk_store.specs.Desks.{IsDesk}
-use Rattle.desktop_session.specs.Acts.{Act, text}
+use Rattle.desktop_session.specs.Acts.{text}
 use Rattle.desktop_session.specs.Says.{IsPrefix}
-use Rattle.desktop_session.specs.Tellings.{device_after, exchanges}
+use Rattle.desktop_session.specs.Tellings.{exchanges}
 use Rattle.desktop_session.specs.Requests.{reading_user}
 use Rattle.desktop_session.specs.declared.fault.SessionFault.{SessionFault}
 use Rattle.pdb_values.specs.declared.user.UserInfo.{UserInfo}
@@ -34,7 +34,7 @@ use Rattle.sync_session.specs.Limits.{first_over}
 use Rattle.sync_session.specs.Given.{GetFreeIds}
 use Rattle.sync_session.specs.News.{all_news}
 use Rattle.sync_session.specs.Skips.{active}
-use Rattle.sync_session.specs.Merges.{merged_device, merged_slots}
+use Rattle.sync_session.specs.Merges.{merged_slots}
 use Rattle.sync_session.specs.Outcomes.{MergedSince, SessionEnds, StandsForSlots, requests_before_commit, seat_of}
 use Rattle.sync_session.specs.Reports.{reports}
 use Rattle.sync_session.specs.Sessions.{adds_of, after_commit, before_commit, before_writes, requests, session, writes_before_commit}
@@ -76,106 +76,114 @@ parts-are meeting given = sym (map-append text (before_commit meeting given) (af
 pub before-longer : (meeting : Meeting) (given : List ℕ) → length (map text (before_writes meeting)) < length (map text (before_commit meeting given))
 unfolding before_commit
 before-longer meeting given =
-    let parts = ap length (map-append text (before_writes meeting) (begin_mark meeting ∷ all_news meeting (active meeting) given)) in
-    let sum = length-append (map text (before_writes meeting)) (map text (begin_mark meeting ∷ all_news meeting (active meeting) given)) in
-    omega (arith, parts, sum)
+    grind (
+      arith,
+      map-append text (before_writes meeting) (begin_mark meeting ∷ all_news meeting (active meeting) given),
+      length-append (map text (before_writes meeting)) (map text (begin_mark meeting ∷ all_news meeting (active meeting) given)),
+    )
 
-prefix-more : (xs ys zs : List (List ℕ)) → IsPrefix xs ys → IsPrefix xs (ys ++ zs)
-prefix-more xs ys zs prefix = record { rest = prefix.rest ++ zs; is = sym (append_assoc xs prefix.rest zs) ∙ ap (λ (l : List (List ℕ)). l ++ zs) prefix.is }
+prefix-more : {xs ys : List (List ℕ)} (zs : List (List ℕ)) → IsPrefix xs ys → IsPrefix xs (ys ++ zs)
+prefix-more {xs} zs prefix = grind (arith, append_assoc xs prefix.rest zs)
 
-pub prefix-length : (xs ys : List (List ℕ)) → IsPrefix xs ys → length xs ≤ length ys
-prefix-length xs ys prefix = let sum = sym (length-append xs prefix.rest) ∙ ap length prefix.is in omega (arith, sum)
+pub prefix-length : {xs ys : List (List ℕ)} → IsPrefix xs ys → length xs ≤ length ys
+prefix-length {xs} prefix = let sum = sym (length-append xs prefix.rest) ∙ ap length prefix.is in omega (arith, sum)
 
 whole-prefix : (xs ys : List (List ℕ)) → xs ≡ ys → IsPrefix xs ys
 whole-prefix xs ys same = record { rest = []; is = append-nil xs ∙ same }
 
-pub writes-before : (meeting : Meeting) (given : List ℕ) → length (filter changes (map text (before_commit meeting given))) ≡ writes_before_commit meeting
+pub writes-before : (meeting : Meeting) (given : List ℕ)
+    → length (filter changes (map text (before_commit meeting given))) ≡ writes_before_commit meeting
 unfolding writes_before_commit
-writes-before meeting given = ap (λ (l : List (List ℕ)). length (filter changes l)) (text-before_commit meeting given (replicate (adds_of meeting) 0))
+writes-before meeting given = grind (arith, text-before_commit meeting given (replicate (adds_of meeting) 0))
 
 -- ---- a limit stops a session before it writes
 
 -- what went out is more than what writes nothing
-pub no-limit : (meeting : Meeting) (given : List ℕ) (sent_out : List (List ℕ)) (o : Option (List ℕ)) → length (map text (before_commit meeting given)) ≤ length sent_out
-    → (IsSome o → IsPrefix sent_out (map text (before_writes meeting))) → o ≡ None
+pub no-limit : (meeting : Meeting) (given : List ℕ) (sent_out : List (List ℕ)) (o : Option (List ℕ))
+    → length (map text (before_commit meeting given)) ≤ length sent_out → (IsSome o → IsPrefix sent_out (map text (before_writes meeting))) → o ≡ None
 no-limit meeting given sent_out None many over = refl
-no-limit meeting given sent_out (Some name) many over =
-    let few = prefix-length sent_out (map text (before_writes meeting)) (over refl) in
-    let longer = before-longer meeting given in
-    absurd (omega (arith, few, longer, many))
+no-limit meeting given sent_out (Some name) many over = grind (arith, prefix-length (over refl), before-longer meeting given)
 
 -- ---- it ended
 
-ended_left : {F : Type 0} (meeting : Meeting) (given : List ℕ) (old new : WorldValue F) (palm_after desk_after : FolderTold) (report : Report) → IsSoundMeeting meeting → old.server.device ≡ meeting.device → Tells old new palm_after report
-    → first_over meeting ≡ None → length given ≡ adds_of meeting → GetFreeIds (session meeting given) meeting.device → LoggedAll (session meeting given) old new
-    → IsDesk desk_after.contents (merged_slots meeting given) → report.databases.items ≡ reports meeting → EndedSession meeting palm_after desk_after report
-ended_left meeting given old new palm_after desk_after report sound device tells none count free logged desk told =
-    let acts : List Act = session meeting given in
-    let rows : exchanges_in report ≡ exchanges acts meeting.device =
-    ap (λ (l : LogValue). exchanged l.performed l.replies) tells.said ∙ logged.exchanges_are ∙ ap (λ (d : Device). exchanges acts d) device in
-    let ids : (log_in report).given ≡ given = tells.given ∙ ap ids_by rows ∙ session-told meeting given sound none free ∙ session-ids meeting given sound count in
-    let reached : new.server.device ≡ merged_device meeting (log_in report).given =
-    logged.device ∙ ap (λ (d : Device). device_after acts d) device ∙ merged meeting given sound none free ∙ ap (λ (l : List ℕ). merged_device meeting l) (sym ids) in
-    record {
-      issued = ap (λ (l : LogValue). l.issued) tells.said ∙ logged.issued_are ∙ text-session meeting given;
-      performed = ap (λ (l : LogValue). l.performed) tells.said ∙ logged.performed_are ∙ text-session meeting given;
-      handheld = subst (λ (d : Device). Stands palm_after.contents d.databases d.user) reached tells.stands;
-      desktop = subst (λ (l : List ℕ). IsDesk desk_after.contents (merged_slots meeting l)) (sym ids) desk;
-      databases = told;
-    }
+ended_left : {F : Type 0} {meeting : Meeting} (given : List ℕ) {old new : WorldValue F} {palm_after : FolderTold} (desk_after : FolderTold) {report : Report}
+    → IsSoundMeeting meeting → old.server.device ≡ meeting.device → Tells old new palm_after report → first_over meeting ≡ None
+    → length given ≡ adds_of meeting → GetFreeIds (session meeting given) meeting.device → LoggedAll (session meeting given) old new
+    → IsDesk desk_after.contents (merged_slots meeting given) → report.databases.items ≡ reports meeting
+    → EndedSession meeting palm_after desk_after report
+ended_left {meeting} given desk_after sound device tells none count free logged desk told =
+    grind (
+      arith,
+      session-told meeting given sound none free,
+      session-ids meeting given sound count,
+      merged meeting given sound none free,
+      text-session meeting given,
+    )
 
 -- ---- it stopped
 
-before_left : {F : Type 0} (meeting : Meeting) (old new : WorldValue F) (palm_after desk desk_after : FolderTold) (report : Report) → Tells old new palm_after report
-    → IsPrefix new.log.issued (requests_before_commit meeting) → StandsAs desk.contents desk_after.contents → StoppedBefore meeting desk desk_after report
+before_left : {F : Type 0} (meeting : Meeting) {old : WorldValue F} (new : WorldValue F) {palm_after : FolderTold} (desk desk_after : FolderTold)
+    {report : Report}
+    → Tells old new palm_after report → IsPrefix new.log.issued (requests_before_commit meeting) → StandsAs desk.contents desk_after.contents
+    → StoppedBefore meeting desk desk_after report
 unfolding write_count writes_before_commit
-before_left meeting old new palm_after desk desk_after report tells prefix stands =
-    let few = prefix-count new.log.performed (requests_before_commit meeting) (performed-prefix new.log new.answered (requests_before_commit meeting) tells.is_log prefix) in
-    let counted : report.writes ≡ length (filter changes new.log.performed) = tells.writes ∙ ap (λ (l : LogValue). length (filter changes l.performed)) tells.said in
-    record { stands = stands; writes = omega (arith, few, counted) }
+before_left meeting new desk desk_after tells prefix stands =
+    grind (
+      arith,
+      prefix-count (performed-prefix tells.is_log prefix),
+      length (filter changes new.log.performed),
+    )
 
-behind_left : {F : Type 0} (meeting : Meeting) (given : List ℕ) (old new : WorldValue F) (palm_after desk_after : FolderTold) (report : Report) → IsSoundMeeting meeting → old.server.device ≡ meeting.device → Tells old new palm_after report
-    → first_over meeting ≡ None → length given ≡ adds_of meeting → GetFreeIds (before_commit meeting given) meeting.device
-    → BeganWith (before_commit meeting given) (map text (after_commit meeting)) old.server.device new.log → StandsForSlots (merged_slots meeting given) desk_after.contents → StoppedBehind meeting desk_after report
+behind_left : {F : Type 0} {meeting : Meeting} (given : List ℕ) (old new : WorldValue F) {palm_after : FolderTold} (desk_after : FolderTold) {report : Report}
+    → IsSoundMeeting meeting → old.server.device ≡ meeting.device → Tells old new palm_after report → first_over meeting ≡ None
+    → length given ≡ adds_of meeting → GetFreeIds (before_commit meeting given) meeting.device
+    → BeganWith (before_commit meeting given) (map text (after_commit meeting)) old.server.device new.log
+    → StandsForSlots (merged_slots meeting given) desk_after.contents → StoppedBehind meeting desk_after report
 unfolding write_count
-behind_left meeting given old new palm_after desk_after report sound device tells none count free began stands =
-    let acts : List Act = before_commit meeting given in
-    let quiet : ids_by (exchanged began.rest began.replies) ≡ [] =
-    none-given began.rest began.replies (none-front began.rest began.rest_begins.rest (subst (λ (l : List (List ℕ)). AllByRecursion (λ (request : List ℕ). (reply : List ℕ) → given_in request reply ≡ []) l) (sym began.rest_begins.is) (after-none meeting sound))) in
-    let ids : (log_in report).given ≡ given =
-    tells.given ∙ ap (λ (l : LogValue). ids_by (exchanged l.performed l.replies)) tells.said ∙ ap ids_by began.exchanges_are
-    ∙ given-append (exchanges acts old.server.device) (exchanged began.rest began.replies) ∙ ap (λ (l : List ℕ). ids_by (exchanges acts old.server.device) ++ l) quiet ∙ append-nil (ids_by (exchanges acts old.server.device))
-    ∙ ap (λ (d : Device). ids_by (exchanges acts d)) device ∙ commit-told meeting given sound none free ∙ commit-ids meeting given sound count in
-    let counted : report.writes ≡ length (filter changes new.log.performed) = tells.writes ∙ ap (λ (l : LogValue). length (filter changes l.performed)) tells.said in
-    let split : length (filter changes new.log.performed) ≡ length (filter changes (map text acts)) + length (filter changes began.rest) =
-    ap (λ (l : List (List ℕ)). length (filter changes l)) began.performed_are ∙ count-append (map text acts) began.rest in
-    let own = writes-before meeting given in
-    record {
-      stands = subst (λ (l : List ℕ). StandsForSlots (merged_slots meeting l) desk_after.contents) (sym ids) stands;
-      writes = omega (arith, counted, split, own);
-    }
+behind_left {meeting} given old new desk_after sound device tells none count free began stands =
+    grind (
+      arith,
+      ids_by (exchanged began.rest began.replies),
+      [],
+      none-given began.rest began.replies,
+      none-front began.rest began.rest_begins.rest,
+      after-none meeting sound,
+      given-append (exchanges (before_commit meeting given) old.server.device) (exchanged began.rest began.replies),
+      ids_by (exchanges (before_commit meeting given) old.server.device),
+      append-nil (ids_by (exchanges (before_commit meeting given) old.server.device)),
+      commit-told meeting given sound none free,
+      commit-ids meeting given sound count,
+      length (filter changes new.log.performed),
+      length (filter changes (map text (before_commit meeting given))),
+      length (filter changes began.rest),
+      count-append (map text (before_commit meeting given)) began.rest,
+      writes-before meeting given,
+    )
 
 -- ---- both
 
 -- what a session's call answered of the sides of this meeting, over a world
-abbrev pub EndsOver : {F : Type 0} → (F → Option FileMap) → (F → Moments) → (F → Option (List (List ℕ))) → (F → ℕ) → (WorldValue F → Option LinkFault) → (WorldValue F → ℕ)
-    → Meeting → WorldValue F → WorldValue F → FolderTold → FolderTold → Result (Vec DbReport) Stop → Type 0
+abbrev pub EndsOver : {F : Type 0} → (F → Option FileMap) → (F → Moments) → (F → Option (List (List ℕ))) → (F → ℕ) → (WorldValue F → Option LinkFault)
+    → (WorldValue F → ℕ) → Meeting → WorldValue F → WorldValue F → FolderTold → FolderTold → Result (Vec DbReport) Stop → Type 0
 EndsOver contents moments paths faults fault downs meeting old new desk desk_after answer =
-    SessionEnds (λ (world : WorldValue _). Some (world_talk world)) (λ (first last : WorldValue _). WorldSince contents moments paths faults first last) fault downs meeting old new
+    SessionEnds (λ (world : WorldValue _). Some (world_talk world)) (λ (first last : WorldValue _). WorldSince contents moments paths faults first last)
+    fault downs meeting old new
     (record { before = desk.contents; after = desk_after.contents; moments_before = desk.moments; moments_after = desk_after.moments }) answer
 
-limit-prefix : {F : Type 0} (contents : F → Option FileMap) (moments : F → Moments) (paths : F → Option (List (List ℕ))) (faults : F → ℕ) (fault : WorldValue F → Option LinkFault) (downs : WorldValue F → ℕ)
-    (meeting : Meeting) (old new : WorldValue F) (desk desk_after : FolderTold) (answer : Result (Vec DbReport) Stop) → old.log ≡ no_log → IsLog new.log new.answered
-    → EndsOver contents moments paths faults fault downs meeting old new desk desk_after answer → IsSome (first_over meeting) → IsPrefix new.log.issued (map text (before_writes meeting))
-limit-prefix contents moments paths faults fault downs meeting old new desk desk_after answer silent is ends some = issued_begins old new (map text (before_writes meeting)) silent is (ends.over some).only
+limit-prefix : {F : Type 0} (contents : F → Option FileMap) (moments : F → Moments) (paths : F → Option (List (List ℕ))) (faults : F → ℕ)
+    (fault : WorldValue F → Option LinkFault) (downs : WorldValue F → ℕ) (meeting : Meeting) (old new : WorldValue F) (desk desk_after : FolderTold)
+    (answer : Result (Vec DbReport) Stop)
+    → old.log ≡ no_log → IsLog new.log new.answered → EndsOver contents moments paths faults fault downs meeting old new desk desk_after answer
+    → IsSome (first_over meeting) → IsPrefix new.log.issued (map text (before_writes meeting))
+limit-prefix contents moments paths faults fault downs meeting old new desk desk_after answer silent is ends some =
+    issued_begins old new (map text (before_writes meeting)) silent is (ends.over some).only
 
 -- a user without a slot is all that is asked for
 unseated-prefix : {F : Type 0} (contents : F → Option FileMap) (moments : F → Moments) (paths : F → Option (List (List ℕ))) (faults : F → ℕ)
-    (fault : WorldValue F → Option LinkFault) (downs : WorldValue F → ℕ)
-    (meeting : Meeting) (old new : WorldValue F) (desk desk_after : FolderTold) (report : Report) (answer : Result (Vec DbReport) Stop) → old.log ≡ no_log
-    → IsLog new.log new.answered → (log_in report).issued ≡ new.log.issued
-    → EndsOver contents moments paths faults fault downs meeting old new desk desk_after answer → IsErr (seat_of meeting) → IsPrefix (log_in report).issued
-    (text reading_user ∷ [])
+    (fault : WorldValue F → Option LinkFault) (downs : WorldValue F → ℕ) (meeting : Meeting) (old new : WorldValue F) (desk desk_after : FolderTold)
+    (report : Report) (answer : Result (Vec DbReport) Stop) → old.log ≡ no_log → IsLog new.log new.answered → (log_in report).issued ≡ new.log.issued
+    → EndsOver contents moments paths faults fault downs meeting old new desk desk_after answer → IsErr (seat_of meeting)
+    → IsPrefix (log_in report).issued (text reading_user ∷ [])
 unseated-prefix contents moments paths faults fault downs meeting old new desk desk_after report answer silent is same ends unseated =
     let why = the_error (seat_of meeting) unseated in
     subst (λ (l : List (List ℕ)). IsPrefix l (text reading_user ∷ [])) (sym same) (issued_begins old new (text reading_user ∷ []) silent is
@@ -187,59 +195,61 @@ unseated-prefix contents moments paths faults fault downs meeting old new desk d
 
 stood_or_merged : (meeting : Meeting) (given : List ℕ) (desk desk_after : FolderTold) → MergedSince meeting given desk.moments desk_after.moments
     → EachMomentSince (λ told. StandsAs desk.contents told ⊎ StandsForSlots (merged_slots meeting given) told) desk.moments desk_after.moments
-stood_or_merged meeting given desk desk_after since =
-    moments_weaken (StandsForSlots (merged_slots meeting given)) (λ told. StandsAs desk.contents told ⊎ StandsForSlots (merged_slots meeting given) told) desk.moments desk_after.moments since (λ told stands. inr stands)
+stood_or_merged meeting given desk desk_after since = grind (arith, moments_weaken (StandsForSlots (merged_slots meeting given)))
 
-pub session_left : {F : Type 0} (contents : F → Option FileMap) (moments : F → Moments) (paths : F → Option (List (List ℕ))) (faults : F → ℕ) (fault : WorldValue F → Option LinkFault) (downs : WorldValue F → ℕ)
-    (meeting : Meeting) (old new : WorldValue F) (palm_after desk desk_after : FolderTold) (report : Report) (answer : Result (Vec DbReport) Stop) → IsSoundMeeting meeting → old.server.device ≡ meeting.device → Tells old new palm_after report
-    → report.end ≡ left_end answer → report.databases.items ≡ left_databases answer → EndsOver contents moments paths faults fault downs meeting old new desk desk_after answer → SessionLeft meeting palm_after desk desk_after report
-session_left contents moments paths faults fault downs meeting old new palm_after desk desk_after report (Ok made) sound device tells end databases ends =
-    let e = ends.ended in
-    let logged = logged_all (session meeting e.given) old new tells.silent tells.is_log e.does in
-    let over = limit-prefix contents moments paths faults fault downs meeting old new desk desk_after (Ok made) tells.silent tells.is_log ends in
-    let whole : new.log.issued ≡ requests meeting = logged.issued_are ∙ text-session meeting e.given in
-    let parts = ap length (whole ∙ sym (parts-are meeting e.given)) ∙ length-append (map text (before_commit meeting e.given)) (map text (after_commit meeting)) in
-    let none : first_over meeting ≡ None = no-limit meeting e.given new.log.issued (first_over meeting) (omega (arith, parts)) over in
-    let same : (log_in report).issued ≡ new.log.issued = ap (λ (l : LogValue). l.issued) tells.said in
-    record {
-      sound = sound;
-      issued = whole-prefix (log_in report).issued (requests meeting) (same ∙ whole);
-      over = λ some. subst (λ (l : List (List ℕ)). IsPrefix l (map text (before_writes meeting))) (sym same) (over some);
-      unseated = unseated-prefix contents moments paths faults fault downs meeting old new desk desk_after report (Ok made) tells.silent tells.is_log same ends;
-      ended = λ is. ended_left meeting e.given old new palm_after desk_after report sound device tells none e.count e.free logged e.desk (databases ∙ e.told);
-      stopped = λ is. cc;
-      given = e.given;
-      moments = stood_or_merged meeting e.given desk desk_after e.moments;
-    }
-session_left contents moments paths faults fault downs meeting old new palm_after desk desk_after report (Err why) sound device tells end databases ends =
+pub session_left : {F : Type 0} (contents : F → Option FileMap) (moments : F → Moments) (paths : F → Option (List (List ℕ))) (faults : F → ℕ)
+    (fault : WorldValue F → Option LinkFault) (downs : WorldValue F → ℕ) {meeting : Meeting} (old new : WorldValue F) {palm_after : FolderTold}
+    (desk desk_after : FolderTold) (report : Report) (answer : Result (Vec DbReport) Stop)
+    → IsSoundMeeting meeting → old.server.device ≡ meeting.device → Tells old new palm_after report → report.end ≡ left_end answer
+    → report.databases.items ≡ left_databases answer → EndsOver contents moments paths faults fault downs meeting old new desk desk_after answer
+    → SessionLeft meeting palm_after desk desk_after report
+session_left contents moments paths faults fault downs {meeting} old new desk desk_after report (Ok made) sound device tells end databases ends =
+    grind (
+      arith,
+      logged_all tells.silent tells.is_log (ends.ended).does,
+      limit-prefix contents moments paths faults fault downs meeting old new desk desk_after (Ok made) tells.silent tells.is_log ends,
+      text-session meeting (ends.ended).given,
+      parts-are meeting (ends.ended).given,
+      length-append (map text (before_commit meeting (ends.ended).given)) (map text (after_commit meeting)),
+      no-limit meeting (ends.ended).given new.log.issued (first_over meeting),
+      whole-prefix (log_in report).issued (requests meeting),
+      unseated-prefix contents moments paths faults fault downs meeting old new desk desk_after report (Ok made) tells.silent tells.is_log,
+      ended_left (ends.ended).given desk_after sound device tells,
+      stood_or_merged meeting (ends.ended).given desk desk_after (ends.ended).moments,
+    )
+session_left contents moments paths faults fault downs {meeting} old new desk desk_after report (Err why) sound device tells end databases ends =
     let over = limit-prefix contents moments paths faults fault downs meeting old new desk desk_after (Err why) tells.silent tells.is_log ends in
     let same : (log_in report).issued ≡ new.log.issued = ap (λ (l : LogValue). l.issued) tells.said in
     elim ends.stopped [
       | inl b ↦
-          let prefix : IsPrefix new.log.issued (requests_before_commit meeting) = issued_begins old new (requests_before_commit meeting) tells.silent tells.is_log b.stops.only in
+          let prefix = issued_begins old new (requests_before_commit meeting) tells.silent tells.is_log b.stops.only in
           record {
             sound = sound;
             issued = subst (λ (l : List (List ℕ)). IsPrefix l (requests meeting)) (sym same)
-                (subst (λ (l : List (List ℕ)). IsPrefix new.log.issued l) (parts-are meeting (replicate (adds_of meeting) 0)) (prefix-more new.log.issued (requests_before_commit meeting) (map text (after_commit meeting)) prefix));
+                (subst (λ (l : List (List ℕ)). IsPrefix new.log.issued l) (parts-are meeting (replicate (adds_of meeting) 0))
+                (prefix-more (map text (after_commit meeting)) prefix));
             over = λ some. subst (λ (l : List (List ℕ)). IsPrefix l (map text (before_writes meeting))) (sym same) (over some);
-            unseated = unseated-prefix contents moments paths faults fault downs meeting old new desk desk_after report (Err why) tells.silent tells.is_log same ends;
+            unseated = unseated-prefix contents moments paths faults fault downs meeting old new desk desk_after report
+                (Err why) tells.silent tells.is_log same ends;
             ended = λ is. cc;
-            stopped = λ is. inl (before_left meeting old new palm_after desk desk_after report tells prefix b.stands);
+            stopped = λ is. inl (before_left meeting new desk desk_after tells prefix b.stands);
             given = b.given;
             moments = stood_or_merged meeting b.given desk desk_after b.moments;
           }
       | inr b ↦
-          let began = began_with contents moments paths faults (before_commit meeting b.given) (map text (after_commit meeting)) old b.between new tells.silent tells.is_log b.does b.rest.later b.rest.only b.rest.kept in
-          let performed = prefix-length new.log.performed new.log.issued (performed-prefix new.log new.answered new.log.issued tells.is_log (whole-prefix new.log.issued new.log.issued refl)) in
+          let began = began_with (map text (after_commit meeting)) old new tells.silent tells.is_log b.does b.rest.later b.rest.only b.rest.kept in
+          let performed = prefix-length (performed-prefix tells.is_log (whole-prefix new.log.issued new.log.issued refl)) in
           let split = ap length began.performed_are ∙ length-append (map text (before_commit meeting b.given)) began.rest in
-          let none : first_over meeting ≡ None = no-limit meeting b.given new.log.issued (first_over meeting) (omega (arith, performed, split)) over in
+          let none = no-limit meeting b.given new.log.issued (first_over meeting) (omega (arith, performed, split)) over in
           record {
             sound = sound;
-            issued = subst (λ (l : List (List ℕ)). IsPrefix l (requests meeting)) (sym same) (subst (λ (l : List (List ℕ)). IsPrefix new.log.issued l) (parts-are meeting b.given) began.issued_begins);
+            issued = subst (λ (l : List (List ℕ)). IsPrefix l (requests meeting)) (sym same)
+                (subst (λ (l : List (List ℕ)). IsPrefix new.log.issued l) (parts-are meeting b.given) began.issued_begins);
             over = λ some. subst (λ (l : List (List ℕ)). IsPrefix l (map text (before_writes meeting))) (sym same) (over some);
-            unseated = unseated-prefix contents moments paths faults fault downs meeting old new desk desk_after report (Err why) tells.silent tells.is_log same ends;
+            unseated = unseated-prefix contents moments paths faults fault downs meeting old new desk desk_after report
+                (Err why) tells.silent tells.is_log same ends;
             ended = λ is. cc;
-            stopped = λ is. inr (behind_left meeting b.given old new palm_after desk_after report sound device tells none b.count b.free began b.stands);
+            stopped = λ is. inr (behind_left b.given old new desk_after sound device tells none b.count b.free began b.stands);
             given = b.given;
             moments = stood_or_merged meeting b.given desk desk_after b.moments;
           }
@@ -248,21 +258,10 @@ session_left contents moments paths faults fault downs meeting old new palm_afte
 -- ---- both sides before it
 
 -- an opened handheld, on which nothing is open
-pub opened_rests : (device : Device) → AreKept device.databases → IsBounded device → device.handles ≡ no_handles → IsAtRest device
-opened_rests device kept bounded closed =
-    let whole : device ≡ opened_device device.databases device.user = λ i. record { databases = device.databases; user = device.user; handles = closed i } in
-    subst IsAtRest (sym whole) (record {
-      proper = record { sound = opened-device device.databases device.user kept; bounded = subst IsBounded whole bounded };
-      closed = refl;
-    })
+pub opened_rests : {device : Device} → AreKept device.databases → IsBounded device → device.handles ≡ no_handles → IsAtRest device
+opened_rests {device} kept bounded closed = grind (arith, opened-device device.databases device.user kept)
 
 -- with an opened desktop it can have a session
-pub sound_meeting : (device : Device) (slots : List SlotValue) (wishes : Wishes) → IsAtRest device → AreBounded slots → wishes.date < 2 ^ 32 → IsSoundMeeting (meeting_of device slots wishes)
-sound_meeting device slots wishes rests bounded date =
-    let b = bounded_at slots (place_for device slots wishes.add_user) bounded in
-    record {
-      device = rests.proper;
-      closed = rests.closed;
-      slot = record { rows = b.shelves.rows; bases = b.shelves.bases; short = b.marks.short; no_zero = b.marks.no_zero; number = b.marks.number; pc = b.marks.pc };
-      date = date;
-    }
+pub sound_meeting : {device : Device} (slots : List SlotValue) (wishes : Wishes) → IsAtRest device → AreBounded slots → wishes.date < 2 ^ 32
+    → IsSoundMeeting (meeting_of device slots wishes)
+sound_meeting {device} slots wishes rests bounded date = grind (arith, bounded_at slots (place_for device slots wishes.add_user) bounded)

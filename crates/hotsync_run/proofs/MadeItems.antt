@@ -1,17 +1,15 @@
 -- What the sides of made items hold: short texts, and on the handheld ids that rise.
-use Rattle.std.proofs.Common.{◌≡◌, ◌∙◌, ◌+◌, ◌^◌, ◌<◌, ◌≤◌, ◌==◌, ◌&&◌, ◌||◌, not, ℕ, zero, suc, Bool, true, false, refl, sym, ap, subst, arith, List, [], ◌∷◌, ◌++◌, length, length-append, map}
+use Rattle.std.proofs.Common.{◌≡◌, ◌∙◌, ◌+◌, ◌<◌, ◌≤◌, ◌==◌, ◌&&◌, not, ℕ, zero, suc, Bool, true, false, refl, sym, ap, subst, arith, List, [], ◌∷◌, ◌++◌, length, length-append, map}
 use Rattle.std.specs.Prelude.{Option, None, Some, cond, option_map, option_to_list, replicate}
 use Rattle.std.specs.Fmt.{decimal}
 use Rattle.std.specs.List.{AllByRecursion, list_all}
 use Rattle.std.proofs.lemmas.Bool.{eqb-true}
-use Rattle.std.proofs.lemmas.Bool.Decides.{nat_tests}
 use Rattle.std.proofs.lemmas.Fmt.{length-decimal-le}
 use Rattle.std.proofs.lemmas.List.{length-replicate}
 use Rattle.rand_pcg.specs.Lcg.{Lcg}
 use Rattle.rand_pcg.specs.Pcg.{pcg32}
 use Rattle.pdb_values.specs.declared.record.Record.{Record}
-use Rattle.pdb_values.specs.Databases.{IsDatabase, IsShortResource}
-use Rattle.pdb_values.proofs.NamedLaws.{All-AllByRecursion}
+use Rattle.pdb_values.specs.Databases.{IsDatabase}
 use Rattle.pdb_files.specs.Blocks.{AreShort}
 use Rattle.pdb_files.specs.Entries.{record_data}
 use Rattle.pdb_files.specs.Files.{FitsHeader, FitsRecord, IsFileText, canonical}
@@ -33,8 +31,7 @@ use Rattle.made_folders.specs.declared.side.MadeSide.TheVariants.{Handheld}
 pub drawn_short : (number count : ℕ) (generator : Lcg) → number + count ≤ 5001 → AllByRecursion IsDrawn (items_from number count generator)
 unfolding items_from
 drawn_short number zero generator few = tt
-drawn_short number (suc count) generator few =
-    (record { number = omega arith; fill = omega arith }, drawn_short (suc number) count (pcg32 generator).1 (omega arith))
+drawn_short number (suc count) generator few = grind (arith, drawn_short (suc number) count (pcg32 generator).1 (omega arith))
 
 -- ---- the records of a side
 
@@ -42,7 +39,8 @@ all_append : {A : Type 0} (P : A → Type 0) (xs ys : List A) → AllByRecursion
 all_append P [] ys one other = other
 all_append P (x ∷ xs) ys one other = (one.0, all_append P xs ys one.1 other)
 
-each_record : (P : Record → Type 0) (side : MadeSide) (items : List Item) → ((item : Item) (letter : ℕ) → IsDrawn item → P (record_with item letter)) → AllByRecursion IsDrawn items → AllByRecursion P (records_on side items)
+each_record : (P : Record → Type 0) (side : MadeSide) (items : List Item) → ((item : Item) (letter : ℕ) → IsDrawn item → P (record_with item letter))
+    → AllByRecursion IsDrawn items → AllByRecursion P (records_on side items)
 each_record P side [] holds drawn = tt
 each_record P side (item ∷ items) holds drawn =
     all_append P (option_to_list (record_on side item)) (records_on side items) (one (letter_on side item.kind)) (each_record P side items holds drawn.1)
@@ -54,15 +52,7 @@ each_record P side (item ∷ items) holds drawn =
 -- a side has at most one record of each item
 pub records-few : (side : MadeSide) (items : List Item) → length (records_on side items) ≤ length items
 records-few side [] = omega arith
-records-few side (item ∷ items) =
-    let one = at_most (letter_on side item.kind) in
-    let rest = records-few side items in
-    let both = length-append (option_to_list (record_on side item)) (records_on side items) in
-    omega (arith, one, rest, both)
-  where
-    at_most : (letter : Option ℕ) → length (option_to_list (option_map (record_with item) letter)) ≤ 1
-    at_most None = omega arith
-    at_most (Some letter) = omega arith
+records-few side (item ∷ items) = grind (arith, records-few side items, length-append (option_to_list (record_on side item)) (records_on side items))
 
 -- ---- their files
 
@@ -75,112 +65,71 @@ text-short letter item drawn =
     omega (arith, digits, parts, fill, drawn.fill)
 
 record-fits : (item : Item) (letter : ℕ) → IsDrawn item → FitsRecord (record_with item letter)
-record-fits item letter drawn = record { id = small (item.kind == 9); category = omega arith }
-  where
-    small : (test : Bool) → cond test 0 item.number < 2 ^ 24
-    small true = omega arith
-    small false = omega (arith, drawn.number)
+record-fits item letter drawn = grind arith
 
 data-short : (records : List Record) → AllByRecursion (λ (r : Record). length r.content.bytes ≤ 65500) records → AreShort (record_data records)
 data-short [] all = tt
 data-short (r ∷ records) all = (all.0, data-short records all.1)
 
 head-fits : FitsHeader made_head
-head-fits = record {
-  name = record { some = omega arith; short = omega arith; nonzero = refl };
-  attributes = omega arith;
-  version = omega arith;
-  created = omega arith;
-  modified = omega arith;
-  backup = omega arith;
-  modnum = omega arith;
-  seed = omega arith;
-  kind = refl;
-  creator = refl;
-}
+head-fits = grind arith
 
 made-sound : (side : MadeSide) (items : List Item) → length items ≤ 5000 → IsDatabase (made_database side items)
-made-sound side items few = let records = records-few side items in record {
-  few_records = omega (arith, records);
-  few_resources = omega arith;
-  no_records = λ e. cc;
-  no_resources = λ e. refl;
-  short_app = omega arith;
-  short_sort = omega arith;
-  short_resources = All-AllByRecursion IsShortResource [] tt;
-}
+made-sound side items few = grind (arith, records-few side items)
 
 -- the file of a side is a text of its database
-pub made_text : (side : MadeSide) (items : List Item) → AllByRecursion IsDrawn items → length items ≤ 5000 → IsFileText (made_database side items) (canonical (made_database side items))
+pub made_text : (side : MadeSide) (items : List Item) → AllByRecursion IsDrawn items → length items ≤ 5000
+    → IsFileText (made_database side items) (canonical (made_database side items))
 made_text side items drawn few =
     let records = records-few side items in
     canonical_is_text (made_database side items) (made-sound side items few) head-fits (omega (arith, records))
     (each_record FitsRecord side items record-fits drawn) tt
-    (data-short (records_on side items) (each_record (λ (r : Record). length r.content.bytes ≤ 65500) side items (λ item letter d. text-short letter item d) drawn))
+    (data-short (records_on side items)
+    (each_record (λ (r : Record). length r.content.bytes ≤ 65500) side items (λ item letter d. text-short letter item d) drawn))
 
 -- ---- the ids of the handheld
 
 ids_on : List Item → List ℕ
 ids_on items = map (λ (r : Record). r.id) (records_on Handheld items)
 
-none_at_nine : (kind : ℕ) → (kind == 9) ≡ true → letter_on Handheld kind ≡ None
-none_at_nine kind is = subst (λ (k : ℕ). letter_on Handheld k ≡ None) (sym (eqb-true kind 9 is)) refl
-
 -- the ids of one item more
 ids_with : Option ℕ → Item → List ℕ → List ℕ
 ids_with None item ids = ids
 ids_with (Some letter) item ids = item.number ∷ ids
+
+none_at_nine : (kind : ℕ) → (kind == 9) ≡ true → letter_on Handheld kind ≡ None
+none_at_nine kind is = subst (λ (k : ℕ). letter_on Handheld k ≡ None) (sym (eqb-true kind 9 is)) refl
 
 ids-next : (item : Item) (items : List Item) → ids_on (item ∷ items) ≡ ids_with (letter_on Handheld item.kind) item (ids_on items)
 unfolding ids_on ids_with
 ids-next item items = by (letter_on Handheld item.kind) refl (item.kind == 9) refl
   where
     by : (letter : Option ℕ) → letter_on Handheld item.kind ≡ letter → (nine : Bool) → (item.kind == 9) ≡ nine
-        → map (λ (r : Record). r.id) (option_to_list (option_map (record_with item) letter) ++ records_on Handheld items) ≡ ids_with letter item (map (λ (r : Record). r.id) (records_on Handheld items))
+        → map (λ (r : Record). r.id) (option_to_list (option_map (record_with item) letter) ++ records_on Handheld items) ≡ ids_with letter item
+        (map (λ (r : Record). r.id) (records_on Handheld items))
     by None is nine test = refl
     by (Some letter) is true test = let none = none_at_nine item.kind test in absurd (cc (sym is ∙ none))
     by (Some letter) is false test = ap (λ (t : Bool). cond t 0 item.number ∷ map (λ (r : Record). r.id) (records_on Handheld items)) test
 
-apart : (a b : ℕ) → a < b → (b == a) ≡ false
-apart a b below = grind (arith, nat_tests)
-
-some_number : (a : ℕ) → 0 < a → (a == 0) ≡ false
-some_number a some = grind (arith, nat_tests)
-
 -- none of them is below the first number
 not_among : (id from : ℕ) (items : List Item) → AreMade from items → id < from → is_among id (ids_on items) ≡ false
 unfolding ids_on ids_with
-not_among id from [] are below = nothing
-  where
-    nothing : is_among id (ids_on []) ≡ false
-    nothing = refl
-not_among id from (item ∷ items) are below =
-    let rest = not_among id (suc from) items are.1.1 (omega arith) in
-    ap (is_among id) (ids-next item items) ∙ by (letter_on Handheld item.kind) rest
-  where
-    by : (letter : Option ℕ) → is_among id (ids_on items) ≡ false → is_among id (ids_with letter item (ids_on items)) ≡ false
-    by None rest = rest
-    by (Some letter) rest = let other : (item.number == id) ≡ false = apart id item.number (omega (arith, are.0)) in ap (λ (t : Bool). t || is_among id (ids_on items)) other ∙ rest
+not_among id from [] are below = grind arith
+not_among id from (item ∷ items) are below = grind (arith, not_among id (suc from) items are.1.1 (omega arith), ids-next item items)
 
 ids-are : (from : ℕ) (items : List Item) → AreMade from items → 0 < from → are_ids (ids_on items) ≡ true
 unfolding ids_on ids_with
-ids-are from [] are some = nothing
-  where
-    nothing : are_ids (ids_on []) ≡ true
-    nothing = refl
+ids-are from [] are some = grind arith
 ids-are from (item ∷ items) are some =
-    ap are_ids (ids-next item items) ∙ by (letter_on Handheld item.kind) (ids-are (suc from) items are.1.1 (omega arith)) (not_among item.number (suc from) items are.1.1 (omega (arith, are.0)))
-  where
-    by : (letter : Option ℕ) → are_ids (ids_on items) ≡ true → is_among item.number (ids_on items) ≡ false → are_ids (ids_with letter item (ids_on items)) ≡ true
-    by None rest none = rest
-    by (Some letter) rest none = let known : (item.number == 0) ≡ false = some_number item.number (omega (arith, are.0)) in rw (known, none) rest
+    grind (arith, ids-next item items, ids-are (suc from) items are.1.1 (omega arith), not_among item.number (suc from) items are.1.1 (omega (arith, are.0)))
 
 idle-all : (records : List Record) → AllByRecursion (λ (r : Record). r.busy ≡ false) records → list_all (λ (r : Record). not r.busy) records ≡ true
 idle-all [] all = refl
 idle-all (r ∷ records) all = rw all.0 (idle-all records all.1)
 
 -- opening a store leaves the made database as it is
-pub made_settled : (items : List Item) → AreMade 1 items → AllByRecursion IsDrawn items → as_opened (made_database Handheld items) ≡ made_database Handheld items
+pub made_settled : (items : List Item) → AreMade 1 items → AllByRecursion IsDrawn items
+    → as_opened (made_database Handheld items) ≡ made_database Handheld items
 unfolding ids_on ids_with
 made_settled items are drawn =
     as_opened-settled (made_database Handheld items)

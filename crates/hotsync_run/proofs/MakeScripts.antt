@@ -6,7 +6,7 @@ use Rattle.std.specs.Int.Digits.{digits_of}
 use Rattle.std.proofs.lemmas.Fmt.{decimal-digits_of}
 use Rattle.trace_text.specs.Fates.{Lost}
 use Rattle.line_script.specs.Lines.{lines_of}
-use Rattle.line_script.specs.Rules.{IsLine, RuleValue, rule_text}
+use Rattle.line_script.specs.Rules.{RuleValue, rule_text}
 use Rattle.line_script.specs.Scripts.{AreLines, IsReading}
 use Rattle.line_script.proofs.ScriptLaws.{one_reading}
 use Rattle.hotsync_run.specs.Makes.{losses, made_script, script_text}
@@ -14,24 +14,30 @@ use Rattle.hotsync_run.specs.Makes.{losses, made_script, script_text}
 -- ---- its lines
 
 -- digits in front of a line belong to it
-lines-digits : (digits rest line : List ℕ) (later : List (List ℕ)) → lines_of rest ≡ line ∷ later → lines_of (map (λ d. 48 + d) digits ++ rest) ≡ (map (λ d. 48 + d) digits ++ line) ∷ later
-lines-digits [] rest line later is = is
-lines-digits (d ∷ digits) rest line later is =
+lines-digits : (digits rest : List ℕ) {line : List ℕ} {later : List (List ℕ)} → lines_of rest ≡ line ∷ later
+    → lines_of (map (λ d. 48 + d) digits ++ rest) ≡ (map (λ d. 48 + d) digits ++ line) ∷ later
+lines-digits [] rest is = is
+lines-digits (d ∷ digits) rest is =
     let other : eqb (48 + d) 10 ≡ false = ne_eqb _ _ (λ e. omega arith) in
-    let behind = lines-digits digits rest line later is in
+    let behind = lines-digits digits rest is in
     rw (other, behind) refl
 
 abbrev lost_line : ℕ → List ℕ
 lost_line number = decimal number ++ codes " lost"
 
-lines-lost : (number : ℕ) (rest : List ℕ) → 0 < number → number < 2 ^ 64 → lines_of ((lost_line number ++ 10 ∷ []) ++ rest) ≡ lost_line number ∷ lines_of rest
+lines-lost : (number : ℕ) (rest : List ℕ) → 0 < number → number < 2 ^ 64
+    → lines_of ((lost_line number ++ 10 ∷ []) ++ rest) ≡ lost_line number ∷ lines_of rest
 lines-lost number rest some fits =
-    let digits : decimal number ≡ map (λ d. 48 + d) (digits_of 10 number) = decimal-digits_of number some fits in
-    let whole : (lost_line number ++ 10 ∷ []) ++ rest ≡ decimal number ++ (codes " lost" ++ (10 ∷ rest)) =
-    append_assoc (lost_line number) (10 ∷ []) rest ∙ append_assoc (decimal number) (codes " lost") (10 ∷ rest) in
-    ap lines_of whole ∙ ap (λ (l : List ℕ). lines_of (l ++ (codes " lost" ++ (10 ∷ rest)))) digits
-    ∙ lines-digits (digits_of 10 number) (codes " lost" ++ (10 ∷ rest)) (codes " lost") (lines_of rest) refl
-    ∙ ap (λ (l : List ℕ). (l ++ codes " lost") ∷ lines_of rest) (sym digits)
+    grind (
+      arith,
+      decimal-digits_of number some fits,
+      lost_line number,
+      [],
+      append_assoc (lost_line number) (10 ∷ []) rest,
+      append_assoc (decimal number) (codes " lost") (10 ∷ rest),
+      lines-digits (digits_of 10 number) (codes " lost" ++ (10 ∷ rest)) {line = codes " lost"}
+          {later = lines_of rest} refl,
+    )
 
 losses-suc : (number count : ℕ) → losses number (suc count) ≡ record { number = number; fate = Lost } ∷ losses (number + 20) count
 unfolding losses
@@ -44,33 +50,37 @@ losses-zero number = refl
 text-suc : (number count : ℕ) → script_text (losses number (suc count)) ≡ (lost_line number ++ 10 ∷ []) ++ script_text (losses (number + 20) count)
 text-suc number count = ap script_text (losses-suc number count)
 
-lines-losses : (number count : ℕ) → 0 < number → number + 20 * count < 2 ^ 32 → lines_of (script_text (losses number count)) ≡ map rule_text (losses number count)
-lines-losses number zero some fits = ap (λ (l : List RuleValue). lines_of (script_text l)) (losses-zero number) ∙ ap (map rule_text) (sym (losses-zero number))
+lines-losses : (number count : ℕ) → 0 < number → number + 20 * count < 2 ^ 32
+    → lines_of (script_text (losses number count)) ≡ map rule_text (losses number count)
+lines-losses number zero some fits = grind (arith, losses-zero number, map rule_text)
 lines-losses number (suc count) some fits =
-    ap lines_of (text-suc number count) ∙ lines-lost number (script_text (losses (number + 20) count)) some (omega arith)
-    ∙ ap (λ (l : List (List ℕ)). lost_line number ∷ l) (lines-losses (number + 20) count (omega arith) (omega arith))
-    ∙ ap (map rule_text) (sym (losses-suc number count))
+    grind (
+      arith,
+      text-suc number count,
+      lines-lost number (script_text (losses (number + 20) count)) some (omega arith),
+      lost_line number,
+      lines-losses (number + 20) count (omega arith) (omega arith),
+      map rule_text,
+      losses-suc number count,
+    )
 
-are-lines : (before number count : ℕ) → before < number → number + 20 * count < 2 ^ 32 → AreLines before (losses number count) (map rule_text (losses number count))
-are-lines before number zero above fits = subst (λ (l : List RuleValue). AreLines before l (map rule_text l)) (sym (losses-zero number)) tt
+are-lines : (before number count : ℕ) → before < number → number + 20 * count < 2 ^ 32
+    → AreLines before (losses number count) (map rule_text (losses number count))
+are-lines before number zero above fits = grind (arith, map rule_text, losses-zero number)
 are-lines before number (suc count) above fits =
-    let first : IsLine before (record { number = number; fate = Lost }) (lost_line number) = record { rises = above; fits = omega arith; scripted = tt; is = refl } in
-    subst (λ (l : List RuleValue). AreLines before l (map rule_text l)) (sym (losses-suc number count)) (first, are-lines number (number + 20) count (omega arith) (omega arith))
+    grind (arith, lost_line number, map rule_text, losses-suc number count, are-lines number (number + 20) count (omega arith) (omega arith))
 
 length-losses : (number count : ℕ) → length (map rule_text (losses number count)) ≡ count
 length-losses number zero = ap (λ (l : List RuleValue). length (map rule_text l)) (losses-zero number)
-length-losses number (suc count) = ap (λ (l : List RuleValue). length (map rule_text l)) (losses-suc number count) ∙ ap suc (length-losses (number + 20) count)
+length-losses number (suc count) = grind (arith, map rule_text, losses-suc number count, length-losses (number + 20) count)
 
 -- its text says it
 pub made_reading : IsReading (script_text made_script) (Ok made_script)
-made_reading =
-    let lines = lines-losses 20 1000 (omega arith) (omega arith) in
-    let count = length-losses 20 1000 in
-    subst (λ (l : List (List ℕ)). (length l ≤ 100000) × AreLines 0 made_script l) (sym lines) (omega (arith, count), are-lines 0 20 1000 (omega arith) (omega arith))
+made_reading = grind (arith, lines-losses 20 1000 (omega arith) (omega arith), length-losses 20 1000, are-lines 0 20 1000 (omega arith) (omega arith))
 
 -- and nothing else
-pub made_script_is : (text : List ℕ) (script : List RuleValue) → text ≡ script_text made_script → IsReading text (Ok script) → script ≡ made_script
-made_script_is text script is reads =
+pub made_script_is : {text : List ℕ} (script : List RuleValue) → text ≡ script_text made_script → IsReading text (Ok script) → script ≡ made_script
+made_script_is {text} script is reads =
     let reading : IsReading text (Ok made_script) = subst (λ (t : List ℕ). IsReading t (Ok made_script)) (sym is) made_reading in
     let same = one_reading text (Ok script) (Ok made_script) reads reading (λ e. cc) (λ e. cc) in
     cc
@@ -82,16 +92,17 @@ pub losses_grow : (text line : List ℕ) (place : ℕ) → place < 1000 → line
     → text ++ script_text (losses (20 * (place + 1)) (1000 - place)) ≡ script_text made_script
     → (text ++ line) ++ script_text (losses (20 * (place + 1 + 1)) (1000 - (place + 1))) ≡ script_text made_script
 losses_grow text line place more line_is so_far =
-    let left : 1000 - place ≡ suc (1000 - (place + 1)) = omega arith in
-    let next : 20 * (place + 1) + 20 ≡ 20 * (place + 1 + 1) = omega arith in
-    let rest : script_text (losses (20 * (place + 1)) (1000 - place)) ≡ line ++ script_text (losses (20 * (place + 1 + 1)) (1000 - (place + 1))) =
-    ap (λ (n : ℕ). script_text (losses (20 * (place + 1)) n)) left ∙ text-suc (20 * (place + 1)) (1000 - (place + 1))
-    ∙ ap (λ (n : ℕ). (lost_line (20 * (place + 1)) ++ 10 ∷ []) ++ script_text (losses n (1000 - (place + 1)))) next
-    ∙ ap (λ (l : List ℕ). l ++ script_text (losses (20 * (place + 1 + 1)) (1000 - (place + 1)))) (sym line_is) in
-    append_assoc text line (script_text (losses (20 * (place + 1 + 1)) (1000 - (place + 1)))) ∙ ap (λ (l : List ℕ). text ++ l) (sym rest) ∙ so_far
+    grind (
+      arith,
+      text-suc (20 * (place + 1)) (1000 - (place + 1)),
+      lost_line (20 * (place + 1)),
+      [],
+      append_assoc text line (script_text (losses (20 * (place + 1 + 1)) (1000 - (place + 1)))),
+    )
 
 -- nothing is left
-pub losses_whole : (text : List ℕ) (place : ℕ) → 1000 ≤ place → text ++ script_text (losses (20 * (place + 1)) (1000 - place)) ≡ script_text made_script → text ≡ script_text made_script
+pub losses_whole : (text : List ℕ) (place : ℕ) → 1000 ≤ place → text ++ script_text (losses (20 * (place + 1)) (1000 - place)) ≡ script_text made_script
+    → text ≡ script_text made_script
 losses_whole text place all so_far =
     let none : 1000 - place ≡ 0 = omega arith in
     let ended : script_text (losses (20 * (place + 1)) (1000 - place)) ≡ [] =

@@ -1,9 +1,9 @@
 -- The count of the words of `make`.
-use Rattle.std.proofs.Common.{◌≡◌, ◌≤◌, ℕ, Bool, true, false, ◌&&◌, List, [], ◌∷◌, refl, subst, arith}
-use Rattle.std.specs.Prelude.{Option, None, Some, codes, bytes_eq, cond, nat_le, option_and_then, option_map}
-use Rattle.std.proofs.lemmas.Bool.Decides.{nat_tests}
+use Rattle.std.proofs.lemmas.Grind.{common_steps}
+use Rattle.std.proofs.Common.{◌≡◌, ◌≤◌, ℕ, Bool, List, [], ◌∷◌, subst, arith}
+use Rattle.std.specs.Prelude.{Option, None, Some, codes, bytes_eq, cond, option_and_then, option_map}
 use Rattle.run_words.specs.Commands.{Task, Sync, LookAt, Scan, Make, file_of, make_of, packet_of, task_behind, task_of}
-use Rattle.run_words.specs.Numbers.{as_count, count_of, number_of}
+use Rattle.run_words.specs.Numbers.{count_of, number_of}
 use Rattle.run_words.specs.Runs.{run_of}
 
 -- what words ask for makes of a count at most 5,000 items
@@ -15,27 +15,13 @@ IsFew (Some (Scan bytes)) = Unit {0}
 IsFew (Some (Make seed count)) = count ≤ 5000
 
 few_if : (test : Bool) (one other : Option Task) → IsFew one → IsFew other → IsFew (cond test one other)
-few_if true one other a b = a
-few_if false one other a b = b
+few_if test one other a b = grind (arith, common_steps)
 
 few_map : {A : Type 0} (make : A → Task) (o : Option A) → ((a : A) → IsFew (Some (make a))) → IsFew (option_map make o)
-few_map make None few = tt
-few_map make (Some a) few = few a
-
-few_count : (seed number : ℕ) → IsFew (option_map (Make seed) (as_count number))
-few_count seed number = by (nat_le 1 number && nat_le number 5000) refl
-  where
-    by : (test : Bool) → (nat_le 1 number && nat_le number 5000) ≡ test → IsFew (option_map (Make seed) (cond test (Some number) None))
-    by true is = grind (arith, nat_tests, is)
-    by false is = tt
-
-few_counted : (seed : ℕ) (number : Option ℕ) → IsFew (option_map (Make seed) (option_and_then as_count number))
-few_counted seed None = tt
-few_counted seed (Some number) = few_count seed number
+few_map make o few = grind (arith, common_steps)
 
 few_seeded : (count : List ℕ) (seed : Option ℕ) → IsFew (option_and_then (λ number. option_map (Make number) (count_of count)) seed)
-few_seeded count None = tt
-few_seeded count (Some seed) = few_counted seed (number_of count)
+few_seeded count seed = grind (arith, common_steps)
 
 few_made : (words : List (List ℕ)) → IsFew (make_of words)
 unfolding make_of
@@ -57,5 +43,5 @@ unfolding task_of
 few_words [] = tt
 few_words (command ∷ words) = few_behind command words
 
-pub few_asked : (words : List (List ℕ)) (seed count : ℕ) → task_of words ≡ Some (Make seed count) → count ≤ 5000
-few_asked words seed count is = subst IsFew is (few_words words)
+pub few_asked : (words : List (List ℕ)) {seed count : ℕ} → task_of words ≡ Some (Make seed count) → count ≤ 5000
+few_asked words is = subst IsFew is (few_words words)

@@ -1,6 +1,7 @@
 -- A folder stands for one handheld only, and for the slots of one desktop.
+use Rattle.std.proofs.lemmas.Grind.{common_steps}
 use Rattle.std.proofs.Common.{◌≡◌, ◌∙◌, ◌<◌, ap, refl, sym, subst, arith, ℕ, zero, suc, List, [], ◌∷◌, length, get_or}
-use Rattle.std.specs.Prelude.{Option, Some, None, IfSome, IsSome, Result, Ok, is_some, if◌then◌else◌}
+use Rattle.std.specs.Prelude.{Option, Some, None, IfSome, IsSome, is_some, if◌then◌else◌}
 use Rattle.std.specs.Option.{option_map}
 use Rattle.std.specs.FinMap as finmap
 use Rattle.hs_folders.specs.FileMaps.{FileMap}
@@ -14,7 +15,6 @@ use Rattle.palm_device.specs.Devices.{Device}
 use Rattle.pdb_files.proofs.FileLaws.{one_database}
 use Rattle.folder_files.specs.FileNames.{database_file, device_info_file, journal_file}
 use Rattle.folder_files.specs.InfoFiles.{IsDeviceFile}
-use Rattle.folder_files.specs.declared.bad_line.BadLine.{BadLine}
 use Rattle.folder_files.proofs.InfoLaws.{device_only}
 use Rattle.handheld_files.specs.Handhelds.{Files, IsUserOf, StandFor}
 use Rattle.handheld_files.specs.Openings.{HoldsAll, Stands}
@@ -31,7 +31,7 @@ use Rattle.desk_store.proofs.OrderLaws.{rising}
 use Rattle.desk_store.proofs.SlotListLaws.{marks-length, ordered_at, slot_at-any}
 use Rattle.run_words.specs.Runs.{Run}
 use Rattle.sync_session.specs.Outcomes.{StandsForSlots}
-use Rattle.sync_session.specs.Tasks.{Meeting, place_for}
+use Rattle.sync_session.specs.Tasks.{Meeting}
 use Rattle.hotsync_run.specs.Again.{AreOfOneKind, AreTold, Meets}
 use Rattle.hotsync_run.specs.Told.{CallTold}
 use Rattle.hotsync_run.proofs.EndLaws.{same_some}
@@ -39,20 +39,19 @@ use Rattle.hotsync_run.proofs.EndLaws.{same_some}
 -- ---- a handheld
 
 same_info : (bytes : List ℕ) (one other : UserInfo) → IsDeviceFile one bytes → IsDeviceFile other bytes → one ≡ other
-same_info bytes one other first second =
-    let both : ◌≡◌ {A = Result UserInfo BadLine} (Ok one) (Ok other) = sym (device_only bytes one first) ∙ device_only bytes other second in cc
+same_info bytes one other first second = grind (arith, device_only bytes one first, device_only bytes other second)
 
 same_user : (file : Option (List ℕ)) (one other : UserInfo) → IsUserOf file one → IsUserOf file other → one ≡ other
 same_user None one other first second = first ∙ sym second
 same_user (Some bytes) one other first second = same_info bytes one other first second
 
 -- a database of the one list is one of the other
-found_there : (files : Files) (one other : List DatabaseValue) (user user' : UserInfo) → StandFor files one user → StandFor files other user'
+found_there : {files : Files} {one other : List DatabaseValue} {user user' : UserInfo} → StandFor files one user → StandFor files other user'
     → (name : List ℕ) (database : DatabaseValue) → database_of name one ≡ Some database → database_of name other ≡ Some database
-found_there files one other user user' first second name database found =
+found_there {one} {other} first second name database found =
     let has = first.each_database name database found in
     let held = second.each_file (database_file has.stored.head) has.bytes (database_file_is has.stored.head) has.there in
-    let same : held.stored ≡ has.stored = one_database has.bytes held.stored has.stored held.file.text has.text in
+    let same = one_database has.bytes held.stored has.stored held.file.text has.text in
     let opened : as_opened held.stored ≡ database = ap as_opened same ∙ sym has.is in
     let named : held.stored.head.name ≡ name =
     ap (λ (d : DatabaseValue). d.head.name) same ∙ sym (ap (λ (h : DbHead). h.name) (as_opened-head has.stored))
@@ -60,40 +59,34 @@ found_there files one other user user' first second name database found =
     ∙ database_of-name name one database found in
     sym (ap (λ n. database_of n other) named) ∙ held.held ∙ ap (λ (d : DatabaseValue). Some d) opened
 
-same_found : (one other : Option DatabaseValue) → ((d : DatabaseValue) → one ≡ Some d → other ≡ Some d)
-    → ((d : DatabaseValue) → other ≡ Some d → one ≡ Some d) → one ≡ other
-same_found (Some d) other front back = sym (front d refl)
-same_found None (Some d) front back = back d refl
-same_found None None front back = refl
-
 -- what files stand for is one
 pub record IsOne (one other : List DatabaseValue) (user user' : UserInfo) : Type 0 where
   pub databases : one ≡ other
   pub user_is : user ≡ user'
 
-pub one-handheld : (files : Files) (one other : List DatabaseValue) (user user' : UserInfo) → StandFor files one user → StandFor files other user'
+pub one-handheld : {files : Files} {one other : List DatabaseValue} {user user' : UserInfo} → StandFor files one user → StandFor files other user'
     → IsOne one other user user'
-one-handheld files one other user user' first second = record {
-  databases = database_of-same one other first.order second.order
-      (λ name. same_found (database_of name one) (database_of name other) (found_there files one other user user' first second name)
-      (found_there files other one user' user second first name));
-  user_is = same_user (files device_info_file) user user' first.owner second.owner;
-}
+one-handheld {files} {one} {other} {user} {user'} first second =
+    grind (
+      arith,
+      database_of-same one other first.order second.order,
+      found_there first second,
+      found_there second first,
+      same_user (files device_info_file) user user' first.owner second.owner,
+    )
 
 -- ---- a desktop
 
 -- files without a journal are the whole
 finished_by : (held : FileMap) (o : Option (List ℕ)) → finmap.get held journal_file ≡ o → (b : Option BadJournal) → bad_of o ≡ b
     → HasNoJournal (if is_some b then held else overlay held) → (if is_some b then held else overlay held) ≡ overlay held
-finished_by held o is None bad none = refl
-finished_by held None is (Some b) bad none = absurd (cc)
-finished_by held (Some bytes) is (Some b) bad none = absurd (let no : ◌≡◌ {A = Option (List ℕ)} (Some bytes) None = sym is ∙ none in cc)
+finished_by held o is b bad none = grind (arith, common_steps)
 
 finished-overlay : (held : FileMap) → HasNoJournal (finished held) → finished held ≡ overlay held
 finished-overlay held none = finished_by held (finmap.get held journal_file) refl (bad_of (finmap.get held journal_file)) refl none
 
-pub desk-overlay : (held : FileMap) (slots : List SlotValue) → IsDeskOf (finished held) slots → IsDeskOf (overlay held) slots
-desk-overlay held slots is = subst (λ files. IsDeskOf files slots) (finished-overlay held is.no_journal) is
+pub desk-overlay : (held : FileMap) {slots : List SlotValue} → IsDeskOf (finished held) slots → IsDeskOf (overlay held) slots
+desk-overlay held {slots} is = subst (λ files. IsDeskOf files slots) (finished-overlay held is.no_journal) is
 
 same_slot : (one other : SlotValue) → one.marks ≡ other.marks → one.shelves.rows ≡ other.shelves.rows → one.shelves.bases ≡ other.shelves.bases
     → one.shelves.archives ≡ other.shelves.archives → one ≡ other
@@ -106,8 +99,8 @@ same_at [] [] d count each = refl
 same_at [] (y ∷ other) d count each = absurd (omega (arith, count))
 same_at (x ∷ one) [] d count each = absurd (omega (arith, count))
 same_at (x ∷ one) (y ∷ other) d count each =
-    let first : x ≡ y = each 0 (omega arith) in
-    let rest : one ≡ other = same_at one other d (omega (arith, count)) (λ k less. each (suc k) (omega (arith, less))) in
+    let first = each 0 (omega arith) in
+    let rest = same_at one other d (omega (arith, count)) (λ k less. each (suc k) (omega (arith, less))) in
     λ i. first i ∷ rest i
 
 marks_at : (slots : List SlotValue) (k : ℕ) (d : SlotValue) → get_or (marks_of slots) k d.marks ≡ (get_or slots k d).marks
@@ -115,7 +108,8 @@ marks_at [] k d = refl
 marks_at (slot ∷ slots) zero d = refl
 marks_at (slot ∷ slots) (suc k) d = marks_at slots k d
 
-pub one-desktop : (held : FileMap) (one other : List SlotValue) → AreInOrder one → AreInOrder other → IsDeskOf held one → IsDeskOf held other → one ≡ other
+pub one-desktop : (held : FileMap) (one other : List SlotValue) → AreInOrder one → AreInOrder other → IsDeskOf held one → IsDeskOf held other
+    → one ≡ other
 one-desktop held one other order order' first second = same_at one other behind count each
   where
     marked : marks_of one ≡ marks_of other
@@ -141,8 +135,7 @@ one-desktop held one other order order' first second = same_at one other behind 
     each k less =
         same_slot (slot_at one k) (slot_at other k)
         (sym (marks_at one k behind) ∙ ap (λ (ms : List Marks). get_or ms k behind.marks) marked ∙ marks_at other k behind ∙ ap (λ (s : SlotValue). s.marks)
-        (sym (there k less)))
-        (shelf k less Rows) (shelf k less Base) (shelf k less Archive)
+        (sym (there k less))) (shelf k less Rows) (shelf k less Base) (shelf k less Archive)
         ∙ there k less
 
 -- ---- what folders tell
@@ -150,48 +143,42 @@ one-desktop held one other order order' first second = same_at one other behind 
 pub same_handheld : (told : Option FileMap) (last device : Device) → IsSome told → Stands told last.databases last.user
     → IfSome told (λ held. HoldsAll held device.databases device.user) → IsOne device.databases last.databases device.user last.user
 same_handheld None last device there stands holds = absurd (let no : ⊥ = cc in no)
-same_handheld (Some held) last device there stands holds =
-    one-handheld (finmap.get held) device.databases last.databases device.user last.user holds.stands stands
+same_handheld (Some held) last device there stands holds = one-handheld holds.stands stands
 
 one_told : (told : Option FileMap) (one other : Device) → IsSome told → IfSome told (λ held. HoldsAll held one.databases one.user)
     → IfSome told (λ held. HoldsAll held other.databases other.user) → IsOne other.databases one.databases other.user one.user
 one_told None one other there first second = absurd (let no : ⊥ = cc in no)
-one_told (Some held) one other there first second =
-    one-handheld (finmap.get held) other.databases one.databases other.user one.user second.stands first.stands
+one_told (Some held) one other there first second = one-handheld second.stands first.stands
 
 -- a folder that stands for what it stood for has the slots that it had
-pub same_slots : (first last : Option FileMap) (slots next : List SlotValue) → IsSome first → IsSome last → StandsAs first last
+pub same_slots : (first last : Option FileMap) {slots next : List SlotValue} → IsSome first → IsSome last → StandsAs first last
     → IsDesk (option_map finished first) slots → IsDesk (option_map finished last) next → next ≡ slots
-same_slots None last slots next there there' stands old new = absurd (let no : ⊥ = cc in no)
-same_slots (Some a) None slots next there there' stands old new = absurd (let no : ⊥ = cc in no)
-same_slots (Some a) (Some b) slots next there there' stands old new =
-    let same : overlay b ≡ overlay a = same_some (overlay b) (overlay a) stands in
-    one-desktop (overlay a) next slots new.ordered old.ordered (subst (λ files. IsDeskOf files next) same (desk-overlay b next new.stands))
-    (desk-overlay a slots old.stands)
+same_slots None last there there' stands old new = absurd (let no : ⊥ = cc in no)
+same_slots (Some a) None there there' stands old new = absurd (let no : ⊥ = cc in no)
+same_slots (Some a) (Some b) {slots} {next} there there' stands old new =
+    grind (
+      arith,
+      same_some stands,
+      one-desktop (overlay a) next slots new.ordered old.ordered,
+      desk-overlay b new.stands,
+      desk-overlay a old.stands,
+    )
 
 -- one that stands for the merge has its slots
-pub merged_met : (last : Option FileMap) (merged next : List SlotValue) → IsSome last → StandsForSlots merged last → AreInOrder merged
-    → IsDesk (option_map finished last) next → next ≡ merged
-merged_met None merged next there stands order new = absurd (let no : ⊥ = cc in no)
-merged_met (Some b) merged next there stands order new = one-desktop (overlay b) next merged new.ordered order (desk-overlay b next new.stands) stands
+pub merged_met : (last : Option FileMap) (merged : List SlotValue) {next : List SlotValue} → IsSome last → StandsForSlots merged last
+    → AreInOrder merged → IsDesk (option_map finished last) next → next ≡ merged
+merged_met None merged there stands order new = absurd (let no : ⊥ = cc in no)
+merged_met (Some b) merged {next} there stands order new = one-desktop (overlay b) next merged new.ordered order (desk-overlay b new.stands) stands
 
-told_slots : (told : Option FileMap) (one other : List SlotValue) → IsSome told → IsDesk (option_map finished told) one
+told_slots : (told : Option FileMap) {one other : List SlotValue} → IsSome told → IsDesk (option_map finished told) one
     → IsDesk (option_map finished told) other → other ≡ one
-told_slots told one other there first second = same_slots told told one other there there refl first second
+told_slots told there first second = same_slots told told there there refl first second
 
 pub one-meeting : (run : Run) (before : CallTold) (meeting other : Meeting) → AreTold before → Meets run before meeting → Meets run before other
     → AreOfOneKind meeting other
 one-meeting run before meeting other told first second =
-    let held = one_told before.palm.contents meeting.device other.device told.palm first.handheld second.handheld in
-    let device : other.device ≡ meeting.device = (λ k. record {
-      databases = held.databases k;
-      user = held.user_is k;
-      handles = (second.closed ∙ sym first.closed) k;
-    }) in
-    let slots : other.slots ≡ meeting.slots = told_slots before.desk.contents meeting.slots other.slots told.desk first.desktop second.desktop in
-    let add : other.wishes.add_user ≡ meeting.wishes.add_user = second.asked.add_user ∙ sym first.asked.add_user in
-    record {
-      device = device;
-      slots = slots;
-      picked = second.picked ∙ (λ k. place_for (device k) (slots k) (add k)) ∙ sym first.picked;
-    }
+    grind (
+      arith,
+      one_told before.palm.contents meeting.device other.device told.palm first.handheld second.handheld,
+      told_slots before.desk.contents told.desk first.desktop second.desktop,
+    )

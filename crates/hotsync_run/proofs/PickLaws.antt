@@ -1,12 +1,12 @@
 -- The place of a user's slot: once the slot there has the user, that place is found again.
+use Rattle.std.proofs.lemmas.Grind.{common_steps}
 use Rattle.std.proofs.Common.{◌≡◌, ◌⊎◌, ◌∙◌, ◌<◌, ◌≤◌, ap, refl, sym, subst, inl, inr, arith, ℕ, zero, suc, Bool, true, false, cond, List, [], ◌∷◌, ◌++◌, length, get_or, set}
 use Rattle.std.specs.Prelude.{Option, Some, None, position, ◌==◌, ◌&&◌, not, nat_lt, if◌then◌else◌}
 use Rattle.std.specs.Option.{option_map}
 use Rattle.std.proofs.lemmas.Bool.{lt-ltb, le-ltb, eq-eqb}
 use Rattle.std.proofs.lemmas.List.{length-append}
 use Rattle.std.proofs.lemmas.List.Quantifiers.{position-Some}
-use Rattle.pdb_values.specs.Slots.{is_unclaimed, most_slots, newcomer, slot_at, slot_for}
-use Rattle.pdb_values.specs.declared.slot.Slot.TheVariants.{Old, New, Refused, Full}
+use Rattle.pdb_values.specs.Slots.{slot_for}
 use Rattle.desk_store.specs.Desks.{place_of}
 use Rattle.pdb_values.proofs.PlaceLaws.{position-cons}
 
@@ -14,9 +14,7 @@ use Rattle.pdb_values.proofs.PlaceLaws.{position-cons}
 
 no_place : {X : Type 0} (test : X → Bool) (x : X) (xs : List X) → (b : Bool) → test x ≡ b → (o : Option ℕ)
     → cond b (Some 0) (option_map (λ place. suc place) o) ≡ None → (b ≡ false) × (o ≡ None)
-no_place test x xs true is o none = absurd (cc)
-no_place test x xs false is None none = (refl, refl)
-no_place test x xs false is (Some place) none = absurd (cc)
+no_place test x xs b is o none = grind (arith, common_steps)
 
 -- none passes
 position-none : {X : Type 0} (test : X → Bool) (xs : List X) (d : X) → position test xs ≡ None → (i : ℕ) → i < length xs → test (get_or xs i d) ≡ false
@@ -31,7 +29,7 @@ position-none test (x ∷ xs) d none (suc i) less =
 position-set : {X : Type 0} (test : X → Bool) (xs : List X) (k : ℕ) (x d : X) → test x ≡ true → k < length xs
     → ((i : ℕ) → i < k → test (get_or xs i d) ≡ false) → position test (set xs k x) ≡ Some k
 position-set test [] k x d is less before = absurd (omega (arith, less))
-position-set test (y ∷ ys) zero x d is less before = position-cons test x ys ∙ ap (λ b. cond b (Some 0) (option_map (λ place. suc place) (position test ys))) is
+position-set test (y ∷ ys) zero x d is less before = grind (arith, position-cons test x ys)
 position-set test (y ∷ ys) (suc k) x d is less before =
     position-cons test y (set ys k x) ∙ ap (λ b. cond b (Some 0) (option_map (λ place. suc place) (position test (set ys k x)))) (before 0 (omega arith))
     ∙ ap (λ (o : Option ℕ). option_map (λ place. suc place) o)
@@ -46,35 +44,13 @@ place_in users user add = place_of (length users) (slot_for users user add)
 abbrev pub placed : List ℕ → ℕ → ℕ → List ℕ
 placed users place user = set (if nat_lt place (length users) then users else users ++ 0 ∷ []) place user
 
-newcomer_first : (users : List ℕ) (add : Bool) (n : ℕ) → is_unclaimed users ≡ true → place_of n (newcomer users add) ≡ 0
-newcomer_first users add n is =
-    ap (λ b. place_of n (if b then Old 0 else (if add then (if nat_lt (length users) most_slots then New else Full) else Refused))) is
-
-newcomer_last : (users : List ℕ) (add : Bool) (n : ℕ) → is_unclaimed users ≡ false → place_of n (newcomer users add) ≡ n
-newcomer_last users add n is =
-    ap (λ b. place_of n (if b then Old 0 else (if add then (if nat_lt (length users) most_slots then New else Full) else Refused))) is
-    ∙ by add (nat_lt (length users) most_slots)
-  where
-    by : (a b : Bool) → place_of n (if a then (if b then New else Full) else Refused) ≡ n
-    by true true = refl
-    by true false = refl
-    by false b = refl
-
 -- a user that is 0 is none: the first slot is picked
 place-none : (users : List ℕ) (user : ℕ) (add : Bool) → (user == 0) ≡ true → place_in users user add ≡ 0
-place-none users user add is = ap (λ b. place_of (length users) (if b then Old 0 else slot_at (position (λ other. other == user) users) users add)) is
+place-none users user add is = grind (arith, length users)
 
-place-some : (users : List ℕ) (user : ℕ) (add : Bool) (k : ℕ) → (user == 0) ≡ false → position (λ other. other == user) users ≡ Some k
+place-some : (users : List ℕ) (user : ℕ) (add : Bool) {k : ℕ} → (user == 0) ≡ false → position (λ other. other == user) users ≡ Some k
     → place_in users user add ≡ k
-place-some users user add k is there =
-    ap (λ b. place_of (length users) (if b then Old 0 else slot_at (position (λ other. other == user) users) users add)) is
-    ∙ ap (λ (o : Option ℕ). place_of (length users) (slot_at o users add)) there
-
-place-new : (users : List ℕ) (user : ℕ) (add : Bool) → (user == 0) ≡ false → position (λ other. other == user) users ≡ None
-    → place_in users user add ≡ place_of (length users) (newcomer users add)
-place-new users user add is none =
-    ap (λ b. place_of (length users) (if b then Old 0 else slot_at (position (λ other. other == user) users) users add)) is
-    ∙ ap (λ (o : Option ℕ). place_of (length users) (slot_at o users add)) none
+place-some users user add is there = grind (arith, length users)
 
 -- how a place comes about: the handheld has no user; or its user is known; or slot 0 waits for it; or it would be the next
 data Picks (users : List ℕ) (user place : ℕ) : Type 0 where
@@ -84,38 +60,14 @@ data Picks (users : List ℕ) (user place : ℕ) : Type 0 where
   follows : (user == 0) ≡ false → position (λ other. other == user) users ≡ None → place ≡ length users → Picks users user place
 
 picks : (users : List ℕ) (user : ℕ) (add : Bool) → Picks users user (place_in users user add)
-picks users user add = by (user == 0) refl (position (λ other. other == user) users) refl (is_unclaimed users) refl
-  where
-    by : (a : Bool) → (user == 0) ≡ a → (o : Option ℕ) → position (λ other. other == user) users ≡ o → (b : Bool) → is_unclaimed users ≡ b
-        → Picks users user (place_in users user add)
-    by true is o there b claims_is = without is (place-none users user add is)
-    by false is (Some k) there b claims_is = known is (there ∙ ap (λ (n : ℕ). Some n) (sym (place-some users user add k is there)))
-    by false is None there true claims_is = claims is there (place-new users user add is there ∙ newcomer_first users add (length users) claims_is)
-    by false is None there false claims_is = follows is there (place-new users user add is there ∙ newcomer_last users add (length users) claims_is)
+picks users user add = grind arith
 
 -- whether a user may be added is of no account
 pub place-any : (users : List ℕ) (user : ℕ) (add other : Bool) → place_in users user add ≡ place_in users user other
-place-any users user add other = by (user == 0) refl (position (λ other. other == user) users) refl (is_unclaimed users) refl
-  where
-    by : (a : Bool) → (user == 0) ≡ a → (o : Option ℕ) → position (λ other. other == user) users ≡ o → (b : Bool) → is_unclaimed users ≡ b
-        → place_in users user add ≡ place_in users user other
-    by true is o there b claims_is = place-none users user add is ∙ sym (place-none users user other is)
-    by false is (Some k) there b claims_is = place-some users user add k is there ∙ sym (place-some users user other k is there)
-    by false is None there true claims_is =
-        place-new users user add is there ∙ newcomer_first users add (length users) claims_is
-        ∙ sym (place-new users user other is there ∙ newcomer_first users other (length users) claims_is)
-    by false is None there false claims_is =
-        place-new users user add is there ∙ newcomer_last users add (length users) claims_is
-        ∙ sym (place-new users user other is there ∙ newcomer_last users other (length users) claims_is)
+place-any users user add other = grind arith
 
 pub place-near : (users : List ℕ) (user : ℕ) (add : Bool) → place_in users user add ≤ length users
-place-near users user add = by (place_in users user add) (picks users user add)
-  where
-    by : (place : ℕ) → Picks users user place → place ≤ length users
-    by place (without is first) = omega (arith, first)
-    by place (known is there) = let within = (position-Some (λ other. other == user) users place 0 there).0 in omega (arith, within)
-    by place (claims is none first) = omega (arith, first)
-    by place (follows is none last) = omega (arith, last)
+place-near users user add = grind (arith, place_in users user add, picks users user add)
 
 -- ---- it is found again
 
@@ -124,10 +76,8 @@ same_user user = eq-eqb user user refl
 
 -- nothing stands before the first place
 first-set : (users : List ℕ) (user : ℕ) → position (λ other. other == user) (placed users 0 user) ≡ Some 0
-first-set [] user = position-set (λ other. other == user) (0 ∷ []) 0 user 0 (same_user user) (omega arith) (λ i less. absurd (omega (arith, less)))
-first-set (x ∷ users) user =
-    ap (λ b. position (λ other. other == user) (set (if b then x ∷ users else (x ∷ users) ++ 0 ∷ []) 0 user)) (lt-ltb 0 (length (x ∷ users)) (omega arith))
-    ∙ position-set (λ other. other == user) (x ∷ users) 0 user 0 (same_user user) (omega arith) (λ i less. absurd (omega (arith, less)))
+first-set [] user = grind (arith, [], same_user user)
+first-set (x ∷ users) user = grind (arith, [], lt-ltb 0 (length (x ∷ users)) (omega arith), same_user user)
 
 get-front : (xs ys : List ℕ) (i d : ℕ) → i < length xs → get_or (xs ++ ys) i d ≡ get_or xs i d
 get-front [] ys i d less = absurd (omega (arith, less))
@@ -135,16 +85,15 @@ get-front (x ∷ xs) ys zero d less = refl
 get-front (x ∷ xs) ys (suc i) d less = get-front xs ys i d (omega (arith, less))
 
 -- where it was picked for a user, it is picked for that user again
-found-again : (users : List ℕ) (user place : ℕ) → (user == 0) ≡ false → Picks users user place
+found-again : {users : List ℕ} {user place : ℕ} → (user == 0) ≡ false → Picks users user place
     → position (λ other. other == user) (placed users place user) ≡ Some place
-found-again users user place some (without is first) = absurd (let no : true ≡ false = sym is ∙ some in cc)
-found-again users user place some (known is there) =
+found-again some (without is first) = absurd (let no : true ≡ false = sym is ∙ some in cc)
+found-again {users} {user} {place} some (known is there) =
     let at = position-Some (λ other. other == user) users place 0 there in
     ap (λ b. position (λ other. other == user) (set (if b then users else users ++ 0 ∷ []) place user)) (lt-ltb place (length users) at.0)
     ∙ position-set (λ other. other == user) users place user 0 (same_user user) at.0 at.2
-found-again users user place some (claims is none first) =
-    subst (λ n. position (λ other. other == user) (placed users n user) ≡ Some n) (sym first) (first-set users user)
-found-again users user place some (follows is none last) =
+found-again {users} {user} some (claims is none first) = grind (arith, placed users, first-set users user)
+found-again {users} {user} some (follows is none last) =
     subst (λ n. position (λ other. other == user) (placed users n user) ≡ Some n) (sym last)
     (ap (λ b. position (λ other. other == user) (set (if b then users else users ++ 0 ∷ []) (length users) user))
     (le-ltb (length users) (length users) (omega arith))
@@ -154,8 +103,7 @@ found-again users user place some (follows is none last) =
 pub user-again : (users : List ℕ) (user : ℕ) (add other : Bool) → (user == 0) ≡ false
     → place_in (placed users (place_in users user add) user) user other ≡ place_in users user add
 user-again users user add other some =
-    place-some (placed users (place_in users user add) user) user other (place_in users user add) some
-    (found-again users user (place_in users user add) some (picks users user add))
+    place-some (placed users (place_in users user add) user) user other some (found-again some (picks users user add))
 
 -- a handheld without a user finds slot 0, and with the user of slot 0 too
 pub none-again : (users : List ℕ) (user : ℕ) (add : Bool) → place_in (placed users 0 user) user add ≡ 0
@@ -163,20 +111,19 @@ none-again users user add = by (user == 0) refl
   where
     by : (b : Bool) → (user == 0) ≡ b → place_in (placed users 0 user) user add ≡ 0
     by true is = place-none (placed users 0 user) user add is
-    by false is = place-some (placed users 0 user) user add 0 is (first-set users user)
+    by false is = place-some (placed users 0 user) user add is (first-set users user)
 
 -- the user that both sides agree on: the slot's, where the handheld has none and the slot has one
 abbrev pub agreed : ℕ → ℕ → ℕ
 agreed user own = if (user == 0) && not (own == 0) then own else user
 
-one_of : (n u a : ℕ) → a ≡ u → (n ≡ u) ⊎ (n ≡ a) → n ≡ u
-one_of n u a same (inl is) = is
-one_of n u a same (inr is) = is ∙ same
+one_of : {n u a : ℕ} → a ≡ u → (n ≡ u) ⊎ (n ≡ a) → n ≡ u
+one_of same e = grind (arith, common_steps)
 
 -- with the agreed user in the picked slot, it is picked again, for the handheld's user or for the agreed one
-pub both-again : (users : List ℕ) (user own now place : ℕ) (add other : Bool) → place ≡ place_in users user add → (now ≡ user) ⊎ (now ≡ agreed user own)
-    → place_in (placed users place (agreed user own)) now other ≡ place
-both-again users user own now place add other picked is = by (user == 0) refl is
+pub both-again : (users : List ℕ) {user : ℕ} (own : ℕ) {now place : ℕ} (add other : Bool) → place ≡ place_in users user add
+    → (now ≡ user) ⊎ (now ≡ agreed user own) → place_in (placed users place (agreed user own)) now other ≡ place
+both-again users {user} own {now} {place} add other picked is = by (user == 0) refl is
   where
     by : (b : Bool) → (user == 0) ≡ b → (now ≡ user) ⊎ (now ≡ agreed user own) → place_in (placed users place (agreed user own)) now other ≡ place
     by true none (inl same) =
@@ -187,7 +134,7 @@ both-again users user own now place add other picked is = by (user == 0) refl is
         (subst (λ k. place_in (placed users k (agreed user own)) (agreed user own) other ≡ k) (sym first) (none-again users (agreed user own) other))
     by false some either =
         let stays : agreed user own ≡ user = ap (λ b. if b && not (own == 0) then own else user) some in
-        let same : now ≡ user = one_of now user (agreed user own) stays either in
+        let same = one_of stays either in
         subst (λ n. place_in (placed users place (agreed user own)) n other ≡ place) (sym same)
         (subst (λ a. place_in (placed users place a) user other ≡ place) (sym stays)
         (subst (λ k. place_in (placed users k user) user other ≡ k) (sym picked) (user-again users user add other some)))

@@ -1,5 +1,6 @@
 -- What requests that change nothing leave of a handheld.
-use Rattle.std.proofs.Common.{◌≡◌, ◌∙◌, refl, ap, ℕ, Bool, true, false, cond, List, [], ◌∷◌}
+use Rattle.std.proofs.lemmas.Grind.{common_steps}
+use Rattle.std.proofs.Common.{arith, ◌≡◌, ◌∙◌, ℕ, Bool, false, cond, List, [], ◌∷◌}
 use Rattle.std.specs.Prelude.{filter}
 use Rattle.palm_device.specs.Devices.{Device}
 use Rattle.dlp_commands.specs.Changes.{changes}
@@ -11,12 +12,11 @@ pub record IsKept (old new : Device) : Type 0 where
   pub user : new.user ≡ old.user
 
 none_first : (b : Bool) (x : List ℕ) (xs : List (List ℕ)) → cond b (x ∷ xs) xs ≡ [] → (b ≡ false) × (xs ≡ [])
-none_first true x xs none = absurd (cc)
-none_first false x xs none = (refl, none)
+none_first b x xs none = grind (arith, common_steps)
 
 pub quiet-run : (requests replies : List (List ℕ)) (old new : Device) → filter changes requests ≡ [] → Ran old (exchanged requests replies) new → IsKept old new
-quiet-run [] replies old new none ran = record { databases = ap (λ (d : Device). d.databases) ran; user = ap (λ (d : Device). d.user) ran }
-quiet-run (x ∷ requests) [] old new none ran = record { databases = ap (λ (d : Device). d.databases) ran; user = ap (λ (d : Device). d.user) ran }
+quiet-run [] replies old new none ran = grind arith
+quiet-run (x ∷ requests) [] old new none ran = grind arith
 quiet-run (x ∷ requests) (y ∷ replies) old new none ran =
     let first = none_first (changes x) x (filter changes requests) none in
     let step = store_kept old ran.0 x y first.0 (stepped old ran.0 x y ran.1) in

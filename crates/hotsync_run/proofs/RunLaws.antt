@@ -1,4 +1,6 @@
 -- What is known of a run at each of its ends.
+use Rattle.std.proofs.lemmas.Grind.{common_steps}
+use Rattle.std.proofs.lemmas.Bool.Decides.{nat_tests}
 use Rattle.std.proofs.Common.{◌≡◌, ◌≢◌, ◌⊎◌, ◌∙◌, ◌+◌, ◌-◌, ◌^◌, ◌≤◌, ℕ, List, ◌++◌, inl, inr, refl, sym, subst, ap, arith}
 use Rattle.std.specs.Prelude.{IfSome, Option, min}
 use Rattle.std.specs.Option.{option_map}
@@ -12,7 +14,6 @@ use Rattle.palm_device.specs.Handles.{no_handles}
 use Rattle.handheld_files.specs.Openings.{HoldsAll}
 use Rattle.handheld_files.specs.declared.fault.OpenFault.{OpenFault}
 use Rattle.handheld_files.specs.declared.fault.OpenFault.TheVariants as opening
-use Rattle.trace_text.specs.TraceLines.{trace_text}
 use Rattle.line_script.specs.Rules.{RuleValue}
 use Rattle.line_world.specs.Folders.{OthersStay, StoodAfterSome}
 use Rattle.desk_journal.specs.Overlays.{StandsAs, finished, put_all}
@@ -27,7 +28,7 @@ use Rattle.sync_session.specs.Tasks.{Meeting, meeting_of}
 use Rattle.hotsync_run.specs.Causes.{ByEnd, HasBegun}
 use Rattle.hotsync_run.specs.Clean.{IsLineStop}
 use Rattle.hotsync_run.specs.Ends.{SessionLeft, StandsAtFront}
-use Rattle.hotsync_run.specs.LineRuns.{LineRan, exchanges_in, frames_in}
+use Rattle.hotsync_run.specs.LineRuns.{LineRan, exchanges_in}
 use Rattle.hotsync_run.specs.Opening.{Opens, OpensAtMost, OpensGiven, OpensGivenAtMost}
 use Rattle.hotsync_run.specs.Printed.{IsPrintedStatus}
 use Rattle.hotsync_run.specs.Refusals.{BlamesHandheld, BlamesScript, DesktopRefuses, HandheldRefuses, HasDesktop, HasHandheld, IsRefused, IsTraceRefusal, TraceRefuses, desktop_status, handheld_status}
@@ -52,13 +53,7 @@ pub record IsScriptAlone (refusal : Status) : Type 0 where
   pub out : refusal ≡ OutWrite → ⊥
 
 pub script_alone : (refusal : Status) → IsScriptRefusal refusal → IsScriptAlone refusal
-script_alone refusal is = record {
-  handheld = λ e. rw e at is;
-  desktop = λ e. rw e at is;
-  trace = λ e. rw e at is;
-  done = λ e. rw e at is;
-  out = λ e. rw e at is;
-}
+script_alone refusal is = grind arith
 
 -- a refusal of the handheld's folder is no other one
 pub record IsHandheldAlone (refusal : Status) : Type 0 where
@@ -70,13 +65,10 @@ pub record IsHandheldAlone (refusal : Status) : Type 0 where
   pub script : BlamesScript refusal → ⊥
 
 handheld_cases : (fault : OpenFault) → IsHandheldAlone (handheld_status fault)
-handheld_cases opening.Keeper = record { source = λ e. cc; desktop = λ e. cc; trace = λ e. cc; done = λ e. cc; out = λ e. cc; script = λ b. b }
-handheld_cases opening.TooMany = record { source = λ e. cc; desktop = λ e. cc; trace = λ e. cc; done = λ e. cc; out = λ e. cc; script = λ b. b }
-handheld_cases (opening.BadFile name kind place) = record { source = λ e. cc; desktop = λ e. cc; trace = λ e. cc; done = λ e. cc; out = λ e. cc; script = λ b. b }
-handheld_cases opening.NoMemory = record { source = λ e. cc; desktop = λ e. cc; trace = λ e. cc; done = λ e. cc; out = λ e. cc; script = λ b. b }
+handheld_cases fault = grind (arith, common_steps)
 
-pub handheld_alone : (held : Option FileMap) (refusal : Status) → HandheldRefuses held refusal → IsHandheldAlone refusal
-handheld_alone held refusal refuses = subst IsHandheldAlone (sym refuses.is) (handheld_cases refuses.fault)
+pub handheld_alone : {held : Option FileMap} {refusal : Status} → HandheldRefuses held refusal → IsHandheldAlone refusal
+handheld_alone refuses = subst IsHandheldAlone (sym refuses.is) (handheld_cases refuses.fault)
 
 -- a refusal of the desktop's folder is no other one
 pub record IsDesktopAlone (refusal : Status) : Type 0 where
@@ -89,13 +81,10 @@ pub record IsDesktopAlone (refusal : Status) : Type 0 where
   pub palm : BlamesHandheld refusal → ⊥
 
 desktop_cases : (fault : DeskOpenFault) → IsDesktopAlone (desktop_status fault)
-desktop_cases desk_opening.DeskFault = record { source = λ e. cc; handheld = λ e. cc; trace = λ e. cc; done = λ e. cc; out = λ e. cc; script = λ b. b; palm = λ b. b }
-desktop_cases desk_opening.TooMany = record { source = λ e. cc; handheld = λ e. cc; trace = λ e. cc; done = λ e. cc; out = λ e. cc; script = λ b. b; palm = λ b. b }
-desktop_cases (desk_opening.BadFile name kind place) = record { source = λ e. cc; handheld = λ e. cc; trace = λ e. cc; done = λ e. cc; out = λ e. cc; script = λ b. b; palm = λ b. b }
-desktop_cases desk_opening.NoMemory = record { source = λ e. cc; handheld = λ e. cc; trace = λ e. cc; done = λ e. cc; out = λ e. cc; script = λ b. b; palm = λ b. b }
+desktop_cases fault = grind (arith, common_steps)
 
-pub desktop_alone : (kept : Option FileMap) (refusal : Status) → DesktopRefuses kept refusal → IsDesktopAlone refusal
-desktop_alone kept refusal refuses = subst IsDesktopAlone (sym refuses.is) (desktop_cases refuses.fault)
+pub desktop_alone : {kept : Option FileMap} {refusal : Status} → DesktopRefuses kept refusal → IsDesktopAlone refusal
+desktop_alone refuses = subst IsDesktopAlone (sym refuses.is) (desktop_cases refuses.fault)
 
 -- a refusal of the trace is no other one
 pub record IsTraceAlone (refusal : Status) : Type 0 where
@@ -108,113 +97,135 @@ pub record IsTraceAlone (refusal : Status) : Type 0 where
   pub palm : BlamesHandheld refusal → ⊥
 
 pub trace_alone : (refusal : Status) → IsTraceRefusal refusal → IsTraceAlone refusal
-trace_alone refusal (inl is) = subst IsTraceAlone (sym is) (record { source = λ e. cc; handheld = λ e. cc; desktop = λ e. cc; done = λ e. cc; out = λ e. cc; script = λ b. b; palm = λ b. b })
-trace_alone refusal (inr is) = subst IsTraceAlone (sym is) (record { source = λ e. cc; handheld = λ e. cc; desktop = λ e. cc; done = λ e. cc; out = λ e. cc; script = λ b. b; palm = λ b. b })
+trace_alone refusal e = grind (arith, common_steps)
 
 -- a folder that was not touched
-pub stays_same : (before after : FolderTold) → after ≡ before → StaysAsItWas before after
-stays_same before after same = subst (StaysAsItWas before) (sym same) (record { contents = refl; moments = refl })
+pub stays_same : {before after : FolderTold} → after ≡ before → StaysAsItWas before after
+stays_same {before} same = subst (StaysAsItWas before) (sym same) (record { contents = refl; moments = refl })
 
-pub stands_same : (before after : FolderTold) → after ≡ before → StandsAsItDid before after
-stands_same before after same = subst (StandsAsItDid before) (sym same) (record { stands = refl; each_moment = no_moment (StandsAs before.contents) before.moments before.moments refl })
+pub stands_same : {before after : FolderTold} → after ≡ before → StandsAsItDid before after
+stands_same {before} same = grind (arith, no_moment (StandsAs before.contents) before.moments before.moments refl)
 
 -- what a run opened that sent nothing
-opens_refused : (run : Run) (before after : CallTold) (report : Report) → IsNotStarted report
-    → OpensAtMost run.handheld before.palm.paths after.palm.paths → OpensAtMost run.desktop before.desk.paths after.desk.paths
-    → OpensGivenAtMost run.script before.source.paths after.source.paths → OpensGivenAtMost run.trace before.trace.paths after.trace.paths → OpensNamed run before after report.end
-opens_refused run before after report is handheld desktop script trace =
-    let none : HasBegun report.end → ⊥ = λ begun. subst HasBegun is.end begun in
-    record {
-      handheld = handheld;
-      desktop = desktop;
-      script = script;
-      trace = trace;
-      handheld_opened = λ begun. absurd (none begun);
-      desktop_opened = λ begun. absurd (none begun);
-      script_opened = λ begun. absurd (none begun);
-      trace_opened = λ begun. absurd (none begun);
-    }
+module _ (run : Run) (before after : CallTold) {report : Report} (is : IsNotStarted report) where
+  opens_refused : OpensAtMost run.handheld before.palm.paths after.palm.paths → OpensAtMost run.desktop before.desk.paths after.desk.paths
+      → OpensGivenAtMost run.script before.source.paths after.source.paths → OpensGivenAtMost run.trace before.trace.paths after.trace.paths
+      → OpensNamed run before after report.end
+  opens_refused handheld desktop script trace =
+      let none : HasBegun report.end → ⊥ = λ begun. subst HasBegun is.end begun in
+      record {
+        handheld = handheld;
+        desktop = desktop;
+        script = script;
+        trace = trace;
+        handheld_opened = λ begun. absurd (none begun);
+        desktop_opened = λ begun. absurd (none begun);
+        script_opened = λ begun. absurd (none begun);
+        trace_opened = λ begun. absurd (none begun);
+      }
 
-shows_refused : (run : Run) (before after : CallTold) (status : Status) (report : Report) → IsNotStarted report → SentNothing run before after status report
-    → ByEnd report.end (SentNothing run before after status report) (SessionRan run before after status report)
-shows_refused run before after status report is sent = subst (λ (e : SessionEnd). ByEnd e (SentNothing run before after status report) (SessionRan run before after status report)) (sym is.end) sent
+  shows_refused : (status : Status) → SentNothing run before after status report
+      → ByEnd report.end (SentNothing run before after status report) (SessionRan run before after status report)
+  shows_refused status sent =
+      subst (λ (e : SessionEnd). ByEnd e (SentNothing run before after status report) (SessionRan run before after status report)) (sym is.end) sent
 
--- a run whose script refuses it
-pub by_script : (run : Run) (before after : CallTold) (refusal : Status) (report : Report) → IsNotStarted report → ScriptRefuses run.script before.source.left refusal
-    → (refusal ≡ SourceRead → Rose before.source.faults after.source.faults) → OpensGivenAtMost run.script before.source.paths after.source.paths
-    → after.palm ≡ before.palm → after.desk ≡ before.desk → after.trace ≡ before.trace → HasRun run before after refusal report
-by_script run before after refusal report is refuses failed opened palm desk trace =
-    let alone = script_alone refusal refuses.is in
-    record {
-      shown = shows_refused run before after refusal report is (record {
-        judged = inr (inl refuses);
-        report_is = is;
-        handheld = stays_same before.palm after.palm palm;
-        desktop = stands_same before.desk after.desk desk;
-        trace = ap (λ told. told.taken) trace;
-      });
-      blames = record { source = failed; handheld = λ e. absurd (alone.handheld e); desktop = λ e. absurd (alone.desktop e); trace = λ e. absurd (alone.trace e) };
-      opened = opens_refused run before after report is (inl (ap (λ told. told.paths) palm)) (inl (ap (λ told. told.paths) desk)) opened (inl (ap (λ told. told.paths) trace));
-    }
+  -- a run whose script refuses it
+  pub by_script : {refusal : Status} → ScriptRefuses run.script before.source.left refusal
+      → (refusal ≡ SourceRead → Rose before.source.faults after.source.faults) → OpensGivenAtMost run.script before.source.paths after.source.paths
+      → after.palm ≡ before.palm → after.desk ≡ before.desk → after.trace ≡ before.trace → HasRun run before after refusal report
+  by_script {refusal} refuses failed opened palm desk trace =
+      let alone = script_alone refusal refuses.is in
+      record {
+        shown = shows_refused refusal (record {
+          judged = inr (inl refuses);
+          report_is = is;
+          handheld = stays_same palm;
+          desktop = stands_same desk;
+          trace = ap (λ told. told.taken) trace;
+        });
+        blames = record {
+          source = failed;
+          handheld = λ e. absurd (alone.handheld e);
+          desktop = λ e. absurd (alone.desktop e);
+          trace = λ e. absurd (alone.trace e);
+        };
+        opened = opens_refused (inl (ap (λ told. told.paths) palm)) (inl (ap (λ told. told.paths) desk)) opened (inl (ap (λ told. told.paths) trace));
+      }
 
--- a run whose handheld refuses it
-pub by_handheld : (run : Run) (before after : CallTold) (refusal : Status) (report : Report) → IsNotStarted report → HasScript run.script before.source.left → HandheldRefuses before.palm.contents refusal
-    → (refusal ≡ HandheldFolder → Rose before.palm.faults after.palm.faults) → OpensGivenAtMost run.script before.source.paths after.source.paths
-    → StaysAsItWas before.palm after.palm → OpensAtMost run.handheld before.palm.paths after.palm.paths
-    → after.desk ≡ before.desk → after.trace ≡ before.trace → HasRun run before after refusal report
-by_handheld run before after refusal report is script refuses failed opened stays path desk trace =
-    let alone = handheld_alone before.palm.contents refusal refuses in
-    record {
-      shown = shows_refused run before after refusal report is (record {
-        judged = inr (inr (script, inl refuses));
-        report_is = is;
-        handheld = stays;
-        desktop = stands_same before.desk after.desk desk;
-        trace = ap (λ told. told.taken) trace;
-      });
-      blames = record { source = λ e. absurd (alone.source e); handheld = failed; desktop = λ e. absurd (alone.desktop e); trace = λ e. absurd (alone.trace e) };
-      opened = opens_refused run before after report is path (inl (ap (λ told. told.paths) desk)) opened (inl (ap (λ told. told.paths) trace));
-    }
+  -- a run whose handheld refuses it
+  pub by_handheld : {refusal : Status} → HasScript run.script before.source.left → HandheldRefuses before.palm.contents refusal
+      → (refusal ≡ HandheldFolder → Rose before.palm.faults after.palm.faults) → OpensGivenAtMost run.script before.source.paths after.source.paths
+      → StaysAsItWas before.palm after.palm → OpensAtMost run.handheld before.palm.paths after.palm.paths → after.desk ≡ before.desk
+      → after.trace ≡ before.trace → HasRun run before after refusal report
+  by_handheld {refusal} script refuses failed opened stays path desk trace =
+      let alone = handheld_alone refuses in
+      record {
+        shown = shows_refused refusal (record {
+          judged = inr (inr (script, inl refuses));
+          report_is = is;
+          handheld = stays;
+          desktop = stands_same desk;
+          trace = ap (λ told. told.taken) trace;
+        });
+        blames = record {
+          source = λ e. absurd (alone.source e);
+          handheld = failed;
+          desktop = λ e. absurd (alone.desktop e);
+          trace = λ e. absurd (alone.trace e);
+        };
+        opened = opens_refused path (inl (ap (λ told. told.paths) desk)) opened (inl (ap (λ told. told.paths) trace));
+      }
 
--- a run whose desktop refuses it
-pub by_desktop : (run : Run) (before after : CallTold) (refusal : Status) (report : Report) → IsNotStarted report → HasScript run.script before.source.left → HasHandheld before.palm.contents
-    → DesktopRefuses before.desk.contents refusal → (refusal ≡ DesktopFolder → Rose before.desk.faults after.desk.faults) → OpensGivenAtMost run.script before.source.paths after.source.paths
-    → StaysAsItWas before.palm after.palm → OpensAtMost run.handheld before.palm.paths after.palm.paths
-    → StandsAsItDid before.desk after.desk → OpensAtMost run.desktop before.desk.paths after.desk.paths → after.trace ≡ before.trace → HasRun run before after refusal report
-by_desktop run before after refusal report is script handheld refuses failed opened stays path stands desk_path trace =
-    let alone = desktop_alone before.desk.contents refusal refuses in
-    record {
-      shown = shows_refused run before after refusal report is (record {
-        judged = inr (inr (script, inr (handheld, inl refuses)));
-        report_is = is;
-        handheld = stays;
-        desktop = stands;
-        trace = ap (λ told. told.taken) trace;
-      });
-      blames = record { source = λ e. absurd (alone.source e); handheld = λ e. absurd (alone.handheld e); desktop = failed; trace = λ e. absurd (alone.trace e) };
-      opened = opens_refused run before after report is path desk_path opened (inl (ap (λ told. told.paths) trace));
-    }
+  -- a run whose desktop refuses it
+  pub by_desktop : {refusal : Status} → HasScript run.script before.source.left → HasHandheld before.palm.contents
+      → DesktopRefuses before.desk.contents refusal → (refusal ≡ DesktopFolder → Rose before.desk.faults after.desk.faults)
+      → OpensGivenAtMost run.script before.source.paths after.source.paths → StaysAsItWas before.palm after.palm
+      → OpensAtMost run.handheld before.palm.paths after.palm.paths → StandsAsItDid before.desk after.desk
+      → OpensAtMost run.desktop before.desk.paths after.desk.paths → after.trace ≡ before.trace → HasRun run before after refusal report
+  by_desktop {refusal} script handheld refuses failed opened stays path stands desk_path trace =
+      let alone = desktop_alone refuses in
+      record {
+        shown = shows_refused refusal (record {
+          judged = inr (inr (script, inr (handheld, inl refuses)));
+          report_is = is;
+          handheld = stays;
+          desktop = stands;
+          trace = ap (λ told. told.taken) trace;
+        });
+        blames = record {
+          source = λ e. absurd (alone.source e);
+          handheld = λ e. absurd (alone.handheld e);
+          desktop = failed;
+          trace = λ e. absurd (alone.trace e);
+        };
+        opened = opens_refused path desk_path opened (inl (ap (λ told. told.paths) trace));
+      }
 
--- a run whose trace was not opened
-pub by_trace : (run : Run) (before after : CallTold) (refusal : Status) (report : Report) → IsNotStarted report → HasScript run.script before.source.left → HasHandheld before.palm.contents
-    → HasDesktop before.desk.contents → TraceRefuses run.trace refusal
-    → (refusal ≡ TraceWrite → Rose before.trace.faults after.trace.faults) → OpensGivenAtMost run.script before.source.paths after.source.paths
-    → StaysAsItWas before.palm after.palm → OpensAtMost run.handheld before.palm.paths after.palm.paths
-    → StandsAsItDid before.desk after.desk → OpensAtMost run.desktop before.desk.paths after.desk.paths
-    → OpensGivenAtMost run.trace before.trace.paths after.trace.paths → after.trace.taken ≡ before.trace.taken → HasRun run before after refusal report
-by_trace run before after refusal report is script handheld desktop refuses failed opened stays path stands desk_path trace_path taken =
-    let alone = trace_alone refusal refuses.is in
-    record {
-      shown = shows_refused run before after refusal report is (record {
-        judged = inr (inr (script, inr (handheld, inr (desktop, refuses))));
-        report_is = is;
-        handheld = stays;
-        desktop = stands;
-        trace = taken;
-      });
-      blames = record { source = λ e. absurd (alone.source e); handheld = λ e. absurd (alone.handheld e); desktop = λ e. absurd (alone.desktop e); trace = failed };
-      opened = opens_refused run before after report is path desk_path opened trace_path;
-    }
+  -- a run whose trace was not opened
+  pub by_trace : {refusal : Status} → HasScript run.script before.source.left → HasHandheld before.palm.contents → HasDesktop before.desk.contents
+      → TraceRefuses run.trace refusal → (refusal ≡ TraceWrite → Rose before.trace.faults after.trace.faults)
+      → OpensGivenAtMost run.script before.source.paths after.source.paths → StaysAsItWas before.palm after.palm
+      → OpensAtMost run.handheld before.palm.paths after.palm.paths → StandsAsItDid before.desk after.desk
+      → OpensAtMost run.desktop before.desk.paths after.desk.paths → OpensGivenAtMost run.trace before.trace.paths after.trace.paths
+      → after.trace.taken ≡ before.trace.taken → HasRun run before after refusal report
+  by_trace {refusal} script handheld desktop refuses failed opened stays path stands desk_path trace_path taken =
+      let alone = trace_alone refusal refuses.is in
+      record {
+        shown = shows_refused refusal (record {
+          judged = inr (inr (script, inr (handheld, inr (desktop, refuses))));
+          report_is = is;
+          handheld = stays;
+          desktop = stands;
+          trace = taken;
+        });
+        blames = record {
+          source = λ e. absurd (alone.source e);
+          handheld = λ e. absurd (alone.handheld e);
+          desktop = λ e. absurd (alone.desktop e);
+          trace = failed;
+        };
+        opened = opens_refused path desk_path opened trace_path;
+      }
 
 -- ---- a session
 
@@ -222,7 +233,8 @@ rose_earlier : (most a b c : ℕ) → a ≤ b → min (b + 1) most ≤ c → min
 rose_earlier most a b c less rose = omega (arith, rose, less)
 
 -- the line's part, told from an earlier time on
-abbrev line_from : (rules : List RuleValue) (device : Device) (first before after : FolderTold) (report : Report) → StaysAsItWas first before → LineRan rules device before after report → LineRan rules device first after report
+abbrev line_from : (rules : List RuleValue) (device : Device) (first before after : FolderTold) (report : Report) → StaysAsItWas first before
+    → LineRan rules device before after report → LineRan rules device first after report
 line_from rules device first before after report stays line = record {
   proper = line.proper;
   told = line.told;
@@ -241,9 +253,10 @@ line_from rules device first before after report stays line = record {
 }
 
 -- what a session left, told from before a journal was finished on
-left_from : (meeting : Meeting) (palm_after first before after : FolderTold) (report : Report) → StandsAsItDid first before → SessionLeft meeting palm_after before after report → SessionLeft meeting palm_after first after report
-left_from meeting palm_after first before after report stood left =
-    let Merged : Option FileMap → Type 0 = StandsForSlots (merged_slots meeting left.given) in
+left_from : {meeting : Meeting} {palm_after first before after : FolderTold} {report : Report} → StandsAsItDid first before
+    → SessionLeft meeting palm_after before after report → SessionLeft meeting palm_after first after report
+left_from {meeting} {first} {before} {after} stood left =
+    let Merged = StandsForSlots (merged_slots meeting left.given) in
     record {
       sound = left.sound;
       issued = left.issued;
@@ -256,15 +269,18 @@ left_from meeting palm_after first before after report stood left =
       ];
       given = left.given;
       moments = moments_go_on (λ told. StandsAs first.contents told ⊎ Merged told) first.moments before.moments after.moments
-          (moments_weaken (StandsAs first.contents) (λ told. StandsAs first.contents told ⊎ Merged told) first.moments before.moments stood.each_moment (λ told stands. inl stands))
-          (moments_weaken (λ told. StandsAs before.contents told ⊎ Merged told) (λ told. StandsAs first.contents told ⊎ Merged told) before.moments after.moments left.moments
-          (λ told is. elim is [ inl stands ↦ inl (stands ∙ stood.stands) | inr done ↦ inr done ]));
+          (moments_weaken (StandsAs first.contents) (λ told. StandsAs first.contents told ⊎ Merged told) first.moments before.moments stood.each_moment
+          (λ told stands. inl stands))
+          (moments_weaken (λ told. StandsAs before.contents told ⊎ Merged told) (λ told. StandsAs first.contents told ⊎ Merged told) before.moments
+          after.moments left.moments (λ told is. elim is [ inl stands ↦ inl (stands ∙ stood.stands) | inr done ↦ inr done ]));
     }
 
-talked_from : (run : Run) (rules : List RuleValue) (device : Device) (slots : List SlotValue) (first before after desk_first desk_before desk_after : FolderTold) (status : Status) (report : Report) → StaysAsItWas first before → StandsAsItDid desk_first desk_before
-    → Talked run rules device slots before after desk_before desk_after status report → Talked run rules device slots first after desk_first desk_after status report
+talked_from : {run : Run} {rules : List RuleValue} {device : Device} {slots : List SlotValue} {first : FolderTold} (before : FolderTold)
+    {after desk_first desk_before desk_after : FolderTold} {status : Status} {report : Report}
+    → StaysAsItWas first before → StandsAsItDid desk_first desk_before → Talked run rules device slots before after desk_before desk_after status report
+    → Talked run rules device slots first after desk_first desk_after status report
 unfolding line_from
-talked_from run rules device slots first before after desk_first desk_before desk_after status report stays stood talked = record {
+talked_from {rules} {device} {slots} {first} before {after} {report} stays stood talked = record {
   wishes = talked.wishes;
   asked = talked.asked;
   line = line_from rules device first before after report stays talked.line;
@@ -274,24 +290,24 @@ talked_from run rules device slots first before after desk_first desk_before des
   faulted = talked.faulted;
   dealt = talked.dealt;
   stopped = talked.stopped;
-  left = left_from (meeting_of device slots talked.wishes) after desk_first desk_before desk_after report stood talked.left;
+  left = left_from stood talked.left;
   shows = talked.shows;
   refused = talked.refused;
   front = talked.front;
   fronts = subst (λ (m : Moments). EachMomentSince (StandsAtFront (meeting_of device slots talked.wishes)) m after.moments) stays.moments talked.fronts;
 }
 
-traced_from : (path : Option (List ℕ)) (text : List ℕ) (first before after : SinkTold) (status : Status) → before.taken ≡ first.taken → first.faults ≤ before.faults → IsTraced path text before after status → IsTraced path text first after status
-traced_from path text first before after status same later traced = record {
-  part = subst (λ (t : Option (List ℕ)). AppendsPrefix t after.taken text) same traced.part;
-  whole = λ named calm served. traced.whole named (λ rose. calm (rose_earlier (2 ^ 64 - 1) first.faults before.faults after.faults later rose)) served ∙ ap (λ (t : Option (List ℕ)). option_map (λ taken. taken ++ text) t) same;
-}
+traced_from : {path : Option (List ℕ)} {text : List ℕ} (first : SinkTold) {before after : SinkTold} {status : Status} → before.taken ≡ first.taken
+    → first.faults ≤ before.faults → IsTraced path text before after status → IsTraced path text first after status
+traced_from {text} first {before} {after} same later traced = grind (arith, rose_earlier (2 ^ 64 - 1) first.faults before.faults after.faults later)
 
 -- the desktop's folder, from before its journal was finished on
-desktop_ran : (first before after : FolderTold) (end : SessionEnd) → before.contents ≡ option_map finished first.contents → StandsAsItDid first before → ChangedOnce before after end → DesktopRan first after end
-desktop_ran first before after end finished_is stood changed =
-    let merged : Option FileMap = option_map (put_all changed.entries) (option_map finished first.contents) in
-    let same : option_map (put_all changed.entries) before.contents ≡ merged = ap (λ (t : Option FileMap). option_map (put_all changed.entries) t) finished_is in
+desktop_ran : {first : FolderTold} (before : FolderTold) {after : FolderTold} {end : SessionEnd} → before.contents ≡ option_map finished first.contents
+    → StandsAsItDid first before → ChangedOnce before after end → DesktopRan first after end
+desktop_ran {first} before {after} finished_is stood changed =
+    let merged = option_map (put_all changed.entries) (option_map finished first.contents) in
+    let same : option_map (put_all changed.entries) before.contents ≡ merged =
+    ap (λ (t : Option FileMap). option_map (put_all changed.entries) t) finished_is in
     record {
       entries = changed.entries;
       place = changed.place;
@@ -302,13 +318,15 @@ desktop_ran first before after end finished_is stood changed =
         | inr moved ↦ inr (subst (λ (t : Option FileMap). StandsAs t after.contents) same moved)
       ];
       each_moment = moments_go_on (λ told. StandsAs first.contents told ⊎ StandsAs merged told) first.moments before.moments after.moments
-          (moments_weaken (StandsAs first.contents) (λ told. StandsAs first.contents told ⊎ StandsAs merged told) first.moments before.moments stood.each_moment (λ told stands. inl stands))
-          (moments_weaken (StandsAs (option_map (put_all changed.entries) before.contents)) (λ told. StandsAs first.contents told ⊎ StandsAs merged told) before.moments after.moments changed.each_moment
+          (moments_weaken (StandsAs first.contents) (λ told. StandsAs first.contents told ⊎ StandsAs merged told) first.moments before.moments
+          stood.each_moment (λ told stands. inl stands)) (moments_weaken (StandsAs (option_map (put_all changed.entries) before.contents))
+          (λ told. StandsAs first.contents told ⊎ StandsAs merged told) before.moments after.moments changed.each_moment
           (λ told stands. inr (subst (λ (t : Option FileMap). StandsAs t told) same stands)));
     }
 
 -- what stands between the opening of all objects and their session
-pub record AreOpened (run : Run) (before : CallTold) (source : SourceTold) (palm desk : FolderTold) (trace : SinkTold) (rules : List RuleValue) (device : Device) (slots : List SlotValue) : Type 0 where
+pub record AreOpened (run : Run) (before : CallTold) (source : SourceTold) (palm desk : FolderTold) (trace : SinkTold) (rules : List RuleValue)
+    (device : Device) (slots : List SlotValue) : Type 0 where
   pub scripted : IsScripted run.script before.source.left rules
   pub script_opened : OpensGiven run.script before.source.paths source.paths
   pub script : OpensGivenAtMost run.script before.source.paths source.paths
@@ -327,151 +345,138 @@ pub record AreOpened (run : Run) (before : CallTold) (source : SourceTold) (palm
   pub trace_taken : trace.taken ≡ before.trace.taken
   pub trace_later : before.trace.faults ≤ trace.faults
 
-silent_run : (run : Run) (before after : CallTold) (palm desk : FolderTold) (trace : SinkTold) (rules : List RuleValue) (device : Device) (slots : List SlotValue) (status : Status) (report : Report)
-    → AreOpened run before after.source palm desk trace rules device slots → SilentTrace palm after.palm desk after.desk trace after.trace status report → SentNothing run before after status report
-silent_run run before after palm desk trace rules device slots status report opened silent = record {
-  judged = inl silent.silent.memory;
-  report_is = silent.silent.report_is;
-  handheld = subst (StaysAsItWas before.palm) (sym silent.silent.handheld) opened.stays;
-  desktop = subst (StandsAsItDid before.desk) (sym silent.silent.desktop) opened.stands;
-  trace = silent.trace_taken ∙ opened.trace_taken;
-}
+module _ {run : Run} (before after : CallTold) {palm desk : FolderTold} {trace : SinkTold} {rules : List RuleValue} {device : Device}
+    {slots : List SlotValue} {status : Status} {report : Report} (opened : AreOpened run before after.source palm desk trace rules device slots) where
+  silent_run : SilentTrace palm after.palm desk after.desk trace after.trace status report → SentNothing run before after status report
+  silent_run silent = record {
+    judged = inl silent.silent.memory;
+    report_is = silent.silent.report_is;
+    handheld = subst (StaysAsItWas before.palm) (sym silent.silent.handheld) opened.stays;
+    desktop = subst (StandsAsItDid before.desk) (sym silent.silent.desktop) opened.stands;
+    trace = silent.trace_taken ∙ opened.trace_taken;
+  }
 
-session_run : (run : Run) (before after : CallTold) (palm desk : FolderTold) (trace : SinkTold) (rules : List RuleValue) (device : Device) (slots : List SlotValue) (status : Status) (report : Report)
-    → AreOpened run before after.source palm desk trace rules device slots → ChangedOnce desk after.desk report.end
-    → TalkedTrace run rules device slots palm after.palm desk after.desk trace after.trace status report → SessionRan run before after status report
-session_run run before after palm desk trace rules device slots status report opened changed talked = record {
-  rules = rules;
-  scripted = opened.scripted;
-  device = device;
-  handheld = opened.handheld;
-  closed = opened.closed;
-  slots = slots;
-  desktop = opened.slots_are;
-  changed = desktop_ran before.desk desk after.desk report.end opened.finished_is opened.stands changed;
-  talked = talked_from run rules device slots before.palm palm after.palm before.desk desk after.desk status report opened.stays opened.stands talked.talked;
-  traced = traced_from run.trace (trace_text (frames_in report)) before.trace trace after.trace status opened.trace_taken opened.trace_later talked.traced_is;
-}
+  session_run : ChangedOnce desk after.desk report.end
+      → TalkedTrace run rules device slots palm after.palm desk after.desk trace after.trace status report → SessionRan run before after status report
+  session_run changed talked = record {
+    rules = rules;
+    scripted = opened.scripted;
+    device = device;
+    handheld = opened.handheld;
+    closed = opened.closed;
+    slots = slots;
+    desktop = opened.slots_are;
+    changed = desktop_ran desk opened.finished_is opened.stands changed;
+    talked = talked_from palm opened.stays opened.stands talked.talked;
+    traced = traced_from before.trace opened.trace_taken opened.trace_later talked.traced_is;
+  }
 
--- a run with a session
-pub by_session : (run : Run) (before after : CallTold) (palm desk : FolderTold) (trace : SinkTold) (rules : List RuleValue) (device : Device) (slots : List SlotValue) (status : Status) (report : Report)
-    → AreOpened run before after.source palm desk trace rules device slots → IsTracedTalk run rules device slots palm after.palm desk after.desk trace after.trace status report → HasRun run before after status report
-by_session run before after palm desk trace rules device slots status report opened talk = record {
-  shown = by_end_then report.end {A = SilentTrace palm after.palm desk after.desk trace after.trace status report} {B = TalkedTrace run rules device slots palm after.palm desk after.desk trace after.trace status report}
-      {C = SentNothing run before after status report} {D = SessionRan run before after status report}
-      (silent_run run before after palm desk trace rules device slots status report opened) (session_run run before after palm desk trace rules device slots status report opened talk.changed) talk.shown;
-  blames = record {
-    source = λ e. absurd (talk_not_script run rules device slots palm after.palm desk after.desk trace after.trace status report talk (subst BlamesScript (sym e) tt));
-    handheld = λ e. rose_earlier (2 ^ 64 - 1) before.palm.faults palm.faults after.palm.faults opened.palm_later (talk.handheld_failed e);
-    desktop = λ e. rose_earlier (2 ^ 64 - 1) before.desk.faults desk.faults after.desk.faults opened.desk_later (talk.desktop_failed e);
-    trace = λ e. rose_earlier (2 ^ 64 - 1) before.trace.faults trace.faults after.trace.faults opened.trace_later (talk.trace_failed e);
-  };
-  opened = record {
-    handheld = inr (talk.handheld_paths ∙ opened.palm_opened);
-    desktop = inr (talk.desktop_paths ∙ opened.desk_opened);
-    script = opened.script;
-    trace = subst (OpensGivenAtMost run.trace before.trace.paths) (sym talk.trace_paths) opened.trace_at_most;
-    handheld_opened = λ begun. talk.handheld_paths ∙ opened.palm_opened;
-    desktop_opened = λ begun. talk.desktop_paths ∙ opened.desk_opened;
-    script_opened = λ begun. opened.script_opened;
-    trace_opened = λ begun. subst (OpensGiven run.trace before.trace.paths) (sym talk.trace_paths) opened.trace_opened;
-  };
-}
+  -- a run with a session
+  pub by_session : IsTracedTalk run rules device slots palm after.palm desk after.desk trace after.trace status report
+      → HasRun run before after status report
+  by_session talk = record {
+    shown = by_end_then report.end {A = SilentTrace palm after.palm desk after.desk trace after.trace status report}
+        {B = TalkedTrace run rules device slots palm after.palm desk after.desk trace after.trace status report}
+        {C = SentNothing run before after status report} {D = SessionRan run before after status report} silent_run
+        (session_run talk.changed) talk.shown;
+    blames = record {
+      source = λ e. absurd (talk_not_script talk (subst BlamesScript (sym e) tt));
+      handheld = λ e. rose_earlier (2 ^ 64 - 1) before.palm.faults palm.faults after.palm.faults opened.palm_later (talk.handheld_failed e);
+      desktop = λ e. rose_earlier (2 ^ 64 - 1) before.desk.faults desk.faults after.desk.faults opened.desk_later (talk.desktop_failed e);
+      trace = λ e. rose_earlier (2 ^ 64 - 1) before.trace.faults trace.faults after.trace.faults opened.trace_later (talk.trace_failed e);
+    };
+    opened = record {
+      handheld = inr (talk.handheld_paths ∙ opened.palm_opened);
+      desktop = inr (talk.desktop_paths ∙ opened.desk_opened);
+      script = opened.script;
+      trace = subst (OpensGivenAtMost run.trace before.trace.paths) (sym talk.trace_paths) opened.trace_at_most;
+      handheld_opened = λ begun. talk.handheld_paths ∙ opened.palm_opened;
+      desktop_opened = λ begun. talk.desktop_paths ∙ opened.desk_opened;
+      script_opened = λ begun. opened.script_opened;
+      trace_opened = λ begun. subst (OpensGiven run.trace before.trace.paths) (sym talk.trace_paths) opened.trace_opened;
+    };
+  }
 
 -- ---- printing
 
-traced_as : (path : Option (List ℕ)) (text : List ℕ) (before after : SinkTold) (status other : Status) → (other ≢ NoMemory → status ≢ NoMemory) → IsTraced path text before after status → IsTraced path text before after other
-traced_as path text before after status other served traced = record { part = traced.part; whole = λ named calm is. traced.whole named calm (served is) }
+traced_as : {path : Option (List ℕ)} {text : List ℕ} {before after : SinkTold} {status : Status} (other : Status)
+    → (other ≢ NoMemory → status ≢ NoMemory) → IsTraced path text before after status → IsTraced path text before after other
+traced_as other served traced = grind arith
 
-sent_memory : (run : Run) (before after : CallTold) (status : Status) (report : Report) → SentNothing run before after status report → SentNothing run before after NoMemory report
-sent_memory run before after status report sent =
-    record { judged = inl refl; report_is = sent.report_is; handheld = sent.handheld; desktop = sent.desktop; trace = sent.trace }
+module _ {run : Run} {before after : CallTold} {status : Status} {report : Report} where
+  sent_memory : SentNothing run before after status report → SentNothing run before after NoMemory report
+  sent_memory sent =
+      record { judged = inl refl; report_is = sent.report_is; handheld = sent.handheld; desktop = sent.desktop; trace = sent.trace }
 
-ran_as : (run : Run) (before after : CallTold) (status other : Status) (report : Report) (ran : SessionRan run before after status report)
-    → Talked run ran.rules ran.device ran.slots before.palm after.palm before.desk after.desk other report → (other ≢ NoMemory → status ≢ NoMemory) → SessionRan run before after other report
-ran_as run before after status other report ran talked served = record {
-  rules = ran.rules;
-  scripted = ran.scripted;
-  device = ran.device;
-  handheld = ran.handheld;
-  closed = ran.closed;
-  slots = ran.slots;
-  desktop = ran.desktop;
-  changed = ran.changed;
-  talked = talked;
-  traced = traced_as run.trace (trace_text (frames_in report)) before.trace after.trace status other served ran.traced;
-}
+  ran_as : {other : Status} (ran : SessionRan run before after status report)
+      → Talked run ran.rules ran.device ran.slots before.palm after.palm before.desk after.desk other report → (other ≢ NoMemory → status ≢ NoMemory)
+      → SessionRan run before after other report
+  ran_as {other} ran talked served = record {
+    rules = ran.rules;
+    scripted = ran.scripted;
+    device = ran.device;
+    handheld = ran.handheld;
+    closed = ran.closed;
+    slots = ran.slots;
+    desktop = ran.desktop;
+    changed = ran.changed;
+    talked = talked;
+    traced = traced_as other served ran.traced;
+  }
 
--- a run whose status can't be said for want of memory
-run_memory : (run : Run) (before after : CallTold) (status : Status) (report : Report) → HasRun run before after status report → HasRun run before after NoMemory report
-run_memory run before after status report has = record {
-  shown = by_end_then report.end {A = SentNothing run before after status report} {B = SessionRan run before after status report} {C = SentNothing run before after NoMemory report} {D = SessionRan run before after NoMemory report}
-      (sent_memory run before after status report)
-      (λ ran. ran_as run before after status NoMemory report ran (talked_memory run ran.rules ran.device ran.slots before.palm after.palm before.desk after.desk status report ran.talked) (λ served. absurd (served refl)))
-      has.shown;
-  blames = record { source = λ e. cc; handheld = λ e. cc; desktop = λ e. cc; trace = λ e. cc };
-  opened = has.opened;
-}
+  -- a run whose status can't be said for want of memory
+  run_memory : HasRun run before after status report → HasRun run before after NoMemory report
+  run_memory has = record {
+    shown = by_end_then report.end {A = SentNothing run before after status report} {B = SessionRan run before after status report}
+        {C = SentNothing run before after NoMemory report} {D = SessionRan run before after NoMemory report} sent_memory (λ ran. ran_as ran
+        (talked_memory ran.talked) (λ served. absurd (served refl))) has.shown;
+    blames = record { source = λ e. cc; handheld = λ e. cc; desktop = λ e. cc; trace = λ e. cc };
+    opened = has.opened;
+  }
 
-refused_not_done : (run : Run) (before : CallTold) (status : Status) → IsRefused run before status → status ≡ Done → ⊥
-refused_not_done run before status (inl script) = (script_alone status script.is).done
-refused_not_done run before status (inr (_, inl handheld)) = (handheld_alone before.palm.contents status handheld).done
-refused_not_done run before status (inr (_, inr (_, inl desktop))) = (desktop_alone before.desk.contents status desktop).done
-refused_not_done run before status (inr (_, inr (_, inr (_, trace)))) = (trace_alone status trace.is).done
+refused_not_done : (run : Run) (before : CallTold) {status : Status} → IsRefused run before status → status ≡ Done → ⊥
+refused_not_done run before e f = grind (arith, common_steps)
 
 -- nor one that the line stopped
 script_not_stopped : (refusal : Status) → IsScriptRefusal refusal → ¬ IsLineStop refusal
-script_not_stopped SourceRead is = λ no. no
-script_not_stopped TooLong is = λ no. no
-script_not_stopped (BadScript line) is = λ no. no
-script_not_stopped NoMemory is = λ no. no
-script_not_stopped _ is = absurd is
+script_not_stopped refusal is = grind (arith, common_steps)
 
 handheld_not_stopped : (fault : OpenFault) → ¬ IsLineStop (handheld_status fault)
-handheld_not_stopped opening.Keeper = λ no. no
-handheld_not_stopped opening.TooMany = λ no. no
-handheld_not_stopped (opening.BadFile name kind place) = λ no. no
-handheld_not_stopped opening.NoMemory = λ no. no
+handheld_not_stopped fault = grind (arith, common_steps)
 
 desktop_not_stopped : (fault : DeskOpenFault) → ¬ IsLineStop (desktop_status fault)
-desktop_not_stopped desk_opening.DeskFault = λ no. no
-desktop_not_stopped desk_opening.TooMany = λ no. no
-desktop_not_stopped (desk_opening.BadFile name kind place) = λ no. no
-desktop_not_stopped desk_opening.NoMemory = λ no. no
+desktop_not_stopped fault = grind (arith, common_steps)
 
-pub refused_not_stopped : (run : Run) (before : CallTold) (status : Status) → IsRefused run before status → ¬ IsLineStop status
-refused_not_stopped run before status (inl script) = script_not_stopped status script.is
-refused_not_stopped run before status (inr (_, inl handheld)) = subst (λ (s : Status). ¬ IsLineStop s) (sym handheld.is) (handheld_not_stopped handheld.fault)
-refused_not_stopped run before status (inr (_, inr (_, inl desktop))) = subst (λ (s : Status). ¬ IsLineStop s) (sym desktop.is) (desktop_not_stopped desktop.fault)
-refused_not_stopped run before status (inr (_, inr (_, inr (_, trace)))) =
-    elim trace.is [ inl is ↦ subst (λ (s : Status). ¬ IsLineStop s) (sym is) (λ no. no) | inr is ↦ subst (λ (s : Status). ¬ IsLineStop s) (sym is) (λ no. no) ]
+module _ (run : Run) (before : CallTold) (status : Status) where
+  pub refused_not_stopped : IsRefused run before status → ¬ IsLineStop status
+  refused_not_stopped (inl script) = script_not_stopped status script.is
+  refused_not_stopped (inr (_, inl handheld)) = subst (λ (s : Status). ¬ IsLineStop s) (sym handheld.is) (handheld_not_stopped handheld.fault)
+  refused_not_stopped (inr (_, inr (_, inl desktop))) =
+      subst (λ (s : Status). ¬ IsLineStop s) (sym desktop.is) (desktop_not_stopped desktop.fault)
+  refused_not_stopped (inr (_, inr (_, inr (_, trace)))) =
+      elim trace.is [
+        | inl is ↦ subst (λ (s : Status). ¬ IsLineStop s) (sym is) (λ no. no)
+        | inr is ↦ subst (λ (s : Status). ¬ IsLineStop s) (sym is) (λ no. no)
+      ]
 
-sent_not_done : (run : Run) (before : CallTold) (status : Status) → (status ≡ NoMemory) ⊎ IsRefused run before status → status ≡ Done → ⊥
-sent_not_done run before status (inl memory) done = cc
-sent_not_done run before status (inr refused) done = refused_not_done run before status refused done
+  sent_not_done : (status ≡ NoMemory) ⊎ IsRefused run before status → status ≡ Done → ⊥
+  sent_not_done (inl memory) done = cc
+  sent_not_done (inr refused) done = refused_not_done run before refused done
 
 -- one that was done and can't be said because standard output failed
-run_unsaid : (run : Run) (before after : CallTold) (status : Status) (report : Report) → status ≡ Done → HasRun run before after status report → HasRun run before after OutWrite report
-run_unsaid run before after status report done has = record {
-  shown = by_end_then report.end {A = SentNothing run before after status report} {B = SessionRan run before after status report} {C = SentNothing run before after OutWrite report} {D = SessionRan run before after OutWrite report}
-      (λ sent. absurd (sent_not_done run before status sent.judged done))
-      (λ ran. ran_as run before after status OutWrite report ran (talked_unsaid run ran.rules ran.device ran.slots before.palm after.palm before.desk after.desk status report done ran.talked) (λ served e. cc))
-      has.shown;
-  blames = record { source = λ e. cc; handheld = λ e. cc; desktop = λ e. cc; trace = λ e. cc };
-  opened = has.opened;
-}
+module _ {run : Run} {before after : CallTold} {status : Status} {report : Report} (has : HasRun run before after status report) where
+  run_unsaid : status ≡ Done → HasRun run before after OutWrite report
+  run_unsaid done = record {
+    shown = by_end_then report.end {A = SentNothing run before after status report} {B = SessionRan run before after status report}
+        {C = SentNothing run before after OutWrite report} {D = SessionRan run before after OutWrite report}
+        (λ sent. absurd (sent_not_done run before status sent.judged done)) (λ ran. ran_as ran (talked_unsaid ran.talked done) (λ served e. cc))
+        has.shown;
+    blames = record { source = λ e. cc; handheld = λ e. cc; desktop = λ e. cc; trace = λ e. cc };
+    opened = has.opened;
+  }
 
--- what is known of a run stays, whatever is printed of it
-pub run_printed : (run : Run) (before after : CallTold) (status printed : Status) (report : Report) → IsPrintedStatus status printed → HasRun run before after status report → HasRun run before after printed report
-run_printed run before after status printed report (inl same) has = subst (λ (s : Status). HasRun run before after s report) (sym same) has
-run_printed run before after status printed report (inr (inl memory)) has = subst (λ (s : Status). HasRun run before after s report) (sym memory) (run_memory run before after status report has)
-run_printed run before after status printed report (inr (inr unsaid)) has = subst (λ (s : Status). HasRun run before after s report) (sym unsaid.1) (run_unsaid run before after status report unsaid.0 has)
-
--- a run whose words were not read for want of memory
-pub unread_run : (run : Run) (before : CallTold) (report : Report) → IsNotStarted report → HasRun run before before NoMemory report
-unread_run run before report is = record {
-  shown = shows_refused run before before NoMemory report is
-      (record { judged = inl refl; report_is = is; handheld = record { contents = refl; moments = refl }; desktop = stands_same before.desk before.desk refl; trace = refl });
-  blames = record { source = λ e. cc; handheld = λ e. cc; desktop = λ e. cc; trace = λ e. cc };
-  opened = opens_refused run before before report is (inl refl) (inl refl) (inl refl) (inl refl);
-}
+  -- what is known of a run stays, whatever is printed of it
+  pub run_printed : (printed : Status) → IsPrintedStatus status printed → HasRun run before after printed report
+  run_printed printed (inl same) = subst (λ (s : Status). HasRun run before after s report) (sym same) has
+  run_printed printed (inr (inl memory)) = subst (λ (s : Status). HasRun run before after s report) (sym memory) (run_memory has)
+  run_printed printed (inr (inr unsaid)) = subst (λ (s : Status). HasRun run before after s report) (sym unsaid.1) (run_unsaid unsaid.0)

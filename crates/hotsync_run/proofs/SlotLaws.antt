@@ -3,12 +3,10 @@ use Rattle.std.proofs.Common.{◌≡◌, ◌⊎◌, ◌∙◌, ◌≤◌, refl, 
 use Rattle.std.specs.Prelude.{Option, Some, None, nat_lt}
 use Rattle.std.proofs.lemmas.List.{length-map, map-append, map-set}
 use Rattle.pdb_values.specs.Databases.{DatabaseValue}
-use Rattle.pdb_values.specs.Slots.{slot_for}
 use Rattle.pdb_values.specs.declared.user.Marks.{Marks}
 use Rattle.pdb_values.proofs.NamedLaws.{NamesRise-with_put}
 use Rattle.folder_files.specs.Slots.{users_of}
 use Rattle.palm_device.specs.Devices.{Device}
-use Rattle.desk_store.specs.Desks.{place_of}
 use Rattle.desk_store.specs.Shelves.{AreInOrder, AreOrdered, ShelvesValue, SlotValue, marks_of, new_slot, number_of, slot_at, with_place}
 use Rattle.desk_store.proofs.SlotListLaws.{each-set, ordered_at, place_there, slot_at-set_same, with_place-cases}
 use Rattle.sync_session.specs.Merges.{merged_of, merged_shelves, merged_slot, merged_slots, rows_before, shelve, shelved}
@@ -20,28 +18,28 @@ use Rattle.hotsync_run.proofs.PickLaws.{agreed, both-again, place-any, place-nea
 
 -- ---- in order
 
-archive_ordered : (o : Option DatabaseValue) (shelves : ShelvesValue) (rows base : DatabaseValue) → AreOrdered shelves
+archive_ordered : (o : Option DatabaseValue) {shelves : ShelvesValue} (rows base : DatabaseValue) → AreOrdered shelves
     → AreOrdered (shelved (record { rows = rows; base = base; archive = o }) shelves)
-archive_ordered None shelves rows base is =
+archive_ordered None {shelves} rows base is =
     record { rows = NamesRise-with_put rows shelves.rows is.rows; bases = NamesRise-with_put base shelves.bases is.bases; archives = is.archives }
-archive_ordered (Some archive) shelves rows base is = record {
+archive_ordered (Some archive) {shelves} rows base is = record {
   rows = NamesRise-with_put rows shelves.rows is.rows;
   bases = NamesRise-with_put base shelves.bases is.bases;
   archives = NamesRise-with_put archive shelves.archives is.archives;
 }
 
-shelve_ordered : (m : Meeting) (t : Task) (given : List ℕ) (o : Option DatabaseValue) (shelves : ShelvesValue) → AreOrdered shelves
+shelve_ordered : (m : Meeting) (t : Task) (given : List ℕ) (o : Option DatabaseValue) {shelves : ShelvesValue} → AreOrdered shelves
     → AreOrdered (shelve m t given o shelves)
-shelve_ordered m t given None shelves is = is
-shelve_ordered m t given (Some rows) shelves is =
-    archive_ordered (merged_of m t given rows).archive shelves (merged_of m t given rows).rows (merged_of m t given rows).base is
+shelve_ordered m t given None is = is
+shelve_ordered m t given (Some rows) is =
+    archive_ordered (merged_of m t given rows).archive (merged_of m t given rows).rows (merged_of m t given rows).base is
 
-shelves_ordered : (m : Meeting) (ts : List Task) (given : List ℕ) (shelves : ShelvesValue) → AreOrdered shelves → AreOrdered (merged_shelves m ts given shelves)
+shelves_ordered : (m : Meeting) (ts : List Task) (given : List ℕ) {shelves : ShelvesValue} → AreOrdered shelves
+    → AreOrdered (merged_shelves m ts given shelves)
 unfolding merged_shelves
-shelves_ordered m [] given shelves is = is
-shelves_ordered m (t ∷ ts) given shelves is =
-    shelves_ordered m ts (drop (add_count m t) given) (shelve m t (take (add_count m t) given) (rows_before m.wishes.date t.rows t.handheld) shelves)
-    (shelve_ordered m t (take (add_count m t) given) (rows_before m.wishes.date t.rows t.handheld) shelves is)
+shelves_ordered m [] given is = is
+shelves_ordered m (t ∷ ts) given is =
+    shelves_ordered m ts (drop (add_count m t) given) (shelve_ordered m t (take (add_count m t) given) (rows_before m.wishes.date t.rows t.handheld) is)
 
 push_ordered : (slots : List SlotValue) (slot : SlotValue) → AreInOrder slots → AreOrdered slot.shelves → AreInOrder (slots ++ slot ∷ [])
 push_ordered [] slot is last = (last, tt)
@@ -56,7 +54,7 @@ pub merged-ordered : (m : Meeting) (given : List ℕ) → m.picked ≤ length m.
 unfolding merged_slots merged_slot
 merged-ordered m given near is =
     each-set (λ slot. AreOrdered slot.shelves) (with_place m.slots m.picked) m.picked (merged_slot m given) (place_ordered m.slots m.picked near is)
-    (shelves_ordered m (active m) given (slot_of m).shelves (ordered_at m.slots m.picked is))
+    (shelves_ordered m (active m) given (ordered_at m.slots m.picked is))
 
 -- ---- the users
 
@@ -68,15 +66,18 @@ users-length slots = length-map (marks_of slots) (λ marks. marks.user) ∙ leng
 
 users-place : (slots : List SlotValue) (place : ℕ)
     → users_in (with_place slots place) ≡ (if nat_lt place (length (users_in slots)) then users_in slots else users_in slots ++ 0 ∷ [])
-users-place slots place = by (nat_lt place (length slots)) ∙ ap (λ n. if nat_lt place n then users_in slots else users_in slots ++ 0 ∷ []) (sym (users-length slots))
+users-place slots place = by (nat_lt place (length slots))
+    ∙ ap (λ n. if nat_lt place n then users_in slots else users_in slots ++ 0 ∷ []) (sym (users-length slots))
   where
-    by : (b : Bool) → users_in (if b then slots else slots ++ new_slot (number_of slots) ∷ []) ≡ (if b then users_in slots else users_in slots ++ 0 ∷ [])
+    by : (b : Bool)
+        → users_in (if b then slots else slots ++ new_slot (number_of slots) ∷ []) ≡ (if b then users_in slots else users_in slots ++ 0 ∷ [])
     by true = refl
     by false =
         ap users_of (map-append (λ (slot : SlotValue). slot.marks) slots (new_slot (number_of slots) ∷ []))
         ∙ map-append (λ (marks : Marks). marks.user) (marks_of slots) ((new_slot (number_of slots)).marks ∷ [])
 
-users-merged : (m : Meeting) (given : List ℕ) → users_in (merged_slots m given) ≡ placed (users_in m.slots) m.picked (agreed m.device.user.user (slot_of m).marks.user)
+users-merged : (m : Meeting) (given : List ℕ)
+    → users_in (merged_slots m given) ≡ placed (users_in m.slots) m.picked (agreed m.device.user.user (slot_of m).marks.user)
 unfolding merged_slots merged_slot
 users-merged m given =
     ap users_of (map-set (λ (slot : SlotValue). slot.marks) (with_place m.slots m.picked) m.picked (merged_slot m given))
@@ -86,32 +87,29 @@ users-merged m given =
 -- ---- the place
 
 place-users : (device : Device) (slots : List SlotValue) (add : Bool) → place_for device slots add ≡ place_in (users_in slots) device.user.user add
-place-users device slots add = ap (λ n. place_of n (slot_for (users_in slots) device.user.user add)) (sym (users-length slots))
+place-users device slots add = grind (arith, users_in slots, users-length slots)
 
 pub picked-near : (m : Meeting) (add : Bool) → m.picked ≡ place_for m.device m.slots add → m.picked ≤ length m.slots
-picked-near m add picked =
-    let near = place-near (users_in m.slots) m.device.user.user add in
-    let is = picked ∙ place-users m.device m.slots add in
-    omega (arith, near, is, users-length m.slots)
+picked-near m add picked = grind (arith, place-near (users_in m.slots) m.device.user.user add, place-users m.device m.slots add, users-length m.slots)
 
 -- the same slots and user
-pub same-place : (m next : Meeting) (add other : Bool) → m.picked ≡ place_for m.device m.slots add → next.picked ≡ place_for next.device next.slots other
-    → next.slots ≡ m.slots → next.device.user.user ≡ m.device.user.user → next.picked ≡ m.picked
+pub same-place : (m next : Meeting) (add other : Bool) → m.picked ≡ place_for m.device m.slots add
+    → next.picked ≡ place_for next.device next.slots other → next.slots ≡ m.slots → next.device.user.user ≡ m.device.user.user → next.picked ≡ m.picked
 same-place m next add other picked next_picked slots user =
-    next_picked ∙ place-users next.device next.slots other
-    ∙ (λ k. place_in (users_in (slots k)) (user k) other)
-    ∙ place-any (users_in m.slots) m.device.user.user other add ∙ sym (place-users m.device m.slots add) ∙ sym picked
+    grind (arith, place-users next.device next.slots other, place-any (users_in m.slots) m.device.user.user other add, place-users m.device m.slots add)
 
 -- the merged slots, and the user of before or the agreed one
 pub merged-place : (m next : Meeting) (given : List ℕ) (add other : Bool) → m.picked ≡ place_for m.device m.slots add
-    → next.picked ≡ place_for next.device next.slots other
-    → next.slots ≡ merged_slots m given
+    → next.picked ≡ place_for next.device next.slots other → next.slots ≡ merged_slots m given
     → (next.device.user.user ≡ m.device.user.user) ⊎ (next.device.user.user ≡ agreed_user m.device.user (slot_of m).marks) → next.picked ≡ m.picked
 merged-place m next given add other picked next_picked slots user =
-    next_picked ∙ place-users next.device next.slots other
-    ∙ ap (λ us. place_in us next.device.user.user other) (ap users_in slots ∙ users-merged m given)
-    ∙ both-again (users_in m.slots) m.device.user.user (slot_of m).marks.user next.device.user.user m.picked add other
-    (picked ∙ place-users m.device m.slots add) user
+    grind (
+      arith,
+      place-users next.device next.slots other,
+      users-merged m given,
+      both-again (users_in m.slots) (slot_of m).marks.user add other (picked
+          ∙ place-users m.device m.slots add) user,
+    )
 
 pub merged-picked : (m : Meeting) (given : List ℕ) → m.picked ≤ length m.slots → slot_at (merged_slots m given) m.picked ≡ merged_slot m given
 unfolding merged_slots

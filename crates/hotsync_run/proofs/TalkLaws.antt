@@ -1,6 +1,7 @@
 -- What a session's status says, by how it ended.
-use Rattle.std.proofs.Common.{◌≡◌, ◌⊎◌, ◌∙◌, ap, inl, inr, refl, sym, subst, ℕ, List, [], length}
-use Rattle.std.specs.Prelude.{Option, None, Some, Result, Ok, Err, IsErrOf, OnOk}
+use Rattle.std.proofs.lemmas.Grind.{common_steps}
+use Rattle.std.proofs.Common.{arith, ◌≡◌, ◌⊎◌, ◌∙◌, ap, inl, inr, refl, sym, subst, ℕ, List, [], length}
+use Rattle.std.specs.Prelude.{Option, None, Some, Result, Err, IsErrOf}
 use Rattle.std.specs.Global.{Vec}
 use Rattle.std.specs.Option.{option_map}
 use Rattle.hs_folders.specs.FileMaps.{FileMap}
@@ -18,8 +19,6 @@ use Rattle.line_world.specs.Worlds.{WorldSince, WorldValue}
 use Rattle.desk_store.specs.Shelves.{SlotValue}
 use Rattle.run_words.specs.Runs.{Run}
 use Rattle.trace_text.specs.TraceLines.{FrameValue}
-use Rattle.desktop_session.specs.declared.fault.SessionFault.{SessionFault}
-use Rattle.desktop_session.specs.declared.fault.SessionFault.TheVariants as session
 use Rattle.line_world.specs.Causes.{BearsOut, IsCause, down_end}
 use Rattle.line_world.specs.declared.down.Down.{Down}
 use Rattle.line_world.specs.declared.down.Down.TheVariants as down
@@ -27,13 +26,13 @@ use Rattle.sync_session.specs.Leaving.{LeavesFolder}
 use Rattle.sync_session.specs.Outcomes.{tellings}
 use Rattle.sync_session.specs.declared.outcome.Outcome.{Outcome}
 use Rattle.sync_session.specs.declared.report.DbReport.{DbReport}
-use Rattle.sync_session.specs.Tasks.{Meeting, meeting_of}
+use Rattle.sync_session.specs.Tasks.{meeting_of}
 use Rattle.sync_session.specs.declared.wishes.Wishes.{Wishes}
 use Rattle.session_fronts.specs.Sound.{IsSoundMeeting}
 use Rattle.dlp_commands.specs.declared.link.LinkFault.{LinkFault}
 use Rattle.sync_session.specs.declared.stop.Stop.{Stop}
 use Rattle.sync_session.specs.declared.stop.Stop.TheVariants as stop
-use Rattle.hotsync_run.specs.Causes.{ByEnd, EndsAs, IsLineDown, IsUnsaid, cause_in, down_status, fault_status, numbers_by, stop_status}
+use Rattle.hotsync_run.specs.Causes.{ByEnd, EndsAs, IsLineDown, IsUnsaid, cause_in, numbers_by, stop_status}
 use Rattle.hotsync_run.specs.Ends.{SessionLeft}
 use Rattle.hotsync_run.specs.LineRuns.{TellsWorld, frames_in}
 use Rattle.hotsync_run.specs.Reports.{IsNotStarted}
@@ -51,9 +50,9 @@ use Rattle.hotsync_run.proofs.WholeLaws.{dealt_with}
 use Rattle.hotsync_run.specs.declared.left.Left.{Left}
 use Rattle.hotsync_run.specs.declared.report.Report.{Report}
 use Rattle.hotsync_run.specs.declared.report.SessionEnd.{SessionEnd}
-use Rattle.hotsync_run.specs.declared.report.SessionEnd.TheVariants.{Ended, Stopped}
+use Rattle.hotsync_run.specs.declared.report.SessionEnd.TheVariants.{Stopped}
 use Rattle.hotsync_run.specs.declared.status.Status.{Status}
-use Rattle.hotsync_run.specs.declared.status.Status.TheVariants.{Done, HandheldFolder, DesktopFolder, NoMemory}
+use Rattle.hotsync_run.specs.declared.status.Status.TheVariants.{HandheldFolder, DesktopFolder, NoMemory}
 
 -- a status says how far the session came and why it stopped; the frames bear it out
 pub record Shown (status : Status) (end : SessionEnd) (numbers : List ℕ) (cause : Option Down) (frames : List FrameValue) : Type 0 where
@@ -64,147 +63,84 @@ pub record Shown (status : Status) (end : SessionEnd) (numbers : List ℕ) (caus
   pub faulted : (numbers ≡ []) ⊎ ((end : End) × BearsOut (Some (down.LineDown end numbers)) frames)
   pub keeper : status ≡ HandheldFolder → cause ≡ Some down.Keeper
 
-shows_down : (cause : Option Down) (frames : List FrameValue) → BearsOut cause frames → Shown (down_status cause) Stopped (numbers_by (down_status cause) cause) cause frames
-shows_down None frames borne = record { ends = tt; caused = tt; unsaid = tt; up = λ none is. is; faulted = inl refl; keeper = λ e. cc }
-shows_down (Some (down.LineDown end numbers)) frames borne =
-    record { ends = refl; caused = borne; unsaid = tt; up = λ none is. cc; faulted = inr (end, borne); keeper = λ e. cc }
-shows_down (Some (down.Unplugged number)) frames borne = record { ends = refl; caused = borne; unsaid = tt; up = λ none is. is; faulted = inl refl; keeper = λ e. cc }
-shows_down (Some (down.Aborted number)) frames borne = record { ends = refl; caused = borne; unsaid = tt; up = λ none is. is; faulted = inl refl; keeper = λ e. cc }
-shows_down (Some (down.Undetected number)) frames borne = record { ends = refl; caused = borne; unsaid = tt; up = λ none is. is; faulted = inl refl; keeper = λ e. cc }
-shows_down (Some down.Keeper) frames borne = record { ends = refl; caused = tt; unsaid = tt; up = λ none is. is; faulted = inl refl; keeper = λ e. refl }
-
-shows_memory : (end : SessionEnd) (cause : Option Down) (frames : List FrameValue) → Shown NoMemory end [] cause frames
-shows_memory end cause frames = record { ends = tt; caused = tt; unsaid = tt; up = λ none is. is; faulted = inl refl; keeper = λ e. cc }
-
-shows_fault : (cause : Option Down) (fault : SessionFault) (frames : List FrameValue) → BearsOut cause frames → Shown (fault_status cause fault) Stopped (numbers_by (fault_status cause fault) cause) cause frames
-shows_fault cause session.Down frames borne = shows_down cause frames borne
-shows_fault cause (session.OtherUser handheld desktop) frames borne = record { ends = refl; caused = tt; unsaid = tt; up = λ none is. is; faulted = inl refl; keeper = λ e. cc }
-shows_fault cause session.TooManyUsers frames borne = record { ends = refl; caused = tt; unsaid = tt; up = λ none is. is; faulted = inl refl; keeper = λ e. cc }
-shows_fault cause (session.Refused code) frames borne = shows_memory Stopped cause frames
-shows_fault cause (session.BadReply broken) frames borne = shows_memory Stopped cause frames
-shows_fault cause session.NoMemory frames borne = shows_memory Stopped cause frames
-
-shows_stop : (cause : Option Down) (stopped : Stop) (frames : List FrameValue) → BearsOut cause frames → Shown (stop_status cause stopped) Stopped (numbers_by (stop_status cause stopped) cause) cause frames
-shows_stop cause (stop.Session fault) frames borne = shows_fault cause fault frames borne
-shows_stop cause (stop.Limit name) frames borne = record { ends = refl; caused = tt; unsaid = tt; up = λ none is. is; faulted = inl refl; keeper = λ e. cc }
-shows_stop cause stop.DeskFault frames borne = record { ends = refl; caused = tt; unsaid = tt; up = λ none is. is; faulted = inl refl; keeper = λ e. cc }
-
-moved : (status status' : Status) (end end' : SessionEnd) (numbers numbers' : List ℕ) (cause : Option Down) (frames : List FrameValue)
+moved : {status status' : Status} {end end' : SessionEnd} {numbers numbers' : List ℕ} {cause : Option Down} {frames : List FrameValue}
     → status ≡ status' → end ≡ end' → numbers ≡ numbers' → Shown status' end' numbers' cause frames → Shown status end numbers cause frames
-moved status status' end end' numbers numbers' cause frames a b c shown =
-    subst (λ (s : Status). Shown s end numbers cause frames) (sym a) (subst (λ (e : SessionEnd). Shown status' e numbers cause frames) (sym b) (subst (λ (n : List ℕ). Shown status' end' n cause frames) (sym c) shown))
+moved a b c shown = grind arith
 
 -- what the status says of a session that is left so
-pub shown_left : (answer : Result (Vec DbReport) Stop) (cause : Option Down) (left : Left) (frames : List FrameValue) → IsLeft answer cause left → BearsOut cause frames → Shown left.status left.end left.faulted.items cause frames
-shown_left (Ok reports) cause left frames is borne = elim is.status [
-  | inl done ↦ moved left.status Done left.end Ended left.faulted.items [] cause frames done is.end (is.faulted ∙ ap (λ (s : Status). numbers_by s cause) done)
-      (record { ends = refl; caused = tt; unsaid = tt; up = λ none no. no; faulted = inl refl; keeper = λ e. cc })
-  | inr memory ↦ moved left.status NoMemory left.end Ended left.faulted.items [] cause frames memory is.end (is.faulted ∙ ap (λ (s : Status). numbers_by s cause) memory) (shows_memory Ended cause frames)
-]
-shown_left (Err stopped) cause left frames is borne = elim is.status [
-  | inl status ↦ moved left.status (stop_status cause stopped) left.end Stopped left.faulted.items (numbers_by (stop_status cause stopped) cause) cause frames status is.end
-      (is.faulted ∙ ap (λ (s : Status). numbers_by s cause) status) (shows_stop cause stopped frames borne)
-  | inr memory ↦ moved left.status NoMemory left.end Stopped left.faulted.items [] cause frames memory is.end (is.faulted ∙ ap (λ (s : Status). numbers_by s cause) memory) (shows_memory Stopped cause frames)
-]
+module _ (answer : Result (Vec DbReport) Stop) (cause : Option Down) (left : Left) where
+  pub shown_left : (frames : List FrameValue) → IsLeft answer cause left → BearsOut cause frames
+      → Shown left.status left.end left.faulted.items cause frames
+  shown_left frames is borne = grind (arith, common_steps)
 
--- a session that stopped is left so
-pub left_stopped : (answer : Result (Vec DbReport) Stop) (stopped : Stop) (cause : Option Down) (status : Status) (left : Left) → answer ≡ Err stopped → status ≡ stop_status cause stopped
-    → (left.status ≡ status) ⊎ (left.status ≡ NoMemory) → left.end ≡ Stopped → left.databases.items ≡ [] → left.faulted.items ≡ numbers_by left.status cause → IsLeft answer cause left
-left_stopped answer stopped cause status left is status_is left_status end databases faulted =
-    subst (λ (a : Result (Vec DbReport) Stop). IsLeft a cause left) (sym is) (record {
-      status = elim left_status [ inl same ↦ inl (same ∙ status_is) | inr memory ↦ inr memory ];
-      end = end;
-      databases = databases;
-      faulted = faulted;
-    })
+  -- a session that stopped is left so
+  pub left_stopped : {stopped : Stop} {status : Status} → answer ≡ Err stopped → status ≡ stop_status cause stopped
+      → (left.status ≡ status) ⊎ (left.status ≡ NoMemory) → left.end ≡ Stopped → left.databases.items ≡ []
+      → left.faulted.items ≡ numbers_by left.status cause → IsLeft answer cause left
+  left_stopped is status_is left_status end databases faulted = grind arith
 
-down_not_desk : (cause : Option Down) → down_status cause ≡ DesktopFolder → ⊥
-down_not_desk None e = cc
-down_not_desk (Some (down.LineDown end numbers)) e = cc
-down_not_desk (Some (down.Unplugged number)) e = cc
-down_not_desk (Some (down.Aborted number)) e = cc
-down_not_desk (Some (down.Undetected number)) e = cc
-down_not_desk (Some down.Keeper) e = cc
+  -- the desktop's folder is blamed for its own failure alone
+  pub left_desk : IsLeft answer cause left → left.status ≡ DesktopFolder → IsErrOf answer stop.DeskFault
+  left_desk is e = grind (arith, common_steps)
 
-fault_not_desk : (cause : Option Down) (fault : SessionFault) → fault_status cause fault ≡ DesktopFolder → ⊥
-fault_not_desk cause session.Down e = down_not_desk cause e
-fault_not_desk cause (session.OtherUser handheld desktop) e = cc
-fault_not_desk cause session.TooManyUsers e = cc
-fault_not_desk cause (session.Refused code) e = cc
-fault_not_desk cause (session.BadReply broken) e = cc
-fault_not_desk cause session.NoMemory e = cc
-
-stop_is_desk : (cause : Option Down) (stopped : Stop) → stop_status cause stopped ≡ DesktopFolder → stopped ≡ stop.DeskFault
-stop_is_desk cause (stop.Session fault) e = absurd (fault_not_desk cause fault e)
-stop_is_desk cause (stop.Limit name) e = cc
-stop_is_desk cause stop.DeskFault e = refl
-
--- the desktop's folder is blamed for its own failure alone
-pub left_desk : (answer : Result (Vec DbReport) Stop) (cause : Option Down) (left : Left) → IsLeft answer cause left → left.status ≡ DesktopFolder → IsErrOf answer stop.DeskFault
-left_desk (Ok reports) cause left is e = elim is.status [ inl done ↦ cc | inr memory ↦ cc ]
-left_desk (Err stopped) cause left is e = elim is.status [ inl status ↦ ap Err (stop_is_desk cause stopped (sym status ∙ e)) | inr memory ↦ cc ]
-
--- a session that stopped tells nothing of databases
-pub left_none : (answer : Result (Vec DbReport) Stop) (cause : Option Down) (left : Left) → IsLeft answer cause left → left.end ≡ Stopped → left.databases.items ≡ []
-left_none (Ok reports) cause left is e = let end = is.end in cc
-left_none (Err stopped) cause left is e = is.databases
+  -- a session that stopped tells nothing of databases
+  pub left_none : IsLeft answer cause left → left.end ≡ Stopped → left.databases.items ≡ []
+  left_none is e = grind (arith, common_steps)
 
 -- a session that is left had begun
-pub by_left : (answer : Result (Vec DbReport) Stop) (end : SessionEnd) (Not Began : Type 0) → end ≡ left_end answer → Began → ByEnd end Not Began
-by_left (Ok reports) end Not Began is began = subst (λ (e : SessionEnd). ByEnd e Not Began) (sym is) began
-by_left (Err stopped) end Not Began is began = subst (λ (e : SessionEnd). ByEnd e Not Began) (sym is) began
+pub by_left : (answer : Result (Vec DbReport) Stop) {end : SessionEnd} (Not : Type 0) {Began : Type 0} → end ≡ left_end answer → Began
+    → ByEnd end Not Began
+by_left answer Not is began = grind (arith, common_steps)
 
-faults_moved : (numbers numbers' : List ℕ) (frames frames' : List FrameValue) → numbers ≡ numbers' → frames ≡ frames'
-    → (numbers' ≡ []) ⊎ ((end : End) × BearsOut (Some (down.LineDown end numbers')) frames') → (numbers ≡ []) ⊎ ((end : End) × BearsOut (Some (down.LineDown end numbers)) frames)
-faults_moved numbers numbers' frames frames' same same_frames is =
-    subst (λ (n : List ℕ). (n ≡ []) ⊎ ((end : End) × BearsOut (Some (down.LineDown end n)) frames)) (sym same)
-    (subst (λ (f : List FrameValue). (numbers' ≡ []) ⊎ ((end : End) × BearsOut (Some (down.LineDown end numbers')) f)) (sym same_frames) is)
+faults_moved : {numbers numbers' : List ℕ} {frames frames' : List FrameValue} → numbers ≡ numbers' → frames ≡ frames'
+    → (numbers' ≡ []) ⊎ ((end : End) × BearsOut (Some (down.LineDown end numbers')) frames')
+    → (numbers ≡ []) ⊎ ((end : End) × BearsOut (Some (down.LineDown end numbers)) frames)
+faults_moved same same_frames is = grind (arith, [])
 
-desk_changed : {L D : Type 0} (contents : D → Option FileMap) (moments : D → Moments) (paths : D → Option (List (List ℕ))) (faults : D → ℕ) (folder : D) (outcome : Outcome L D) (end : SessionEnd)
-    → end ≡ left_end outcome.end → LeavesFolder contents moments paths faults folder outcome → ChangedOnce (folder_told contents moments paths faults folder) (folder_told contents moments paths faults outcome.folder) end
-desk_changed contents moments paths faults folder outcome end is leaves = record {
-  entries = leaves.entries;
-  place = leaves.place;
-  files = leaves.files;
-  written = λ ended. was_ok outcome.end leaves.written (sym is ∙ ended);
-  stands = leaves.stands;
-  each_moment = leaves.each_moment;
-}
-  where
-    was_ok : {A : Type 0} (answer : Result (Vec DbReport) Stop) → OnOk answer A → left_end answer ≡ Ended → A
-    was_ok (Ok reports) a ended = a
-    was_ok (Err stopped) a ended = cc
+desk_changed : {L D : Type 0} {contents : D → Option FileMap} {moments : D → Moments} {paths : D → Option (List (List ℕ))} {faults : D → ℕ} {folder : D}
+    {outcome : Outcome L D} {end : SessionEnd} → end ≡ left_end outcome.end → LeavesFolder contents moments paths faults folder outcome
+    → ChangedOnce (folder_told contents moments paths faults folder) (folder_told contents moments paths faults outcome.folder) end
+desk_changed is leaves = grind arith
 
 -- what is known of a session over a world that was fresh, by all that its calls answered
-pub spoke : {F D : Type 0} (contents : F → Option FileMap) (moments : F → Moments) (paths : F → Option (List (List ℕ))) (faults : F → ℕ)
-    (desk_contents : D → Option FileMap) (desk_moments : D → Moments) (desk_paths : D → Option (List (List ℕ))) (desk_faults : D → ℕ) (fault : WorldValue F → Option LinkFault) (downs : WorldValue F → ℕ)
-    (run : Run) (wishes : Wishes) (slots : List SlotValue) (old : WorldValue F) (folder : D) (outcome : Outcome (WorldValue F) D) (cause : Option Down) (left : Left) (report : Report)
+pub spoke : {F D : Type 0} {contents : F → Option FileMap} {moments : F → Moments} {paths : F → Option (List (List ℕ))} {faults : F → ℕ}
+    {desk_contents : D → Option FileMap} {desk_moments : D → Moments} {desk_paths : D → Option (List (List ℕ))} {desk_faults : D → ℕ}
+    (fault : WorldValue F → Option LinkFault) (downs : WorldValue F → ℕ) {run : Run} {wishes : Wishes} (slots : List SlotValue) {old : WorldValue F}
+    {folder : D} {outcome : Outcome (WorldValue F) D} {cause : Option Down} {left : Left} {report : Report}
     → AsksFor run wishes → Stands (contents old.server.folder) old.server.device.databases old.server.device.user → old.log ≡ no_log → old.cause ≡ None
     → WorldSince contents moments paths faults old outcome.link → LeavesFolder desk_contents desk_moments desk_paths desk_faults folder outcome
-    → cause ≡ outcome.link.cause → IsCause outcome.link.fault outcome.link.cause → BearsOut outcome.link.cause outcome.link.frames → (IsFairUpTo (length outcome.link.frames) (fate_by outcome.link.script) → down_end outcome.link.cause ≡ None)
+    → cause ≡ outcome.link.cause → IsCause outcome.link.fault outcome.link.cause → BearsOut outcome.link.cause outcome.link.frames
+    → (IsFairUpTo (length outcome.link.frames) (fate_by outcome.link.script) → down_end outcome.link.cause ≡ None)
     → IsSoundMeeting (meeting_of old.server.device slots wishes)
     → EndsOver contents moments paths faults fault downs (meeting_of old.server.device slots wishes) old outcome.link
-    (folder_told desk_contents desk_moments desk_paths desk_faults folder) (folder_told desk_contents desk_moments desk_paths desk_faults outcome.folder) outcome.end
-    → IsLeft outcome.end cause left → TellsWorld outcome.link report → report.end ≡ left.end → report.databases.items ≡ left.databases.items → report.faulted.items ≡ left.faulted.items
-    → IsTalk run old.script old.server.device slots (folder_told contents moments paths faults old.server.folder) (folder_told contents moments paths faults outcome.link.server.folder)
-    (folder_told desk_contents desk_moments desk_paths desk_faults folder) (folder_told desk_contents desk_moments desk_paths desk_faults outcome.folder) left.status report
-spoke contents moments paths faults desk_contents desk_moments desk_paths desk_faults fault downs run wishes slots old folder outcome cause left report asked stands silent calm since leaves cause_is caused borne fair sound ends is tells end_is databases_are faulted_are =
+    (folder_told desk_contents desk_moments desk_paths desk_faults folder)
+    (folder_told desk_contents desk_moments desk_paths desk_faults outcome.folder) outcome.end
+    → IsLeft outcome.end cause left → TellsWorld outcome.link report → report.end ≡ left.end → report.databases.items ≡ left.databases.items
+    → report.faulted.items ≡ left.faulted.items
+    → IsTalk run old.script old.server.device slots (folder_told contents moments paths faults old.server.folder)
+    (folder_told contents moments paths faults outcome.link.server.folder) (folder_told desk_contents desk_moments desk_paths desk_faults folder)
+    (folder_told desk_contents desk_moments desk_paths desk_faults outcome.folder) left.status report
+spoke {contents} {moments} {paths} {faults} {desk_contents} {desk_moments} {desk_paths} {desk_faults} fault downs {run} {wishes} slots {old} {folder}
+    {outcome} {cause} {left} {report}
+    asked stands silent calm since leaves cause_is caused borne fair sound ends is tells end_is databases_are faulted_are =
     let new = outcome.link in
     let borne_out : BearsOut cause new.frames = subst (λ (c : Option Down). BearsOut c new.frames) (sym cause_is) borne in
     let shown = shown_left outcome.end cause left new.frames is borne_out in
     let end : report.end ≡ left_end outcome.end = end_is ∙ is.end in
-    let palm : FolderTold = folder_told contents moments paths faults old.server.folder in
-    let palm_after : FolderTold = folder_told contents moments paths faults new.server.folder in
-    let desk : FolderTold = folder_told desk_contents desk_moments desk_paths desk_faults folder in
-    let desk_after : FolderTold = folder_told desk_contents desk_moments desk_paths desk_faults outcome.folder in
-    let line = line_ran contents moments paths faults old new report silent stands since tells in
+    let palm = folder_told contents moments paths faults old.server.folder in
+    let palm_after = folder_told contents moments paths faults new.server.folder in
+    let desk = folder_told desk_contents desk_moments desk_paths desk_faults folder in
+    let desk_after = folder_told desk_contents desk_moments desk_paths desk_faults outcome.folder in
+    let line = line_ran silent stands since tells in
     let sides : Tells old new palm_after report =
     record { silent = silent; is_log = tells.log; said = tells.said; given = line.given; writes = tells.writes; stands = since.served.stands stands } in
     let databases : report.databases.items ≡ left_databases outcome.end = databases_are ∙ is.databases in
-    let meeting : Meeting = meeting_of old.server.device slots wishes in
-    let session : SessionLeft meeting palm_after desk desk_after report = session_left contents moments paths faults fault downs meeting old new palm_after desk desk_after report outcome.end sound refl sides end databases ends in
+    let meeting = meeting_of old.server.device slots wishes in
+    let session : SessionLeft meeting palm_after desk desk_after report =
+    session_left contents moments paths faults fault downs old new desk desk_after report outcome.end sound refl sides end databases ends in
     let ends_as : EndsAs left.status report.end = subst (λ (e : SessionEnd). EndsAs left.status e) (sym end_is) shown.ends in
-    let bears : BearsOut (cause_in left.status report.faulted.items) (frames_in report) = subst (λ (n : List ℕ). BearsOut (cause_in left.status n) (frames_in report)) (sym faulted_are)
+    let bears : BearsOut (cause_in left.status report.faulted.items) (frames_in report) =
+    subst (λ (n : List ℕ). BearsOut (cause_in left.status n) (frames_in report)) (sym faulted_are)
     (subst (λ (f : List FrameValue). BearsOut (cause_in left.status left.faulted.items) f) (sym tells.frames) shown.caused) in
     let talked : Talked run old.script old.server.device slots palm palm_after desk desk_after left.status report = record {
       wishes = wishes;
@@ -212,22 +148,25 @@ spoke contents moments paths faults desk_contents desk_moments desk_paths desk_f
       line = line;
       ends = ends_as;
       caused = bears;
-      fair = λ calm_script fallen. shown.up (ap (λ (c : Option Down). down_end c) cause_is ∙ fair (subst (λ (f : List FrameValue). IsFairUpTo (length f) (fate_by new.script)) tells.frames
+      fair = λ calm_script fallen. shown.up (ap (λ (c : Option Down). down_end c) cause_is
+          ∙ fair (subst (λ (f : List FrameValue). IsFairUpTo (length f) (fate_by new.script)) tells.frames
           (subst (λ (rules : List RuleValue). IsFairUpTo (length (frames_in report)) (fate_by rules)) (sym since.same_script) calm_script))) fallen;
-      faulted = faults_moved report.faulted.items left.faulted.items (frames_in report) new.frames faulted_are tells.frames shown.faulted;
-      dealt = subst (λ (n : ℕ). DealtWith meeting left.status report n) (sym (line_answered contents moments paths faults old new report silent stands since tells))
-          (dealt_with fault meeting (tellings desk_contents desk_moments folder outcome.folder) old new palm_after desk desk_after report
-          outcome.end cause left sides tells is cause_is caused end_is line.ran.same shown.up shown.keeper ends_as bears ends.cause ends.ended session);
+      faulted = faults_moved faulted_are tells.frames shown.faulted;
+      dealt = subst (λ (n : ℕ). DealtWith meeting left.status report n) (sym (line_answered silent stands since tells))
+          (dealt_with fault (tellings desk_contents desk_moments folder outcome.folder) old new
+          left sides tells is cause_is caused end_is line.ran.same shown.up shown.keeper ends_as bears ends.cause ends.ended session);
       stopped = λ e. databases_are ∙ left_none outcome.end cause left is (sym end_is ∙ e);
       left = session;
-      shows = status_shows contents moments paths faults fault downs (meeting_of old.server.device slots wishes) old new palm_after desk desk_after report outcome.end cause left.status sides is.status ends;
-      front = front_of meeting old.script palm palm_after report line session.issued;
-      fronts = fronts_at_moments meeting old.script palm palm_after report line session.issued;
-      refused = refusal_told contents moments paths faults fault downs (meeting_of old.server.device slots wishes) old new desk desk_after outcome.end cause left.status is.status ends;
+      shows = status_shows (meeting_of old.server.device slots wishes) cause contents moments paths faults fault downs desk desk_after
+          outcome.end sides is.status ends;
+      front = front_of meeting line session.issued;
+      fronts = fronts_at_moments meeting palm line session.issued;
+      refused = refusal_told (meeting_of old.server.device slots wishes) cause contents moments paths faults fault downs old new desk desk_after outcome.end
+          is.status ends;
     } in
     record {
-      shown = by_left outcome.end report.end (KeptSilent palm palm_after desk desk_after left.status report) (Talked run old.script old.server.device slots palm palm_after desk desk_after left.status report) end talked;
-      changed = desk_changed desk_contents desk_moments desk_paths desk_faults folder outcome report.end end leaves;
+      shown = by_left outcome.end (KeptSilent palm palm_after desk desk_after left.status report) end talked;
+      changed = desk_changed end leaves;
       unsaid = shown.unsaid;
       handheld_failed = λ e. elim (since.keeper (sym cause_is ∙ shown.keeper e)) [ inl before ↦ absurd (none_is_some (sym calm ∙ before)) | inr rose ↦ rose ];
       desktop_failed = λ e. leaves.cause.rose (left_desk outcome.end cause left is e);
@@ -239,10 +178,12 @@ spoke contents moments paths faults desk_contents desk_moments desk_paths desk_f
     none_is_some e = cc
 
 -- a session that kept silent for want of memory
-pub kept_silent : (run : Run) (rules : List RuleValue) (device : Device) (slots : List SlotValue) (palm palm_after desk desk_after : FolderTold) (status : Status) (report : Report)
-    → status ≡ NoMemory → IsNotStarted report → palm_after ≡ palm → desk_after ≡ desk → IsTalk run rules device slots palm palm_after desk desk_after status report
-kept_silent run rules device slots palm palm_after desk desk_after status report memory is palm_same desk_same = record {
-  shown = subst (λ (e : SessionEnd). ByEnd e (KeptSilent palm palm_after desk desk_after status report) (Talked run rules device slots palm palm_after desk desk_after status report)) (sym is.end)
+pub kept_silent : (run : Run) (rules : List RuleValue) (device : Device) (slots : List SlotValue) {palm palm_after desk desk_after : FolderTold}
+    {status : Status} {report : Report} → status ≡ NoMemory → IsNotStarted report → palm_after ≡ palm → desk_after ≡ desk
+    → IsTalk run rules device slots palm palm_after desk desk_after status report
+kept_silent run rules device slots {palm} {palm_after} {desk} {desk_after} {status} {report} memory is palm_same desk_same = record {
+  shown = subst (λ (e : SessionEnd). ByEnd e (KeptSilent palm palm_after desk desk_after status report)
+      (Talked run rules device slots palm palm_after desk desk_after status report)) (sym is.end)
       (record { memory = memory; report_is = is; handheld = palm_same; desktop = desk_same });
   changed = subst (λ (d : FolderTold). ChangedOnce desk d report.end) (sym desk_same) (record {
     entries = [];

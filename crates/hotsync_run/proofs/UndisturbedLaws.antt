@@ -1,4 +1,6 @@
 -- A run that nothing disturbs is done whole.
+use Rattle.std.proofs.lemmas.Grind.{common_steps}
+use Rattle.std.proofs.lemmas.Bool.Decides.{nat_tests}
 use Rattle.std.proofs.Common.{◌≡◌, ◌⊎◌, ◌∙◌, ◌+◌, ℕ, List, [], ◌∷◌, ◌++◌, inl, inr, refl, sym, subst, ap, arith, Ok, Err}
 use Rattle.std.specs.Prelude.{false, IfSome, IsSome, Option, None, Some, string_bytes}
 use Rattle.std.specs.declared.alloc.Global.{Global}
@@ -46,54 +48,46 @@ none_is_some e = cc
 -- ---- what is judged before a session
 
 -- bytes that are a script show no fault of one
-unshown_script : (bytes : List ℕ) (rules : List RuleValue) (refusal : Status) → IsScript bytes rules → IsScriptRefusal refusal → ScriptShows refusal bytes → (refusal ≡ SourceRead) ⊎ (refusal ≡ NoMemory)
-unshown_script bytes rules SourceRead is refuses shown = inl refl
-unshown_script bytes rules NoMemory is refuses shown = inr refl
-unshown_script bytes rules TooLong is refuses (inl long) = let short = is.short in absurd (omega (arith, short, long))
-unshown_script bytes rules TooLong is refuses (inr shown) =
+unshown_script : {bytes : List ℕ} {rules : List RuleValue} (refusal : Status) → IsScript bytes rules → IsScriptRefusal refusal
+    → ScriptShows refusal bytes → (refusal ≡ SourceRead) ⊎ (refusal ≡ NoMemory)
+unshown_script SourceRead is refuses shown = inl refl
+unshown_script NoMemory is refuses shown = inr refl
+unshown_script TooLong is refuses (inl long) = let short = is.short in absurd (omega (arith, short, long))
+unshown_script {bytes} {rules} TooLong is refuses (inr shown) =
     let same = one_reading bytes (Ok rules) (Err script.TooLong) is.reads shown.1 (λ e. cc) (λ e. cc) in cc
-unshown_script bytes rules (BadScript line) is refuses shown =
+unshown_script {bytes} {rules} (BadScript line) is refuses shown =
     let same = one_reading bytes (Ok rules) (Err (script.BadLine line)) is.reads shown.1 (λ e. cc) (λ e. cc) in cc
-unshown_script bytes rules _ is refuses shown = absurd shown
+unshown_script _ is refuses shown = absurd shown
 
 -- nor does a source that told them
-judged_script : (path left : Option (List ℕ)) (refusal : Status) → IsGoodScript path left → ScriptRefuses path left refusal → (refusal ≡ SourceRead) ⊎ (refusal ≡ NoMemory)
-judged_script None left refusal good refuses = absurd (none_is_some refuses.named)
-judged_script (Some name) None refusal good refuses = absurd (none_holds (List ℕ) (good.told refl))
-judged_script (Some name) (Some bytes) refusal good refuses = unshown_script bytes good.rules refusal good.scripted refuses.is refuses.shown
+judged_script : (path left : Option (List ℕ)) {refusal : Status} → IsGoodScript path left → ScriptRefuses path left refusal
+    → (refusal ≡ SourceRead) ⊎ (refusal ≡ NoMemory)
+judged_script None left good refuses = absurd (none_is_some refuses.named)
+judged_script (Some name) None good refuses = absurd (none_holds (List ℕ) (good.told refl))
+judged_script (Some name) (Some bytes) {refusal} good refuses = unshown_script refusal good.scripted refuses.is refuses.shown
 
 -- good files of a handheld show no fault of theirs
-unshown_handheld : (told : Option FileMap) (fault : OpenFault) → IsGoodHandheld told → IfSome told (handheld.Shows fault) → (handheld_status fault ≡ HandheldFolder) ⊎ (handheld_status fault ≡ NoMemory)
-unshown_handheld told opening.Keeper good shown = inl refl
-unshown_handheld told opening.NoMemory good shown = inr refl
-unshown_handheld told opening.TooMany good shown =
-    let few = good.few in
-    let many = subst (λ (t : Option FileMap). IfSome t (handheld.Shows opening.TooMany)) good.is shown in
-    absurd (omega (arith, few, many))
-unshown_handheld told (opening.BadFile name kind place) good shown =
+unshown_handheld : {told : Option FileMap} (fault : OpenFault) → IsGoodHandheld told → IfSome told (handheld.Shows fault)
+    → (handheld_status fault ≡ HandheldFolder) ⊎ (handheld_status fault ≡ NoMemory)
+unshown_handheld opening.Keeper good shown = inl refl
+unshown_handheld opening.NoMemory good shown = inr refl
+unshown_handheld opening.TooMany good shown = grind arith
+unshown_handheld (opening.BadFile name kind place) good shown =
     let bad = subst (λ (t : Option FileMap). IfSome t (handheld.Shows (opening.BadFile name kind place))) good.is shown in
     absurd (good.good (string_bytes {Z = Global} name) kind place bad.1)
 
-judged_handheld : (told : Option FileMap) (refusal : Status) → IsGoodHandheld told → HandheldRefuses told refusal → (refusal ≡ HandheldFolder) ⊎ (refusal ≡ NoMemory)
-judged_handheld told refusal good refuses =
-    subst (λ (s : Status). (s ≡ HandheldFolder) ⊎ (s ≡ NoMemory)) (sym refuses.is) (unshown_handheld told refuses.fault good refuses.shown)
+judged_handheld : {told : Option FileMap} {refusal : Status} → IsGoodHandheld told → HandheldRefuses told refusal
+    → (refusal ≡ HandheldFolder) ⊎ (refusal ≡ NoMemory)
+judged_handheld good refuses = grind (arith, unshown_handheld refuses.fault good refuses.shown)
 
 -- nor do those of a desktop
-unshown_desktop : (told : Option FileMap) (fault : DeskOpenFault) → IsGoodDesktop told → IfSome told (λ files. desktop.Shows (finished files) fault)
+unshown_desktop : {told : Option FileMap} (fault : DeskOpenFault) → IsGoodDesktop told → IfSome told (λ files. desktop.Shows (finished files) fault)
     → (desktop_status fault ≡ DesktopFolder) ⊎ (desktop_status fault ≡ NoMemory)
-unshown_desktop told desk_opening.DeskFault good shown = inl refl
-unshown_desktop told desk_opening.NoMemory good shown = inr refl
-unshown_desktop told desk_opening.TooMany good shown =
-    let few = good.readable.few in
-    let many = subst (λ (t : Option FileMap). IfSome t (λ files. desktop.Shows (finished files) desk_opening.TooMany)) good.is shown in
-    absurd (omega (arith, few, many))
-unshown_desktop told (desk_opening.BadFile name kind place) good shown =
-    let bad = subst (λ (t : Option FileMap). IfSome t (λ files. desktop.Shows (finished files) (desk_opening.BadFile name kind place))) good.is shown in
-    absurd (none_is_some (sym good.readable.good ∙ bad.1))
+unshown_desktop fault good shown = grind (arith, common_steps)
 
-judged_desktop : (told : Option FileMap) (refusal : Status) → IsGoodDesktop told → DesktopRefuses told refusal → (refusal ≡ DesktopFolder) ⊎ (refusal ≡ NoMemory)
-judged_desktop told refusal good refuses =
-    subst (λ (s : Status). (s ≡ DesktopFolder) ⊎ (s ≡ NoMemory)) (sym refuses.is) (unshown_desktop told refuses.fault good refuses.shown)
+judged_desktop : {told : Option FileMap} {refusal : Status} → IsGoodDesktop told → DesktopRefuses told refusal
+    → (refusal ≡ DesktopFolder) ⊎ (refusal ≡ NoMemory)
+judged_desktop good refuses = grind (arith, unshown_desktop refuses.fault good refuses.shown)
 
 -- no object is blamed
 record BlamesNone (status : Status) : Type 0 where
@@ -104,36 +98,29 @@ record BlamesNone (status : Status) : Type 0 where
   pub out : status ≡ OutWrite → ⊥
 
 -- so it isn't refused
-judged : (run : Run) (before after : CallTold) (out out_after : SinkTold) (status : Status) (report : Report) → IsUndisturbed run before after out out_after report → BlamesNone status
-    → IsRefused run before status → status ≡ NoMemory
-judged run before after out out_after status report calm blames (inl refuses) =
-    elim (judged_script run.script before.source.left status calm.script refuses) [ inl e ↦ absurd (blames.source e) | inr e ↦ e ]
-judged run before after out out_after status report calm blames (inr (_, inl refuses)) =
-    elim (judged_handheld before.palm.contents status calm.handheld refuses) [ inl e ↦ absurd (blames.handheld e) | inr e ↦ e ]
-judged run before after out out_after status report calm blames (inr (_, inr (_, inl refuses))) =
-    elim (judged_desktop before.desk.contents status calm.desktop refuses) [ inl e ↦ absurd (blames.desktop e) | inr e ↦ e ]
-judged run before after out out_after status report calm blames (inr (_, inr (_, inr (_, refuses)))) =
-    elim refuses.is [ inl e ↦ absurd (blames.trace e) | inr e ↦ e ]
+judged : {run : Run} {before after : CallTold} {out out_after : SinkTold} {status : Status} {report : Report}
+    → IsUndisturbed run before after out out_after report → BlamesNone status → IsRefused run before status → status ≡ NoMemory
+judged {run} {before} calm blames (inl refuses) = grind (arith, judged_script run.script before.source.left calm.script refuses)
+judged calm blames (inr (_, inl refuses)) = grind (arith, judged_handheld calm.handheld refuses)
+judged calm blames (inr (_, inr (_, inl refuses))) = grind (arith, judged_desktop calm.desktop refuses)
+judged calm blames (inr (_, inr (_, inr (_, refuses)))) = elim refuses.is [ inl e ↦ absurd (blames.trace e) | inr e ↦ e ]
 
 -- ---- a session
 
 -- the last frame has a fate of the script
-pub last_fate : (number : ℕ) (script : ℕ → FateValue) (before : List FrameValue) (last : FrameValue) → AreNumbered number script (before ++ last ∷ []) → (m : ℕ) × (last.fate ≡ script m)
+pub last_fate : (number : ℕ) (script : ℕ → FateValue) (before : List FrameValue) (last : FrameValue) → AreNumbered number script (before ++ last ∷ [])
+    → (m : ℕ) × (last.fate ≡ script m)
 last_fate number script [] last are = (number, are.1)
 last_fate number script (frame ∷ before) last are = last_fate (number + 1) script before last are.3
 
 -- a line that goes on under its script ends with no frame that is unplugged or aborted
-never_unplugged : (script : ℕ → FateValue) (frames : List FrameValue) → AreNumbered 1 script frames → ((number : ℕ) → is_stop (script number) ≡ false) → EndsBy stop.Unplugged frames → ⊥
-never_unplugged script frames are goes_on ends =
-    let last = last_fate 1 script ends.before ends.last (subst (AreNumbered 1 script) ends.is are) in
-    let stopped : is_stop fate.Unplug ≡ false = ap is_stop (sym ends.stops ∙ last.1) ∙ goes_on last.0 in
-    cc
+never_unplugged : (script : ℕ → FateValue) (frames : List FrameValue) → AreNumbered 1 script frames → ((number : ℕ) → is_stop (script number) ≡ false)
+    → EndsBy stop.Unplugged frames → ⊥
+never_unplugged script frames are goes_on ends = grind (arith, last_fate 1 script ends.before ends.last (subst (AreNumbered 1 script) ends.is are))
 
-never_aborted : (script : ℕ → FateValue) (frames : List FrameValue) → AreNumbered 1 script frames → ((number : ℕ) → is_stop (script number) ≡ false) → EndsBy stop.Aborted frames → ⊥
-never_aborted script frames are goes_on ends =
-    let last = last_fate 1 script ends.before ends.last (subst (AreNumbered 1 script) ends.is are) in
-    let stopped : is_stop fate.Abort ≡ false = ap is_stop (sym ends.stops ∙ last.1) ∙ goes_on last.0 in
-    cc
+never_aborted : (script : ℕ → FateValue) (frames : List FrameValue) → AreNumbered 1 script frames → ((number : ℕ) → is_stop (script number) ≡ false)
+    → EndsBy stop.Aborted frames → ⊥
+never_aborted script frames are goes_on ends = grind (arith, last_fate 1 script ends.before ends.last (subst (AreNumbered 1 script) ends.is are))
 
 -- what is known of a session over a kind line, between two sides that may meet, in which no object failed
 record RanWell (meeting : Meeting) (status : Status) (report : Report) : Type 0 where
@@ -146,34 +133,16 @@ record RanWell (meeting : Meeting) (status : Status) (report : Report) : Type 0 
   pub aborted : EndsBy stop.Aborted (frames_in report) → ⊥
   pub may_meet : MayMeet meeting
 
-ends_well : (meeting : Meeting) (status : Status) (report : Report) → RanWell meeting status report → EndsWell status report
-ends_well meeting Done report ran = inl (refl, ran.ends)
-ends_well meeting NoMemory report ran = inr (inl refl)
-ends_well meeting (Undetected number) report ran = inr (inr (number, refl, ran.caused.1))
-ends_well meeting (LineDown end) report ran = absurd (ran.up tt)
-ends_well meeting (Unplugged number) report ran = absurd (ran.unplugged ran.caused.1)
-ends_well meeting (Aborted number) report ran = absurd (ran.aborted ran.caused.1)
-ends_well meeting (OtherUser handheld desktop) report ran = absurd (ran.may_meet.known ran.shows.0.slot)
-ends_well meeting TooManyUsers report ran = absurd (ran.may_meet.room ran.shows.0)
-ends_well meeting (Limit name) report ran = absurd (none_is_some (sym ran.may_meet.within ∙ ran.shows.0))
-ends_well meeting HandheldFolder report ran = absurd (ran.blames.handheld refl)
-ends_well meeting DesktopFolder report ran = absurd (ran.blames.desktop refl)
-ends_well meeting TraceWrite report ran = absurd (ran.blames.trace refl)
-ends_well meeting OutWrite report ran = absurd (ran.blames.out refl)
-ends_well meeting Usage report ran = absurd ran.ends
-ends_well meeting (BadScript line) report ran = absurd ran.ends
-ends_well meeting TooLong report ran = absurd ran.ends
-ends_well meeting (BadFile side name kind place) report ran = absurd ran.ends
-ends_well meeting (TooMany end) report ran = absurd ran.ends
-ends_well meeting SourceRead report ran = absurd ran.ends
+ends_well : {meeting : Meeting} (status : Status) {report : Report} → RanWell meeting status report → EndsWell status report
+ends_well status ran = grind (arith, common_steps)
 
-session_ends_well : (run : Run) (before after : CallTold) (out out_after : SinkTold) (status : Status) (report : Report) → IsUndisturbed run before after out out_after report → BlamesNone status
-    → SessionRan run before after status report → EndsWell status report
-session_ends_well run before after out out_after status report calm blames ran =
+session_ends_well : {run : Run} {before after : CallTold} {out out_after : SinkTold} {status : Status} {report : Report}
+    → IsUndisturbed run before after out out_after report → BlamesNone status → SessionRan run before after status report → EndsWell status report
+session_ends_well {status} {report} calm blames ran =
     let talked = ran.talked in
-    let meeting : Meeting = meeting_of ran.device ran.slots talked.wishes in
+    let meeting = meeting_of ran.device ran.slots talked.wishes in
     let kind = calm.line ran.rules ran.scripted in
-    ends_well meeting status report (record {
+    ends_well {meeting = meeting} status {report = report} (record {
       ends = talked.ends;
       caused = talked.caused;
       shows = talked.shows;
@@ -187,27 +156,25 @@ session_ends_well run before after out out_after status report calm blames ran =
 -- ---- both
 
 by_end_well : (end : SessionEnd) (Not Began Well : Type 0) → (Not → Well) → (Began → Well) → ByEnd end Not Began → Well
-by_end_well NotStarted Not Began Well not began shown = not shown
-by_end_well Ended Not Began Well not began shown = began shown
-by_end_well Stopped Not Began Well not began shown = began shown
+by_end_well end Not Began Well not began shown = grind (arith, common_steps)
 
-sent_nothing_well : (run : Run) (before after : CallTold) (out out_after : SinkTold) (status : Status) (report : Report) → IsUndisturbed run before after out out_after report → BlamesNone status
-    → (status ≡ NoMemory) ⊎ IsRefused run before status → EndsWell status report
-sent_nothing_well run before after out out_after status report calm blames (inl memory) = inr (inl memory)
-sent_nothing_well run before after out out_after status report calm blames (inr refused) = inr (inl (judged run before after out out_after status report calm blames refused))
+module _ (run : Run) (before after : CallTold) (out out_after : SinkTold) (status : Status) (report : Report) where
+  sent_nothing_well : IsUndisturbed run before after out out_after report → BlamesNone status → (status ≡ NoMemory) ⊎ IsRefused run before status
+      → EndsWell status report
+  sent_nothing_well calm blames (inl memory) = inr (inl memory)
+  sent_nothing_well calm blames (inr refused) = inr (inl (judged calm blames refused))
 
--- a run that nothing disturbs is done whole
-pub run_ends_well : (run : Run) (before after : CallTold) (out out_after : SinkTold) (status : Status) (report : Report) (IsText : List ℕ → Type 0)
-    → HasRun run before after status report → IsPrinted IsText out out_after status → IsUndisturbed run before after out out_after report → EndsWell status report
-run_ends_well run before after out out_after status report IsText has printed calm =
-    let failed = calm.none_failed in
-    let blames : BlamesNone status = record {
-      source = λ e. failed.reading (has.blames.source e);
-      handheld = λ e. failed.handheld (has.blames.handheld e);
-      desktop = λ e. failed.desktop (has.blames.desktop e);
-      trace = λ e. failed.tracing (has.blames.trace e);
-      out = λ e. failed.printing (printed.failed e);
-    } in
-    by_end_well report.end (SentNothing run before after status report) (SessionRan run before after status report) (EndsWell status report)
-    (λ sent. sent_nothing_well run before after out out_after status report calm blames sent.judged)
-    (session_ends_well run before after out out_after status report calm blames) has.shown
+  -- a run that nothing disturbs is done whole
+  pub run_ends_well : {IsText : List ℕ → Type 0} → HasRun run before after status report → IsPrinted IsText out out_after status
+      → IsUndisturbed run before after out out_after report → EndsWell status report
+  run_ends_well has printed calm =
+      let failed = calm.none_failed in
+      let blames : BlamesNone status = record {
+        source = λ e. failed.reading (has.blames.source e);
+        handheld = λ e. failed.handheld (has.blames.handheld e);
+        desktop = λ e. failed.desktop (has.blames.desktop e);
+        trace = λ e. failed.tracing (has.blames.trace e);
+        out = λ e. failed.printing (printed.failed e);
+      } in
+      by_end_well report.end (SentNothing run before after status report) (SessionRan run before after status report) (EndsWell status report)
+      (λ sent. sent_nothing_well calm blames sent.judged) (session_ends_well calm blames) has.shown

@@ -1,5 +1,6 @@
 -- How far what went over a line was dealt with, by how the session over it ended.
-use Rattle.std.proofs.Common.{◌≡◌, ◌⊎◌, ◌∙◌, ◌+◌, ◌<◌, ◌≤◌, ap, append_assoc, arith, drop, inl, inr, length, refl, sym, subst, take, ℕ, zero, suc, Bool, true, false, ◌||◌, List, [], ◌∷◌, ◌++◌}
+use Rattle.std.proofs.lemmas.Grind.{common_steps}
+use Rattle.std.proofs.Common.{◌≡◌, ◌⊎◌, ◌∙◌, ◌+◌, ◌<◌, ◌≤◌, ap, append_assoc, arith, drop, inl, inr, length, refl, sym, subst, take, ℕ, zero, suc, Bool, true, false, List, [], ◌∷◌, ◌++◌}
 use Rattle.std.specs.Prelude.{IsSome, Option, None, Some, Result, Ok, Err, map, IfErr, IfOk}
 use Rattle.std.specs.Global.{Vec}
 use Rattle.std.specs.List.{flat_map}
@@ -8,15 +9,13 @@ use Rattle.padp_link.specs.declared.piece.Key.{Key}
 use Rattle.dlp_commands.specs.declared.link.LinkFault.{LinkFault}
 use Rattle.dlp_commands.specs.declared.link.LinkFault.TheVariants as link
 use Rattle.trace_text.specs.declared.frame.End.{End}
-use Rattle.trace_text.specs.declared.frame.End.TheVariants.{Handheld}
-use Rattle.trace_text.specs.Fates.{FateValue, ends_run, holds_packet, strange_bytes}
+use Rattle.trace_text.specs.Fates.{FateValue, ends_run}
 use Rattle.trace_text.specs.Parts.{Part, message_parts}
-use Rattle.trace_text.specs.Stories.{IsStory, IsStoryOf, told_parts}
+use Rattle.trace_text.specs.Stories.{IsStoryOf, told_parts}
 use Rattle.trace_text.specs.TraceLines.{FrameValue}
 use Rattle.padp_link.specs.Neighbours.{session_id}
 use Rattle.line_steps.specs.Acknowledging.{EndsAcknowledging}
 use Rattle.line_steps.specs.declared.harm.Stop.{Stop as LineStop}
-use Rattle.line_steps.specs.declared.harm.Stop.TheVariants as line_stop
 use Rattle.line_steps.specs.Sending.{StopsBy}
 use Rattle.line_steps.specs.Stories.{told_from}
 use Rattle.line_talk.specs.Telling.{bytes_of, wake}
@@ -26,7 +25,7 @@ use Rattle.line_world.specs.Worlds.{EndsAcknowledged, IsLog, TellDone, WorldValu
 use Rattle.line_world.specs.declared.down.Down.{Down}
 use Rattle.line_world.specs.declared.down.Down.TheVariants as down
 use Rattle.desktop_session.specs.Acts.{Act, text}
-use Rattle.desktop_session.specs.Requests.{ending, reading_user}
+use Rattle.desktop_session.specs.Requests.{ending}
 use Rattle.desktop_session.specs.Stops.{Does}
 use Rattle.desktop_session.specs.declared.fault.SessionFault.TheVariants as session_fault
 use Rattle.sync_session.specs.News.{purge_acts}
@@ -55,19 +54,20 @@ use Rattle.hotsync_run.specs.declared.status.Status.TheVariants.{Done, Usage, Ba
 -- ---- the frames tell one story
 
 -- parts that tell these messages don't tell the first of them alone
-told_once : (number : ℕ) (messages : List (List ℕ)) (n : ℕ) (parts : List Part) → n < length messages → IsStoryOf parts (told_from number (take n messages))
-    → IsStoryOf parts (told_from number messages) → ⊥
-told_once number [] n parts less few all = omega (arith, less)
-told_once number (message ∷ later) zero parts less few all =
-    few.unfinished (session_id number) message (told_parts (told_from (number + 1) later) ++ all.rest)
-    (sym few.is ∙ all.is ∙ append_assoc (message_parts (session_id number) message) (told_parts (told_from (number + 1) later)) all.rest)
-told_once number (message ∷ later) (suc n) parts less few all =
+told_once : (number : ℕ) (messages : List (List ℕ)) (n : ℕ) {parts : List Part} → n < length messages
+    → IsStoryOf parts (told_from number (take n messages)) → IsStoryOf parts (told_from number messages) → ⊥
+told_once number [] n less few all = omega (arith, less)
+told_once number (message ∷ later) zero less few all =
+    grind (arith, append_assoc (message_parts (session_id number) message) (told_parts (told_from (number + 1) later)) all.rest)
+told_once number (message ∷ later) (suc n) less few all =
     let first = message_parts (session_id number) message in
     let short = told_parts (told_from (number + 1) (take n later)) in
     let long = told_parts (told_from (number + 1) later) in
-    let same : short ++ few.rest ≡ long ++ all.rest =
-    append_cancel_left first (short ++ few.rest) (long ++ all.rest) (sym (append_assoc first short few.rest) ∙ sym few.is ∙ all.is ∙ append_assoc first long all.rest) in
-    told_once (number + 1) later n (short ++ few.rest) (omega (arith, less)) (record { rest = few.rest; is = refl; unfinished = few.unfinished }) (record { rest = all.rest; is = same; unfinished = all.unfinished })
+    let same =
+    append_cancel_left first (short ++ few.rest) (long ++ all.rest) (sym (append_assoc first short few.rest) ∙ sym few.is ∙ all.is
+    ∙ append_assoc first long all.rest) in
+    told_once (number + 1) later n {parts = short ++ few.rest} (omega (arith, less)) (record { rest = few.rest; is = refl; unfinished = few.unfinished })
+    (record { rest = all.rest; is = same; unfinished = all.unfinished })
 
 -- ---- the last frame
 
@@ -78,61 +78,40 @@ last_same (a ∷ xs) [] x y same = absurd (omega (arith, ap (λ (l : List _). le
 last_same (a ∷ xs) (b ∷ ys) x y same = last_same xs ys x y (ap (λ (l : List _). drop 1 l) same)
 
 stop_ends : (why : LineStop) (given : FateValue) (bytes : List ℕ) → StopsBy given bytes (Some why) → ends_run given bytes ≡ true
-stop_ends line_stop.Unplugged given bytes is = ap (λ (f : FateValue). ends_run f bytes) is
-stop_ends line_stop.Aborted given bytes is = ap (λ (f : FateValue). ends_run f bytes) is
-stop_ends line_stop.Undetected given bytes is = ap (λ (b : Bool). b || holds_packet (strange_bytes given bytes)) is.0 ∙ is.1
+stop_ends why given bytes is = grind (arith, common_steps)
 
 -- a run that goes on behind its last frame doesn't end with it
-goes_on : (why : LineStop) (Y : End) (key : Key) (frames : List FrameValue) → EndsBy why frames → EndsAcknowledging Y key frames → ⊥
-goes_on why Y key frames ends acked =
-    let same : ends.last ≡ acked.last = last_same ends.before acked.before ends.last acked.last (sym ends.is ∙ acked.is) in
-    let stops = stop_ends why ends.last.fate ends.last.bytes ends.stops in
-    let on : ends_run ends.last.fate ends.last.bytes ≡ false = ap (λ (f : FrameValue). ends_run f.fate f.bytes) same ∙ acked.goes_on in
-    cc
+goes_on : {why : LineStop} {Y : End} {key : Key} {frames : List FrameValue} → EndsBy why frames → EndsAcknowledging Y key frames → ⊥
+goes_on {why} ends acked =
+    grind (
+      arith,
+      last_same ends.before acked.before ends.last acked.last (sym ends.is
+          ∙ acked.is),
+      stop_ends why ends.last.fate ends.last.bytes ends.stops,
+      false,
+    )
 
 -- ---- what a fallen line left off
 
-tells_done : (status : Status) (log : LogValue) (answered : ℕ) (fault : Option LinkFault) (cause : Option Down) (frames : List FrameValue)
+tells_done : (status : Status) {log : LogValue} {answered : ℕ} {fault : Option LinkFault} {cause : Option Down} {frames : List FrameValue}
     → (down_end cause ≡ None → IsLineDown status → ⊥) → TellDone log answered fault cause frames → TellsDone status log answered frames
-tells_done status log answered fault cause frames up done = record {
-  requests = elim done.requests [ inl just ↦ inl just | inr more ↦ inr (up more.0.1, more.1, more.2) ];
-  replies = elim done.replies [ inl just ↦ inl just | inr more ↦ inr (up more.0.1, more.1, more.2) ];
-}
+tells_done status up done = grind arith
 
-fallen_status : (answer : Result (Vec DbReport) Stop) (cause : Option Down) → IsFallen (left_status cause answer) → IsSome cause
-fallen_status (Ok made) cause fallen = absurd fallen
-fallen_status (Err (stop.Session session_fault.Down)) None fallen = absurd fallen
-fallen_status (Err (stop.Session session_fault.Down)) (Some cause) fallen = refl
-fallen_status (Err (stop.Session (session_fault.OtherUser handheld desktop))) cause fallen = absurd fallen
-fallen_status (Err (stop.Session session_fault.TooManyUsers)) cause fallen = absurd fallen
-fallen_status (Err (stop.Session (session_fault.Refused code))) cause fallen = absurd fallen
-fallen_status (Err (stop.Session (session_fault.BadReply broken))) cause fallen = absurd fallen
-fallen_status (Err (stop.Session session_fault.NoMemory)) cause fallen = absurd fallen
-fallen_status (Err (stop.Limit name)) cause fallen = absurd fallen
-fallen_status (Err stop.DeskFault) cause fallen = absurd fallen
-
-fallen_cause : (answer : Result (Vec DbReport) Stop) (cause : Option Down) (status : Status) → (status ≡ left_status cause answer) ⊎ (status ≡ NoMemory)
+fallen_cause : (answer : Result (Vec DbReport) Stop) (cause : Option Down) {status : Status} → (status ≡ left_status cause answer) ⊎ (status ≡ NoMemory)
     → IsFallen status → IsSome cause
-fallen_cause answer cause status (inl is) fallen = fallen_status answer cause (subst IsFallen is fallen)
-fallen_cause answer cause status (inr memory) fallen = absurd (subst IsFallen memory fallen)
+fallen_cause answer cause e fallen = grind (arith, common_steps)
 
-some_none : (cause : Option Down) → cause ≡ None → IsSome cause → ⊥
-some_none None is some = cc
-some_none (Some cause) is some = cc
+some_none : {cause : Option Down} → cause ≡ None → IsSome cause → ⊥
+some_none is some = grind (arith, common_steps)
 
 down_fault : (fault : Option LinkFault) (cause : Option Down) → IsCause fault cause → IsSome cause → fault ≡ Some link.Down
-down_fault None cause caused some = absurd (some_none cause caused some)
-down_fault (Some link.Down) cause caused some = refl
-down_fault (Some link.NoMemory) cause caused some = absurd (some_none cause caused some)
+down_fault fault cause caused some = grind (arith, common_steps)
 
 -- ---- the session's requests
 
 more-requests : (meeting : Meeting) → length (map text (before_writes meeting)) < length (requests meeting)
 more-requests meeting =
-    let both = ap (λ (l : List (List ℕ)). length l) (sym (parts-are meeting [])) in
-    let parts = both ∙ length-append (map text (before_commit meeting [])) (map text (after_commit meeting)) in
-    let longer = before-longer meeting [] in
-    omega (arith, parts, longer)
+    grind (arith, parts-are meeting [], length-append (map text (before_commit meeting [])) (map text (after_commit meeting)), before-longer meeting [])
 
 two-first : (meeting : Meeting) → 2 ≤ length (map text (before_writes meeting))
 unfolding before_writes
@@ -141,17 +120,11 @@ two-first meeting = omega arith
 some-after : (meeting : Meeting) → 0 < length (map text (after_commit meeting))
 unfolding after_commit
 some-after meeting =
-    let purges : List Act = flat_map (purge_acts meeting) (active meeting) in
-    let size = length-map (after_commit meeting) text in
-    let sum = length-append purges (end_mark meeting ∷ ending ∷ []) in
-    omega (arith, size, sum)
+    grind (arith, length-map (after_commit meeting) text, length-append (flat_map (purge_acts meeting) (active meeting)) (end_mark meeting ∷ ending ∷ []))
 
 before-all : (meeting : Meeting) (given : List ℕ) → length (map text (before_commit meeting given)) < length (requests meeting)
 before-all meeting given =
-    let both = ap (λ (l : List (List ℕ)). length l) (sym (parts-are meeting given)) in
-    let parts = both ∙ length-append (map text (before_commit meeting given)) (map text (after_commit meeting)) in
-    let some = some-after meeting in
-    omega (arith, parts, some)
+    grind (arith, parts-are meeting given, length-append (map text (before_commit meeting given)) (map text (after_commit meeting)), some-after meeting)
 
 -- ---- what was answered
 
@@ -162,67 +135,55 @@ pub record SaidShort {F : Type 0} (meeting : Meeting) (old new : WorldValue F) :
   pub short : length (map text acts) < length (requests meeting)
 
 never_down : (cause : Option Down) → StopsAnswered (down_status cause) → ⊥
-never_down None is = is
-never_down (Some (down.LineDown end numbers)) is = is
-never_down (Some (down.Unplugged number)) is = is
-never_down (Some (down.Aborted number)) is = is
-never_down (Some (down.Undetected number)) is = is
-never_down (Some down.Keeper) is = is
+never_down cause is = grind (arith, common_steps)
 
-stop_said : {F : Type 0} (fault : WorldValue F → Option LinkFault) (meeting : Meeting) (old new : WorldValue F) (why : Stop) (cause : Option Down)
-    → IsStopOf (λ (world : WorldValue F). Some (world_talk world)) fault meeting old new why → StopsAnswered (stop_status cause why)
-    → SaidShort meeting old new
-stop_said fault meeting old new (stop.Session session_fault.Down) cause stops is = absurd (never_down cause is)
-stop_said fault meeting old new (stop.Session (session_fault.OtherUser handheld desktop)) cause stops is =
-    record { acts = reading_user ∷ []; does = stops.1; short = omega (arith, two-first meeting, more-requests meeting) }
-stop_said fault meeting old new (stop.Session session_fault.TooManyUsers) cause stops is =
-    record { acts = reading_user ∷ []; does = stops.1; short = omega (arith, two-first meeting, more-requests meeting) }
-stop_said fault meeting old new (stop.Session (session_fault.Refused code)) cause stops is = absurd is
-stop_said fault meeting old new (stop.Session (session_fault.BadReply broken)) cause stops is = absurd is
-stop_said fault meeting old new (stop.Session session_fault.NoMemory) cause stops is = absurd is
-stop_said fault meeting old new (stop.Limit name) cause stops is = record { acts = before_writes meeting; does = stops.does; short = more-requests meeting }
-stop_said fault meeting old new stop.DeskFault cause stops is =
-    record { acts = before_commit meeting stops.given; does = stops.does; short = before-all meeting stops.given }
+module _ (meeting : Meeting) (cause : Option Down) where
+  stop_said : {F : Type 0} (fault : WorldValue F → Option LinkFault) (old new : WorldValue F) (why : Stop)
+      → IsStopOf (λ (world : WorldValue F). Some (world_talk world)) fault meeting old new why → StopsAnswered (stop_status cause why)
+      → SaidShort meeting old new
+  stop_said fault old new (stop.Session session_fault.Down) stops is = absurd (never_down cause is)
+  stop_said fault old new (stop.Session (session_fault.OtherUser handheld desktop)) stops is =
+      grind (arith, [], two-first meeting, more-requests meeting)
+  stop_said fault old new (stop.Session session_fault.TooManyUsers) stops is = grind (arith, [], two-first meeting, more-requests meeting)
+  stop_said fault old new (stop.Session (session_fault.Refused code)) stops is = absurd is
+  stop_said fault old new (stop.Session (session_fault.BadReply broken)) stops is = absurd is
+  stop_said fault old new (stop.Session session_fault.NoMemory) stops is = absurd is
+  stop_said fault old new (stop.Limit name) stops is = grind (arith, more-requests meeting)
+  stop_said fault old new stop.DeskFault stops is = grind (arith, before-all meeting stops.given)
 
--- by what its call answered
-said_short : {F : Type 0} (fault : WorldValue F → Option LinkFault) (meeting : Meeting) (old new : WorldValue F) (answer : Result (Vec DbReport) Stop)
-    (cause : Option Down) (status : Status) → IfErr answer (IsStopOf (λ (world : WorldValue F). Some (world_talk world)) fault meeting old new)
-    → (status ≡ left_status cause answer) ⊎ (status ≡ NoMemory) → StopsAnswered status → SaidShort meeting old new
-said_short fault meeting old new answer cause status stops (inr memory) is = absurd (subst StopsAnswered memory is)
-said_short fault meeting old new (Ok made) cause status stops (inl left) is = absurd (subst StopsAnswered left is)
-said_short fault meeting old new (Err why) cause status stops (inl left) is = stop_said fault meeting old new why cause stops (subst StopsAnswered left is)
+  -- by what its call answered
+  said_short : {F : Type 0} (fault : WorldValue F → Option LinkFault) (old new : WorldValue F) (answer : Result (Vec DbReport) Stop) {status : Status}
+      → IfErr answer (IsStopOf (λ (world : WorldValue F). Some (world_talk world)) fault meeting old new)
+      → (status ≡ left_status cause answer) ⊎ (status ≡ NoMemory) → StopsAnswered status → SaidShort meeting old new
+  said_short fault old new answer stops (inr memory) is = absurd (subst StopsAnswered memory is)
+  said_short fault old new (Ok made) stops (inl left) is = absurd (subst StopsAnswered left is)
+  said_short fault old new (Err why) stops (inl left) is = stop_said fault old new why stops (subst StopsAnswered left is)
 
 ended_all : {F : Type 0} (meeting : Meeting) (old new : WorldValue F) (folder : Tellings) (answer : Result (Vec DbReport) Stop) → old.log ≡ no_log
     → IsLog new.log new.answered → IfOk answer (λ made. IsEnded (λ (world : WorldValue F). Some (world_talk world)) meeting old new folder made.items)
     → left_end answer ≡ Ended → length new.log.issued ≡ new.answered
-ended_all meeting old new folder (Ok made) silent is over ended = all_answered (session meeting over.given) old new silent is over.does
+ended_all meeting old new folder (Ok made) silent is over ended = all_answered silent is over.does
 ended_all meeting old new folder (Err why) silent is over ended = absurd cc
 
 -- ---- a whole session
 
-none_some : (xs : List (List ℕ)) → 0 < length xs → xs ≡ [] → ⊥
-none_some xs some none = omega (arith, some, ap (λ (l : List (List ℕ)). length l) none)
+none_some : {xs : List (List ℕ)} → 0 < length xs → xs ≡ [] → ⊥
+none_some some none = omega (arith, some, ap (λ (l : List (List ℕ)). length l) none)
 
 -- one that ended
-went_whole : (meeting : Meeting) (status : Status) (report : Report) (answered : ℕ) → (log_in report).issued ≡ requests meeting
+went_whole : (meeting : Meeting) {status : Status} (report : Report) {answered : ℕ} → (log_in report).issued ≡ requests meeting
     → (log_in report).performed ≡ requests meeting → length (log_in report).replies ≡ length (log_in report).performed
     → ((log_in report).issued ≡ []) ⊎ TellsDone status (log_in report) answered (frames_in report) → length (log_in report).issued ≡ answered
     → (0 < answered → length (log_in report).issued ≡ answered → EndsAcknowledged (log_in report) (frames_in report)) → WentWhole meeting report
-went_whole meeting status report answered issued performed same done all acked =
-    let some : 0 < length (log_in report).issued = omega (arith, more-requests meeting, ap (λ (l : List (List ℕ)). length l) issued) in
-    let replied : length (log_in report).replies ≡ length (log_in report).issued = same ∙ ap (λ (l : List (List ℕ)). length l) (performed ∙ sym issued) in
-    record {
-      issued = issued;
-      replied = replied;
-      told = elim done [
-        | inl none ↦ absurd (none_some (log_in report).issued some none)
-        | inr tells ↦ elim tells.replies [
-          | inl just ↦ subst (λ (l : List (List ℕ)). IsStory Handheld (frames_in report) (told_from 0 (bytes_of wake ∷ l))) (take_all answered (log_in report).replies (omega (arith, replied, all))) just
-          | inr more ↦ absurd (omega (arith, more.1, replied, all))
-        ]
-      ];
-      acked = acked (omega (arith, some, all)) all;
-    }
+went_whole meeting report {answered} issued performed same done all acked =
+    grind (
+      arith,
+      length (log_in report).issued,
+      more-requests meeting,
+      length (log_in report).replies,
+      none_some {xs = (log_in report).issued},
+      take_all answered (log_in report).replies,
+    )
 
 -- what went over whole isn't what a fallen line left off
 pub record Over (status : Status) (report : Report) (answered : ℕ) : Type 0 where
@@ -238,79 +199,62 @@ fell : (status : Status) (report : Report) (answered : ℕ) (meeting : Meeting) 
 fell status report answered meeting over whole fallen is_down =
     let some : 0 < length (log_in report).issued = omega (arith, more-requests meeting, ap (λ (l : List (List ℕ)). length l) whole.issued) in
     elim (over.fallen fallen) [
-      | inl none ↦ none_some (log_in report).issued some none
+      | inl none ↦ none_some some none
       | inr few ↦ elim over.done [
-        | inl none ↦ none_some (log_in report).issued some none
+        | inl none ↦ none_some some none
         | inr tells ↦ elim tells.replies [
-          | inl just ↦ told_once 0 (bytes_of wake ∷ (log_in report).replies) (suc answered) _ (omega (arith, few, whole.replied)) just whole.told
+          | inl just ↦ told_once 0 (bytes_of wake ∷ (log_in report).replies) (suc answered) (omega (arith, few, whole.replied)) just whole.told
           | inr more ↦ more.0 is_down
         ]
       ]
     ]
 
-stopped_short : (meeting : Meeting) (report : Report) → WentWhole meeting report → length (log_in report).issued < length (requests meeting) → ⊥
-stopped_short meeting report whole short = omega (arith, short, ap (λ (l : List (List ℕ)). length l) whole.issued)
+module _ (meeting : Meeting) where
+  stopped_short : {report : Report} → WentWhole meeting report → length (log_in report).issued < length (requests meeting) → ⊥
+  stopped_short whole short = omega (arith, short, ap (λ (l : List (List ℕ)). length l) whole.issued)
 
-whole_over : (meeting : Meeting) (status : Status) (report : Report) (answered : ℕ) → Over status report answered
-    → (StopsAnswered status → length (log_in report).issued < length (requests meeting)) → WentWhole meeting report
-    → (report.end ≡ Ended) ⊎ (status ≡ NoMemory)
-whole_over meeting Done report answered over short whole = inl over.ends
-whole_over meeting TraceWrite report answered over short whole = inl over.ends
-whole_over meeting OutWrite report answered over short whole = inl over.ends
-whole_over meeting NoMemory report answered over short whole = inr refl
-whole_over meeting Usage report answered over short whole = absurd over.ends
-whole_over meeting (BadScript line) report answered over short whole = absurd over.ends
-whole_over meeting TooLong report answered over short whole = absurd over.ends
-whole_over meeting (BadFile a b c d) report answered over short whole = absurd over.ends
-whole_over meeting (TooMany side) report answered over short whole = absurd over.ends
-whole_over meeting SourceRead report answered over short whole = absurd over.ends
-whole_over meeting (OtherUser handheld desktop) report answered over short whole = absurd (stopped_short meeting report whole (short tt))
-whole_over meeting TooManyUsers report answered over short whole = absurd (stopped_short meeting report whole (short tt))
-whole_over meeting (Limit name) report answered over short whole = absurd (stopped_short meeting report whole (short tt))
-whole_over meeting DesktopFolder report answered over short whole = absurd (stopped_short meeting report whole (short tt))
-whole_over meeting (LineDown end) report answered over short whole = absurd (fell (LineDown end) report answered meeting over whole tt tt)
-whole_over meeting (Unplugged number) report answered over short whole = absurd (goes_on line_stop.Unplugged _ _ (frames_in report) over.caused.1 whole.acked.acked)
-whole_over meeting (Aborted number) report answered over short whole = absurd (goes_on line_stop.Aborted _ _ (frames_in report) over.caused.1 whole.acked.acked)
-whole_over meeting (Undetected number) report answered over short whole = absurd (goes_on line_stop.Undetected _ _ (frames_in report) over.caused.1 whole.acked.acked)
-whole_over meeting HandheldFolder report answered over short whole = absurd (omega (arith, over.unserved refl, over.same, whole.replied))
+  whole_over : (status : Status) {report : Report} {answered : ℕ} → Over status report answered
+      → (StopsAnswered status → length (log_in report).issued < length (requests meeting)) → WentWhole meeting report
+      → (report.end ≡ Ended) ⊎ (status ≡ NoMemory)
+  whole_over Done over short whole = inl over.ends
+  whole_over TraceWrite over short whole = inl over.ends
+  whole_over OutWrite over short whole = inl over.ends
+  whole_over NoMemory over short whole = inr refl
+  whole_over Usage over short whole = absurd over.ends
+  whole_over (BadScript line) over short whole = absurd over.ends
+  whole_over TooLong over short whole = absurd over.ends
+  whole_over (BadFile a b c d) over short whole = absurd over.ends
+  whole_over (TooMany side) over short whole = absurd over.ends
+  whole_over SourceRead over short whole = absurd over.ends
+  whole_over (OtherUser handheld desktop) over short whole = absurd (stopped_short whole (short tt))
+  whole_over TooManyUsers over short whole = absurd (stopped_short whole (short tt))
+  whole_over (Limit name) over short whole = absurd (stopped_short whole (short tt))
+  whole_over DesktopFolder over short whole = absurd (stopped_short whole (short tt))
+  whole_over (LineDown end) {report} {answered} over short whole = absurd (fell (LineDown end) report answered meeting over whole tt tt)
+  whole_over (Unplugged number) over short whole = absurd (goes_on over.caused.1 whole.acked.acked)
+  whole_over (Aborted number) over short whole = absurd (goes_on over.caused.1 whole.acked.acked)
+  whole_over (Undetected number) over short whole = absurd (goes_on over.caused.1 whole.acked.acked)
+  whole_over HandheldFolder over short whole = absurd (omega (arith, over.unserved refl, over.same, whole.replied))
 
 -- only a fallen line, or want of memory, leaves a request without an answer
 cut_short : (status : Status) (report : Report) (answered : ℕ) → EndsAs status report.end
     → ((report.end ≡ Ended) ⊎ StopsAnswered status → length (log_in report).issued ≡ answered) → answered < length (log_in report).issued
     → IsFallen status ⊎ (status ≡ NoMemory)
-cut_short Done report answered ends all few = absurd (omega (arith, all (inl ends), few))
-cut_short TraceWrite report answered ends all few = absurd (omega (arith, all (inl ends), few))
-cut_short OutWrite report answered ends all few = absurd (omega (arith, all (inl ends), few))
-cut_short NoMemory report answered ends all few = inr refl
-cut_short Usage report answered ends all few = absurd ends
-cut_short (BadScript line) report answered ends all few = absurd ends
-cut_short TooLong report answered ends all few = absurd ends
-cut_short (BadFile a b c d) report answered ends all few = absurd ends
-cut_short (TooMany side) report answered ends all few = absurd ends
-cut_short SourceRead report answered ends all few = absurd ends
-cut_short (OtherUser handheld desktop) report answered ends all few = absurd (omega (arith, all (inr tt), few))
-cut_short TooManyUsers report answered ends all few = absurd (omega (arith, all (inr tt), few))
-cut_short (Limit name) report answered ends all few = absurd (omega (arith, all (inr tt), few))
-cut_short DesktopFolder report answered ends all few = absurd (omega (arith, all (inr tt), few))
-cut_short (LineDown end) report answered ends all few = inl tt
-cut_short (Unplugged number) report answered ends all few = inl tt
-cut_short (Aborted number) report answered ends all few = inl tt
-cut_short (Undetected number) report answered ends all few = inl tt
-cut_short HandheldFolder report answered ends all few = inl tt
+cut_short status report answered ends all few = grind (arith, common_steps)
 
 -- ---- all of it
 
 -- the world's part, told in the words of its report
-pub dealt_with : {F : Type 0} (fault : WorldValue F → Option LinkFault) (meeting : Meeting) (folder : Tellings)
-    (old new : WorldValue F) (palm_after desk desk_after : FolderTold) (report : Report) (answer : Result (Vec DbReport) Stop) (cause : Option Down)
-    (left : Left) → Tells old new palm_after report → TellsWorld new report → IsLeft answer cause left → cause ≡ new.cause
-    → IsCause new.fault new.cause → report.end ≡ left.end → length (log_in report).replies ≡ length (log_in report).performed
-    → (down_end cause ≡ None → IsLineDown left.status → ⊥) → (left.status ≡ HandheldFolder → cause ≡ Some down.Keeper) → EndsAs left.status report.end
+pub dealt_with : {F : Type 0} (fault : WorldValue F → Option LinkFault) {meeting : Meeting} (folder : Tellings) (old new : WorldValue F)
+    {palm_after desk desk_after : FolderTold} {report : Report} {answer : Result (Vec DbReport) Stop} {cause : Option Down} (left : Left)
+    → Tells old new palm_after report → TellsWorld new report → IsLeft answer cause left → cause ≡ new.cause → IsCause new.fault new.cause
+    → report.end ≡ left.end → length (log_in report).replies ≡ length (log_in report).performed → (down_end cause ≡ None → IsLineDown left.status → ⊥)
+    → (left.status ≡ HandheldFolder → cause ≡ Some down.Keeper) → EndsAs left.status report.end
     → BearsOut (cause_in left.status report.faulted.items) (frames_in report)
     → IfErr answer (IsStopOf (λ (world : WorldValue F). Some (world_talk world)) fault meeting old new)
     → IfOk answer (λ made. IsEnded (λ (world : WorldValue F). Some (world_talk world)) meeting old new folder made.items)
     → SessionLeft meeting palm_after desk desk_after report → DealtWith meeting left.status report new.answered
-dealt_with {F} fault meeting folder old new palm_after desk desk_after report answer cause left sides tells is cause_is caused end_is same up
+dealt_with {F} fault {meeting} folder old new {report} {answer} {cause} left sides tells is cause_is caused end_is same up
     keeper ends bears stops ended session = record {
       done = done;
       fallen = fallen;
@@ -318,7 +262,7 @@ dealt_with {F} fault meeting folder old new palm_after desk desk_after report an
       all = all;
       cut = cut_short left.status report new.answered ends all;
       whole = whole;
-      over = whole_over meeting left.status report new.answered over short;
+      over = whole_over meeting left.status over short;
     }
   where
     log : new.log ≡ log_in report
@@ -327,7 +271,7 @@ dealt_with {F} fault meeting folder old new palm_after desk desk_after report an
     split : (begun : Bool) → new.begun ≡ begun → ((log_in report).issued ≡ []) ⊎ TellsDone left.status (log_in report) new.answered (frames_in report)
     split true begun =
         let up_here = λ (none : down_end new.cause ≡ None). up (ap (λ (c : Option Down). down_end c) cause_is ∙ none) in
-        let told = tells_done left.status new.log new.answered new.fault new.cause (frames_in report) up_here (tells.done begun) in
+        let told = tells_done left.status up_here (tells.done begun) in
         inr (subst (λ (l : LogValue). TellsDone left.status l new.answered (frames_in report)) log told)
     split false begun = inl (ap (λ (l : LogValue). l.issued) tells.said ∙ tells.silent begun)
 
@@ -336,7 +280,7 @@ dealt_with {F} fault meeting folder old new palm_after desk desk_after report an
 
     fallen : IsFallen left.status → ((log_in report).issued ≡ []) ⊎ (new.answered < length (log_in report).issued)
     fallen fell =
-        let some = subst (λ (c : Option Down). IsSome c) cause_is (fallen_cause answer cause left.status is.status fell) in
+        let some = subst (λ (c : Option Down). IsSome c) cause_is (fallen_cause answer cause is.status fell) in
         let off = tells.left_off.down (down_fault new.fault new.cause caused some) in
         subst (λ (l : LogValue). (l.issued ≡ []) ⊎ (new.answered < length l.issued)) log off
 
@@ -347,11 +291,11 @@ dealt_with {F} fault meeting folder old new palm_after desk desk_after report an
     over = record { done = done; fallen = fallen; unserved = unserved; same = same; caused = bears; ends = ends }
 
     said : StopsAnswered left.status → SaidShort meeting old new
-    said which = said_short fault meeting old new answer cause left.status stops is.status which
+    said which = said_short meeting cause fault old new answer stops is.status which
 
     answered : (report.end ≡ Ended) ⊎ StopsAnswered left.status → length new.log.issued ≡ new.answered
     answered (inl finished) = ended_all meeting old new folder answer sides.silent sides.is_log ended (sym (end_is ∙ is.end) ∙ finished)
-    answered (inr which) = (let few = said which in all_answered few.acts old new sides.silent sides.is_log few.does)
+    answered (inr which) = (let few = said which in all_answered sides.silent sides.is_log few.does)
 
     all : (report.end ≡ Ended) ⊎ StopsAnswered left.status → length (log_in report).issued ≡ new.answered
     all which = subst (λ (l : LogValue). length l.issued ≡ new.answered) log (answered which)
@@ -359,35 +303,23 @@ dealt_with {F} fault meeting folder old new palm_after desk desk_after report an
     short : StopsAnswered left.status → length (log_in report).issued < length (requests meeting)
     short which =
         let few = said which in
-        let logged = logged_all few.acts old new sides.silent sides.is_log few.does in
+        let logged = logged_all sides.silent sides.is_log few.does in
         omega (arith, few.short, ap (λ (l : List (List ℕ)). length l) logged.issued_are, ap (λ (l : LogValue). length l.issued) tells.said)
 
     whole : report.end ≡ Ended → WentWhole meeting report
     whole finished =
         let e = session.ended finished in
         let acked = subst (λ (l : LogValue). 0 < new.answered → length l.issued ≡ new.answered → EndsAcknowledged l (frames_in report)) log tells.acked in
-        went_whole meeting left.status report new.answered e.issued e.performed same done (all (inl finished)) acked
+        went_whole meeting report e.issued e.performed same done (all (inl finished)) acked
 
 -- ---- under another status
 
-done_as : (status other : Status) (log : LogValue) (answered : ℕ) (frames : List FrameValue) → (IsLineDown other → ⊥)
+done_as : {status : Status} (other : Status) {log : LogValue} {answered : ℕ} {frames : List FrameValue} → (IsLineDown other → ⊥)
     → (log.issued ≡ []) ⊎ TellsDone status log answered frames → (log.issued ≡ []) ⊎ TellsDone other log answered frames
-done_as status other log answered frames up (inl none) = inl none
-done_as status other log answered frames up (inr done) = inr (record {
-  requests = elim done.requests [ inl just ↦ inl just | inr more ↦ inr (up, more.1, more.2) ];
-  replies = elim done.replies [ inl just ↦ inl just | inr more ↦ inr (up, more.1, more.2) ];
-})
+done_as other up e = grind (arith, common_steps)
 
 -- where neither the line nor the handheld's folder is blamed, nor a limit
-pub dealt_as : (meeting : Meeting) (status other : Status) (report : Report) (answered : ℕ) → (IsLineDown other → ⊥)
-    → (IsFallen other → ⊥) → (StopsAnswered other → ⊥) → (report.end ≡ Ended) ⊎ (other ≡ NoMemory) → DealtWith meeting status report answered
+pub dealt_as : {meeting : Meeting} {status other : Status} {report : Report} {answered : ℕ} → (IsLineDown other → ⊥) → (IsFallen other → ⊥)
+    → (StopsAnswered other → ⊥) → (report.end ≡ Ended) ⊎ (other ≡ NoMemory) → DealtWith meeting status report answered
     → DealtWith meeting other report answered
-dealt_as meeting status other report answered up stands free ends dealt = record {
-  done = done_as status other (log_in report) answered (frames_in report) up dealt.done;
-  fallen = λ fell. absurd (stands fell);
-  unserved = λ blamed. absurd (stands (subst IsFallen (sym blamed) tt));
-  all = λ which. dealt.all (elim which [ inl ended ↦ inl ended | inr limit ↦ absurd (free limit) ]);
-  whole = dealt.whole;
-  cut = λ few. elim ends [ inl ended ↦ absurd (omega (arith, dealt.all (inl ended), few)) | inr memory ↦ inr memory ];
-  over = λ whole. ends;
-}
+dealt_as {other} up stands free ends dealt = grind (arith, done_as other up dealt.done)

@@ -8,7 +8,8 @@ use Rattle.dlp_commands.specs.Changes.{changes}
 use Rattle.line_world.specs.Logs.{texts}
 use Rattle.hotsync_run.specs.LineRuns.{write_count}
 
-folded : (xs : List MessageTextValue) (a : ℕ) → fold (λ a x. a + cond (changes x) 1 0) a (texts xs) ≡ fold (λ a (x : MessageTextValue). a + cond (changes x.bytes) 1 0) a xs
+folded : (xs : List MessageTextValue) (a : ℕ)
+    → fold (λ a x. a + cond (changes x) 1 0) a (texts xs) ≡ fold (λ a (x : MessageTextValue). a + cond (changes x.bytes) 1 0) a xs
 folded [] a = refl
 folded (x ∷ xs) a = folded xs (a + cond (changes x.bytes) 1 0)
 

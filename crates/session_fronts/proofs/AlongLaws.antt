@@ -1,19 +1,15 @@
 -- What holds of a handheld after any beginning of acts whose new records get free ids.
-use Rattle.std.proofs.Common.{◌≡◌, ◌∙◌, refl, ap, sym, subst, ℕ, zero, suc, Bool, true, false, List, [], ◌∷◌, ◌++◌, append_assoc, append-nil, take, map, if◌then◌else◌, filter}
-use Rattle.std.specs.Prelude.{Ok, Err}
+use Rattle.std.proofs.lemmas.Grind.{common_steps}
+use Rattle.std.proofs.Common.{arith, ◌≡◌, ◌∙◌, refl, ap, sym, subst, ℕ, zero, suc, Bool, true, false, List, [], ◌∷◌, ◌++◌, append_assoc, append-nil, take, map, if◌then◌else◌, filter}
 use Rattle.dlp_args.specs.Fields.{Fields}
-use Rattle.dlp_requests.specs.Forms as form
 use Rattle.dlp_requests.specs.Forms.{Form, kinds_of}
 use Rattle.dlp_requests.specs.Forms.{number_of as number_of_form}
 use Rattle.dlp_replies.specs.ReplyValues as reply
 use Rattle.palm_device.specs.Devices.{Device}
 use Rattle.dlp_commands.specs.Changes.{asks_by, changes, is_change}
-use Rattle.dlp_commands.specs.DeviceSteps.{FormMayGive, function_number, outcome, tried}
-use Rattle.dlp_commands.specs.Reached.{Tried}
-use Rattle.dlp_commands.proofs.DoneLaws.{Done}
+use Rattle.dlp_commands.specs.DeviceSteps.{FormMayGive, function_number}
 use Rattle.dlp_commands.proofs.StepLaws.{changes-text}
 use Rattle.dlp_commands.proofs.TableLaws.{tried_done}
-use Rattle.dlp_commands.proofs.TriedLaws.{Keeps}
 use Rattle.desktop_session.specs.Acts.{Act, acted, text}
 use Rattle.desktop_session.specs.Tellings.{device_after, told}
 use Rattle.session_fronts.specs.Given.{GetFreeIds, id_in, ids_in}
@@ -45,37 +41,26 @@ along-first P ids (act ∷ acts) device along = along.0
 pub along-map : (P Q : List ℕ → Device → Type 0) (ids : List ℕ) (acts : List Act) (device : Device) → ((is : List ℕ) (d : Device) → P is d → Q is d)
     → Along P ids acts device → Along Q ids acts device
 along-map P Q ids [] device turn along = turn ids device along
-along-map P Q ids (act ∷ acts) device turn along = (
-  turn ids device along.0,
-  λ may. ((along.1 may).0, along-map P Q (ids ++ id_in act) acts (acted act device).1 turn (along.1 may).1),
-)
+along-map P Q ids (act ∷ acts) device turn along = grind (arith, along-map P Q (ids ++ id_in act) acts (acted act device).1 turn)
 
 pub along-append : (P : List ℕ → Device → Type 0) (ids : List ℕ) (xs ys : List Act) (device : Device) → Along P ids xs device
     → (GetFreeIds xs device → Along P (ids ++ ids_in xs) ys (device_after xs device)) → Along P ids (xs ++ ys) device
 along-append P ids [] ys device first second = subst (λ is. Along P is ys device) (append-nil ids) (second tt)
-along-append P ids (x ∷ xs) ys device first second = (
-  first.0,
-  λ may. (
-    (first.1 may).0,
-    along-append P (ids ++ id_in x) xs ys (acted x device).1 (first.1 may).1
-        (λ free. subst (λ is. Along P is ys (device_after xs (acted x device).1)) (sym (append_assoc ids (id_in x) (ids_in xs))) (second (may, free))),
-  ),
-)
+along-append P ids (x ∷ xs) ys device first second =
+    grind (arith, along-append P (ids ++ id_in x) xs ys (acted x device).1, Along P, append_assoc ids (id_in x) (ids_in xs))
 
 pub along-take : (P : List ℕ → Device → Type 0) (ids : List ℕ) (acts : List Act) (device : Device) (n : ℕ) → Along P ids acts device
     → GetFreeIds (take n acts) device → P (ids ++ ids_in (take n acts)) (device_after (take n acts) device)
 along-take P ids acts device zero along free = subst (λ is. P is device) (sym (append-nil ids)) (along-first P ids acts device along)
 along-take P ids [] device (suc n) along free = subst (λ is. P is device) (sym (append-nil ids)) along
 along-take P ids (x ∷ xs) device (suc n) along free =
-    subst (λ is. P is (device_after (take n xs) (acted x device).1)) (append_assoc ids (id_in x) (ids_in (take n xs)))
-    (along-take P (ids ++ id_in x) xs (acted x device).1 n (along.1 free.0).1 free.1)
+    grind (arith, take n xs, append_assoc ids (id_in x) (ids_in (take n xs)), along-take P (ids ++ id_in x) xs (acted x device).1 n (along.1 free.0).1 free.1)
 
 pub along-last : (P : List ℕ → Device → Type 0) (ids : List ℕ) (acts : List Act) (device : Device) → Along P ids acts device → GetFreeIds acts device
     → P (ids ++ ids_in acts) (device_after acts device)
 along-last P ids [] device along free = subst (λ is. P is device) (sym (append-nil ids)) along
 along-last P ids (x ∷ xs) device along free =
-    subst (λ is. P is (device_after xs (acted x device).1)) (append_assoc ids (id_in x) (ids_in xs))
-    (along-last P (ids ++ id_in x) xs (acted x device).1 (along.1 free.0).1 free.1)
+    grind (arith, append_assoc ids (id_in x) (ids_in xs), along-last P (ids ++ id_in x) xs (acted x device).1 (along.1 free.0).1 free.1)
 
 -- each new record of these acts is told its id
 abbrev pub TellIds : List Act → Device → Type 0
@@ -106,25 +91,20 @@ pub record Holds (device other : Device) : Type 0 where
   pub databases : device.databases ≡ other.databases
   pub user : device.user ≡ other.user
 
-pub holds-then : (a b c : Device) → Holds b a → Holds c b → Holds c a
-holds-then a b c first second = record { databases = second.databases ∙ first.databases; user = second.user ∙ first.user }
+pub holds-then : {a b c : Device} → Holds b a → Holds c b → Holds c a
+holds-then first second = grind arith
 
 pub quiet-one : (act : Act) (device : Device) → MayAct act device → is_change (function_number act.asks) ≡ false → Holds (acted act device).1 device
 unfolding acted
-quiet-one act device may quiet = by (tried act.given device act.asks) (tried_done act.given device act.asks may)
-  where
-    by : (r : Tried) → Keeps (Done device act.asks) r → Holds (outcome device (function_number act.asks) r).1 device
-    by (Ok done) keeps = (let same = keeps.quiet quiet in record { databases = same.0; user = same.1 })
-    by (Err code) keeps = record { databases = refl; user = refl }
+quiet-one act device may quiet = grind (arith, tried_done act.given device act.asks may)
 
 -- a request that changes nothing asks for no id
 pub form_asks : (f : Form) (fields : Fields (kinds_of f)) → is_change (number_of_form f) ≡ false → asks_by f fields ≡ false
-form_asks form.WriteRecord fields quiet = absurd (cc)
-form_asks other fields quiet = refl
+form_asks f fields quiet = grind (arith, common_steps)
 
-form_may : (device : Device) (given : ℕ) (f : Form) (fields : Fields (kinds_of f)) → is_change (number_of_form f) ≡ false → FormMayGive device given f fields
-form_may device given form.WriteRecord fields quiet = absurd (cc)
-form_may device given other fields quiet = tt
+form_may : (device : Device) (given : ℕ) (f : Form) (fields : Fields (kinds_of f)) → is_change (number_of_form f) ≡ false
+    → FormMayGive device given f fields
+form_may device given f fields quiet = grind (arith, common_steps)
 
 pub quiet-may : (act : Act) (device : Device) → is_change (function_number act.asks) ≡ false → MayAct act device
 quiet-may act device quiet = form_may device act.given act.asks.form act.asks.fields quiet
@@ -138,8 +118,7 @@ Quiet [] = Unit {0}
 Quiet (act ∷ acts) = (is_change (function_number act.asks) ≡ false) × Quiet acts
 
 none_kept : (b : Bool) (x : List ℕ) (xs : List (List ℕ)) → (if b then x ∷ xs else xs) ≡ [] → (b ≡ false) × (xs ≡ [])
-none_kept true x xs is = absurd (cc)
-none_kept false x xs is = (refl, is)
+none_kept b x xs is = grind (arith, common_steps)
 
 pub quiet-all : (acts : List Act) → filter changes (map text acts) ≡ [] → Quiet acts
 unfolding text
@@ -148,13 +127,14 @@ quiet-all (act ∷ acts) none =
     let parts = none_kept (changes (text act)) (text act) (filter changes (map text acts)) none in
     (sym (changes-text act.asks) ∙ parts.0, quiet-all acts parts.1)
 
-pub quiet-after : (acts : List Act) (device : Device) → Quiet acts → GetFreeIds acts device × Holds (device_after acts device) device × (ids_in acts ≡ [])
+pub quiet-after : (acts : List Act) (device : Device) → Quiet acts
+    → GetFreeIds acts device × Holds (device_after acts device) device × (ids_in acts ≡ [])
 quiet-after [] device quiet = (tt, record { databases = refl; user = refl }, refl)
 quiet-after (act ∷ acts) device quiet =
     let may = quiet-may act device quiet.0 in
     let rest = quiet-after acts (acted act device).1 quiet.1 in (
       (may, rest.0),
-      holds-then device (acted act device).1 (device_after acts (acted act device).1) (quiet-one act device may quiet.0) rest.1,
+      holds-then (quiet-one act device may quiet.0) rest.1,
       ap (λ is. is ++ ids_in acts) (quiet-asks act quiet.0) ∙ rest.2,
     )
 
@@ -162,12 +142,13 @@ quiet-after (act ∷ acts) device quiet =
 pub along-quiet : (P : List ℕ → Device → Type 0) (ids : List ℕ) (acts : List Act) (device : Device) → Quiet acts
     → ((d : Device) → Holds d device → P ids d) → Along P ids acts device
 along-quiet P ids [] device quiet holds = holds device (record { databases = refl; user = refl })
-along-quiet P ids (act ∷ acts) device quiet holds = (
-  holds device (record { databases = refl; user = refl }),
-  λ may. (
-    none-told act device (form_asks act.asks.form act.asks.fields quiet.0),
-    subst (λ is. Along P is acts (acted act device).1) (sym (ap (λ is. ids ++ is) (quiet-asks act quiet.0) ∙ append-nil ids))
-        (along-quiet P ids acts (acted act device).1 quiet.1
-        (λ d is. holds d (holds-then device (acted act device).1 d (quiet-one act device may quiet.0) is))),
-  ),
-)
+along-quiet P ids (act ∷ acts) device quiet holds =
+    grind (
+      arith,
+      none-told act device (form_asks act.asks.form act.asks.fields quiet.0),
+      Along P,
+      quiet-asks act quiet.0,
+      append-nil ids,
+      along-quiet P ids acts (acted act device).1 quiet.1,
+      quiet-one act device,
+    )

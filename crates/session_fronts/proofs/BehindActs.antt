@@ -1,5 +1,5 @@
 -- What holds of a handheld after any beginning of a session behind the desktop's commit.
-use Rattle.std.proofs.Common.{◌≡◌, ◌⊎◌, inl, inr, ◌∙◌, refl, ap, sym, subst, cond, ℕ, suc, true, false, List, [], ◌∷◌, ◌++◌, map, take, drop, append-nil}
+use Rattle.std.proofs.Common.{arith, ◌≡◌, ◌⊎◌, inl, inr, ◌∙◌, refl, ap, sym, subst, cond, ℕ, suc, true, false, List, [], ◌∷◌, ◌++◌, map, take, drop, append-nil}
 use Rattle.std.specs.Prelude.{Some, flat_map}
 use Rattle.std.specs.Str.{bytes_eq}
 use Rattle.pdb_values.specs.Databases.{DatabaseValue}
@@ -13,7 +13,6 @@ use Rattle.palm_device.specs.Records.{cleaned_up, reset_flags, with_records, wit
 use Rattle.palm_device.specs.declared.opened.Opened.{Opened}
 use Rattle.conduit_rules.specs.Plans.{purged_ids}
 use Rattle.conduit_merge.specs.Writes.{Write, after, clean_up, clearing, giving, purges, reset}
-use Rattle.desktop_session.specs.Acts.{Act, acted}
 use Rattle.desktop_session.specs.Requests.{cleaning, ending, opening, removing, resetting}
 use Rattle.desktop_session.specs.Tellings.{device_after}
 use Rattle.slow_mirror.specs.News.{purge_writes}
@@ -48,36 +47,32 @@ record ClearedSome (o : Opened) (d : DatabaseValue) (databases : List DatabaseVa
   count : ℕ
   are : x ≡ holding o d databases user (after (take count (purges gone ++ last_writes)) rs)
 
-purges_along : (o : Opened) (d : DatabaseValue) (databases : List DatabaseValue) (user : UserInfo) (rs : List Record) (gone ids : List ℕ)
+purges_along : (o : Opened) (d : DatabaseValue) {databases : List DatabaseValue} (user : UserInfo) (rs : List Record) (gone ids : List ℕ)
     → MayWrite o d databases → Along (ClearedSome o d databases user rs gone ids) ids (purge_writes 1 gone) (holding o d databases user rs)
-purges_along o d databases user rs [] ids may =
-    let P : List ℕ → Device → Type 0 = ClearedSome o d databases user rs [] ids in
-    let clean : Device = holding o d databases user (cleaned_up rs) in
-    let reset_all : Device = holding o d databases user (reset_flags (cleaned_up rs)) in (
+purges_along o d {databases} user rs [] ids may =
+    let P = ClearedSome o d databases user rs [] ids in
+    let clean = holding o d databases user (cleaned_up rs) in
+    let reset_all = holding o d databases user (reset_flags (cleaned_up rs)) in (
       record { same = refl; count = 0; are = refl },
       λ first. (
         none-told (cleaning 1) (holding o d databases user rs) refl,
-        both_of P ids (ids ++ []) (resetting 1 ∷ []) (acted (cleaning 1) (holding o d databases user rs)).1 clean (append-nil ids)
-            (clean_does o d databases user rs may) (
-              record { same = refl; count = 1; are = refl },
-              λ second. (
-                none-told (resetting 1) clean refl,
-                both_of P ids (ids ++ []) [] (acted (resetting 1) clean).1 reset_all (append-nil ids) (reset_does o d databases user (cleaned_up rs) may)
-                    (record { same = refl; count = 2; are = refl }),
-              ),
-            ),
+        both_of P (resetting 1 ∷ []) (append-nil ids) (clean_does user may rs) (
+          record { same = refl; count = 1; are = refl },
+          λ second. (
+            none-told (resetting 1) clean refl,
+            both_of P [] (append-nil ids) (reset_does user may (cleaned_up rs)) (record { same = refl; count = 2; are = refl }),
+          ),
+        ),
       ),
     )
-purges_along o d databases user rs (i ∷ gone) ids may = (
+purges_along o d {databases} user rs (i ∷ gone) ids may = (
   record { same = refl; count = 0; are = refl },
   λ free. (
     none-told (removing 1 i) (holding o d databases user rs) refl,
-    both_of (ClearedSome o d databases user rs (i ∷ gone) ids) ids (ids ++ []) (purge_writes 1 gone)
-        (acted (removing 1 i) (holding o d databases user rs)).1 (holding o d databases user (without_record i rs)) (append-nil ids)
-        (remove_does o d databases user rs i may)
+    both_of (ClearedSome o d databases user rs (i ∷ gone) ids) (purge_writes 1 gone) (append-nil ids) (remove_does user may rs i)
         (along-map (ClearedSome o d databases user (without_record i rs) gone ids) (ClearedSome o d databases user rs (i ∷ gone) ids) ids (purge_writes 1 gone)
         (holding o d databases user (without_record i rs)) (λ is x some. record { same = some.same; count = suc some.count; are = some.are })
-        (purges_along o d databases user (without_record i rs) gone ids may)),
+        (purges_along o d user (without_record i rs) gone ids may)),
   ),
 )
 
@@ -95,21 +90,15 @@ record ClearedPart (m : Meeting) (t : Task) (b : DatabaseValue) (rs : List Recor
 
 respects_cleared : (m : Meeting) (t : Task) (b : DatabaseValue) (rs : List Record) (databases : List DatabaseValue) (user : UserInfo) (ids : List ℕ)
     → Respects (ClearedPart m t b rs databases user ids)
-respects_cleared m t b rs databases user ids is d e holds part = record {
-  same = part.same;
-  count = part.count;
-  stands = ap (database_of t.name) holds.databases ∙ part.stands;
-  others = λ name apart. ap (database_of name) holds.databases ∙ part.others name apart;
-  known = holds.user ∙ part.known;
-}
+respects_cleared m t b rs databases user ids is d e holds part = grind arith
 
 cleared_part : (m : Meeting) (t : Task) (is : IsReady m t) (rs : List Record) (o : Opened) (databases : List DatabaseValue) (user : UserInfo) (ids : List ℕ)
     → database_of t.name databases ≡ Some (with_records rs is.b) → (js : List ℕ) (x : Device)
     → ClearedSome o (with_records rs is.b) databases user rs (purged_ids (choice m t).keep (seen_held m t)) ids js x
     → ClearedPart m t is.b rs databases user ids js x
 cleared_part m t is rs o databases user ids here js x some =
-    let was : DatabaseValue = with_records rs is.b in
-    let new : DatabaseValue = with_cleared m t some.count rs is.b in
+    let was = with_records rs is.b in
+    let new = with_cleared m t some.count rs is.b in
     let found : database_of new.head.name databases ≡ Some was = ap (λ n. database_of n databases) is.own ∙ here in
     let own : bytes_eq is.b.head.name t.name ≡ true = ap (λ n. bytes_eq n t.name) is.own ∙ bytes_eq-own t.name in
     record {
@@ -128,17 +117,16 @@ clear_along : (m : Meeting) (t : Task) (is : IsReady m t) (rs : List Record) (da
     → Along (ClearedPart m t is.b rs databases user ids) ids (purge_acts m t) (all_closed databases user)
 unfolding purge_acts
 clear_along m t is rs databases user ids here =
-    let now : DatabaseValue = with_records rs is.b in
-    let o : Opened = just_opened t.name 0xD0 in
-    let gone : List ℕ = purged_ids (choice m t).keep (seen_held m t) in
+    let now = with_records rs is.b in
+    let o = just_opened t.name 0xD0 in
+    let gone = purged_ids (choice m t).keep (seen_held m t) in
     let may : MayWrite o now databases = record { here = here; mode = refl; writable = is.writable; records = is.records } in
-    let P : List ℕ → Device → Type 0 = ClearedPart m t is.b rs databases user ids in
+    let P = ClearedPart m t is.b rs databases user ids in
     around_along P (respects_cleared m t is.b rs databases user ids) (opening t.name) (purge_writes 1 gone) (all_closed databases user) o databases user ids
     (record { same = refl; count = 0; stands = here; others = λ name apart. refl; known = refl }) refl
-    (open_does databases user t.name now is.named here is.writable)
-    (subst (Along P ids (purge_writes 1 gone)) (holding_own o now databases user may)
+    (open_does databases user is.named here is.writable) (subst (Along P ids (purge_writes 1 gone)) (holding_own may user)
     (along-map (ClearedSome o now databases user rs gone ids) P ids (purge_writes 1 gone) (holding o now databases user rs)
-    (cleared_part m t is rs o databases user ids here) (purges_along o now databases user rs gone ids may)))
+    (cleared_part m t is rs o databases user ids here) (purges_along o now user rs gone ids may)))
 
 -- ---- those of all
 
@@ -181,22 +169,20 @@ record ClearedAll (m : Meeting) (ts : List Task) (ready : AreReady m ts) (given 
 all_along : (m : Meeting) (ts : List Task) (ready : AreReady m ts) (given : List ℕ) (databases : List DatabaseValue) (user : UserInfo) (ids : List ℕ)
     → HaveNames ts → AreChanged m (with_news m) ts ready given databases
     → Along (ClearedAll m ts ready given databases user ids) ids (flat_map (purge_acts m) ts) (all_closed databases user)
-all_along m [] ready given databases user ids names changed =
-    record { same = refl; counts = []; cleared = tt; others = λ name apart. refl; known = refl }
+all_along m [] ready given databases user ids names changed = grind (arith, [])
 all_along m (t ∷ ts) ready given databases user ids names changed =
-    let is : IsReady m t = ready.0 in
-    let rs : List Record = news_records m t is given in
-    let first : List Act = purge_acts m t in
-    let second : List Act = flat_map (purge_acts m) ts in
-    let later : List ℕ = drop (add_count m t) given in
-    let device : Device = all_closed databases user in
-    let P : List ℕ → Device → Type 0 = ClearedAll m (t ∷ ts) ready given databases user ids in
-    let Q : List ℕ → Device → Type 0 = ClearedPart m t is.b rs databases user ids in
-    let one : Along Q ids first device = clear_along m t is rs databases user ids changed.0 in
-    let now : List DatabaseValue = with_put (with_records (after (clearing (choice m t) (seen_held m t)) rs) is.b) databases in
-    let does : device_after first device ≡ all_closed now user = purged_does m t is rs databases user changed.0 in
-    along-append P ids first second device
-    (along-map Q P ids first device (λ js x part. record {
+    let is = ready.0 in
+    let rs = news_records m t is given in
+    let first = purge_acts m t in
+    let second = flat_map (purge_acts m) ts in
+    let later = drop (add_count m t) given in
+    let device = all_closed databases user in
+    let P = ClearedAll m (t ∷ ts) ready given databases user ids in
+    let Q = ClearedPart m t is.b rs databases user ids in
+    let one = clear_along m t is rs databases user ids changed.0 in
+    let now = with_put (with_records (after (clearing (choice m t) (seen_held m t)) rs) is.b) databases in
+    let does = purged_does m t is rs databases user changed.0 in
+    along-append P ids first second device (along-map Q P ids first device (λ js x part. record {
       same = part.same;
       counts = part.count ∷ map (λ (u : Task). 0) ts;
       cleared = (
@@ -205,9 +191,8 @@ all_along m (t ∷ ts) ready given databases user ids names changed =
       );
       others = λ name apart. part.others name apart.0;
       known = part.known;
-    }) one)
-    (λ free.
-    let last : Q (ids ++ ids_in first) (device_after first device) = along-last Q ids first device one free in
+    }) one) (λ free.
+    let last = along-last Q ids first device one free in
     let same_now : (device_after first device).databases ≡ now = ap (λ (d : Device). d.databases) does in
     let unchanged : (name : List ℕ) → bytes_eq t.name name ≡ false → database_of name now ≡ database_of name databases =
     λ name apart. sym (ap (database_of name) same_now) ∙ last.others name apart in
@@ -219,8 +204,7 @@ all_along m (t ∷ ts) ready given databases user ids names changed =
       cleared = (rest.others t.name names.0 ∙ sym (ap (database_of t.name) same_now) ∙ last.stands, rest.cleared);
       others = λ name apart. rest.others name apart.1 ∙ unchanged name apart.0;
       known = rest.known;
-    })
-    (all_along m ts ready.1 later now user (ids ++ ids_in first) names.1
+    }) (all_along m ts ready.1 later now user (ids ++ ids_in first) names.1
     (changed_others m ts ready.1 later t.name databases now names.0 changed.1 unchanged))))
 
 -- ---- behind the commit
@@ -231,72 +215,48 @@ pub record BehindPart (m : Meeting) (given : List ℕ) (ready : AreReady m (acti
   pub counts : List ℕ
   pub cleared : AreCleared m (active m) ready given counts x.databases
   pub others : (name : List ℕ) → NotNamed name (active m) → database_of name x.databases ≡ database_of name m.device.databases
-  pub marked : (x.user ≡ begun_user m.device.user)
-      ⊎ ((x.user ≡ done_user m.wishes.date m.device.user (slot_of m).marks) × (x.databases ≡ merged_databases m (active m) given m.device.databases))
+  pub marked : (x.user ≡ begun_user m.device.user) ⊎ ((x.user ≡ done_user m.wishes.date m.device.user (slot_of m).marks)
+      × (x.databases ≡ merged_databases m (active m) given m.device.databases))
 
 pub respects-behind : (m : Meeting) (given : List ℕ) (ready : AreReady m (active m)) (ids : List ℕ) → Respects (BehindPart m given ready ids)
-respects-behind m given ready ids is d e holds part = record {
-  same = part.same;
-  counts = part.counts;
-  cleared = subst (AreCleared m (active m) ready given part.counts) (sym holds.databases) part.cleared;
-  others = λ name apart. ap (database_of name) holds.databases ∙ part.others name apart;
-  marked = marked part.marked;
-}
-  where
-    Marked : Device → Type 0
-    Marked x = (x.user ≡ begun_user m.device.user)
-        ⊎ ((x.user ≡ done_user m.wishes.date m.device.user (slot_of m).marks) × (x.databases ≡ merged_databases m (active m) given m.device.databases))
+respects-behind m given ready ids is d e holds part = grind (arith, AreCleared m (active m) ready given part.counts)
 
-    marked : (d.user ≡ begun_user m.device.user)
-        ⊎ ((d.user ≡ done_user m.wishes.date m.device.user (slot_of m).marks) × (d.databases ≡ merged_databases m (active m) given m.device.databases))
-        → (e.user ≡ begun_user m.device.user)
-        ⊎ ((e.user ≡ done_user m.wishes.date m.device.user (slot_of m).marks) × (e.databases ≡ merged_databases m (active m) given m.device.databases))
-    marked (inl is_begun) = inl (holds.user ∙ is_begun)
-    marked (inr is_done) = inr (holds.user ∙ is_done.0, holds.databases ∙ is_done.1)
-
-pub behind-along : (m : Meeting) (given : List ℕ) (sound : IsSoundMeeting m) (ids : List ℕ) → AreDealt m (active m) given
-    → Along (BehindPart m given (ready-all m sound) ids) ids (after_commit m)
+pub behind-along : {m : Meeting} (given : List ℕ) (sound : IsSoundMeeting m) (ids : List ℕ) → AreDealt m (active m) given
+    → Along (BehindPart m given (ready-all sound) ids) ids (after_commit m)
     (all_closed (put_each m (with_news m) (active m) given m.device.databases) (begun_user m.device.user))
 unfolding after_commit
-behind-along m given sound ids dealt =
-    let ready : AreReady m (active m) = ready-all m sound in
-    let user : UserInfo = begun_user m.device.user in
-    let news : List DatabaseValue = put_each m (with_news m) (active m) given m.device.databases in
-    let purging : List Act = flat_map (purge_acts m) (active m) in
-    let changed : AreChanged m (with_news m) (active m) ready given news =
-    changed-each m (with_news m) (news-keep m) (active m) ready given m.device.databases (have-names m) in
-    let whole : List DatabaseValue = put_each m (with_all m) (active m) given news in
-    let P : List ℕ → Device → Type 0 = BehindPart m given ready ids in
-    let purged : Along P ids purging (all_closed news user) =
-    along-map (ClearedAll m (active m) ready given news user ids) P ids purging (all_closed news user)
-    (λ js x all. record {
+behind-along {m} given sound ids dealt =
+    let ready = ready-all sound in
+    let user = begun_user m.device.user in
+    let news = put_each m (with_news m) (active m) given m.device.databases in
+    let purging = flat_map (purge_acts m) (active m) in
+    let changed = changed-each m (with_news m) (news-keep m) (active m) ready given m.device.databases (have-names m) in
+    let whole = put_each m (with_all m) (active m) given news in
+    let P = BehindPart m given ready ids in
+    let purged = along-map (ClearedAll m (active m) ready given news user ids) P ids purging (all_closed news user) (λ js x all. record {
       same = all.same;
       counts = all.counts;
       cleared = all.cleared;
       others = λ name apart. all.others name apart ∙ others-each m (with_news m) (news-keep m) (active m) given m.device.databases name ready apart;
       marked = inl all.known;
-    })
-    (all_along m (active m) ready given news user ids (have-names m) changed) in
-    along-append P ids purging (end_mark m ∷ ending ∷ []) (all_closed news user) purged
-    (λ free.
+    }) (all_along m (active m) ready given news user ids (have-names m) changed) in
+    along-append P ids purging (end_mark m ∷ ending ∷ []) (all_closed news user) purged (λ free.
     let then_ids : List ℕ = ids ++ ids_in purging in
-    let does : device_after purging (all_closed news user) ≡ all_closed whole user = purges_all m (active m) ready given news user (have-names m) changed in
+    let does = purges_all m (active m) ready given news user (have-names m) changed in
     let last : P then_ids (all_closed whole user) = subst (P then_ids) does (along-last P ids purging (all_closed news user) purged free) in
-    let end : UserInfo = done_user m.wishes.date m.device.user (slot_of m).marks in
+    let end = done_user m.wishes.date m.device.user (slot_of m).marks in
     let over : P then_ids (all_closed whole end) =
     record { same = last.same; counts = last.counts; cleared = last.cleared; others = last.others; marked = inr (refl, both m given sound dealt) } in
     subst (Along P then_ids (end_mark m ∷ ending ∷ [])) (sym does) (
       last,
       λ first. (
         none-told (end_mark m) (all_closed whole user) refl,
-        both_of P then_ids (then_ids ++ []) (ending ∷ []) (acted (end_mark m) (all_closed whole user)).1 (all_closed whole end) (append-nil then_ids)
-            (done m sound whole) (
-              over,
-              λ second. (
-                none-told ending (all_closed whole end) refl,
-                both_of P then_ids (then_ids ++ []) [] (acted ending (all_closed whole end)).1 (all_closed whole end) (append-nil then_ids)
-                    (ended whole end) over,
-              ),
-            ),
+        both_of P (ending ∷ []) (append-nil then_ids) (done sound whole) (
+          over,
+          λ second. (
+            none-told ending (all_closed whole end) refl,
+            both_of P [] (append-nil then_ids) (ended whole end) over,
+          ),
+        ),
       ),
     ))

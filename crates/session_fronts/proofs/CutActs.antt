@@ -1,4 +1,5 @@
 -- A beginning of a session's acts ends up to the desktop's commit or behind it; how many of them write says which.
+use Rattle.std.proofs.lemmas.Grind.{common_steps}
 use Rattle.std.proofs.Common.{◌≡◌, ◌⊎◌, inl, inr, ◌∙◌, ◌≤◌, ◌+◌, refl, ap, sym, subst, ℕ, zero, suc, List, [], ◌∷◌, ◌++◌, length, map, filter, take, drop, arith, append_assoc}
 use Rattle.std.specs.Prelude.{None, replicate}
 use Rattle.std.proofs.lemmas.List.{length-append, map-append}
@@ -34,13 +35,15 @@ writes_in acts = length (filter changes (map text acts))
 
 pub writes-append : (xs ys : List Act) → writes_in (xs ++ ys) ≡ writes_in xs + writes_in ys
 writes-append xs ys =
-    ap (λ zs. length (filter changes zs)) (map-append text xs ys)
-    ∙ ap length (filter-append changes (map text xs) (map text ys))
-    ∙ length-append (filter changes (map text xs)) (filter changes (map text ys))
+    grind (
+      arith,
+      map-append text xs ys,
+      filter-append changes (map text xs) (map text ys),
+      length-append (filter changes (map text xs)) (filter changes (map text ys)),
+    )
 
 none_left : (xs : List (List ℕ)) → length xs ≡ 0 → xs ≡ []
-none_left [] none = refl
-none_left (x ∷ xs) none = absurd (omega (arith, none))
+none_left xs none = grind (arith, common_steps)
 
 quiet_where : (acts : List Act) → writes_in acts ≡ 0 → Quiet acts
 quiet_where acts none = quiet-all acts (none_left (filter changes (map text acts)) none)
@@ -49,7 +52,7 @@ quiet_where acts none = quiet-all acts (none_left (filter changes (map text acts
 pub commit-writes : (m : Meeting) (given : List ℕ) → writes_in (before_commit m given) ≡ writes_before_commit m
 unfolding writes_before_commit session
 commit-writes m given =
-    let zeros : List ℕ = replicate (adds_of m) 0 in
+    let zeros = replicate (adds_of m) 0 in
     let one = whole given in
     let other = whole zeros in
     omega (arith, one, other)
@@ -62,28 +65,19 @@ commit-writes m given =
 cut : {A : Type 0} (xs ys : List A) (n : ℕ) → (take n (xs ++ ys) ≡ take n xs) ⊎ ((k : ℕ) × (take n (xs ++ ys) ≡ xs ++ take k ys))
 cut [] ys n = inr (n, refl)
 cut (x ∷ xs) ys zero = inl refl
-cut {A} (x ∷ xs) ys (suc n) = by (cut xs ys n)
-  where
-    by : (take n (xs ++ ys) ≡ take n xs) ⊎ ((k : ℕ) × (take n (xs ++ ys) ≡ xs ++ take k ys))
-        → (x ∷ take n (xs ++ ys) ≡ x ∷ take n xs) ⊎ ((k : ℕ) × (x ∷ take n (xs ++ ys) ≡ (x ∷ xs) ++ take k ys))
-    by (inl is) = inl (ap (λ (zs : List A). x ∷ zs) is)
-    by (inr (k, is)) = inr (k, ap (λ (zs : List A). x ∷ zs) is)
+cut {A} (x ∷ xs) ys (suc n) = grind (arith, cut xs ys n)
 
 rest : {A : Type 0} (n : ℕ) (xs : List A) → take n xs ++ drop n xs ≡ xs
 rest zero xs = refl
 rest (suc n) [] = refl
 rest {A} (suc n) (x ∷ xs) = ap (λ (zs : List A). x ∷ zs) (rest n xs)
 
--- what was read of a device that holds the same
-turned_back : (d e : Device) → Holds d e → Holds e d
-turned_back d e holds = record { databases = sym holds.databases; user = sym holds.user }
-
 -- ---- where it ends
 
 -- by how many of the acts write
 pub record IsCut (m : Meeting) (sound : IsSoundMeeting m) (given : List ℕ) (acts : List Act) : Type 0 where
-  pub among : writes_in acts ≤ writes_before_commit m → AmongPart m (ready-all m sound) (ids_in acts) (device_after acts m.device)
-  pub behind : writes_before_commit m ≤ writes_in acts → BehindPart m given (ready-all m sound) (ids_in acts) (ids_in acts) (device_after acts m.device)
+  pub among : writes_in acts ≤ writes_before_commit m → AmongPart m (ready-all sound) (ids_in acts) (device_after acts m.device)
+  pub behind : writes_before_commit m ≤ writes_in acts → BehindPart m given (ready-all sound) (ids_in acts) (ids_in acts) (device_after acts m.device)
   pub dealt : writes_before_commit m ≤ writes_in acts → AreDealt m (active m) given
   pub tells : TellIds acts m.device
 
@@ -94,82 +88,79 @@ free_both (x ∷ xs) ys device first second = (first.0, free_both xs ys (acted x
 
 pub ids-append : (xs ys : List Act) → ids_in (xs ++ ys) ≡ ids_in xs ++ ids_in ys
 ids-append [] ys = refl
-ids-append (x ∷ xs) ys = ap (λ is. id_in x ++ is) (ids-append xs ys) ∙ sym (append_assoc (id_in x) (ids_in xs) (ids_in ys))
+ids-append (x ∷ xs) ys = grind (arith, ids-append xs ys, append_assoc (id_in x) (ids_in xs) (ids_in ys))
 
 -- it ends up to the commit
 cut_before : (m : Meeting) (sound : IsSoundMeeting m) (given : List ℕ) → first_over m ≡ None → (n : ℕ)
     → GetFreeIds (take n (before_commit m given)) m.device → IsCut m sound given (take n (before_commit m given))
 cut_before m sound given none n free =
-    let all : List Act = before_commit m given in
-    let xs : List Act = take n all in
-    let ys : List Act = drop n all in
-    let parts : xs ++ ys ≡ all = rest n all in
-    let total : writes_in xs + writes_in ys ≡ writes_before_commit m =
-    sym (writes-append xs ys) ∙ ap writes_in parts ∙ commit-writes m given in
-    let still : writes_before_commit m ≤ writes_in xs → Quiet ys = λ most. quiet_where ys (omega (arith, total, most)) in
-    let full : writes_before_commit m ≤ writes_in xs → GetFreeIds all m.device =
-    λ most. subst (λ (zs : List Act). GetFreeIds zs m.device) parts
-    (free_both xs ys m.device free (quiet-after ys (device_after xs m.device) (still most)).0) in
-    record {
-      among = λ few. along-take (AmongPart m (ready-all m sound)) [] all m.device n (among-along m given sound none) free;
-      behind = λ most.
-          let first = committed m given sound none (full most) in
-          let device : Device = all_closed (put_each m (with_news m) (active m) given m.device.databases) (begun_user m.device.user) in
-          let start : BehindPart m given (ready-all m sound) (ids_in xs) (ids_in xs) device =
-          along-first (BehindPart m given (ready-all m sound) (ids_in xs)) (ids_in xs) (after_commit m) device
-          (behind-along m given sound (ids_in xs) first.dealt) in
-          let quiet = (quiet-after ys (device_after xs m.device) (still most)).1 in
-          let reached : device_after ys (device_after xs m.device) ≡ device =
-          sym (after_append xs ys m.device) ∙ ap (λ (zs : List Act). device_after zs m.device) parts ∙ first.does in
-          respects-behind m given (ready-all m sound) (ids_in xs) (ids_in xs) device (device_after xs m.device)
-          (turned_back device (device_after xs m.device) (subst (λ (d : Device). Holds d (device_after xs m.device)) reached quiet)) start;
-      dealt = λ most. (committed m given sound none (full most)).dealt;
-      tells = along-tells (AmongPart m (ready-all m sound)) [] all m.device n (among-along m given sound none) free;
-    }
+    grind (
+      arith,
+      take n (before_commit m given),
+      drop n (before_commit m given),
+      rest n (before_commit m given),
+      writes_in (take n (before_commit m given)),
+      writes_in (drop n (before_commit m given)),
+      writes-append (take n (before_commit m given)) (drop n (before_commit m given)),
+      commit-writes m given,
+      quiet_where (drop n (before_commit m given)),
+      free_both (take n (before_commit m given)) (drop n (before_commit m given)) m.device free,
+      quiet-after (drop n (before_commit m given)) (device_after (take n (before_commit m given)) m.device),
+      along-take (AmongPart m (ready-all sound)) [] (before_commit m given) m.device n (among-along given sound none) free,
+      committed given sound none,
+      all_closed (put_each m (with_news m) (active m) given m.device.databases) (begun_user m.device.user),
+      along-first (BehindPart m given (ready-all sound) (ids_in (take n (before_commit m given)))) (ids_in (take n (before_commit m given)))
+          (after_commit m) (all_closed (put_each m (with_news m) (active m) given m.device.databases) (begun_user m.device.user)),
+      ready-all sound,
+      behind-along given sound (ids_in (take n (before_commit m given))),
+      after_append (take n (before_commit m given)) (drop n (before_commit m given)) m.device,
+      respects-behind m given (ready-all sound) (ids_in (take n (before_commit m given))) (ids_in (take n (before_commit m given)))
+          (all_closed (put_each m (with_news m) (active m) given m.device.databases) (begun_user m.device.user))
+          (device_after (take n (before_commit m given)) m.device),
+      along-tells (AmongPart m (ready-all sound)) [] (before_commit m given) m.device n
+          (among-along given sound none) free,
+    )
 
 -- it ends behind it
 cut_behind : (m : Meeting) (sound : IsSoundMeeting m) (given : List ℕ) → first_over m ≡ None → (k : ℕ)
     → GetFreeIds (before_commit m given ++ take k (after_commit m)) m.device → IsCut m sound given (before_commit m given ++ take k (after_commit m))
 cut_behind m sound given none k free =
-    let xs : List Act = before_commit m given in
-    let ys : List Act = take k (after_commit m) in
-    let ready = ready-all m sound in
-    let device : Device = all_closed (put_each m (with_news m) (active m) given m.device.databases) (begun_user m.device.user) in
-    let free_xs : GetFreeIds xs m.device = free-front xs ys m.device free in
-    let first = committed m given sound none free_xs in
+    let xs = before_commit m given in
+    let ys = take k (after_commit m) in
+    let ready = ready-all sound in
+    let device = all_closed (put_each m (with_news m) (active m) given m.device.databases) (begun_user m.device.user) in
+    let free_xs = free-front xs ys m.device free in
+    let first = committed given sound none free_xs in
     let free_ys : GetFreeIds ys device = subst (GetFreeIds ys) first.does (free-append xs ys m.device free) in
     let total : writes_in (xs ++ ys) ≡ writes_before_commit m + writes_in ys =
     writes-append xs ys ∙ ap (λ n. n + writes_in ys) (commit-writes m given) in
     let reached : device_after (xs ++ ys) m.device ≡ device_after ys device = after_append xs ys m.device ∙ ap (device_after ys) first.does in
-    let part : BehindPart m given ready (ids_in xs) (ids_in xs ++ ids_in ys) (device_after ys device) =
-    along-take (BehindPart m given ready (ids_in xs)) (ids_in xs) (after_commit m) device k (behind-along m given sound (ids_in xs) first.dealt) free_ys in
+    let part =
+    along-take (BehindPart m given ready (ids_in xs)) (ids_in xs) (after_commit m) device k (behind-along given sound (ids_in xs) first.dealt) free_ys in
     let same : ids_in (xs ++ ys) ≡ ids_in xs = ids-append xs ys ∙ part.same in
     record {
       among = λ few.
-          let still : Quiet ys = quiet_where ys (omega (arith, total, few)) in
+          let still = quiet_where ys (omega (arith, total, few)) in
           let holds = (quiet-after ys device still).1 in
-          let start : AmongPart m ready (ids_in xs) (device_after xs m.device) =
-          along-last (AmongPart m ready) [] xs m.device (among-along m given sound none) free_xs in
+          let start = along-last (AmongPart m ready) [] xs m.device (among-along given sound none) free_xs in
           subst (λ is. AmongPart m ready is (device_after (xs ++ ys) m.device)) (sym same)
           (respects-among m ready (ids_in xs) (device_after xs m.device) (device_after (xs ++ ys) m.device)
           (subst (λ (d : Device). Holds d (device_after xs m.device)) (sym reached) (subst (Holds (device_after ys device)) (sym first.does) holds)) start);
       behind = λ most. subst (λ (p : List ℕ × List ℕ). BehindPart m given ready p.0 p.1 (device_after (xs ++ ys) m.device))
-          (λ j. (sym same j, sym (ids-append xs ys) j))
-          (subst (BehindPart m given ready (ids_in xs) (ids_in xs ++ ids_in ys)) (sym reached) part);
+          (λ j. (sym same j, sym (ids-append xs ys) j)) (subst (BehindPart m given ready (ids_in xs) (ids_in xs ++ ids_in ys)) (sym reached) part);
       dealt = λ most. first.dealt;
-      tells = told-append xs ys m.device (along-told (AmongPart m ready) [] xs m.device (among-along m given sound none) free_xs)
-          (subst (TellIds ys) (sym first.does)
-          (along-tells (BehindPart m given ready (ids_in xs)) (ids_in xs) (after_commit m) device k
-          (behind-along m given sound (ids_in xs) first.dealt) free_ys));
+      tells = told-append xs ys m.device (along-told (AmongPart m ready) [] xs m.device (among-along given sound none) free_xs)
+          (subst (TellIds ys) (sym first.does) (along-tells (BehindPart m given ready (ids_in xs)) (ids_in xs) (after_commit m) device k
+          (behind-along given sound (ids_in xs) first.dealt) free_ys));
     }
 
-pub cut-acts : (m : Meeting) (sound : IsSoundMeeting m) (given : List ℕ) → first_over m ≡ None → (n : ℕ)
+pub cut-acts : {m : Meeting} (sound : IsSoundMeeting m) (given : List ℕ) → first_over m ≡ None → (n : ℕ)
     → GetFreeIds (take n (session m given)) m.device → IsCut m sound given (take n (session m given))
 unfolding session
-cut-acts m sound given none n free = by (cut (before_commit m given) (after_commit m) n)
+cut-acts {m} sound given none n free = by (cut (before_commit m given) (after_commit m) n)
   where
-    by : (take n (before_commit m given ++ after_commit m) ≡ take n (before_commit m given))
-        ⊎ ((k : ℕ) × (take n (before_commit m given ++ after_commit m) ≡ before_commit m given ++ take k (after_commit m)))
+    by : (take n (before_commit m given ++ after_commit m) ≡ take n (before_commit m given)) ⊎ ((k : ℕ)
+        × (take n (before_commit m given ++ after_commit m) ≡ before_commit m given ++ take k (after_commit m)))
         → IsCut m sound given (take n (before_commit m given ++ after_commit m))
     by (inl is) = subst (IsCut m sound given) (sym is) (cut_before m sound given none n (subst (λ (zs : List Act). GetFreeIds zs m.device) is free))
     by (inr (k, is)) = subst (IsCut m sound given) (sym is) (cut_behind m sound given none k (subst (λ (zs : List Act). GetFreeIds zs m.device) is free))

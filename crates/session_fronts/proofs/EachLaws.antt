@@ -1,5 +1,5 @@
 -- A change of each database of a session, one after another.
-use Rattle.std.proofs.Common.{◌≡◌, ◌∙◌, refl, ap, sym, subst, cond, ℕ, Bool, true, false, List, [], ◌∷◌, take, drop}
+use Rattle.std.proofs.Common.{arith, ◌≡◌, ◌∙◌, refl, ap, sym, subst, cond, ℕ, Bool, true, false, List, [], ◌∷◌, take, drop}
 use Rattle.std.specs.Prelude.{Option, Some, None}
 use Rattle.std.specs.List.{AllByRecursion}
 use Rattle.std.specs.Str.{bytes_eq}
@@ -39,37 +39,31 @@ abbrev pub HaveNames : List Task → Type 0
 HaveNames [] = Unit {0}
 HaveNames (t ∷ ts) = NotNamed t.name ts × HaveNames ts
 
-pub put-is : (m : Meeting) (f : Change) (t : Task) (is : IsReady m t) (ids : List ℕ) (databases : List DatabaseValue)
-    → put_at_task f t ids databases ≡ with_put (f t ids is.b) databases
-put-is m f t is ids databases = ap (λ o. put_one f t ids o databases) is.before
+module _ {m : Meeting} (f : Change) {t : Task} (is : IsReady m t) (ids : List ℕ) (databases : List DatabaseValue) where
+  pub put-is : put_at_task f t ids databases ≡ with_put (f t ids is.b) databases
+  put-is = ap (λ o. put_one f t ids o databases) is.before
 
--- what stands under a name then
-look-put : (m : Meeting) (f : Change) → KeepsName f → (t : Task) (is : IsReady m t) (ids : List ℕ) (databases : List DatabaseValue) (name : List ℕ)
-    → database_of name (put_at_task f t ids databases) ≡ cond (bytes_eq t.name name) (Some (f t ids is.b)) (database_of name databases)
-look-put m f keeps t is ids databases name =
-    ap (database_of name) (put-is m f t is ids databases) ∙ database_of-with_put name (f t ids is.b) databases
-    ∙ ap (λ n. cond (bytes_eq n name) (Some (f t ids is.b)) (database_of name databases)) (keeps t ids is.b ∙ is.own)
+  -- what stands under a name then
+  look-put : KeepsName f → (name : List ℕ)
+      → database_of name (put_at_task f t ids databases) ≡ cond (bytes_eq t.name name) (Some (f t ids is.b)) (database_of name databases)
+  look-put keeps name = grind (arith, put-is, database_of-with_put name (f t ids is.b) databases)
 
-pub look-own : (m : Meeting) (f : Change) → KeepsName f → (t : Task) (is : IsReady m t) (ids : List ℕ) (databases : List DatabaseValue)
-    → database_of t.name (put_at_task f t ids databases) ≡ Some (f t ids is.b)
-look-own m f keeps t is ids databases =
-    look-put m f keeps t is ids databases t.name ∙ ap (λ c. cond c (Some (f t ids is.b)) (database_of t.name databases)) (bytes_eq-own t.name)
+  pub look-own : KeepsName f → database_of t.name (put_at_task f t ids databases) ≡ Some (f t ids is.b)
+  look-own keeps = grind (arith, look-put keeps t.name, bytes_eq-own t.name)
 
-pub look-other : (m : Meeting) (f : Change) → KeepsName f → (t : Task) (is : IsReady m t) (ids : List ℕ) (databases : List DatabaseValue) (name : List ℕ)
-    → bytes_eq t.name name ≡ false → database_of name (put_at_task f t ids databases) ≡ database_of name databases
-look-other m f keeps t is ids databases name apart =
-    look-put m f keeps t is ids databases name ∙ ap (λ c. cond c (Some (f t ids is.b)) (database_of name databases)) apart
+  pub look-other : KeepsName f → (name : List ℕ) → bytes_eq t.name name ≡ false
+      → database_of name (put_at_task f t ids databases) ≡ database_of name databases
+  look-other keeps name apart = grind (arith, look-put keeps name)
 
-pub rise-put : (m : Meeting) (f : Change) (t : Task) (is : IsReady m t) (ids : List ℕ) (databases : List DatabaseValue) → NamesRise databases
-    → NamesRise (put_at_task f t ids databases)
-rise-put m f t is ids databases rise = subst NamesRise (sym (put-is m f t is ids databases)) (NamesRise-with_put (f t ids is.b) databases rise)
+  pub rise-put : NamesRise databases → NamesRise (put_at_task f t ids databases)
+  rise-put rise = subst NamesRise (sym put-is) (NamesRise-with_put (f t ids is.b) databases rise)
 
 pub rise-each : (m : Meeting) (f : Change) (ts : List Task) (given : List ℕ) (databases : List DatabaseValue) → AreReady m ts → NamesRise databases
     → NamesRise (put_each m f ts given databases)
 rise-each m f [] given databases ready rise = rise
 rise-each m f (t ∷ ts) given databases ready rise =
     rise-each m f ts (drop (add_count m t) given) (put_at_task f t (take (add_count m t) given) databases) ready.1
-    (rise-put m f t ready.0 (take (add_count m t) given) databases rise)
+    (rise-put f ready.0 (take (add_count m t) given) databases rise)
 
 -- all others stay
 pub others-each : (m : Meeting) (f : Change) → KeepsName f → (ts : List Task) (given : List ℕ) (databases : List DatabaseValue) (name : List ℕ)
@@ -77,7 +71,7 @@ pub others-each : (m : Meeting) (f : Change) → KeepsName f → (ts : List Task
 others-each m f keeps [] given databases name ready unnamed = refl
 others-each m f keeps (t ∷ ts) given databases name ready unnamed =
     others-each m f keeps ts (drop (add_count m t) given) (put_at_task f t (take (add_count m t) given) databases) name ready.1 unnamed.1
-    ∙ look-other m f keeps t ready.0 (take (add_count m t) given) databases name unnamed.0
+    ∙ look-other f ready.0 (take (add_count m t) given) databases keeps name unnamed.0
 
 -- each has become that
 abbrev pub AreChanged : (m : Meeting) → Change → (ts : List Task) → AreReady m ts → List ℕ → List DatabaseValue → Type 0
@@ -91,7 +85,7 @@ pub changed-each : (m : Meeting) (f : Change) → KeepsName f → (ts : List Tas
 changed-each m f keeps [] ready given databases names = tt
 changed-each m f keeps (t ∷ ts) ready given databases names = (
   others-each m f keeps ts (drop (add_count m t) given) (put_at_task f t (take (add_count m t) given) databases) t.name ready.1 names.0
-      ∙ look-own m f keeps t ready.0 (take (add_count m t) given) databases,
+      ∙ look-own f ready.0 (take (add_count m t) given) databases keeps,
   changed-each m f keeps ts ready.1 (drop (add_count m t) given) (put_at_task f t (take (add_count m t) given) databases) names.1,
 )
 
@@ -103,13 +97,13 @@ turned a b is = by (bytes_eq b a) refl
     by true same = absurd (let no_other : true ≡ false = sym (bytes_eq-own a) ∙ ap (bytes_eq a) (sym (bytes_eq-is b a same)) ∙ is in cc)
     by false same = same
 
-pub changed-other : (m : Meeting) (f g : Change) → KeepsName g → (ts : List Task) (ready : AreReady m ts) (given : List ℕ) (databases : List DatabaseValue)
-    (t : Task) (is : IsReady m t) (ids : List ℕ) → NotNamed t.name ts → AreChanged m f ts ready given databases
-    → AreChanged m f ts ready given (put_at_task g t ids databases)
-changed-other m f g keeps [] ready given databases t is ids unnamed changed = tt
-changed-other m f g keeps (u ∷ ts) ready given databases t is ids unnamed changed = (
-  look-other m g keeps t is ids databases u.name (turned u.name t.name unnamed.0) ∙ changed.0,
-  changed-other m f g keeps ts ready.1 (drop (add_count m u) given) databases t is ids unnamed.1 changed.1,
+pub changed-other : {m : Meeting} (f g : Change) → KeepsName g
+    → (ts : List Task) (ready : AreReady m ts) (given : List ℕ) (databases : List DatabaseValue) {t : Task} (is : IsReady m t) (ids : List ℕ)
+    → NotNamed t.name ts → AreChanged m f ts ready given databases → AreChanged m f ts ready given (put_at_task g t ids databases)
+changed-other f g keeps [] ready given databases is ids unnamed changed = tt
+changed-other {m} f g keeps (u ∷ ts) ready given databases {t} is ids unnamed changed = (
+  look-other g is ids databases keeps u.name (turned u.name t.name unnamed.0) ∙ changed.0,
+  changed-other f g keeps ts ready.1 (drop (add_count m u) given) databases is ids unnamed.1 changed.1,
 )
 
 -- two lists that answer alike under all names but those of a session do so under all names once each of these is put
@@ -127,10 +121,10 @@ alike-each m f keeps (t ∷ ts) ready given xs ys alike name =
     by : (other : List ℕ) → NotNamed other ts → (c : Bool) → bytes_eq t.name other ≡ c
         → database_of other (put_at_task f t ids xs) ≡ database_of other (put_at_task f t ids ys)
     by other unnamed true is =
-        look-put m f keeps t ready.0 ids xs other ∙ ap (λ c. cond c (Some (f t ids ready.0.b)) (database_of other xs)) is
-        ∙ sym (look-put m f keeps t ready.0 ids ys other ∙ ap (λ c. cond c (Some (f t ids ready.0.b)) (database_of other ys)) is)
+        look-put f ready.0 ids xs keeps other ∙ ap (λ c. cond c (Some (f t ids ready.0.b)) (database_of other xs)) is
+        ∙ sym (look-put f ready.0 ids ys keeps other ∙ ap (λ c. cond c (Some (f t ids ready.0.b)) (database_of other ys)) is)
     by other unnamed false is =
-        look-other m f keeps t ready.0 ids xs other is ∙ alike other (is, unnamed) ∙ sym (look-other m f keeps t ready.0 ids ys other is)
+        look-other f ready.0 ids xs keeps other is ∙ alike other (is, unnamed) ∙ sym (look-other f ready.0 ids ys keeps other is)
 
 pub same-each : (m : Meeting) (f : Change) → KeepsName f → (ts : List Task) (ready : AreReady m ts) (given : List ℕ) (xs ys : List DatabaseValue)
     → NamesRise xs → NamesRise ys → ((name : List ℕ) → NotNamed name ts → database_of name xs ≡ database_of name ys)

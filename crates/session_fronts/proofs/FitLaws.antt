@@ -1,5 +1,5 @@
 -- What a session says fits into messages.
-use Rattle.std.proofs.Common.{◌≡◌, ◌≤◌, ◌<◌, ◌+◌, ◌*◌, ◌^◌, ◌==◌, ap, sym, ℕ, zero, suc, Bool, true, false, List, [], ◌∷◌, ◌++◌, length, map, take, drop, if◌then◌else◌, arith, lit<}
+use Rattle.std.proofs.Common.{◌≡◌, ◌≤◌, ◌<◌, ◌+◌, ◌*◌, ◌^◌, ap, sym, ℕ, zero, suc, Bool, true, false, List, [], ◌∷◌, ◌++◌, length, map, take, drop, if◌then◌else◌, arith, lit<}
 use Rattle.std.specs.Prelude.{Option, Some, None, IfSome, is_none, flat_map, replicate, max, filter}
 use Rattle.std.specs.List.{AllByRecursion}
 use Rattle.std.proofs.lemmas.Nat.{and_le_l}
@@ -12,7 +12,7 @@ use Rattle.pdb_values.proofs.NamedLaws.{AllByRecursion-database_of}
 use Rattle.palm_device.specs.Bounds.{IsBoundedDatabase, IsBoundedHead, IsBoundedRecord}
 use Rattle.palm_device.specs.Records.{is_changed}
 use Rattle.dlp_requests.specs.RequestTexts.{IsRequest}
-use Rattle.conduit_rules.specs.ById.{each_id, id_bound}
+use Rattle.conduit_rules.specs.ById.{id_bound}
 use Rattle.conduit_rules.specs.Plans.{is_purged, purged_at, purged_ids}
 use Rattle.conduit_rules.specs.States.{Held, first, has_row}
 use Rattle.desktop_session.specs.Acts.{Act}
@@ -86,14 +86,18 @@ few_parts n few = omega (arith, few)
 
 fit-fast : (base records : List Record) → AllByRecursion IsBoundedRecord records → length records ≤ 65535 → Fit (fast_reads base records)
 fit-fast base records bounded few =
-    let ids : List Act = id_listings 1 (id_parts (length records)) in
-    let nexts : List Act = replicate (length (filter is_changed records) + 1) (reading_next 1) in
-    let others : List Act = each_id (λ i. read_by_id base (first i records)) in (
+    grind (
+      arith,
+      length records,
+      length (filter is_changed records),
       count_fits 1 one,
-      fit-append ids (nexts ++ others) (fit-ids (id_parts (length records)) (few_parts (length records) few))
-          (fit-append nexts others (fit-replicate (length (filter is_changed records) + 1) (reading_next 1) (next_fits 1 one))
-          (all-below FitsOne (λ i. read_by_id base (first i records)) id_bound
-          (λ i l. fit-by_id base (first i records) (found IsBoundedRecord (λ r. r.id == i) records bounded)))),
+      fit-append (id_listings 1 (id_parts (length records))),
+      fit-ids (id_parts (length records)) (few_parts (length records) few),
+      fit-append (replicate (length (filter is_changed records) + 1) (reading_next 1)),
+      fit-replicate (length (filter is_changed records) + 1) (reading_next 1) (next_fits 1 one),
+      all-below FitsOne,
+      fit-by_id base,
+      found IsBoundedRecord,
     )
 
 fit-reads : (m : Meeting) (t : Task) → AreSound (records_of t.handheld) → Fit (reads m t)
@@ -103,8 +107,8 @@ fit-reads m t own = by (is_fast m t)
     by true = fit-fast (base_rows t) (records_of t.handheld) own.kept own.few
     by false = (count_fits 1 one, fit-each (length (records_of t.handheld)) (let l = own.few in omega (arith, l)))
 
-fit-opened : (name : List ℕ) (acts : List Act) → IsName name → Fit acts → Fit (opened name acts)
-fit-opened name acts named fits = (open_fits 0xD0 name (lit< tt) named, fit-append acts (closing 1 ∷ []) fits (close_fits 1 one, tt))
+fit-opened : {name : List ℕ} (acts : List Act) → IsName name → Fit acts → Fit (opened name acts)
+fit-opened {name} acts named fits = (open_fits 0xD0 name (lit< tt) named, fit-append acts (closing 1 ∷ []) fits (close_fits 1 one, tt))
 
 fit-read_acts : (m : Meeting) (t : Task) → AreSound (records_of t.handheld) → IsName t.name → Fit (read_acts m t)
 unfolding read_acts
@@ -112,7 +116,7 @@ fit-read_acts m t own named = by (is_none t.handheld)
   where
     by : (none : Bool) → Fit (if none then [] else opened t.name (reads m t))
     by true = tt
-    by false = fit-opened t.name (reads m t) named (fit-reads m t own)
+    by false = fit-opened (reads m t) named (fit-reads m t own)
 
 -- ---- the writes
 
@@ -138,14 +142,18 @@ new_puttable (c ∷ cs) all = (record { bounded = omega arith; sorted = all.0 },
 
 fit-writes : (m : Meeting) (t : Task) → IsReady m t → (given : List ℕ) → Fit (writes m t given)
 fit-writes m t is given =
-    fit-puts (replicate (length (replacements m t)) 0 ++ given) (replacements m t ++ as_new (choice m t).adds)
-    (all-append Puttable (replacements m t) (as_new (choice m t).adds)
-    (all-map IsReplacement Puttable (replacements m t) (λ e each. record { bounded = each.can.bounded; sorted = each.can.sorted }) is.replaced)
-    (new_puttable (choice m t).adds is.adds))
+    grind (
+      arith,
+      fit-puts (replicate (length (replacements m t)) 0 ++ given) (replacements m t ++ as_new (choice m t).adds),
+      length (replacements m t),
+      all-append Puttable (replacements m t) (as_new (choice m t).adds),
+      all-map IsReplacement Puttable (replacements m t),
+      new_puttable (choice m t).adds is.adds,
+    )
 
-fit-opened_for : (name : List ℕ) (acts : List Act) → IsName name → Fit acts → Fit (opened_for name acts)
-fit-opened_for name [] named fits = tt
-fit-opened_for name (act ∷ acts) named fits = fit-opened name (act ∷ acts) named fits
+fit-opened_for : {name : List ℕ} (acts : List Act) → IsName name → Fit acts → Fit (opened_for name acts)
+fit-opened_for [] named fits = tt
+fit-opened_for (act ∷ acts) named fits = fit-opened (act ∷ acts) named fits
 
 plain_bound : (a : ℕ) → a < 2 ^ 16 → plain_attributes a < 2 ^ 16
 plain_bound a l = let less = and_le_l a 0x7FFB in omega (arith, l, less)
@@ -158,13 +166,14 @@ fit-made (Some d) acts bounded fits = (
   fit-append acts (closing 1 ∷ []) fits (close_fits 1 one, tt),
 )
 
-fit-news : (m : Meeting) (t : Task) → IsReady m t → IfSome t.rows (λ (d : DatabaseValue). IsBoundedHead d.head) → (given : List ℕ) → Fit (news_acts m t given)
+fit-news : (m : Meeting) (t : Task) → IsReady m t → IfSome t.rows (λ (d : DatabaseValue). IsBoundedHead d.head) → (given : List ℕ)
+    → Fit (news_acts m t given)
 unfolding news_acts
 fit-news m t is bounded given = by t.handheld
   where
     by : (h : Option DatabaseValue) → Fit (news_by h t (writes m t given))
     by None = fit-made t.rows (writes m t given) bounded (fit-writes m t is given)
-    by (Some d) = fit-opened_for t.name (writes m t given) is.named (fit-writes m t is given)
+    by (Some d) = fit-opened_for (writes m t given) is.named (fit-writes m t is given)
 
 fit-removes : (ids : List ℕ) → AllByRecursion (λ (i : ℕ). i ≤ 16777215) ids → Fit (map (removing 1) ids)
 fit-removes [] all = tt
@@ -181,8 +190,8 @@ purged_bounded keep h =
 fit-purges : (m : Meeting) (t : Task) → IsName t.name → Fit (purge_acts m t)
 unfolding purge_acts
 fit-purges m t named =
-    let ids : List ℕ = purged_ids (choice m t).keep (seen_held m t) in
-    fit-opened t.name (purge_writes 1 ids) named
+    let ids = purged_ids (choice m t).keep (seen_held m t) in
+    fit-opened (purge_writes 1 ids) named
     (fit-append (map (removing 1) ids) (cleaning 1 ∷ resetting 1 ∷ []) (fit-removes ids (purged_bounded (choice m t).keep (seen_held m t)))
     (clean_fits 1 one, (reset_fits 1 one, tt)))
 
@@ -196,15 +205,15 @@ record IsFit (m : Meeting) (t : Task) : Type 0 where
 
 is_fit : (m : Meeting) → IsSoundMeeting m → (t : Task) → IsKept m t → IsFit m t
 is_fit m sound t is =
-    record { ready = ready-of m sound t is; own = handheld-sound m sound t is.is; rows = by t.rows (ap (λ (x : Task). x.rows) is.is) }
+    record { ready = ready-of m sound t is; own = handheld-sound sound t is.is; rows = by t.rows (ap (λ (x : Task). x.rows) is.is) }
   where
     by : (r : Option DatabaseValue) → r ≡ database_of t.name (slot_of m).shelves.rows → IfSome r (λ (d : DatabaseValue). IsBoundedHead d.head)
     by None there = tt
     by (Some d) there =
         let bounded = AllByRecursion-database_of IsBoundedDatabase t.name (slot_of m).shelves.rows d sound.slot.rows (sym there) in bounded.head
 
-all_fit : (m : Meeting) → IsSoundMeeting m → AllByRecursion (IsFit m) (active m)
-all_fit m sound = all-map (IsKept m) (IsFit m) (active m) (is_fit m sound) (are-kept m)
+all_fit : {m : Meeting} → IsSoundMeeting m → AllByRecursion (IsFit m) (active m)
+all_fit {m} sound = all-map (IsKept m) (IsFit m) (active m) (is_fit m sound) (are-kept m)
 
 fit-all_news : (m : Meeting) (ts : List Task) → AllByRecursion (IsFit m) ts → (given : List ℕ) → Fit (all_news m ts given)
 unfolding all_news
@@ -213,51 +222,50 @@ fit-all_news m (t ∷ ts) fit given =
     fit-append (news_acts m t (take (add_count m t) given)) (all_news m ts (drop (add_count m t) given))
     (fit-news m t fit.0.ready fit.0.rows (take (add_count m t) given)) (fit-all_news m ts fit.1 (drop (add_count m t) given))
 
-fit-begin : (m : Meeting) → IsSoundMeeting m → FitsOne (begin_mark m)
-fit-begin m sound =
-    let user = sound.device.bounded.user in
-    mark_fits (begun_user m.device.user) 0x40 user.number user.viewer (lit< tt) (lit< tt) user.short user.no_zero
+module _ {m : Meeting} (sound : IsSoundMeeting m) where
+  fit-begin : FitsOne (begin_mark m)
+  fit-begin =
+      let user = sound.device.bounded.user in
+      mark_fits (begun_user m.device.user) 0x40 user.number user.viewer (lit< tt) (lit< tt) user.short user.no_zero
 
-user_of_both : (m : Meeting) → IsSoundMeeting m → agreed_user m.device.user (slot_of m).marks < 2 ^ 32
-user_of_both m sound = by (slots_user_stays m.device.user (slot_of m).marks)
-  where
-    by : (stays : Bool) → (if stays then (slot_of m).marks.user else m.device.user.user) < 2 ^ 32
-    by true = sound.slot.number
-    by false = sound.device.bounded.user.number
+  user_of_both : agreed_user m.device.user (slot_of m).marks < 2 ^ 32
+  user_of_both = by (slots_user_stays m.device.user (slot_of m).marks)
+    where
+      by : (stays : Bool) → (if stays then (slot_of m).marks.user else m.device.user.user) < 2 ^ 32
+      by true = sound.slot.number
+      by false = sound.device.bounded.user.number
 
-fit-end : (m : Meeting) → IsSoundMeeting m → FitsOne (end_mark m)
-fit-end m sound =
-    let name = name_of_both m sound in
-    mark_fits (done_user m.wishes.date m.device.user (slot_of m).marks) 0xF0 (user_of_both m sound) sound.device.bounded.user.viewer sound.slot.pc (lit< tt)
-    name.0 name.1
+  fit-end : FitsOne (end_mark m)
+  fit-end =
+      let name = name_of_both sound in
+      mark_fits (done_user m.wishes.date m.device.user (slot_of m).marks) 0xF0 user_of_both sound.device.bounded.user.viewer sound.slot.pc (lit< tt)
+      name.0 name.1
 
-pub fit-before : (m : Meeting) → IsSoundMeeting m → Fit (before_writes m)
-unfolding before_writes listing_all
-fit-before m sound =
-    let count : ℕ = max 1 (length m.device.databases) in
-    let few : count ≤ 65536 = (let l = sound.device.sound.few in omega (arith, l)) in
-    let reading : List Act = flat_map (read_acts m) (active m) in (
-      user_fits,
-      (
-        begin_fits,
-        fit-append (listings count) reading (fit-listings count few)
-            (all-flat_map (IsFit m) FitsOne (read_acts m) (active m) (λ t fit. fit-read_acts m t fit.own fit.ready.named) (all_fit m sound)),
-      ),
-    )
+  pub fit-before : Fit (before_writes m)
+  unfolding before_writes listing_all
+  fit-before =
+      let count = max 1 (length m.device.databases) in
+      let few : count ≤ 65536 = (let l = sound.device.sound.few in omega (arith, l)) in
+      let reading = flat_map (read_acts m) (active m) in (
+        user_fits,
+        (
+          begin_fits,
+          fit-append (listings count) reading (fit-listings count few)
+              (all-flat_map (IsFit m) FitsOne (read_acts m) (active m) (λ t fit. fit-read_acts m t fit.own fit.ready.named) (all_fit sound)),
+        ),
+      )
 
-pub fit-commit : (m : Meeting) → IsSoundMeeting m → (given : List ℕ) → Fit (before_commit m given)
-unfolding before_commit
-fit-commit m sound given =
-    fit-append (before_writes m) (begin_mark m ∷ all_news m (active m) given) (fit-before m sound)
-    (fit-begin m sound, fit-all_news m (active m) (all_fit m sound) given)
+  pub fit-commit : (given : List ℕ) → Fit (before_commit m given)
+  unfolding before_commit
+  fit-commit given =
+      fit-append (before_writes m) (begin_mark m ∷ all_news m (active m) given) fit-before (fit-begin, fit-all_news m (active m) (all_fit sound) given)
 
-pub fit-after : (m : Meeting) → IsSoundMeeting m → Fit (after_commit m)
-unfolding after_commit
-fit-after m sound =
-    fit-append (flat_map (purge_acts m) (active m)) (end_mark m ∷ ending ∷ [])
-    (all-flat_map (IsFit m) FitsOne (purge_acts m) (active m) (λ t fit. fit-purges m t fit.ready.named) (all_fit m sound))
-    (fit-end m sound, (end_fits, tt))
+  pub fit-after : Fit (after_commit m)
+  unfolding after_commit
+  fit-after =
+      fit-append (flat_map (purge_acts m) (active m)) (end_mark m ∷ ending ∷ [])
+      (all-flat_map (IsFit m) FitsOne (purge_acts m) (active m) (λ t fit. fit-purges m t fit.ready.named) (all_fit sound)) (fit-end, (end_fits, tt))
 
-pub fit-session : (m : Meeting) → IsSoundMeeting m → (given : List ℕ) → Fit (session m given)
-unfolding session
-fit-session m sound given = fit-append (before_commit m given) (after_commit m) (fit-commit m sound given) (fit-after m sound)
+  pub fit-session : (given : List ℕ) → Fit (session m given)
+  unfolding session
+  fit-session given = fit-append (before_commit m given) (after_commit m) (fit-commit given) fit-after

@@ -1,5 +1,5 @@
 -- A front is where acts of the session lead to, and what it is.
-use Rattle.std.proofs.Common.{◌≡◌, ◌∙◌, ◌≤◌, refl, ap, sym, subst, ℕ, zero, suc, Bool, true, false, List, [], ◌∷◌, ◌++◌, length, map, filter, take, if◌then◌else◌, append-nil}
+use Rattle.std.proofs.Common.{arith, ◌≡◌, ◌∙◌, ◌≤◌, refl, ap, sym, subst, ℕ, zero, suc, Bool, true, false, List, [], ◌∷◌, ◌++◌, length, map, filter, take, if◌then◌else◌, append-nil}
 use Rattle.std.specs.Prelude.{None}
 use Rattle.std.specs.List.{AllByRecursion, flat_map}
 use Rattle.palm_device.specs.Devices.{Device}
@@ -25,7 +25,7 @@ use Rattle.session_fronts.proofs.NameLaws.{stands-among, stands-behind}
 use Rattle.session_fronts.proofs.PartActs.{take-all}
 use Rattle.session_fronts.proofs.ReadyLaws.{ready-all}
 use Rattle.session_fronts.proofs.RelabelLaws.{NoAsk, before-count, before-labelled, none-after, session-labelled}
-use Rattle.session_fronts.proofs.RunLaws.{RunsBy, answers, answers-count, asks, asks_in, count_one, exchanges-are, given-all, given_to, ids_left, none-all-given, relabel, relabel-take, runs-by, sayable-all}
+use Rattle.session_fronts.proofs.RunLaws.{answers, answers-count, asks, asks_in, count_one, exchanges-are, given-all, given_to, ids_left, none-all-given, relabel, relabel-take, runs-by, sayable-all}
 
 -- ---- the requests of a beginning
 
@@ -42,12 +42,12 @@ all-take P (suc n) (x ∷ xs) all = (all.0, all-take P n xs all.1)
 pub first_requests : (m : Meeting) (ids : List ℕ) (n : ℕ) → take n (requests m) ≡ map text (take n (session m ids))
 first_requests m ids n = ap (take n) (sym (text-session m ids)) ∙ take-map text n (session m ids)
 
-pub first_fit : (m : Meeting) → IsSoundMeeting m → (ids : List ℕ) (n : ℕ) → Fit (take n (session m ids))
-first_fit m sound ids n = all-take FitsOne n (session m ids) (fit-session m sound ids)
+pub first_fit : {m : Meeting} → IsSoundMeeting m → (ids : List ℕ) (n : ℕ) → Fit (take n (session m ids))
+first_fit {m} sound ids n = all-take FitsOne n (session m ids) (fit-session sound ids)
 
 pub first-said : (m : Meeting) (given : List ℕ) (n : ℕ) → IsSoundMeeting m → GetFreeIds (take n (session m given)) m.device
     → AreSayable (take n (session m given)) m.device
-first-said m given n sound free = sayable-all (take n (session m given)) m.device (first_fit m sound given n) free
+first-said m given n sound free = sayable-all (take n (session m given)) m.device (first_fit sound given n) free
 
 -- ---- acts lead to a front
 
@@ -55,27 +55,19 @@ pub acts-front : (m : Meeting) (given : List ℕ) (n : ℕ) → IsSoundMeeting m
     → Front m (length (filter changes (map text (take n (session m given))))) (ids_in (take n (session m given)))
     (device_after (take n (session m given)) m.device)
 acts-front m given n sound none free =
-    let acts : List Act = take n (session m given) in
-    let fit : Fit acts = first_fit m sound given n in
-    let asked : take n (requests m) ≡ map text acts = first_requests m given n in
-    let replies : List (List ℕ) = answers (exchanges acts m.device) in
-    let told : exchanged (take n (requests m)) replies ≡ exchanges acts m.device =
-    ap (λ (rs : List (List ℕ)). exchanged rs replies) asked ∙ exchanges-are acts m.device in
-    record {
-      count = n;
-      replies = replies;
-      reached = device_after acts m.device;
-      run = record {
-        same = answers-count acts m.device ∙ sym (ap length asked);
-        ran = subst (λ (es : List Exchange). Ran m.device es (device_after acts m.device)) (sym told)
-            (acts_ran acts m.device (sayable-all acts m.device fit free));
-      };
-      holds = ap (λ (rs : List (List ℕ)). length (filter changes rs)) asked;
-      ids = ap (λ (es : List Exchange). flat_map (λ (e : Exchange). given_in e.request e.reply) es) told
-          ∙ given-all acts m.device fit sound.device free (cut-acts m sound given none n free).tells;
-      databases = refl;
-      user = refl;
-    }
+    grind (
+      arith,
+      take n (session m given),
+      first_fit sound given n,
+      take n (requests m),
+      map text (take n (session m given)),
+      first_requests m given n,
+      answers (exchanges (take n (session m given)) m.device),
+      exchanges-are (take n (session m given)) m.device,
+      answers-count (take n (session m given)) m.device,
+      acts_ran (take n (session m given)) m.device (sayable-all (take n (session m given)) m.device (first_fit sound given n) free),
+      given-all (take n (session m given)) (first_fit sound given n) sound.device free (cut-acts sound given none n free).tells,
+    )
 
 -- ---- a front is where acts lead to
 
@@ -88,8 +80,8 @@ ids_of_label ids (act ∷ acts) count = by (asks act) refl ids count (λ is same
     pred_of zero = zero
     pred_of (suc n) = n
 
-    one : (b : Bool) (is : List ℕ) → (if asks (given_to b is act) then (given_to b is act).given ∷ [] else [])
-        ≡ (if asks act then (given_to b is act).given ∷ [] else [])
+    one : (b : Bool) (is : List ℕ)
+        → (if asks (given_to b is act) then (given_to b is act).given ∷ [] else []) ≡ (if asks act then (given_to b is act).given ∷ [] else [])
     one true is = refl
     one false is = refl
 
@@ -108,66 +100,63 @@ pub record IsActs (m : Meeting) (sound : IsSoundMeeting m) (writes : ℕ) (given
   pub ids : ids_in acts ≡ given
   pub holds : Holds device (device_after acts m.device)
 
-pub front-acts : (m : Meeting) (sound : IsSoundMeeting m) (writes : ℕ) (given : List ℕ) (device : Device) → first_over m ≡ None
-    → Front m writes given device → IsActs m sound writes given device
-front-acts m sound writes given device none front =
-    let n : ℕ = front.count in
-    let bare : List Act = take n (session m []) in
-    let asked : take n (requests m) ≡ map text bare = first_requests m [] n in
-    let runs : RunsBy bare m.device front.reached front.replies =
-    runs-by bare m.device front.reached front.replies (first_fit m sound [] n) (front.run.same ∙ ap length asked)
-    (subst (λ (rs : List (List ℕ)). Ran m.device (exchanged rs front.replies) front.reached) asked front.run.ran) in
-    let acts : List Act = take n (session m runs.ids) in
-    let same : acts ≡ relabel runs.ids bare = ap (take n) (session-labelled m sound runs.ids) ∙ relabel-take n runs.ids (session m []) in
-    let free : GetFreeIds acts m.device = subst (λ (zs : List Act). GetFreeIds zs m.device) (sym same) runs.free in
-    let fit : Fit acts = first_fit m sound runs.ids n in
-    let cut : IsCut m sound runs.ids acts = cut-acts m sound runs.ids none n free in
-    let own : ids_in acts ≡ runs.ids = ap ids_in same ∙ ids_of_label runs.ids bare runs.all in
-    let now : take n (requests m) ≡ map text acts = first_requests m runs.ids n in
-    let replies : front.replies ≡ answers (exchanges acts m.device) =
-    runs.told ∙ ap (λ (zs : List Act). answers (exchanges zs m.device)) (sym same) in
-    let told : exchanged (take n (requests m)) front.replies ≡ exchanges acts m.device =
-    ap {A = List (List ℕ) × List (List ℕ)} (λ p. exchanged p.0 p.1) (λ k. (now k, replies k)) ∙ exchanges-are acts m.device in
-    let ids : given ≡ ids_in acts =
-    sym front.ids ∙ ap (λ (es : List Exchange). flat_map (λ (e : Exchange). given_in e.request e.reply) es) told
-    ∙ given-all acts m.device fit sound.device free cut.tells in
-    let reached : front.reached ≡ device_after acts m.device = sym runs.reaches ∙ ap (λ (zs : List Act). device_after zs m.device) (sym same) in
-    record {
-      acts = acts;
-      cut = subst (λ (is : List ℕ). IsCut m sound is acts) (sym own ∙ sym ids) cut;
-      count = sym (ap (λ (rs : List (List ℕ)). length (filter changes rs)) now) ∙ front.holds;
-      ids = sym ids;
-      holds = record {
-        databases = front.databases ∙ ap (λ (d : Device). d.databases) reached;
-        user = front.user ∙ ap (λ (d : Device). d.user) reached;
-      };
-    }
+module _ (m : Meeting) (writes : ℕ) (given : List ℕ) (device : Device) (sound : IsSoundMeeting m) (none : first_over m ≡ None)
+    (front : Front m writes given device) where
+  pub front-acts : IsActs m sound writes given device
+  front-acts =
+      let n = front.count in
+      let bare = take n (session m []) in
+      let asked = first_requests m [] n in
+      let runs = runs-by bare m.device front.reached front.replies (first_fit sound [] n) (front.run.same ∙ ap length asked)
+      (subst (λ (rs : List (List ℕ)). Ran m.device (exchanged rs front.replies) front.reached) asked front.run.ran) in
+      let acts = take n (session m runs.ids) in
+      let same : acts ≡ relabel runs.ids bare = ap (take n) (session-labelled m sound runs.ids) ∙ relabel-take n runs.ids (session m []) in
+      let free : GetFreeIds acts m.device = subst (λ (zs : List Act). GetFreeIds zs m.device) (sym same) runs.free in
+      let fit = first_fit sound runs.ids n in
+      let cut = cut-acts sound runs.ids none n free in
+      let own : ids_in acts ≡ runs.ids = ap ids_in same ∙ ids_of_label runs.ids bare runs.all in
+      let now = first_requests m runs.ids n in
+      let replies : front.replies ≡ answers (exchanges acts m.device) =
+      runs.told ∙ ap (λ (zs : List Act). answers (exchanges zs m.device)) (sym same) in
+      let told : exchanged (take n (requests m)) front.replies ≡ exchanges acts m.device =
+      ap {A = List (List ℕ) × List (List ℕ)} (λ p. exchanged p.0 p.1) (λ k. (now k, replies k)) ∙ exchanges-are acts m.device in
+      let ids : given ≡ ids_in acts =
+      sym front.ids ∙ ap (λ (es : List Exchange). flat_map (λ (e : Exchange). given_in e.request e.reply) es) told
+      ∙ given-all acts fit sound.device free cut.tells in
+      let reached : front.reached ≡ device_after acts m.device = sym runs.reaches ∙ ap (λ (zs : List Act). device_after zs m.device) (sym same) in
+      record {
+        acts = acts;
+        cut = subst (λ (is : List ℕ). IsCut m sound is acts) (sym own ∙ sym ids) cut;
+        count = sym (ap (λ (rs : List (List ℕ)). length (filter changes rs)) now) ∙ front.holds;
+        ids = sym ids;
+        holds = record {
+          databases = front.databases ∙ ap (λ (d : Device). d.databases) reached;
+          user = front.user ∙ ap (λ (d : Device). d.user) reached;
+        };
+      }
 
--- ---- what a front is
+  -- ---- what a front is
 
-pub front-among : (m : Meeting) (writes : ℕ) (given : List ℕ) (device : Device) → IsSoundMeeting m → first_over m ≡ None
-    → Front m writes given device → writes ≤ writes_before_commit m → StandsAmongNews m given device
-front-among m writes given device sound none front few =
-    let is = front-acts m sound writes given device none front in
-    let part = is.cut.among (subst (λ n. n ≤ writes_before_commit m) (sym is.count) few) in
-    stands-among m sound given device
-    (respects-among m (ready-all m sound) given (device_after is.acts m.device) device is.holds
-    (subst (λ ids. AmongPart m (ready-all m sound) ids (device_after is.acts m.device)) is.ids part))
+  pub front-among : writes ≤ writes_before_commit m → StandsAmongNews m given device
+  front-among few =
+      let is = front-acts in
+      let part = is.cut.among (subst (λ n. n ≤ writes_before_commit m) (sym is.count) few) in
+      stands-among m sound (respects-among m (ready-all sound) given (device_after is.acts m.device) device is.holds
+      (subst (λ ids. AmongPart m (ready-all sound) ids (device_after is.acts m.device)) is.ids part))
 
-pub front-behind : (m : Meeting) (writes : ℕ) (given : List ℕ) (device : Device) → IsSoundMeeting m → first_over m ≡ None
-    → Front m writes given device → writes_before_commit m ≤ writes → StandsBehindCommit m given device
-front-behind m writes given device sound none front most =
-    let is = front-acts m sound writes given device none front in
-    let enough = subst (λ n. writes_before_commit m ≤ n) (sym is.count) most in
-    stands-behind m sound given (ids_in is.acts) (ids_in is.acts) device
-    (respects-behind m given (ready-all m sound) (ids_in is.acts) (ids_in is.acts) (device_after is.acts m.device) device is.holds (is.cut.behind enough))
-    (is.cut.dealt enough)
+  pub front-behind : writes_before_commit m ≤ writes → StandsBehindCommit m given device
+  front-behind most =
+      let is = front-acts in
+      let enough = subst (λ n. writes_before_commit m ≤ n) (sym is.count) most in
+      stands-behind m sound
+      (respects-behind m given (ready-all sound) (ids_in is.acts) (ids_in is.acts) (device_after is.acts m.device) device is.holds (is.cut.behind enough))
+      (is.cut.dealt enough)
 
 -- ---- the ids that are told
 
 no-ids : (acts : List Act) → NoAsk acts → ids_in acts ≡ []
 no-ids [] none = refl
-no-ids (act ∷ acts) none = ap {A = List ℕ × List ℕ} (λ p. p.0 ++ p.1) (λ k. (none-in act none.0 k, no-ids acts none.1 k))
+no-ids (act ∷ acts) none = grind (arith, none-in act none.0, no-ids acts none.1)
 
 pub commit-ids : (m : Meeting) (given : List ℕ) → IsSoundMeeting m → length given ≡ adds_of m → ids_in (before_commit m given) ≡ given
 commit-ids m given sound count =
@@ -176,26 +165,30 @@ commit-ids m given sound count =
 pub session-ids : (m : Meeting) (given : List ℕ) → IsSoundMeeting m → length given ≡ adds_of m → ids_in (session m given) ≡ given
 unfolding session
 session-ids m given sound count =
-    ids-append (before_commit m given) (after_commit m)
-    ∙ ap {A = List ℕ × List ℕ} (λ p. p.0 ++ p.1) (λ k. (commit-ids m given sound count k, no-ids (after_commit m) (none-after m) k)) ∙ append-nil given
+    grind (
+      arith,
+      ids-append (before_commit m given) (after_commit m),
+      commit-ids m given sound count,
+      no-ids (after_commit m) (none-after m),
+      none-after m,
+      append-nil given,
+    )
 
 pub commit-told : (m : Meeting) (given : List ℕ) → IsSoundMeeting m → first_over m ≡ None → GetFreeIds (before_commit m given) m.device
     → flat_map (λ (e : Exchange). given_in e.request e.reply) (exchanges (before_commit m given) m.device) ≡ ids_in (before_commit m given)
 commit-told m given sound none free =
-    given-all (before_commit m given) m.device (fit-commit m sound given) sound.device free
-    (along-told (AmongPart m (ready-all m sound)) [] (before_commit m given) m.device (among-along m given sound none) free)
+    given-all (before_commit m given) (fit-commit sound given) sound.device free
+    (along-told (AmongPart m (ready-all sound)) [] (before_commit m given) m.device (among-along given sound none) free)
 
 pub first-told : (m : Meeting) (given : List ℕ) (n : ℕ) → IsSoundMeeting m → first_over m ≡ None → GetFreeIds (take n (session m given)) m.device
     → flat_map (λ (e : Exchange). given_in e.request e.reply) (exchanges (take n (session m given)) m.device) ≡ ids_in (take n (session m given))
 first-told m given n sound none free =
-    given-all (take n (session m given)) m.device (first_fit m sound given n) sound.device free (cut-acts m sound given none n free).tells
+    given-all (take n (session m given)) (first_fit sound given n) sound.device free (cut-acts sound given none n free).tells
 
 pub session-told : (m : Meeting) (given : List ℕ) → IsSoundMeeting m → first_over m ≡ None → GetFreeIds (session m given) m.device
     → flat_map (λ (e : Exchange). given_in e.request e.reply) (exchanges (session m given) m.device) ≡ ids_in (session m given)
 session-told m given sound none free =
-    let whole : take (length (session m given)) (session m given) ≡ session m given = take-all (session m given) in
-    subst (λ (acts : List Act). flat_map (λ (e : Exchange). given_in e.request e.reply) (exchanges acts m.device) ≡ ids_in acts) whole
-    (first-told m given (length (session m given)) sound none (subst (λ (acts : List Act). GetFreeIds acts m.device) (sym whole) free))
+    grind (arith, take-all (session m given), first-told m given (length (session m given)) sound none, length (session m given))
 
 none-listed : (acts : List Act) → NoAsk acts → AllByRecursion (λ (act : Act). asks act ≡ false) acts
 none-listed [] none = tt
@@ -203,4 +196,4 @@ none-listed (act ∷ acts) none = (none.0, none-listed acts none.1)
 
 pub after-none : (m : Meeting) → IsSoundMeeting m
     → AllByRecursion (λ (request : List ℕ). (answer : List ℕ) → given_in request answer ≡ []) (map text (after_commit m))
-after-none m sound = none-all-given (after_commit m) (fit-after m sound) (none-listed (after_commit m) (none-after m))
+after-none m sound = none-all-given (after_commit m) (fit-after sound) (none-listed (after_commit m) (none-after m))

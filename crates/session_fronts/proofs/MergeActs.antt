@@ -1,9 +1,8 @@
 -- A whole session makes the merged handheld.
-use Rattle.std.proofs.Common.{◌≡◌, ◌∙◌, ◌≤◌, ◌==◌, refl, ap, sym, subst, ℕ, Bool, true, false, List, [], ◌∷◌, ◌++◌, length, take, drop, if◌then◌else◌}
+use Rattle.std.proofs.Common.{arith, ◌≡◌, ◌∙◌, ◌≤◌, ◌==◌, refl, ap, subst, ℕ, Bool, true, false, List, [], ◌∷◌, ◌++◌, length, drop, if◌then◌else◌}
 use Rattle.std.specs.Prelude.{None, flat_map, max}
 use Rattle.std.specs.List.{AllByRecursion, list_any}
 use Rattle.pdb_values.specs.Databases.{DatabaseValue}
-use Rattle.pdb_values.specs.NamedDatabases.{NamesRise}
 use Rattle.pdb_values.specs.declared.user.UserInfo.{UserInfo}
 use Rattle.palm_device.specs.Devices.{Device}
 use Rattle.dlp_commands.specs.DeviceSteps.{tried}
@@ -14,76 +13,68 @@ use Rattle.conduit_merge.specs.Writes.{GotFreeIds, after, whole}
 use Rattle.conduit_merge.proofs.ShownLaws.{after-all_fast, after-all_slow}
 use Rattle.desktop_session.specs.Acts.{Act, acted}
 use Rattle.desktop_session.specs.Orders.{IsMark}
-use Rattle.desktop_session.specs.Requests.{beginning, ending}
+use Rattle.desktop_session.specs.Requests.{ending}
 use Rattle.desktop_session.specs.Tellings.{device_after}
 use Rattle.desktop_session.proofs.ChangeRows.{marked_does}
 use Rattle.slow_mirror.proofs.ReadLaws.{after_append}
 use Rattle.sync_session.specs.Choosing.{base_rows, choice, is_fast, seen_held, sides, view}
-use Rattle.sync_session.specs.Limits.{first_behind, first_over}
+use Rattle.sync_session.specs.Limits.{first_over}
 use Rattle.sync_session.specs.Merges.{merged_databases, merged_device}
 use Rattle.sync_session.specs.News.{add_count, all_news, purge_acts}
 use Rattle.sync_session.specs.Reads.{read_acts}
 use Rattle.sync_session.specs.Sessions.{after_commit, before_commit, before_writes, listing_all, session}
 use Rattle.sync_session.specs.Skips.{active}
 use Rattle.sync_session.specs.Tasks.{Meeting, Task, records_of, slot_of}
-use Rattle.sync_session.specs.Users.{agreed_name, begin_mark, begun_user, done_user, end_mark, slots_user_stays}
-use Rattle.desk_store.specs.Desks.{all_rows}
+use Rattle.sync_session.specs.Users.{agreed_name, begin_mark, begun_user, done_user, end_mark}
 use Rattle.session_fronts.specs.Given.{GetFreeIds}
 use Rattle.session_fronts.specs.Sound.{IsSoundMeeting}
-use Rattle.session_fronts.proofs.EachLaws.{AreReady, changed-each, others-each, put_each, rise-each, same-each}
+use Rattle.session_fronts.proofs.EachLaws.{changed-each, others-each, put_each, rise-each, same-each}
 use Rattle.session_fronts.proofs.OpenActs.{all_closed, begin_same, lists_same, user_same}
-use Rattle.session_fronts.proofs.PhaseActs.{AreDealt, MakeMerge, all-keep, all-merged, news-keep, news_all, purges_all, reads_all, with_all}
+use Rattle.session_fronts.proofs.PhaseActs.{AreAhead, AreDealt, MakeMerge, all-keep, all-merged, news-keep, news_all, purges_all, reads_all, with_all}
 use Rattle.session_fronts.proofs.PutActs.{free-append, free-front}
 use Rattle.session_fronts.proofs.ReadyLaws.{AreSound, IsKept, are-kept, handheld-sound, have-names, ready-all, show-all, stand-all}
 use Rattle.session_fronts.proofs.TaskActs.{AreGiven, with_news}
 
 -- ---- before the first write
 
-pub closed_device : (m : Meeting) → IsSoundMeeting m → m.device ≡ all_closed m.device.databases m.device.user
-closed_device m sound = λ k. record { databases = m.device.databases; user = m.device.user; handles = sound.closed k }
+module _ {m : Meeting} (sound : IsSoundMeeting m) where
+  pub closed_device : m.device ≡ all_closed m.device.databases m.device.user
+  closed_device = grind arith
 
-pub before-same : (m : Meeting) → IsSoundMeeting m → device_after (before_writes m) m.device ≡ m.device
-unfolding before_writes listing_all
-before-same m sound =
-    let reading : List Act = flat_map (read_acts m) (active m) in
-    let closed = closed_device m sound in
-    ap (λ (d : Device). device_after (listing_all m ++ reading) (acted beginning d).1) (user_same m.device)
-    ∙ ap (device_after (listing_all m ++ reading)) (begin_same m.device)
-    ∙ after_append (listing_all m) reading m.device
-    ∙ ap (device_after reading) (lists_same m.device (max 1 (length m.device.databases)))
-    ∙ ap (device_after reading) closed
-    ∙ reads_all m (active m) m.device.databases m.device.user (ready-all m sound) (stand-all m)
-    ∙ sym closed
+  pub before-same : device_after (before_writes m) m.device ≡ m.device
+  unfolding before_writes listing_all
+  before-same =
+      grind (
+        arith,
+        closed_device,
+        user_same m.device,
+        begin_same m.device,
+        after_append (listing_all m) (flat_map (read_acts m) (active m)) m.device,
+        lists_same m.device (max 1 (length m.device.databases)),
+        reads_all m (active m) m.device.databases m.device.user (ready-all sound) (stand-all m),
+      )
 
--- ---- the marks
+  -- ---- the marks
 
-pub begin_is : (m : Meeting) → IsSoundMeeting m → IsMark (begun_user m.device.user)
-begin_is m sound = record {
-  last = sound.device.bounded.user.last;
-  short = sound.device.bounded.user.short;
-  no_zero = sound.device.bounded.user.no_zero;
-}
+  pub begin_is : IsMark (begun_user m.device.user)
+  begin_is = grind arith
 
-pub begun : (m : Meeting) → IsSoundMeeting m → (databases : List DatabaseValue)
-    → (acted (begin_mark m) (all_closed databases m.device.user)).1 ≡ all_closed databases (begun_user m.device.user)
-begun m sound databases = marked_does (all_closed databases m.device.user) (begun_user m.device.user) 0x40 (begin_is m sound)
+  pub begun : (databases : List DatabaseValue)
+      → (acted (begin_mark m) (all_closed databases m.device.user)).1 ≡ all_closed databases (begun_user m.device.user)
+  begun databases = marked_does (all_closed databases m.device.user) (begun_user m.device.user) 0x40 begin_is
 
-pub name_of_both : (m : Meeting) → IsSoundMeeting m
-    → (length (agreed_name m.device.user (slot_of m).marks) ≤ 40) × (list_any (λ byte. byte == 0) (agreed_name m.device.user (slot_of m).marks) ≡ false)
-name_of_both m sound = by (slots_user_stays m.device.user (slot_of m).marks)
-  where
-    by : (stays : Bool) → (length (if stays then (slot_of m).marks.name else m.device.user.name) ≤ 40)
-        × (list_any (λ byte. byte == 0) (if stays then (slot_of m).marks.name else m.device.user.name) ≡ false)
-    by true = (sound.slot.short, sound.slot.no_zero)
-    by false = (sound.device.bounded.user.short, sound.device.bounded.user.no_zero)
+  pub name_of_both : (length (agreed_name m.device.user (slot_of m).marks) ≤ 40) ×
+      (list_any (λ byte. byte == 0) (agreed_name m.device.user (slot_of m).marks) ≡ false)
+  name_of_both = grind arith
 
-pub end_is : (m : Meeting) → IsSoundMeeting m → IsMark (done_user m.wishes.date m.device.user (slot_of m).marks)
-end_is m sound = record { last = sound.date; short = (name_of_both m sound).0; no_zero = (name_of_both m sound).1 }
+  pub end_is : IsMark (done_user m.wishes.date m.device.user (slot_of m).marks)
+  end_is = grind (arith, name_of_both)
 
-pub done : (m : Meeting) → IsSoundMeeting m → (databases : List DatabaseValue)
-    → (acted (end_mark m) (all_closed databases (begun_user m.device.user))).1 ≡ all_closed databases (done_user m.wishes.date m.device.user (slot_of m).marks)
-done m sound databases =
-    marked_does (all_closed databases (begun_user m.device.user)) (done_user m.wishes.date m.device.user (slot_of m).marks) 0xF0 (end_is m sound)
+  pub done : (databases : List DatabaseValue)
+      → (acted (end_mark m) (all_closed databases (begun_user m.device.user))).1 ≡ all_closed databases
+      (done_user m.wishes.date m.device.user (slot_of m).marks)
+  done databases =
+      marked_does (all_closed databases (begun_user m.device.user)) (done_user m.wishes.date m.device.user (slot_of m).marks) 0xF0 end_is
 
 pub ended : (databases : List DatabaseValue) (user : UserInfo) → (acted ending (all_closed databases user)).1 ≡ all_closed databases user
 unfolding acted tried
@@ -92,36 +83,38 @@ ended databases user = refl
 -- ---- up to the desktop's commit
 
 pub record IsCommitted (m : Meeting) (given : List ℕ) : Type 0 where
-  pub does : device_after (before_commit m given) m.device
-      ≡ all_closed (put_each m (with_news m) (active m) given m.device.databases) (begun_user m.device.user)
+  pub does : device_after (before_commit m given) m.device ≡ all_closed (put_each m (with_news m) (active m) given m.device.databases)
+      (begun_user m.device.user)
   pub dealt : AreDealt m (active m) given
 
-pub within_all : (m : Meeting) → first_over m ≡ None → first_behind m (length m.device.databases) (all_rows m.slots) (active m) ≡ None
+-- all databases of a session are ahead when it begins
+pub all_ahead : {m : Meeting} → IsSoundMeeting m → first_over m ≡ None → AreAhead m (active m) m.device.databases
 unfolding first_over
-within_all m none = none
+all_ahead {m} sound none = grind (arith, have-names m, show-all m sound, stand-all m)
 
-pub committed : (m : Meeting) (given : List ℕ) → IsSoundMeeting m → first_over m ≡ None → GetFreeIds (before_commit m given) m.device → IsCommitted m given
+pub committed : {m : Meeting} (given : List ℕ) → IsSoundMeeting m → first_over m ≡ None → GetFreeIds (before_commit m given) m.device
+    → IsCommitted m given
 unfolding before_commit
-committed m given sound none free =
-    let news : List Act = all_news m (active m) given in
+committed {m} given sound none free =
+    let news = all_news m (active m) given in
     let begin : List Act = begin_mark m ∷ news in
     let free_begin : GetFreeIds begin m.device =
-    subst (GetFreeIds begin) (before-same m sound) (free-append (before_writes m) begin m.device free) in
+    subst (GetFreeIds begin) (before-same sound) (free-append (before_writes m) begin m.device free) in
     let marked : (acted (begin_mark m) m.device).1 ≡ all_closed m.device.databases (begun_user m.device.user) =
-    ap (λ (d : Device). (acted (begin_mark m) d).1) (closed_device m sound) ∙ begun m sound m.device.databases in
-    let all = news_all m (active m) given (length m.device.databases) (all_rows m.slots) m.device.databases (begun_user m.device.user) (ready-all m sound)
-    (have-names m) (show-all m sound) (within_all m none) refl sound.device.sound.names (stand-all m) (subst (GetFreeIds news) marked free_begin.1) in
+    ap (λ (d : Device). (acted (begin_mark m) d).1) (closed_device sound) ∙ begun sound m.device.databases in
+    let all = news_all (active m) given (begun_user m.device.user) (ready-all sound) (all_ahead sound none)
+    (subst (GetFreeIds news) marked free_begin.1) in
     record {
-      does = after_append (before_writes m) begin m.device ∙ ap (device_after begin) (before-same m sound) ∙ ap (device_after news) marked ∙ all.does;
+      does = after_append (before_writes m) begin m.device ∙ ap (device_after begin) (before-same sound) ∙ ap (device_after news) marked ∙ all.does;
       dealt = all.dealt;
     }
 
 -- ---- all of it
 
-make_one : (m : Meeting) (t : Task) (ids : List ℕ) → AreSound (records_of t.handheld) → AreGiven m t ids (records_of t.handheld)
+make_one : (m : Meeting) (t : Task) {ids : List ℕ} → AreSound (records_of t.handheld) → AreGiven m t ids (records_of t.handheld)
     → after (whole (choice m t) (seen_held m t) ids) (records_of t.handheld) ≡ merged_records (choice m t) (seen_held m t) ids (records_of t.handheld)
 unfolding view sides
-make_one m t ids own given = by (is_fast m t) given.free
+make_one m t {ids} own given = by (is_fast m t) given.free
   where
     shown : Bool → ℕ → Held
     shown fast = view_held (if fast then fast_view (base_rows t) (records_of t.handheld) else slow_view (records_of t.handheld))
@@ -131,42 +124,43 @@ make_one m t ids own given = by (is_fast m t) given.free
     by true free = after-all_fast (choice m t) ids (base_rows t) (records_of t.handheld) own.ids own.bounded free
     by false free = after-all_slow (choice m t) ids (records_of t.handheld) own.ids own.bounded free
 
-make_all : (m : Meeting) (ts : List Task) (given : List ℕ) → IsSoundMeeting m → AllByRecursion (IsKept m) ts → AreDealt m ts given → MakeMerge m ts given
-make_all m [] given sound kept dealt = tt
-make_all m (t ∷ ts) given sound kept dealt = (
-  make_one m t (take (add_count m t) given) (handheld-sound m sound t kept.0.is) dealt.0,
-  make_all m ts (drop (add_count m t) given) sound kept.1 dealt.1,
+make_all : {m : Meeting} (ts : List Task) (given : List ℕ) → IsSoundMeeting m → AllByRecursion (IsKept m) ts → AreDealt m ts given
+    → MakeMerge m ts given
+make_all [] given sound kept dealt = tt
+make_all {m} (t ∷ ts) given sound kept dealt = (
+  make_one m t (handheld-sound sound t kept.0.is) dealt.0,
+  make_all ts (drop (add_count m t) given) sound kept.1 dealt.1,
 )
 
 -- news and then all writes are all writes
 pub both : (m : Meeting) (given : List ℕ) → IsSoundMeeting m → AreDealt m (active m) given
-    → put_each m (with_all m) (active m) given (put_each m (with_news m) (active m) given m.device.databases)
-    ≡ merged_databases m (active m) given m.device.databases
+    → put_each m (with_all m) (active m) given (put_each m (with_news m) (active m) given m.device.databases) ≡ merged_databases m
+    (active m) given m.device.databases
 both m given sound dealt =
-    let ready : AreReady m (active m) = ready-all m sound in
-    let rise : NamesRise m.device.databases = sound.device.sound.names in
+    let ready = ready-all sound in
+    let rise = sound.device.sound.names in
     same-each m (with_all m) (all-keep m) (active m) ready given (put_each m (with_news m) (active m) given m.device.databases) m.device.databases
     (rise-each m (with_news m) (active m) given m.device.databases ready rise) rise
     (λ name unnamed. others-each m (with_news m) (news-keep m) (active m) given m.device.databases name ready unnamed)
-    ∙ all-merged m (active m) ready given m.device.databases (make_all m (active m) given sound (are-kept m) dealt)
+    ∙ all-merged m (active m) ready given m.device.databases (make_all (active m) given sound (are-kept m) dealt)
 
 pub merged : (m : Meeting) (given : List ℕ) → IsSoundMeeting m → first_over m ≡ None → GetFreeIds (session m given) m.device
     → device_after (session m given) m.device ≡ merged_device m given
 unfolding session after_commit merged_device
 merged m given sound none free =
-    let user : UserInfo = begun_user m.device.user in
-    let ready : AreReady m (active m) = ready-all m sound in
-    let news : List DatabaseValue = put_each m (with_news m) (active m) given m.device.databases in
-    let purges : List Act = flat_map (purge_acts m) (active m) in
+    let user = begun_user m.device.user in
+    let ready = ready-all sound in
+    let news = put_each m (with_news m) (active m) given m.device.databases in
+    let purges = flat_map (purge_acts m) (active m) in
     let last : List Act = end_mark m ∷ ending ∷ [] in
-    let first = committed m given sound none (free-front (before_commit m given) (purges ++ last) m.device free) in
+    let first = committed given sound none (free-front (before_commit m given) (purges ++ last) m.device free) in
     let gone = purges_all m (active m) ready given news user (have-names m)
     (changed-each m (with_news m) (news-keep m) (active m) ready given m.device.databases (have-names m)) in
-    let whole : List DatabaseValue = put_each m (with_all m) (active m) given news in
+    let whole = put_each m (with_all m) (active m) given news in
     after_append (before_commit m given) (purges ++ last) m.device
     ∙ ap (device_after (purges ++ last)) first.does
     ∙ after_append purges last (all_closed news user)
     ∙ ap (device_after last) gone
-    ∙ ap (λ (d : Device). (acted ending d).1) (done m sound whole)
+    ∙ ap (λ (d : Device). (acted ending d).1) (done sound whole)
     ∙ ended whole (done_user m.wishes.date m.device.user (slot_of m).marks)
     ∙ ap (λ (ds : List DatabaseValue). all_closed ds (done_user m.wishes.date m.device.user (slot_of m).marks)) (both m given sound first.dealt)

@@ -1,5 +1,6 @@
 -- Where each database stands, by its name.
-use Rattle.std.proofs.Common.{◌≡◌, ◌⊎◌, inl, inr, ◌∙◌, refl, ap, sym, subst, ℕ, Bool, true, false, List, [], ◌∷◌, ◌++◌, length, map, filter, take, drop, if◌then◌else◌, arith, is_none, zero, suc, append-nil, ◌≤◌}
+use Rattle.std.proofs.lemmas.Grind.{common_steps}
+use Rattle.std.proofs.Common.{◌≡◌, ◌⊎◌, inl, inr, ◌∙◌, refl, ap, sym, subst, ℕ, Bool, true, false, List, [], ◌∷◌, ◌++◌, length, map, filter, take, drop, if◌then◌else◌, arith, is_none, ◌≤◌}
 use Rattle.std.specs.Prelude.{Option, Some}
 use Rattle.std.specs.List.{AllByRecursion, flat_map}
 use Rattle.std.specs.Str.{bytes_eq}
@@ -12,7 +13,6 @@ use Rattle.palm_device.specs.Devices.{Device}
 use Rattle.palm_device.specs.Records.{with_records}
 use Rattle.conduit_rules.specs.Choices.{Choice}
 use Rattle.conduit_rules.specs.States.{Held}
-use Rattle.conduit_rules.specs.declared.action.Action.{Action}
 use Rattle.conduit_merge.specs.Writes.{GotFreeIds, Write, after, clearing, giving}
 use Rattle.conduit_merge.proofs.AfterLaws.{after-append}
 use Rattle.sync_session.specs.Choosing.{action_or_sync, choice, seen_held}
@@ -21,7 +21,7 @@ use Rattle.sync_session.specs.News.{add_count}
 use Rattle.sync_session.specs.Skips.{active, skip_of}
 use Rattle.sync_session.specs.Tasks.{Meeting, Task, names, records_of, task_of, tasks}
 use Rattle.session_laws.specs.Meetings.{IsActive, found, ids_at, ids_dealt}
-use Rattle.session_laws.specs.Repeats.{Found, GotAllIds, GotIds, chosen, clearing_done, given_by, news_done, shown}
+use Rattle.session_laws.specs.Repeats.{GotAllIds, GotIds, chosen, clearing_done, given_by, news_done, shown}
 use Rattle.session_laws.proofs.MergedLaws.{AreTasks, IsTask, NotNamed}
 use Rattle.session_laws.proofs.TaskLaws.{are-active, is-active}
 use Rattle.session_laws.proofs.WholeLaws.{chosen-is, shown-is}
@@ -41,21 +41,14 @@ use Rattle.session_fronts.proofs.TaskActs.{AreGiven, IsReady}
 active_in : (m : Meeting) (ns : List (List ℕ)) → AllByRecursion (IsIn (names m)) ns
     → AllByRecursion (λ (t : Task). IsActive m t.name) (filter (λ t. is_none (skip_of t)) (map (task_of m) ns))
 active_in m [] all = tt
-active_in m (n ∷ ns) all = by (is_none (skip_of (task_of m n))) refl (active_in m ns all.1)
-  where
-    later : List Task
-    later = filter (λ t. is_none (skip_of t)) (map (task_of m) ns)
-
-    by : (b : Bool) → is_none (skip_of (task_of m n)) ≡ b → AllByRecursion (λ (t : Task). IsActive m t.name) later
-        → AllByRecursion (λ (t : Task). IsActive m t.name) (if b then task_of m n ∷ later else later)
-    by true is rest = (record { there = all.0; kept = is }, rest)
-    by false is rest = rest
+active_in m (n ∷ ns) all = grind (arith, is_none (skip_of (task_of m n)), active_in m ns all.1)
 
 active_names : (m : Meeting) → AllByRecursion (λ (t : Task). IsActive m t.name) (active m)
 unfolding active tasks
 active_names m = active_in m (names m) (are_in (names m))
 
-not_named : (m : Meeting) (ts : List Task) (name : List ℕ) → AllByRecursion (λ (t : Task). IsActive m t.name) ts → (IsActive m name → ⊥) → NotNamed name ts
+not_named : (m : Meeting) (ts : List Task) (name : List ℕ) → AllByRecursion (λ (t : Task). IsActive m t.name) ts → (IsActive m name → ⊥)
+    → NotNamed name ts
 not_named m [] name all none = tt
 not_named m (t ∷ ts) name all none = by (bytes_eq t.name name) refl (not_named m ts name all.1 none)
   where
@@ -79,15 +72,15 @@ record HasShare (m : Meeting) (t : Task) (s : Share) (o : Option DatabaseValue) 
   all : given_by (news_done (action_or_sync t.action) (found m t) s.used s.count) ≡ s.used
   free : GotIds (action_or_sync t.action) (found m t) s.used
 
-has_share : (m : Meeting) (t : Task) (is : IsReady m t) (s : Share) (o : Option DatabaseValue) → IsShare m t is.b s o → HasShare m t s o
-has_share m t is s o share =
-    let writes : List Write = take s.count (giving (choice m t) (seen_held m t) s.used) in
+has_share : (m : Meeting) (t : Task) (is : IsReady m t) (s : Share) {o : Option DatabaseValue} → IsShare m t is.b s o → HasShare m t s o
+has_share m t is s {o} share =
+    let writes = take s.count (giving (choice m t) (seen_held m t) s.used) in
     let same : writes ≡ news_done (action_or_sync t.action) (found m t) s.used s.count =
     ap {A = Choice × (ℕ → Held)} (λ p. take s.count (giving p.0 p.1 s.used)) (λ k. (chosen-is m t k, shown-is m t k)) in
     record {
       stands = subst (λ (ws : List Write). StandsWith t ws o) same (stands share.stands);
       all = ap given_by (sym same) ∙ share.has.own;
-      free = subst (λ (rs : List Record). GotFreeIds (chosen (action_or_sync t.action) (found m t)) (shown (found m t)) s.used rs) (before_records m t is)
+      free = subst (λ (rs : List Record). GotFreeIds (chosen (action_or_sync t.action) (found m t)) (shown (found m t)) s.used rs) (before_records is)
           (subst (λ (p : Choice × (ℕ → Held)). GotFreeIds p.0 p.1 s.used is.b.records) (λ k. (chosen-is m t k, shown-is m t k)) share.has.free);
     }
   where
@@ -96,13 +89,13 @@ has_share m t is s o share =
     stands (inl there) = inr (record { before = is.b; is = is.before; stands = there })
     stands (inr (same, none)) = inl (same, ap (λ n. take n (giving (choice m t) (seen_held m t) s.used)) none)
 
-no_news : (m : Meeting) (t : Task) (o : Option DatabaseValue) → o ≡ t.handheld → HasShare m t no_share o
-no_news m t o same = record { stands = inl (same, refl); all = refl; free = tt }
+no_news : (m : Meeting) (t : Task) {o : Option DatabaseValue} → o ≡ t.handheld → HasShare m t no_share o
+no_news m t same = record { stands = inl (same, refl); all = refl; free = tt }
 
 named_share : (m : Meeting) (ts : List Task) (ready : AreReady m ts) (ss : List Share) (databases : List DatabaseValue) (name : List ℕ) → AreTasks m ts
     → AreShared m ts ready ss databases → (NotNamed name ts → database_of name databases ≡ database_of name m.device.databases)
     → HasShare m (task_of m name) (share_at ts ss name) (database_of name databases)
-named_share m [] ready [] databases name are shared others = no_news m (task_of m name) (database_of name databases) (others tt)
+named_share m [] ready [] databases name are shared others = no_news m (task_of m name) (others tt)
 named_share m [] ready (s ∷ ss) databases name are shared others = absurd shared
 named_share m (t ∷ ts) ready [] databases name are shared others = absurd shared
 named_share m (t ∷ ts) ready (s ∷ ss) databases name are shared others =
@@ -112,18 +105,16 @@ named_share m (t ∷ ts) ready (s ∷ ss) databases name are shared others =
         → (bytes_eq t.name name ≡ false → HasShare m (task_of m name) (share_at ts ss name) (database_of name databases))
         → HasShare m (task_of m name) (if b then s else share_at ts ss name) (database_of name databases)
     by true is rest =
-        let same : t.name ≡ name = bytes_eq-is t.name name is in
+        let same = bytes_eq-is t.name name is in
         subst (λ n. HasShare m (task_of m n) s (database_of n databases)) same
-        (subst (λ (u : Task). HasShare m u s (database_of t.name databases)) are.0 (has_share m t ready.0 s (database_of t.name databases) shared.0))
+        (subst (λ (u : Task). HasShare m u s (database_of t.name databases)) are.0 (has_share m t ready.0 s shared.0))
     by false is rest = rest is
 
 -- the ids of all, in the order of the databases
 used_apart : (t : Task) (s : Share) (ts us : List Task) (ss : List Share) → NotNamed t.name us
     → flat_map (λ (u : Task). (share_at (t ∷ ts) (s ∷ ss) u.name).used) us ≡ flat_map (λ (u : Task). (share_at ts ss u.name).used) us
 used_apart t s ts [] ss unnamed = refl
-used_apart t s ts (u ∷ us) ss unnamed =
-    ap {A = List ℕ × List ℕ} (λ p. p.0 ++ p.1)
-    (λ k. (ap (λ b. (if b then s else share_at ts ss u.name).used) (turned u.name t.name unnamed.0) k, used_apart t s ts us ss unnamed.1 k))
+used_apart t s ts (u ∷ us) ss unnamed = grind (arith, share_at ts ss u.name, turned u.name t.name unnamed.0, used_apart t s ts us ss unnamed.1)
 
 used_all : (m : Meeting) (ts : List Task) (ready : AreReady m ts) (ss : List Share) (databases : List DatabaseValue) → HaveNames ts
     → AreShared m ts ready ss databases → flat_map (λ (t : Task). (share_at ts ss t.name).used) ts ≡ all_used ss
@@ -131,11 +122,7 @@ used_all m [] ready [] databases names shared = refl
 used_all m [] ready (s ∷ ss) databases names shared = absurd shared
 used_all m (t ∷ ts) ready [] databases names shared = absurd shared
 used_all m (t ∷ ts) ready (s ∷ ss) databases names shared =
-    ap {A = List ℕ × List ℕ} (λ p. p.0 ++ p.1)
-    (λ k. (
-      ap (λ b. (if b then s else share_at ts ss t.name).used) (bytes_eq-own t.name) k,
-      (used_apart t s ts ts ss names.0 ∙ used_all m ts ready.1 ss databases names.1 shared.1) k,
-    ))
+    grind (arith, share_at ts ss t.name, bytes_eq-own t.name, used_apart t s ts ts ss names.0, used_all m ts ready.1 ss databases names.1 shared.1)
 
 flat_same : {A B : Type 0} (xs : List A) (f g : A → List B) → ((x : A) → f x ≡ g x) → flat_map f xs ≡ flat_map g xs
 flat_same [] f g same = refl
@@ -143,37 +130,15 @@ flat_same {A} {B} (x ∷ xs) f g same = ap {A = List B × List B} (λ p. p.0 ++ 
 
 -- the ids of a name are those that are dealt out to it
 
-take_short : (n : ℕ) (xs : List ℕ) → length xs ≤ n → take n xs ≡ xs
-take_short n [] few = take-none n
-take_short zero (x ∷ xs) few = absurd (omega (arith, few))
-take_short (suc n) (x ∷ xs) few = ap (λ ys. x ∷ ys) (take_short n xs (omega (arith, few)))
-
-drop_short : (n : ℕ) (xs : List ℕ) → length xs ≤ n → drop n xs ≡ []
-drop_short n [] few = drop-none n
-drop_short zero (x ∷ xs) few = absurd (omega (arith, few))
-drop_short (suc n) (x ∷ xs) few = drop_short n xs (omega (arith, few))
-
 take_whole : (xs ys : List ℕ) → take (length xs) (xs ++ ys) ≡ xs
 take_whole [] ys = refl
 take_whole (x ∷ xs) ys = ap (λ zs. x ∷ zs) (take_whole xs ys)
-
-drop_whole : (xs ys : List ℕ) → drop (length xs) (xs ++ ys) ≡ ys
-drop_whole [] ys = refl
-drop_whole (x ∷ xs) ys = drop_whole xs ys
 
 -- the first ones are those of the first database
 first_dealt : (m : Meeting) (t : Task) (s : Share) (ss : List Share) → length s.used ≤ add_count m t
     → (length s.used ≡ add_count m t) ⊎ (all_used ss ≡ [])
     → (take (add_count m t) (s.used ++ all_used ss) ≡ s.used) × (drop (add_count m t) (s.used ++ all_used ss) ≡ all_used ss)
-first_dealt m t s ss few (inl full) = (
-  ap (λ n. take n (s.used ++ all_used ss)) (sym full) ∙ take_whole s.used (all_used ss),
-  ap (λ n. drop n (s.used ++ all_used ss)) (sym full) ∙ drop_whole s.used (all_used ss),
-)
-first_dealt m t s ss few (inr none) =
-    let same : s.used ++ all_used ss ≡ s.used = ap (λ zs. s.used ++ zs) none ∙ append-nil s.used in (
-      ap (take (add_count m t)) same ∙ take_short (add_count m t) s.used few,
-      ap (drop (add_count m t)) same ∙ drop_short (add_count m t) s.used few ∙ sym none,
-    )
+first_dealt m t s ss few e = grind (arith, common_steps)
 
 none_dealt : (m : Meeting) (ts : List Task) (name : List ℕ) → ids_dealt m ts [] name ≡ []
 none_dealt m [] name = refl
@@ -189,18 +154,11 @@ used_dealt : (m : Meeting) (ts : List Task) (ready : AreReady m ts) (ss : List S
 used_dealt m [] ready ss databases name shared turn = refl
 used_dealt m (t ∷ ts) ready [] databases name shared turn = none_dealt m (t ∷ ts) name
 used_dealt m (t ∷ ts) ready (s ∷ ss) databases name shared turn =
-    let first = first_dealt m t s ss shared.0.has.few turn.0 in
-    ap {A = List ℕ × List ℕ} (λ p. if bytes_eq t.name name then p.0 else ids_dealt m ts p.1 name) (λ k. (first.0 k, first.1 k))
-    ∙ by (bytes_eq t.name name) (used_dealt m ts ready.1 ss databases name shared.1 turn.1)
-  where
-    by : (b : Bool) → ids_dealt m ts (all_used ss) name ≡ (share_at ts ss name).used
-        → (if b then s.used else ids_dealt m ts (all_used ss) name) ≡ (if b then s else share_at ts ss name).used
-    by true rest = refl
-    by false rest = rest
+    grind (arith, first_dealt m t s ss shared.0.has.few turn.0, used_dealt m ts ready.1 ss databases name shared.1 turn.1)
 
-pub stands-among : (m : Meeting) (sound : IsSoundMeeting m) (is : List ℕ) (x : Device) → AmongPart m (ready-all m sound) is x → StandsAmongNews m is x
-stands-among m sound is x part =
-    let ready : AreReady m (active m) = ready-all m sound in
+pub stands-among : (m : Meeting) (sound : IsSoundMeeting m) {is : List ℕ} {x : Device} → AmongPart m (ready-all sound) is x → StandsAmongNews m is x
+stands-among m sound {is} {x} part =
+    let ready = ready-all sound in
     let count : List ℕ → ℕ = λ name. (share_at (active m) part.shares name).count in
     let dealt : (name : List ℕ) → (share_at (active m) part.shares name).used ≡ ids_at m is name =
     λ name. sym (ap (λ js. ids_dealt m (active m) js name) part.all ∙ used_dealt m (active m) ready part.shares x.databases name part.shared part.in_turn) in
@@ -228,17 +186,17 @@ count_at (t ∷ ts) (c ∷ cs) name = if bytes_eq t.name name then c else count_
 
 -- a task has its news and so many of its purges, in the words of stops
 record HasCleared (m : Meeting) (t : Task) (ids : List ℕ) (count : ℕ) (o : Option DatabaseValue) : Type 0 where
-  stands : IsWritten t
-      (giving (chosen (action_or_sync t.action) (found m t)) (shown (found m t)) ids ++ clearing_done (action_or_sync t.action) (found m t) count) o
+  stands : IsWritten t (giving (chosen (action_or_sync t.action) (found m t)) (shown (found m t)) ids ++ clearing_done (action_or_sync t.action)
+      (found m t) count) o
   free : GotAllIds (action_or_sync t.action) (found m t) ids
 
-has_cleared : (m : Meeting) (t : Task) (is : IsReady m t) (given : List ℕ) (count : ℕ) (o : Option DatabaseValue)
+has_cleared : (m : Meeting) (t : Task) (is : IsReady m t) (given : List ℕ) (count : ℕ) {o : Option DatabaseValue}
     → o ≡ Some (with_cleared m t count (news_records m t is given) is.b) → AreGiven m t (take (add_count m t) given) (records_of t.handheld)
     → HasCleared m t (take (add_count m t) given) count o
-has_cleared m t is given count o there free =
-    let ids : List ℕ = take (add_count m t) given in
-    let x : Found = found m t in
-    let a : Action = action_or_sync t.action in
+has_cleared m t is given count there free =
+    let ids = take (add_count m t) given in
+    let x = found m t in
+    let a = action_or_sync t.action in
     let pair : ◌≡◌ {A = Choice × (ℕ → Held)} (choice m t, seen_held m t) (chosen a x, shown x) = λ k. (chosen-is m t k, shown-is m t k) in
     let few = length-take (add_count m t) given in
     record {
@@ -256,14 +214,13 @@ has_cleared m t is given count o there free =
       };
     }
 
-named_cleared : (m : Meeting) (ts : List Task) (ready : AreReady m ts) (given cs : List ℕ) (databases : List DatabaseValue) (name : List ℕ) → AreTasks m ts
-    → AreCleared m ts ready given cs databases → AreDealt m ts given → IsTask (task_of m name) ts
+named_cleared : (m : Meeting) (ts : List Task) (ready : AreReady m ts) (given cs : List ℕ) (databases : List DatabaseValue) (name : List ℕ)
+    → AreTasks m ts → AreCleared m ts ready given cs databases → AreDealt m ts given → IsTask (task_of m name) ts
     → HasCleared m (task_of m name) (ids_dealt m ts given name) (count_at ts cs name) (database_of name databases)
 named_cleared m [] ready given cs databases name are cleared dealt there = absurd there
 named_cleared m (t ∷ ts) ready given [] databases name are cleared dealt there = absurd cleared
 named_cleared m (t ∷ ts) ready given (c ∷ cs) databases name are cleared dealt there =
-    by (bytes_eq t.name name) refl
-    (λ later. named_cleared m ts ready.1 (drop (add_count m t) given) cs databases name are.2 cleared.1 dealt.1 later)
+    by (bytes_eq t.name name) refl (λ later. named_cleared m ts ready.1 (drop (add_count m t) given) cs databases name are.2 cleared.1 dealt.1 later)
   where
     ids : List ℕ
     ids = take (add_count m t) given
@@ -280,17 +237,16 @@ named_cleared m (t ∷ ts) ready given (c ∷ cs) databases name are cleared dea
         → HasCleared m (task_of m name) (if b then ids else ids_dealt m ts rest name) (if b then c else count_at ts cs name) (database_of name databases)
     by true is later =
         subst (λ n. HasCleared m (task_of m n) ids c (database_of n databases)) (bytes_eq-is t.name name is)
-        (subst (λ (u : Task). HasCleared m u ids c (database_of t.name databases)) are.0
-        (has_cleared m t ready.0 given c (database_of t.name databases) cleared.0 dealt.0))
+        (subst (λ (u : Task). HasCleared m u ids c (database_of t.name databases)) are.0 (has_cleared m t ready.0 given c cleared.0 dealt.0))
     by false is later = later (elsewhere is there)
 
-pub stands-behind : (m : Meeting) (sound : IsSoundMeeting m) (given ids is : List ℕ) (x : Device) → BehindPart m given (ready-all m sound) ids is x
+pub stands-behind : (m : Meeting) (sound : IsSoundMeeting m) {given ids is : List ℕ} {x : Device} → BehindPart m given (ready-all sound) ids is x
     → AreDealt m (active m) given → StandsBehindCommit m given x
 unfolding merged_device
-stands-behind m sound given ids is x part dealt =
+stands-behind m sound {given} {x} part dealt =
     let cleared : (name : List ℕ) → IsActive m name
     → HasCleared m (task_of m name) (ids_at m given name) (count_at (active m) part.counts name) (database_of name x.databases) =
-    λ name is_active. named_cleared m (active m) (ready-all m sound) given part.counts x.databases name (are-active m) part.cleared dealt
+    λ name is_active. named_cleared m (active m) (ready-all sound) given part.counts x.databases name (are-active m) part.cleared dealt
     (is-active m name is_active.there is_active.kept) in
     record {
       count = count_at (active m) part.counts;

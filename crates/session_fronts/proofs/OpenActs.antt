@@ -1,6 +1,6 @@
 -- What acts make of a handheld whose one open database is under handle 1.
-use Rattle.std.proofs.Common.{◌≡◌, ◌∙◌, ◌+◌, ◌*◌, refl, ap, ℕ, zero, suc, false, List, [], ◌∷◌, ◌++◌, length}
-use Rattle.std.specs.Prelude.{Option, Some, None, Result, Ok, Err, replicate, flat_map, slice_get}
+use Rattle.std.proofs.Common.{arith, ◌≡◌, ◌∙◌, ◌+◌, ◌*◌, refl, ap, ℕ, zero, suc, false, List, [], ◌∷◌, ◌++◌}
+use Rattle.std.specs.Prelude.{Some, Result, Ok, Err, replicate, flat_map}
 use Rattle.pdb_values.specs.Databases.{DatabaseValue}
 use Rattle.pdb_values.specs.NamedDatabases.{database_of}
 use Rattle.pdb_values.specs.Names.{IsName}
@@ -8,14 +8,13 @@ use Rattle.pdb_values.specs.declared.user.UserInfo.{UserInfo}
 use Rattle.dlp_replies.specs.ReplyValues as reply
 use Rattle.dlp_replies.specs.ReplyValues.{ReplyValue}
 use Rattle.palm_device.specs.Devices.{Device}
-use Rattle.palm_device.specs.Handles.{base_at, just_opened, no_handles, with_handle}
+use Rattle.palm_device.specs.Handles.{just_opened, no_handles, with_handle}
 use Rattle.palm_device.specs.Heads.{is_read_only}
 use Rattle.palm_device.specs.declared.opened.Opened.{Opened}
-use Rattle.dlp_commands.specs.DatabaseFunctions.{listed, more_flag, open_db, read_db_list}
+use Rattle.dlp_commands.specs.DatabaseFunctions.{open_db, read_db_list}
 use Rattle.dlp_commands.specs.DeviceSteps.{outcome, tried}
-use Rattle.dlp_commands.specs.Errors.{none_open, not_found, ◌>>=◌, need}
-use Rattle.dlp_commands.specs.Reached.{Tried, next_of, read_next_modified_rec, reads as reached, with_index, with_next}
-use Rattle.dlp_commands.specs.Readings.{read_in}
+use Rattle.dlp_commands.specs.Errors.{◌>>=◌}
+use Rattle.dlp_commands.specs.Reached.{next_of, read_next_modified_rec, reads as reached, with_index, with_next}
 use Rattle.dlp_commands.specs.declared.reading.Reading.{Reading}
 use Rattle.dlp_commands.specs.declared.reading.Reading.TheVariants as reading
 use Rattle.desktop_session.specs.Acts.{Act, acted}
@@ -25,7 +24,6 @@ use Rattle.desktop_session.specs.Tellings.{device_after}
 use Rattle.desktop_session.proofs.ChangeRows.{row_does}
 use Rattle.desktop_session.proofs.OrderLaws.{name_right}
 use Rattle.desktop_session.proofs.RowLaws.{close_row}
-use Rattle.desktop_session.proofs.TellLaws.{IfDone, done_then}
 use Rattle.slow_mirror.specs.Reads as slow
 use Rattle.slow_mirror.proofs.ReadLaws.{after_append}
 
@@ -39,19 +37,18 @@ one_open o databases user = record { databases = databases; user = user; handles
 
 -- ---- the opening and the closing
 
-open_row : (databases : List DatabaseValue) (user : UserInfo) (name : List ℕ) (d : DatabaseValue) → IsName name → database_of name databases ≡ Some d
-    → is_read_only d.head.attributes ≡ false
-    → tried 0 (all_closed databases user) (opening name).asks ≡ Ok (one_open (just_opened name 0xD0) databases user, reply.OpenDb 1)
-unfolding tried open_db
-open_row databases user name d named here writable = rw (name_right name named, here, writable) refl
+module _ (databases : List DatabaseValue) (user : UserInfo) {name : List ℕ} {d : DatabaseValue} (named : IsName name)
+    (here : database_of name databases ≡ Some d) (writable : is_read_only d.head.attributes ≡ false) where
+  open_row : tried 0 (all_closed databases user) (opening name).asks ≡ Ok (one_open (just_opened name 0xD0) databases user, reply.OpenDb 1)
+  unfolding tried open_db
+  open_row = rw (name_right name named, here, writable) refl
 
-pub open_does : (databases : List DatabaseValue) (user : UserInfo) (name : List ℕ) (d : DatabaseValue) → IsName name → database_of name databases ≡ Some d
-    → is_read_only d.head.attributes ≡ false → (acted (opening name) (all_closed databases user)).1 ≡ one_open (just_opened name 0xD0) databases user
-open_does databases user name d named here writable =
-    row_does (opening name) (all_closed databases user) (one_open (just_opened name 0xD0) databases user) (reply.OpenDb 1)
-    (open_row databases user name d named here writable)
+  pub open_does : (acted (opening name) (all_closed databases user)).1 ≡ one_open (just_opened name 0xD0) databases user
+  open_does =
+      row_does (opening name) (all_closed databases user) (one_open (just_opened name 0xD0) databases user) (reply.OpenDb 1) open_row
 
-pub close_does : (o : Opened) (databases : List DatabaseValue) (user : UserInfo) → (acted (closing 1) (one_open o databases user)).1 ≡ all_closed databases user
+pub close_does : (o : Opened) (databases : List DatabaseValue) (user : UserInfo)
+    → (acted (closing 1) (one_open o databases user)).1 ≡ all_closed databases user
 close_does o databases user =
     row_does (closing 1) (one_open o databases user) (all_closed databases user) reply.CloseDb (close_row (one_open o databases user) 1 o refl)
 
@@ -60,17 +57,9 @@ close_does o databases user =
 Same : Device → Device × ReplyValue → Type 0
 Same device done = done.0 ≡ device
 
-outcome_same : (device : Device) (number : ℕ) (r : Tried) → IfDone (Same device) r → (outcome device number r).1 ≡ device
-unfolding Same
-outcome_same device number (Ok done) same = same
-outcome_same device number (Err code) same = refl
-
 reached_same : (device : Device) (number handle : ℕ) (asked : Reading) → (outcome device number (reached device handle asked)).1 ≡ device
 unfolding Same
-reached_same device number handle asked =
-    outcome_same device number (reached device handle asked)
-    (done_then (need none_open (base_at device handle)) _ (Same device) (λ base a.
-    done_then (read_in asked base.database) _ (Same device) (λ reply b. refl {a = device})))
+reached_same device number handle asked = grind (arith, Same device)
 
 pub user_same : (device : Device) → (acted reading_user device).1 ≡ device
 unfolding acted tried
@@ -82,22 +71,13 @@ begin_same device = refl
 
 list_same : (device : Device) (start : ℕ) → (acted (listing start) device).1 ≡ device
 unfolding acted tried read_db_list
-list_same device start = by (slice_get device.databases start)
-  where
-    by : (o : Option DatabaseValue)
-        → (outcome device 0x16 (need not_found o >>= λ database. Ok (
-          device,
-          reply.ReadDbList start (more_flag start (length device.databases)) ((start, listed database.head) ∷ []),
-        ))).1 ≡ device
-    by None = refl
-    by (Some database) = refl
+list_same device start = grind arith
 
 pub lists_same : (device : Device) (count : ℕ) → device_after (listings count) device ≡ device
 unfolding listings
 lists_same device zero = refl
 lists_same device (suc count) =
-    after_append (listings count) (listing count ∷ []) device
-    ∙ ap (λ (d : Device). (acted (listing count) d).1) (lists_same device count) ∙ list_same device count
+    grind (arith, after_append (listings count) (listing count ∷ []) device, lists_same device count, list_same device count)
 
 pub count_same : (device : Device) → (acted (counting 1) device).1 ≡ device
 unfolding acted tried
@@ -142,8 +122,8 @@ pub keeps-next : KeepsOpen (reading_next 1 ∷ [])
 unfolding KeepsOpen acted tried read_next_modified_rec
 keeps-next o databases user = by (next_of (one_open o databases user) 1)
   where
-    by : (r : Result (ℕ × ReplyValue) ℕ) → (next : ℕ)
-        × ((outcome (one_open o databases user) 0x1F (r >>= λ found. Ok (with_index (one_open o databases user) 1 (found.0 + 1), found.1))).1
+    by : (r : Result (ℕ × ReplyValue) ℕ)
+        → (next : ℕ) × ((outcome (one_open o databases user) 0x1F (r >>= λ found. Ok (with_index (one_open o databases user) 1 (found.0 + 1), found.1))).1
         ≡ one_open (with_next next o) databases user)
     by (Ok found) = (found.0 + 1, refl)
     by (Err code) = (o.next, refl)
@@ -177,6 +157,4 @@ pub around : (first : Act) (acts : List Act) (old : Device) (o p : Opened) (data
     → (acted first old).1 ≡ one_open o databases user → device_after acts (one_open o databases user) ≡ one_open p after user
     → device_after (first ∷ (acts ++ closing 1 ∷ [])) old ≡ all_closed after user
 around first acts old o p databases after user opens does =
-    ap (device_after (acts ++ closing 1 ∷ [])) opens
-    ∙ after_append acts (closing 1 ∷ []) (one_open o databases user)
-    ∙ ap (λ (d : Device). (acted (closing 1) d).1) does ∙ close_does p after user
+    grind (arith, [], after_append acts (closing 1 ∷ []) (one_open o databases user), close_does p after user)

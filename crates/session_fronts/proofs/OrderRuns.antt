@@ -4,7 +4,7 @@ use Rattle.std.specs.Prelude.{None}
 use Rattle.std.specs.List.{AllByRecursion}
 use Rattle.palm_device.specs.Devices.{Device}
 use Rattle.dlp_commands.specs.DeviceRuns.{DeviceRun, exchanged}
-use Rattle.desktop_session.specs.Acts.{Act, acted, text}
+use Rattle.desktop_session.specs.Acts.{Act, text}
 use Rattle.desktop_session.specs.Orders.{AreAnswered, AreInOrder}
 use Rattle.desktop_session.specs.Tellings.{IsProper, IsSayable, exchanges, told}
 use Rattle.desktop_session.proofs.ActLaws.{read_back}
@@ -23,15 +23,15 @@ use Rattle.session_fronts.proofs.FrontLaws.{all-take, first_fit, first_requests,
 use Rattle.session_fronts.proofs.OrderActs.{read-order}
 use Rattle.session_fronts.proofs.OrderWrites.{session-order}
 use Rattle.session_fronts.proofs.RelabelLaws.{none-quiet, none-same, session-labelled}
-use Rattle.session_fronts.proofs.RunLaws.{RunsBy, asks, exchanges-are, given_to, ids_left, relabel, relabel-take, runs-by}
+use Rattle.session_fronts.proofs.RunLaws.{asks, exchanges-are, given_to, ids_left, relabel, relabel-take, runs-by}
 
 -- ---- exchanges
 
-told_exchanges : (acts : List Act) (device : Device) → Fit acts → IsProper device → GetFreeIds acts device → AreAnswered acts device
+told_exchanges : (acts : List Act) {device : Device} → Fit acts → IsProper device → GetFreeIds acts device → AreAnswered acts device
     → AllByRecursion IsAnsweredExchange (exchanges acts device)
 unfolding text
-told_exchanges [] device fit proper free answered = tt
-told_exchanges (act ∷ acts) device fit proper free answered =
+told_exchanges [] fit proper free answered = tt
+told_exchanges (act ∷ acts) {device} fit proper free answered =
     let sayable : IsSayable act device = record { request = fit.0; free = free.0 } in (
       record {
         asked = act.asks;
@@ -40,7 +40,7 @@ told_exchanges (act ∷ acts) device fit proper free answered =
         reply = acted_reads act device proper sayable;
         answered = answered.0;
       },
-      told_exchanges acts (acted act device).1 fit.1 (acted_proper act device proper sayable) free.1 answered.1,
+      told_exchanges acts fit.1 (acted_proper act device proper sayable) free.1 answered.1,
     )
 
 -- ---- other ids, the same requests
@@ -66,16 +66,16 @@ relabel-fit ids (act ∷ acts) fit = by (asks act) (λ is. relabel-fit is acts f
 -- ---- a run
 
 -- by acts that keep their order, whichever ids they give
-run_answered : (bare : List Act) (old new : Device) (replies : List (List ℕ)) → Fit bare → IsProper old
-    → ((ids : List ℕ) → GetFreeIds (relabel ids bare) old → AreInOrder (relabel ids bare) old)
-    → DeviceRun old (map text bare) replies new → AllByRecursion IsAnsweredExchange (exchanged (map text bare) replies)
-run_answered bare old new replies fit proper order run =
-    let runs : RunsBy bare old new replies = runs-by bare old new replies fit run.same run.ran in
-    let acts : List Act = relabel runs.ids bare in
+run_answered : (bare : List Act) {old : Device} (new : Device) (replies : List (List ℕ)) → Fit bare → IsProper old
+    → ((ids : List ℕ) → GetFreeIds (relabel ids bare) old → AreInOrder (relabel ids bare) old) → DeviceRun old (map text bare) replies new
+    → AllByRecursion IsAnsweredExchange (exchanged (map text bare) replies)
+run_answered bare {old} new replies fit proper order run =
+    let runs = runs-by bare old new replies fit run.same run.ran in
+    let acts = relabel runs.ids bare in
     let told : exchanged (map text bare) replies ≡ exchanges acts old =
     ap {A = List (List ℕ) × List (List ℕ)} (λ p. exchanged p.0 p.1) (λ k. (sym (relabel-text runs.ids bare) k, runs.told k)) ∙ exchanges-are acts old in
     subst (AllByRecursion IsAnsweredExchange) (sym told)
-    (told_exchanges acts old (relabel-fit runs.ids bare fit) proper runs.free (order_answered acts old (order runs.ids runs.free)))
+    (told_exchanges acts (relabel-fit runs.ids bare fit) proper runs.free (order_answered acts old (order runs.ids runs.free)))
 
 -- what a run by these requests is answered
 abbrev IsRunAnswered : Device → Device → List (List ℕ) → List (List ℕ) → Type 0
@@ -85,11 +85,11 @@ pub read-answered : (m : Meeting) (count : ℕ) (replies : List (List ℕ)) (rea
     → DeviceRun m.device (take count (map text (before_writes m))) replies reached
     → AllByRecursion IsAnsweredExchange (exchanged (take count (map text (before_writes m))) replies)
 read-answered m count replies reached sound =
-    let all : List Act = before_writes m in
+    let all = before_writes m in
     let same : (ids : List ℕ) → relabel ids (take count all) ≡ take count all =
     λ ids. sym (relabel-take count ids all) ∙ ap (take count) (none-same ids all (none-quiet all (quiet-all all (quiet-before_writes m)))) in
     subst (IsRunAnswered m.device reached replies) (sym (take-map text count all))
-    (run_answered (take count all) m.device reached replies (all-take FitsOne count all (fit-before m sound)) sound.device
+    (run_answered (take count all) reached replies (all-take FitsOne count all (fit-before sound)) sound.device
     (λ ids free. subst (λ (acts : List Act). AreInOrder acts m.device) (sym (same ids)) (read-order m count sound)))
 
 pub whole-answered : (m : Meeting) (count : ℕ) (replies : List (List ℕ)) (reached : Device) → IsSoundMeeting m → first_over m ≡ None
@@ -98,6 +98,6 @@ whole-answered m count replies reached sound none =
     let same : (ids : List ℕ) → take count (session m ids) ≡ relabel ids (take count (session m [])) =
     λ ids. ap (take count) (session-labelled m sound ids) ∙ relabel-take count ids (session m []) in
     subst (IsRunAnswered m.device reached replies) (sym (first_requests m [] count))
-    (run_answered (take count (session m [])) m.device reached replies (first_fit m sound [] count) sound.device
+    (run_answered (take count (session m [])) reached replies (first_fit sound [] count) sound.device
     (λ ids free. subst (λ (acts : List Act). AreInOrder acts m.device) (same ids)
     (session-order m ids count sound none (subst (λ (acts : List Act). GetFreeIds acts m.device) (sym (same ids)) free))))

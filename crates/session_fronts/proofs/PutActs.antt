@@ -1,5 +1,6 @@
 -- What a handheld gets: replacements, and new records under ids that were free.
-use Rattle.std.proofs.Common.{◌≡◌, ◌∙◌, ◌≤◌, ◌<◌, ◌+◌, ◌==◌, refl, ap, subst, ℕ, zero, suc, Bool, true, false, List, [], ◌∷◌, ◌++◌, length, if◌then◌else◌, arith}
+use Rattle.std.proofs.lemmas.Grind.{common_steps}
+use Rattle.std.proofs.Common.{◌≡◌, ◌∙◌, ◌≤◌, ◌<◌, ◌+◌, ◌==◌, refl, ap, ℕ, true, List, [], ◌∷◌, ◌++◌, length, if◌then◌else◌, arith}
 use Rattle.std.specs.Prelude.{◌||◌, not, nat_lt, is_none, Option, Some, None, replicate, IfSome}
 use Rattle.std.specs.List.{AllByRecursion}
 use Rattle.std.proofs.lemmas.Bool.Decides.{nat_tests}
@@ -8,8 +9,8 @@ use Rattle.pdb_values.specs.Databases.{DatabaseValue}
 use Rattle.pdb_values.specs.declared.record.Record.{Record}
 use Rattle.pdb_values.specs.declared.user.UserInfo.{UserInfo}
 use Rattle.palm_device.specs.Devices.{Device}
-use Rattle.palm_device.specs.Handles.{Base, base_at}
-use Rattle.palm_device.specs.Records.{IsFree, given_id, is_new, new_record, place_of_id, put_record, rewritten}
+use Rattle.palm_device.specs.Handles.{base_at}
+use Rattle.palm_device.specs.Records.{IsFree, given_id, is_new, place_of_id, put_record}
 use Rattle.palm_device.specs.declared.opened.Opened.{Opened}
 use Rattle.palm_device.proofs.RecordLaws.{put_record_new}
 use Rattle.conduit_rules.specs.ById.{at}
@@ -45,12 +46,7 @@ free-front (x ∷ xs) ys device free = (free.0, free-front xs ys (acted x device
 -- how many records there are then
 pub put-length : (i : ℕ) (c : ContentValue) (rs : List Record) → length (put_record i c rs) ≡ length rs + (if is_none (first i rs) then 1 else 0)
 put-length i c [] = ap length (put_record-nil i c)
-put-length i c (r ∷ rs) = ap length (put_record-cons i c r rs) ∙ by (r.id == i) (put-length i c rs)
-  where
-    by : (b : Bool) → length (put_record i c rs) ≡ length rs + (if is_none (first i rs) then 1 else 0)
-        → length (if b then rewritten c r ∷ rs else r ∷ put_record i c rs) ≡ length (r ∷ rs) + (if is_none (if b then Some r else first i rs) then 1 else 0)
-    by true rest = omega arith
-    by false rest = omega (arith, rest)
+put-length i c (r ∷ rs) = grind (arith, put_record-cons i c r rs, put-length i c rs)
 
 appended-put : (e : ℕ × ContentValue) (es : List (ℕ × ContentValue)) (rs : List Record) → at e.0 es ≡ None
     → appended (put_record e.0 e.1 rs) es ≡ appended rs es
@@ -59,19 +55,19 @@ appended-put e (x ∷ es) rs none = grind (arith, nat_tests, none, appended-put 
 
 appended-length : (e : ℕ × ContentValue) (es : List (ℕ × ContentValue)) (rs : List Record)
     → length (appended rs (e ∷ es)) ≡ (if is_none (first e.0 rs) then 1 else 0) + length (appended rs es)
-appended-length e es rs = by (is_none (first e.0 rs))
-  where
-    by : (b : Bool) → length (if b then new_record e.0 e.1 ∷ appended rs es else appended rs es) ≡ (if b then 1 else 0) + length (appended rs es)
-    by true = omega arith
-    by false = omega arith
+appended-length e es rs = grind arith
 
-pub room_then : (e : ℕ × ContentValue) (es : List (ℕ × ContentValue)) (rs : List Record) → at e.0 es ≡ None → length rs + length (appended rs (e ∷ es)) ≤ 65535
-    → length (put_record e.0 e.1 rs) + length (appended (put_record e.0 e.1 rs) es) ≤ 65535
+pub room_then : (e : ℕ × ContentValue) (es : List (ℕ × ContentValue)) (rs : List Record) → at e.0 es ≡ None
+    → length rs + length (appended rs (e ∷ es)) ≤ 65535 → length (put_record e.0 e.1 rs) + length (appended (put_record e.0 e.1 rs) es) ≤ 65535
 room_then e es rs none few =
-    let grown = put-length e.0 e.1 rs in
-    let same : length (appended (put_record e.0 e.1 rs) es) ≡ length (appended rs es) = ap length (appended-put e es rs none) in
-    let more = appended-length e es rs in
-    omega (arith, grown, same, more, few)
+    grind (
+      arith,
+      put-length e.0 e.1 rs,
+      length (appended (put_record e.0 e.1 rs) es),
+      length (appended rs es),
+      appended-put e es rs none,
+      appended-length e es rs,
+    )
 
 pub room_now : (e : ℕ × ContentValue) (es : List (ℕ × ContentValue)) (rs : List Record) → 0 < e.0 → length rs + length (appended rs (e ∷ es)) ≤ 65535
     → (not (is_new e.0 rs) || nat_lt (length rs) 65535) ≡ true
@@ -80,22 +76,26 @@ room_now e es rs some few = by (place_of_id e.0 rs) refl
     by : (p : Option ℕ) → place_of_id e.0 rs ≡ p → (not ((e.0 == 0) || is_none p) || nat_lt (length rs) 65535) ≡ true
     by (Some place) is = grind (arith, nat_tests, some)
     by None is =
-        let none : first e.0 rs ≡ None = place-first e.0 rs is in
-        let more : length (appended rs (e ∷ es)) ≡ 1 + length (appended rs es) =
-        appended-length e es rs
+        let none = place-first e.0 rs is in
+        let more : length (appended rs (e ∷ es)) ≡ 1 + length (appended rs es) = appended-length e es rs
         ∙ ap (λ (o : Option Record). (if is_none o then 1 else 0) + length (appended rs es)) none in
         let less : length rs < 65535 = omega (arith, more, few) in
         grind (arith, nat_tests, less)
 
 -- how many records there are behind the replacements
-pub replaces-length : (es : List (ℕ × ContentValue)) (rs : List Record) → Apart es → length (after (replaces es) rs) ≡ length rs + length (appended rs es)
+pub replaces-length : (es : List (ℕ × ContentValue)) (rs : List Record) → Apart es
+    → length (after (replaces es) rs) ≡ length rs + length (appended rs es)
 replaces-length [] rs apart = omega arith
 replaces-length (e ∷ es) rs apart =
-    let rest = replaces-length es (put_record e.0 e.1 rs) apart.1 in
-    let grown = put-length e.0 e.1 rs in
-    let same : length (appended (put_record e.0 e.1 rs) es) ≡ length (appended rs es) = ap length (appended-put e es rs apart.0) in
-    let more = appended-length e es rs in
-    omega (arith, rest, grown, same, more)
+    grind (
+      arith,
+      replaces-length es (put_record e.0 e.1 rs) apart.1,
+      put-length e.0 e.1 rs,
+      length (appended (put_record e.0 e.1 rs) es),
+      length (appended rs es),
+      appended-put e es rs apart.0,
+      appended-length e es rs,
+    )
 
 -- ---- replacements
 
@@ -104,19 +104,21 @@ pub record IsReplacement (e : ℕ × ContentValue) : Type 0 where
   pub can : CanPut e.0 e.1
 
 pub own_id : (i : ℕ) → given_id 0 i ≡ i
-own_id zero = refl
-own_id (suc i) = grind (arith, nat_tests)
+own_id i = grind (arith, common_steps)
 
-pub replaces_do : (o : Opened) (d : DatabaseValue) (databases : List DatabaseValue) (user : UserInfo) (rs : List Record) (es : List (ℕ × ContentValue))
+pub replaces_do : {o : Opened} {d : DatabaseValue} {databases : List DatabaseValue} (user : UserInfo) (rs : List Record) (es : List (ℕ × ContentValue))
     → MayWrite o d databases → AllByRecursion IsReplacement es → Apart es → length rs + length (appended rs es) ≤ 65535
     → device_after (puts 1 (replicate (length es) 0) es) (holding o d databases user rs) ≡ holding o d databases user (after (replaces es) rs)
 unfolding puts
-replaces_do o d databases user rs [] may each apart few = refl
-replaces_do o d databases user rs (e ∷ es) may each apart few =
-    ap (device_after (puts 1 (replicate (length es) 0) es))
-    (put_does o d databases user rs 0 e.0 e.1 may each.0.can (room_now e es rs each.0.some few)
-    ∙ ap (λ i. holding o d databases user (put_record i e.1 rs)) (own_id e.0))
-    ∙ replaces_do o d databases user (put_record e.0 e.1 rs) es may each.1 apart.1 (room_then e es rs apart.0 few)
+replaces_do user rs [] may each apart few = refl
+replaces_do user rs (e ∷ es) may each apart few =
+    grind (
+      arith,
+      length es,
+      put_does user rs 0 e.0 e.1 may each.0.can (room_now e es rs each.0.some few),
+      own_id e.0,
+      replaces_do user (put_record e.0 e.1 rs) es may each.1 apart.1 (room_then e es rs apart.0 few),
+    )
 
 -- ---- new records
 
@@ -127,34 +129,29 @@ pub record AreAdded (o : Opened) (d : DatabaseValue) (databases : List DatabaseV
   pub free : AreFree (numbered given cs) rs
   pub each : length cs ≤ length given
 
-pub is_free : (o : Opened) (d : DatabaseValue) (databases : List DatabaseValue) (user : UserInfo) (rs : List Record) (g : ℕ) → MayWrite o d databases
+pub is_free : {o : Opened} {d : DatabaseValue} {databases : List DatabaseValue} (user : UserInfo) (rs : List Record) (g : ℕ) → MayWrite o d databases
     → IfSome (base_at (holding o d databases user rs) 1) (λ base. ◌≡◌ {A = ℕ} 0 0 → IsFree g base.database.records) → IsFree g rs
-is_free o d databases user rs g may if_some =
-    subst (λ (b : Option Base). IfSome b (λ base. ◌≡◌ {A = ℕ} 0 0 → IsFree g base.database.records)) (holding_base o d databases user rs may) if_some refl
+is_free user rs g may if_some = grind (arith, holding_base may user rs)
 
 pub add_room : (rs : List Record) → length rs < 65535 → (not (is_new 0 rs) || nat_lt (length rs) 65535) ≡ true
 add_room rs few = grind (arith, nat_tests, few)
 
-pub adds_do : (o : Opened) (d : DatabaseValue) (databases : List DatabaseValue) (user : UserInfo) (rs : List Record) (given : List ℕ)
-    (cs : List ContentValue) → MayWrite o d databases → AllByRecursion IsSorted cs → length rs + length cs ≤ 65535
+pub adds_do : {o : Opened} {d : DatabaseValue} {databases : List DatabaseValue} (user : UserInfo) (rs : List Record) (given : List ℕ) (cs : List ContentValue)
+    → MayWrite o d databases → AllByRecursion IsSorted cs → length rs + length cs ≤ 65535
     → GetFreeIds (puts 1 given (as_new cs)) (holding o d databases user rs) → AreAdded o d databases user rs given cs
 unfolding puts
-adds_do o d databases user rs [] [] may each few free = record { does = refl; free = tt; each = omega arith }
-adds_do o d databases user rs (g ∷ gs) [] may each few free = record { does = refl; free = tt; each = omega arith }
-adds_do o d databases user rs [] (c ∷ cs) may each few free =
-    let zero_free : IsFree 0 rs = is_free o d databases user rs 0 may free.0 in
-    absurd (let l = zero_free.some in omega (arith, l))
-adds_do o d databases user rs (g ∷ gs) (c ∷ cs) may each few free =
-    let g_free : IsFree g rs = is_free o d databases user rs g may free.0 in
-    let now : List Record = put_record g c rs in
-    let is_now : now ≡ rs ++ new_record g c ∷ [] = put_record_new g c rs g_free.none in
-    let grown : length now ≡ length rs + 1 =
-    put-length g c rs
-    ∙ ap (λ (x : Option Record). length rs + (if is_none x then 1 else 0)) (place-first g rs g_free.none) in
-    let step = put_does o d databases user rs g 0 c may (record { bounded = omega arith; sorted = each.0 }) (add_room rs (omega (arith, few))) in
-    let rest = adds_do o d databases user now gs cs may each.1 (omega (arith, grown, few)) (subst (GetFreeIds (puts 1 gs (as_new cs))) step free.1) in
-    record {
-      does = ap (device_after (puts 1 gs (as_new cs))) step ∙ rest.does;
-      free = (g_free, rest.free);
-      each = (let l = rest.each in omega (arith, l));
-    }
+adds_do user rs [] [] may each few free = record { does = refl; free = tt; each = omega arith }
+adds_do user rs (g ∷ gs) [] may each few free = record { does = refl; free = tt; each = omega arith }
+adds_do user rs [] (c ∷ cs) may each few free = grind (arith, is_free user rs 0 may free.0)
+adds_do user rs (g ∷ gs) (c ∷ cs) may each few free =
+    grind (
+      arith,
+      is_free user rs g may free.0,
+      put_record_new g c rs (is_free user rs g may free.0).none,
+      length (put_record g c rs),
+      length rs,
+      put-length g c rs,
+      place-first g rs (is_free user rs g may free.0).none,
+      put_does user rs g 0 c may (record { bounded = omega arith; sorted = each.0 }) (add_room rs (omega (arith, few))),
+      adds_do user (put_record g c rs) gs cs may each.1,
+    )

@@ -9,11 +9,9 @@ use Rattle.pdb_values.specs.declared.user.UserInfo.{UserInfo}
 use Rattle.palm_device.specs.Handles.{just_opened}
 use Rattle.palm_device.specs.Heads.{is_read_only}
 use Rattle.palm_device.specs.Records.{is_changed}
-use Rattle.palm_device.specs.declared.opened.Opened.{Opened}
 use Rattle.conduit_rules.specs.ById.{each_id, ids_below, id_bound}
 use Rattle.conduit_rules.specs.States.{first, has_row}
 use Rattle.dlp_commands.specs.Reached.{with_next}
-use Rattle.desktop_session.specs.Acts.{Act}
 use Rattle.desktop_session.specs.Lists.{id_listings, id_parts}
 use Rattle.desktop_session.specs.Requests.{counting, opening, reading_next, reading_of}
 use Rattle.desktop_session.specs.Tellings.{device_after}
@@ -34,9 +32,9 @@ keeps-read_by_id base (Some r) = by (is_changed r) (has_row base r.id)
 
 keeps-fast : (base records : List Record) → KeepsOpen (fast_reads base records)
 keeps-fast base records =
-    let ids : List Act = id_listings 1 (id_parts (length records)) in
-    let nexts : List Act = replicate (length (filter is_changed records) + 1) (reading_next 1) in
-    let others : List Act = each_id (λ i. read_by_id base (first i records)) in
+    let ids = id_listings 1 (id_parts (length records)) in
+    let nexts = replicate (length (filter is_changed records) + 1) (reading_next 1) in
+    let others = each_id (λ i. read_by_id base (first i records)) in
     keeps-append (counting 1 ∷ []) (ids ++ (nexts ++ others)) (keeps-same (counting 1) count_same)
     (keeps-append ids (nexts ++ others) (keeps-id_listings (id_parts (length records)))
     (keeps-append nexts others (keeps-replicate (length (filter is_changed records) + 1) (reading_next 1) keeps-next)
@@ -57,7 +55,7 @@ pub reads_same : (meeting : Meeting) (task : Task) (databases : List DatabaseVal
     → device_after (opened name (reads meeting task)) (all_closed databases user) ≡ all_closed databases user
 unfolding KeepsOpen
 reads_same meeting task databases user name d named here writable =
-    let o : Opened = just_opened name 0xD0 in
+    let o = just_opened name 0xD0 in
     let keeps = keeps-reads meeting task o databases user in
     around (opening name) (reads meeting task) (all_closed databases user) o (with_next keeps.0 o) databases databases user
-    (open_does databases user name d named here writable) keeps.1
+    (open_does databases user named here writable) keeps.1

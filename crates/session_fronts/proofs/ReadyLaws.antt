@@ -1,9 +1,9 @@
 -- The databases of a session that aren't skipped can be read and written.
+use Rattle.std.proofs.lemmas.Grind.{common_steps}
 use Rattle.std.proofs.Common.{◌≡◌, ◌≤◌, ◌∙◌, ◌||◌, not, refl, ap, sym, subst, ℕ, Bool, true, false, List, [], ◌∷◌, length, map, filter, if◌then◌else◌, arith, is_none, is_some}
 use Rattle.std.specs.Prelude.{Option, Some, None}
 use Rattle.std.specs.List.{AllByRecursion, list_any}
 use Rattle.std.specs.Str.{bytes_eq}
-use Rattle.std.proofs.lemmas.Bool.Decides.{nat_tests}
 use Rattle.pdb_values.specs.Databases.{DatabaseValue}
 use Rattle.pdb_values.specs.Heads.{holds_resources}
 use Rattle.pdb_values.specs.NamedDatabases.{database_of}
@@ -28,11 +28,8 @@ use Rattle.sync_session.specs.Choosing.{action_or_sync, agrees, base_rows, choic
 use Rattle.sync_session.specs.Heads.{made_head}
 use Rattle.sync_session.specs.Merges.{handheld_before, new_database}
 use Rattle.sync_session.specs.News.{replaced as replacements}
-use Rattle.sync_session.specs.Skips.{active, head_of, one_passes, passes, reason_by, skip_of}
+use Rattle.sync_session.specs.Skips.{active, head_of, one_passes, reason_by, skip_of}
 use Rattle.sync_session.specs.Tasks.{Meeting, Task, names, records_of, slot_of, task_of, tasks}
-use Rattle.sync_session.specs.declared.skip.Skip.{Skip}
-use Rattle.sync_session.specs.declared.skip.Skip.TheVariants as skip
-use Rattle.session_laws.specs.Meetings.{IsLike, IsLikeFirst}
 use Rattle.session_laws.proofs.MergedLaws.{AreTasks}
 use Rattle.session_laws.proofs.SkipLaws.{handheld-like}
 use Rattle.session_laws.proofs.TaskLaws.{are-active, on_a_side}
@@ -58,16 +55,9 @@ all-map P Q (x ∷ xs) turn all = (turn x all.0, all-map P Q xs turn all.1)
 abbrev pub IsIn : List (List ℕ) → List ℕ → Type 0
 IsIn ns n = list_any (λ other. bytes_eq other n) ns ≡ true
 
-or_true : (a b : Bool) → b ≡ true → (a || b) ≡ true
-or_true true b is = refl
-or_true false b is = is
-
 pub are_in : (ns : List (List ℕ)) → AllByRecursion (IsIn ns) ns
 are_in [] = tt
-are_in (n ∷ ns) = (
-  ap (λ b. b || list_any (λ other. bytes_eq other n) ns) (bytes_eq-own n),
-  all-map (IsIn ns) (IsIn (n ∷ ns)) ns (λ x is. or_true (bytes_eq n x) (list_any (λ other. bytes_eq other x) ns) is) (are_in ns),
-)
+are_in (n ∷ ns) = grind (arith, bytes_eq-own n, all-map (IsIn ns) (IsIn (n ∷ ns)) ns, IsIn ns, IsIn (n ∷ ns), are_in ns)
 
 kept_in : (m : Meeting) (ns : List (List ℕ)) → AllByRecursion (IsIn (names m)) ns
     → AllByRecursion (IsKept m) (filter (λ t. is_none (skip_of t)) (map (task_of m) ns))
@@ -102,31 +92,9 @@ stand-all m = stand_all m (active m) (are-kept m)
 
 -- ---- why none of them is skipped
 
-first_none : (a : Bool) (s : Skip) (rest : Option Skip) → is_none (if a then Some s else rest) ≡ true → (a ≡ false) × (is_none rest ≡ true)
-first_none true s rest is = absurd (cc)
-first_none false s rest is = (refl, is)
-
 no_reason : (a : Option Action) (h r : Option DbHead) (base : Bool) → is_none (reason_by a h r base) ≡ true
     → (one_passes holds_resources h r ≡ false) × (one_passes is_read_only h r ≡ false)
-no_reason None h r base is = absurd (cc)
-no_reason (Some a) h r base is =
-    let first = first_none (one_passes holds_resources h r) skip.Resource _ is in
-    let second = first_none (one_passes is_read_only h r) skip.ReadOnly _ first.1 in
-    (first.0, second.0)
-
-left_false : (a b : Bool) → (a || b) ≡ false → a ≡ false
-left_false true b is = is
-left_false false b is = refl
-
-right_false : (a b : Bool) → (a || b) ≡ false → b ≡ false
-right_false true b is = absurd (cc)
-right_false false b is = is
-
-test_none : (test : ℕ → Bool) → ((x y : DbHead) → IsLike x y → test x.attributes ≡ test y.attributes) → (own other : Option DbHead) (now : DbHead)
-    → IsLikeFirst own other (Some now) → one_passes test own other ≡ false → test now.attributes ≡ false
-test_none test keeps (Some head) other now like none = keeps now head like ∙ left_false (test head.attributes) (passes test other) none
-test_none test keeps None (Some head) now like none = keeps now head like ∙ none
-test_none test keeps None None now like none = absurd like
+no_reason a h r base is = grind (arith, common_steps)
 
 -- ---- what a handheld's records are
 
@@ -139,13 +107,13 @@ pub record AreSound (records : List Record) : Type 0 where
 
 bounded_ids : (records : List Record) → AllByRecursion IsBoundedRecord records → AreBounded records
 bounded_ids [] all = tt
-bounded_ids (r ∷ records) all = ((let l = all.0.id in let is = id_bound-is in grind (arith, nat_tests, l, is)), bounded_ids records all.1)
+bounded_ids (r ∷ records) all = grind (arith, id_bound-is, bounded_ids records all.1)
 
 sorted_records : (records : List Record) → AllByRecursion IsBoundedRecord records → AllByRecursion HasSorted records
-sorted_records records all = all-map IsBoundedRecord HasSorted records (λ r is. record { category = is.category; short = is.short }) all
+sorted_records records all = grind (arith, all-map IsBoundedRecord HasSorted records)
 
-pub handheld-sound : (m : Meeting) → IsSoundMeeting m → (t : Task) → t ≡ task_of m t.name → AreSound (records_of t.handheld)
-handheld-sound m sound t is = by t.handheld (ap (λ (x : Task). x.handheld) is)
+pub handheld-sound : {m : Meeting} → IsSoundMeeting m → (t : Task) → t ≡ task_of m t.name → AreSound (records_of t.handheld)
+handheld-sound {m} sound t is = by t.handheld (ap (λ (x : Task). x.handheld) is)
   where
     by : (h : Option DatabaseValue) → h ≡ database_of t.name m.device.databases → AreSound (records_of h)
     by None there = record { ids = tt; bounded = tt; sorted = tt; kept = tt; few = omega arith }
@@ -169,11 +137,7 @@ rows_sorted : (m : Meeting) → IsSoundMeeting m → (t : Task) → t ≡ task_o
 rows_sorted m sound t is = shelf_sorted t.name (slot_of m).shelves.rows t.rows sound.slot.rows (ap (λ (x : Task). x.rows) is)
 
 base_sorted : (m : Meeting) → IsSoundMeeting m → (t : Task) → t ≡ task_of m t.name → AllByRecursion HasSorted (base_rows t)
-base_sorted m sound t is = by (is_some t.rows) (shelf_sorted t.name (slot_of m).shelves.bases t.base sound.slot.bases (ap (λ (x : Task). x.base) is))
-  where
-    by : (b : Bool) → AllByRecursion HasSorted (records_of t.base) → AllByRecursion HasSorted (if b then records_of t.base else [])
-    by true all = all
-    by false all = tt
+base_sorted m sound t is = grind (arith, is_some t.rows, shelf_sorted t.name (slot_of m).shelves.bases t.base sound.slot.bases)
 
 -- ---- what is seen of them
 
@@ -182,7 +146,7 @@ unfolding view
 view_sorted m sound t is = by (is_fast m t)
   where
     own : AreSound (records_of t.handheld)
-    own = handheld-sound m sound t is
+    own = handheld-sound sound t is
 
     by : (fast : Bool) → AllByRecursion SeenSorted (if fast then fast_view (base_rows t) (records_of t.handheld) else slow_view (records_of t.handheld))
     by true = fast-sorted (base_rows t) (records_of t.handheld) (base_sorted m sound t is) own.sorted
@@ -197,12 +161,12 @@ shows-no_other m t own = by (is_fast m t)
     by true = fast-no_other (base_rows t) (records_of t.handheld) own.bounded
     by false = slow-no_other (records_of t.handheld) own.bounded
 
-show_all : (m : Meeting) (ts : List Task) → IsSoundMeeting m → AllByRecursion (IsKept m) ts → ShowAll m ts
-show_all m [] sound kept = tt
-show_all m (t ∷ ts) sound kept = (shows-no_other m t (handheld-sound m sound t kept.0.is), show_all m ts sound kept.1)
+show_all : {m : Meeting} (ts : List Task) → IsSoundMeeting m → AllByRecursion (IsKept m) ts → ShowAll m ts
+show_all [] sound kept = tt
+show_all {m} (t ∷ ts) sound kept = (shows-no_other m t (handheld-sound sound t kept.0.is), show_all ts sound kept.1)
 
 pub show-all : (m : Meeting) → IsSoundMeeting m → ShowAll m (active m)
-show-all m sound = show_all m (active m) sound (are-kept m)
+show-all m sound = show_all (active m) sound (are-kept m)
 
 -- ---- all of it
 
@@ -216,15 +180,15 @@ are_sorted m sound t is =
 no_zero : (m : Meeting) → IsSoundMeeting m → (t : Task) → t ≡ task_of m t.name → HasNoZero (sides_seen m t)
 unfolding sides
 no_zero m sound t is =
-    let own = handheld-sound m sound t is in
+    let own = handheld-sound sound t is in
     record { base = refl; handheld = shows-no_other m t own 0 (first-zero (records_of t.handheld) own.ids) }
 
 news_sorted : (m : Meeting) (t : Task) → AreSorted (sides_seen m t) → HasNoZero (sides_seen m t)
     → AllByRecursion IsReplacement (replacements m t) × AllByRecursion IsSorted (choice m t).adds
 unfolding choice sides
 news_sorted m t are none = (
-  replaced-sorted (action_or_sync t.action) (sides_seen m t) are none,
-  adds-sorted (action_or_sync t.action) (sides_seen m t) are,
+  replaced-sorted (action_or_sync t.action) are none,
+  adds-sorted (action_or_sync t.action) are,
 )
 
 -- the database before, by what both sides have
@@ -234,8 +198,8 @@ pub record IsBefore (m : Meeting) (t : Task) : Type 0 where
   pub named : IsName t.name
   pub own : b.head.name ≡ t.name
 
-before_of : (m : Meeting) → IsSoundMeeting m → (t : Task) → IsKept m t → IsBefore m t
-before_of m sound t is = by t.handheld t.rows refl refl is.side
+before_of : {m : Meeting} → IsSoundMeeting m → {t : Task} → IsKept m t → IsBefore m t
+before_of {m} sound {t} is = by t.handheld t.rows refl refl is.side
   where
     by : (h r : Option DatabaseValue) → t.handheld ≡ h → t.rows ≡ r → (is_some h || is_some r) ≡ true → IsBefore m t
     by (Some d) r is_h is_r side =
@@ -263,25 +227,18 @@ before_of m sound t is = by t.handheld t.rows refl refl is.side
 pub ready-of : (m : Meeting) → IsSoundMeeting m → (t : Task) → IsKept m t → IsReady m t
 unfolding skip_of
 ready-of m sound t is =
-    let before = before_of m sound t is in
-    let like = handheld-like t.handheld t.rows before.b before.before in
-    let reasons = no_reason t.action (head_of t.handheld) (head_of t.rows) (is_some t.base) is.kept in
-    let news = news_sorted m t (are_sorted m sound t is.is) (no_zero m sound t is.is) in
-    record {
-      b = before.b;
-      before = before.before;
-      named = before.named;
-      own = before.own;
-      writable = test_none is_read_only (λ x y like. like.read_only) (head_of t.handheld) (head_of t.rows) before.b.head like reasons.1;
-      records = ap not (test_none holds_resources (λ x y like. like.resources) (head_of t.handheld) (head_of t.rows) before.b.head like reasons.0);
-      replaced = news.0;
-      apart = apart-rising 0 id_bound (replacements m t) (replaced_rise (choice m t).keep (seen_held m t));
-      adds = news.1;
-    }
+    grind (
+      arith,
+      before_of sound is,
+      handheld-like t.handheld t.rows (before_of sound is).b (before_of sound is).before,
+      no_reason t.action (head_of t.handheld) (head_of t.rows) (is_some t.base) is.kept,
+      news_sorted m t (are_sorted m sound t is.is) (no_zero m sound t is.is),
+      apart-rising 0 id_bound (replacements m t) (replaced_rise (choice m t).keep (seen_held m t)),
+    )
 
-ready_all : (m : Meeting) (ts : List Task) → IsSoundMeeting m → AllByRecursion (IsKept m) ts → AreReady m ts
-ready_all m [] sound kept = tt
-ready_all m (t ∷ ts) sound kept = (ready-of m sound t kept.0, ready_all m ts sound kept.1)
+ready_all : {m : Meeting} (ts : List Task) → IsSoundMeeting m → AllByRecursion (IsKept m) ts → AreReady m ts
+ready_all [] sound kept = tt
+ready_all {m} (t ∷ ts) sound kept = (ready-of m sound t kept.0, ready_all ts sound kept.1)
 
-pub ready-all : (m : Meeting) → IsSoundMeeting m → AreReady m (active m)
-ready-all m sound = ready_all m (active m) sound (are-kept m)
+pub ready-all : {m : Meeting} → IsSoundMeeting m → AreReady m (active m)
+ready-all {m} sound = ready_all (active m) sound (are-kept m)

@@ -1,5 +1,6 @@
 -- A session with other ids is the same but for the ids of its new records.
-use Rattle.std.proofs.Common.{◌≡◌, ◌∙◌, ◌+◌, refl, ap, sym, subst, ℕ, zero, suc, Bool, true, false, List, [], ◌∷◌, ◌++◌, length, map, take, drop, if◌then◌else◌, arith}
+use Rattle.std.proofs.lemmas.Grind.{common_steps}
+use Rattle.std.proofs.Common.{◌≡◌, ◌∙◌, ◌+◌, refl, ap, sym, subst, ℕ, Bool, true, false, List, [], ◌∷◌, ◌++◌, length, map, take, drop, arith}
 use Rattle.std.specs.Prelude.{Option, Some, None, replicate, flat_map, sum_by}
 use Rattle.std.specs.List.{AllByRecursion}
 use Rattle.std.proofs.lemmas.List.Sums.{sum_by-cons}
@@ -7,7 +8,7 @@ use Rattle.pdb_values.specs.Contents.{ContentValue}
 use Rattle.pdb_values.specs.Databases.{DatabaseValue}
 use Rattle.conduit_rules.specs.Plans.{purged_ids}
 use Rattle.desktop_session.specs.Acts.{Act}
-use Rattle.desktop_session.specs.Requests.{cleaning, closing, ending, making, opening, putting, removing, resetting}
+use Rattle.desktop_session.specs.Requests.{cleaning, closing, ending, making, opening, removing, resetting}
 use Rattle.slow_mirror.specs.News.{as_new, purge_writes, puts}
 use Rattle.sync_session.specs.Choosing.{choice, seen_held}
 use Rattle.sync_session.specs.Heads.{made_head}
@@ -41,33 +42,29 @@ none-append (x ∷ xs) ys first second = (first.0, none-append xs ys first.1 sec
 
 pub none-same : (ids : List ℕ) (acts : List Act) → NoAsk acts → relabel ids acts ≡ acts
 none-same ids [] none = refl
-none-same ids (act ∷ acts) none =
-    ap (λ b. given_to b ids act ∷ relabel (ids_left b ids) acts) none.0 ∙ ap (λ (zs : List Act). act ∷ zs) (none-same ids acts none.1)
+none-same ids (act ∷ acts) none = grind (arith, none-same ids acts none.1)
 
 pub none-count : (acts : List Act) → NoAsk acts → asks_in acts ≡ 0
 none-count [] none = refl
 none-count (act ∷ acts) none = ap (λ b. count_one b (asks_in acts)) none.0 ∙ none-count acts none.1
 
 drop_left : (b : Bool) (n : ℕ) (ids : List ℕ) → drop (count_one b n) ids ≡ drop n (ids_left b ids)
-drop_left true zero [] = refl
-drop_left true (suc n) [] = refl
-drop_left true n (i ∷ ids) = refl
-drop_left false n ids = refl
+drop_left b n ids = grind (arith, common_steps)
 
 relabel-append : (ids : List ℕ) (xs ys : List Act) → relabel ids (xs ++ ys) ≡ relabel ids xs ++ relabel (drop (asks_in xs) ids) ys
 relabel-append ids [] ys = refl
 relabel-append ids (x ∷ xs) ys =
-    ap (λ (zs : List Act). given_to (asks x) ids x ∷ zs)
-    (relabel-append (ids_left (asks x) ids) xs ys
-    ∙ ap (λ is. relabel (ids_left (asks x) ids) xs ++ relabel is ys) (sym (drop_left (asks x) (asks_in xs) ids)))
+    grind (
+      arith,
+      given_to (asks x) ids x,
+      relabel-append (ids_left (asks x) ids) xs ys,
+      relabel (ids_left (asks x) ids) xs,
+      drop_left (asks x) (asks_in xs) ids,
+    )
 
 pub count-append : (xs ys : List Act) → asks_in (xs ++ ys) ≡ asks_in xs + asks_in ys
 count-append [] ys = omega arith
-count-append (x ∷ xs) ys = ap (count_one (asks x)) (count-append xs ys) ∙ by (asks x)
-  where
-    by : (b : Bool) → count_one b (asks_in xs + asks_in ys) ≡ count_one b (asks_in xs) + asks_in ys
-    by true = omega arith
-    by false = refl
+count-append (x ∷ xs) ys = grind (arith, count_one (asks x), count-append xs ys, asks x)
 
 -- no more ids are looked at than are asked for
 relabel-few : (ids : List ℕ) (acts : List Act) → relabel ids acts ≡ relabel (take (asks_in acts) ids) acts
@@ -75,8 +72,8 @@ relabel-few ids [] = refl
 relabel-few ids (act ∷ acts) = by (asks act) ids (λ is. relabel-few is acts)
   where
     by : (b : Bool) (is : List ℕ) → ((js : List ℕ) → relabel js acts ≡ relabel (take (asks_in acts) js) acts)
-        → given_to b is act ∷ relabel (ids_left b is) acts
-        ≡ given_to b (take (count_one b (asks_in acts)) is) act ∷ relabel (ids_left b (take (count_one b (asks_in acts)) is)) acts
+        → given_to b is act ∷ relabel (ids_left b is) acts ≡ given_to b (take (count_one b (asks_in acts)) is) act ∷ relabel
+        (ids_left b (take (count_one b (asks_in acts)) is)) acts
     by true [] rest = refl
     by true (i ∷ is) rest = ap (λ (zs : List Act). record act { given = i } ∷ zs) (rest is)
     by false is rest = ap (λ (zs : List Act). act ∷ zs) (rest is)
@@ -92,12 +89,8 @@ adds-labelled : (ids : List ℕ) (cs : List ContentValue) → IsLabelled ids (le
 unfolding puts
 adds-labelled [] [] = record { same = refl; count = refl }
 adds-labelled (i ∷ ids) [] = record { same = refl; count = refl }
-adds-labelled [] (c ∷ cs) =
-    let rest = adds-labelled [] cs in
-    record { same = ap (λ (zs : List Act). putting 0 1 0 c ∷ zs) rest.same; count = ap suc rest.count }
-adds-labelled (i ∷ ids) (c ∷ cs) =
-    let rest = adds-labelled ids cs in
-    record { same = ap (λ (zs : List Act). putting i 1 0 c ∷ zs) rest.same; count = ap suc rest.count }
+adds-labelled [] (c ∷ cs) = grind (arith, adds-labelled [] cs)
+adds-labelled (i ∷ ids) (c ∷ cs) = grind (arith, adds-labelled ids cs)
 
 none-replaced : (es : List (ℕ × ContentValue)) → AllByRecursion IsReplacement es → NoAsk (puts 1 (replicate (length es) 0) es)
 unfolding puts
@@ -106,12 +99,12 @@ none-replaced (e ∷ es) each = (not_zero e.0 each.0.some, none-replaced es each
 
 writes-labelled : (m : Meeting) (t : Task) → IsReady m t → (ids : List ℕ) → IsLabelled ids (add_count m t) (writes m t []) (writes m t ids)
 writes-labelled m t is ids =
-    let es : List (ℕ × ContentValue) = replacements m t in
-    let cs : List ContentValue = (choice m t).adds in
-    let first : List Act = puts 1 (replicate (length es) 0) es in
+    let es = replacements m t in
+    let cs = (choice m t).adds in
+    let first = puts 1 (replicate (length es) 0) es in
     let none = none-replaced es is.replaced in
     let adds = adds-labelled ids cs in
-    let bare : writes m t [] ≡ first ++ puts 1 [] (as_new cs) = puts-append es (as_new cs) [] in
+    let bare = puts-append es (as_new cs) [] in
     record {
       same = puts-append es (as_new cs) ids
           ∙ ap (λ (zs : List Act). first ++ zs) adds.same
@@ -123,82 +116,63 @@ writes-labelled m t is ids =
     }
 
 -- what is done while a database is open
-around-labelled : (ids : List ℕ) (n : ℕ) (first : Act) (bare acts : List Act) → asks first ≡ false → IsLabelled ids n bare acts
+around-labelled : (ids : List ℕ) (n : ℕ) (first : Act) {bare acts : List Act} → asks first ≡ false → IsLabelled ids n bare acts
     → IsLabelled ids n (first ∷ (bare ++ closing 1 ∷ [])) (first ∷ (acts ++ closing 1 ∷ []))
-around-labelled ids n first bare acts none is = record {
-  same = ap (λ (zs : List Act). first ∷ (zs ++ closing 1 ∷ [])) is.same
-      ∙ ap (λ (zs : List Act). first ∷ zs) (sym (relabel-append ids bare (closing 1 ∷ [])))
-      ∙ sym (ap (λ b. given_to b ids first ∷ relabel (ids_left b ids) (bare ++ closing 1 ∷ [])) none);
-  count = ap (λ b. count_one b (asks_in (bare ++ closing 1 ∷ []))) none ∙ count-append bare (closing 1 ∷ []) ∙ ap (λ k. k + 0) is.count ∙ plus_none n;
-}
-  where
-    plus_none : (k : ℕ) → k + 0 ≡ k
-    plus_none k = omega arith
+around-labelled ids n first {bare} none is =
+    grind (arith, [], relabel-append ids bare (closing 1 ∷ []), asks_in (bare ++ closing 1 ∷ []), count-append bare (closing 1 ∷ []))
 
-opened-labelled : (ids : List ℕ) (n : ℕ) (name : List ℕ) (bare acts : List Act) → IsLabelled ids n bare acts
+opened-labelled : (ids : List ℕ) (n : ℕ) (name : List ℕ) {bare acts : List Act} → IsLabelled ids n bare acts
     → IsLabelled ids n (opened_for name bare) (opened_for name acts)
-opened-labelled ids n name bare acts is =
+opened-labelled ids n name {bare} is =
     subst (λ (zs : List Act). IsLabelled ids n (opened_for name bare) (opened_for name zs)) (sym is.same) (by bare is.count)
   where
     by : (zs : List Act) → asks_in zs ≡ n → IsLabelled ids n (opened_for name zs) (opened_for name (relabel ids zs))
     by [] count = record { same = refl; count = count }
-    by (z ∷ zs) count = around-labelled ids n (opening name) (z ∷ zs) (relabel ids (z ∷ zs)) refl (record { same = refl; count = count })
+    by (z ∷ zs) count = around-labelled ids n (opening name) {bare = z ∷ zs} {acts = relabel ids (z ∷ zs)} refl (record { same = refl; count = count })
 
-news-labelled : (m : Meeting) (t : Task) → IsReady m t → (ids : List ℕ) → IsLabelled ids (add_count m t) (news_acts m t []) (news_acts m t ids)
+news-labelled : {m : Meeting} {t : Task} → IsReady m t → (ids : List ℕ) → IsLabelled ids (add_count m t) (news_acts m t []) (news_acts m t ids)
 unfolding news_acts
-news-labelled m t is ids = by t.handheld t.rows refl is.before
+news-labelled {m} {t} is ids = by t.handheld t.rows refl is.before
   where
     n : ℕ
     n = add_count m t
 
     by : (h r : Option DatabaseValue) → t.rows ≡ r → handheld_before h r ≡ Some is.b
         → IsLabelled ids n (news_by h t (writes m t [])) (news_by h t (writes m t ids))
-    by (Some d) r rows before = opened-labelled ids n t.name (writes m t []) (writes m t ids) (writes-labelled m t is ids)
+    by (Some d) r rows before = opened-labelled ids n t.name (writes-labelled m t is ids)
     by None (Some r) rows before =
         subst (λ (o : Option DatabaseValue). IsLabelled ids n (made o (writes m t [])) (made o (writes m t ids))) (sym rows)
-        (around-labelled ids n (making (made_head r.head)) (writes m t []) (writes m t ids) refl (writes-labelled m t is ids))
+        (around-labelled ids n (making (made_head r.head)) refl (writes-labelled m t is ids))
     by None None rows before = absurd (cc)
 
 -- as many ids as are asked for
 pub ids-length : (acts : List Act) → length (ids_in acts) ≡ asks_in acts
 ids-length [] = refl
-ids-length (act ∷ acts) = by (asks act) (ids-length acts)
-  where
-    by : (b : Bool) → length (ids_in acts) ≡ asks_in acts
-        → length ((if b then act.given ∷ [] else []) ++ ids_in acts) ≡ count_one b (asks_in acts)
-    by true rest = ap suc rest
-    by false rest = rest
+ids-length (act ∷ acts) = grind (arith, asks act, ids-length acts)
 
 asks_same : (ids : List ℕ) (acts : List Act) → asks_in (relabel ids acts) ≡ asks_in acts
 asks_same ids [] = refl
-asks_same ids (act ∷ acts) = ap (count_one (asks (given_to (asks act) ids act))) (asks_same (ids_left (asks act) ids) acts) ∙ by (asks act)
-  where
-    by : (b : Bool) → count_one (asks (given_to b ids act)) (asks_in acts) ≡ count_one (asks act) (asks_in acts)
-    by true = refl
-    by false = refl
+asks_same ids (act ∷ acts) = grind (arith, count_one (asks (given_to (asks act) ids act)), asks_same (ids_left (asks act) ids) acts, asks act)
 
 pub news-count : (m : Meeting) (t : Task) → IsReady m t → (ids : List ℕ) → asks_in (news_acts m t ids) ≡ add_count m t
-news-count m t is ids =
-    let labelled = news-labelled m t is ids in ap asks_in labelled.same ∙ asks_same ids (news_acts m t []) ∙ labelled.count
+news-count m t is ids = grind (arith, news-labelled is ids, asks_same ids (news_acts m t []))
 
 -- ---- all of a session
 
 pub take-none : (n : ℕ) → take {A = ℕ} n [] ≡ []
-take-none zero = refl
-take-none (suc n) = refl
+take-none n = grind (arith, common_steps)
 
 pub drop-none : (n : ℕ) → drop {A = ℕ} n [] ≡ []
-drop-none zero = refl
-drop-none (suc n) = refl
+drop-none n = grind (arith, common_steps)
 
 all-labelled : (m : Meeting) (ts : List Task) → AreReady m ts → (ids : List ℕ) → all_news m ts ids ≡ relabel ids (all_news m ts [])
 unfolding all_news
 all-labelled m [] ready ids = refl
 all-labelled m (t ∷ ts) ready ids =
-    let n : ℕ = add_count m t in
-    let one = news-labelled m t ready.0 (take n ids) in
-    let bare : List Act = news_acts m t [] in
-    let rest : List Act = all_news m ts [] in
+    let n = add_count m t in
+    let one = news-labelled ready.0 (take n ids) in
+    let bare = news_acts m t [] in
+    let rest = all_news m ts [] in
     let start : news_acts m t (take n []) ++ all_news m ts (drop n []) ≡ bare ++ rest =
     ap {A = List ℕ × List ℕ} (λ p. news_acts m t p.0 ++ all_news m ts p.1) (λ k. (take-none n k, drop-none n k)) in
     let own : news_acts m t (take n ids) ≡ relabel ids bare =
@@ -218,11 +192,10 @@ none-removes (i ∷ ids) = (refl, none-removes ids)
 none-purges : (m : Meeting) (t : Task) → NoAsk (purge_acts m t)
 unfolding purge_acts
 none-purges m t =
-    let ids : List ℕ = purged_ids (choice m t).keep (seen_held m t) in (
+    let ids = purged_ids (choice m t).keep (seen_held m t) in (
       refl,
       none-append (purge_writes 1 ids) (closing 1 ∷ [])
-          (none-append (map (removing 1) ids) (cleaning 1 ∷ resetting 1 ∷ []) (none-removes ids) (refl, (refl, tt)))
-          (refl, tt),
+          (none-append (map (removing 1) ids) (cleaning 1 ∷ resetting 1 ∷ []) (none-removes ids) (refl, (refl, tt))) (refl, tt),
     )
 
 none-all : (m : Meeting) (ts : List Task) → NoAsk (flat_map (purge_acts m) ts)
@@ -236,21 +209,23 @@ none-after m = none-append (flat_map (purge_acts m) (active m)) (end_mark m ∷ 
 pub before-labelled : (m : Meeting) → IsSoundMeeting m → (ids : List ℕ) → before_commit m ids ≡ relabel ids (before_commit m [])
 unfolding before_commit
 before-labelled m sound ids =
-    let reading : List Act = before_writes m in
-    let none : NoAsk reading = none-quiet reading (quiet-all reading (quiet-before_writes m)) in
-    let bare : List Act = all_news m (active m) [] in
-    ap (λ (zs : List Act). reading ++ begin_mark m ∷ zs) (all-labelled m (active m) (ready-all m sound) ids)
+    let reading = before_writes m in
+    let none = none-quiet reading (quiet-all reading (quiet-before_writes m)) in
+    let bare = all_news m (active m) [] in
+    ap (λ (zs : List Act). reading ++ begin_mark m ∷ zs) (all-labelled m (active m) (ready-all sound) ids)
     ∙ sym (relabel-append ids reading (begin_mark m ∷ bare)
     ∙ ap {A = List Act × ℕ} (λ p. p.0 ++ relabel (drop p.1 ids) (begin_mark m ∷ bare)) (λ k. (none-same ids reading none k, none-count reading none k)))
 
 pub session-labelled : (m : Meeting) → IsSoundMeeting m → (ids : List ℕ) → session m ids ≡ relabel ids (session m [])
 unfolding session
 session-labelled m sound ids =
-    let bare : List Act = before_commit m [] in
-    let last : List Act = after_commit m in
-    ap (λ (zs : List Act). zs ++ last) (before-labelled m sound ids)
-    ∙ ap (λ (zs : List Act). relabel ids bare ++ zs) (sym (none-same (drop (asks_in bare) ids) last (none-after m)))
-    ∙ sym (relabel-append ids bare last)
+    grind (
+      arith,
+      before-labelled m sound ids,
+      relabel ids (before_commit m []),
+      none-same (drop (asks_in (before_commit m [])) ids) (after_commit m) (none-after m),
+      relabel-append ids (before_commit m []) (after_commit m),
+    )
 
 -- as many ids are asked for as there are adds
 
@@ -258,12 +233,12 @@ all-count : (m : Meeting) (ts : List Task) → AreReady m ts → asks_in (all_ne
 unfolding all_news
 all-count m [] ready = refl
 all-count m (t ∷ ts) ready =
-    let bare : List Act = news_acts m t [] in
-    let rest : List Act = all_news m ts [] in
+    let bare = news_acts m t [] in
+    let rest = all_news m ts [] in
     let start : news_acts m t (take (add_count m t) []) ++ all_news m ts (drop (add_count m t) []) ≡ bare ++ rest =
     ap {A = List ℕ × List ℕ} (λ p. news_acts m t p.0 ++ all_news m ts p.1) (λ k. (take-none (add_count m t) k, drop-none (add_count m t) k)) in
     let parts = count-append bare rest in
-    let one = (news-labelled m t ready.0 []).count in
+    let one = (news-labelled ready.0 []).count in
     let more = all-count m ts ready.1 in
     let sum = sum_by-cons (add_count m) t ts in
     ap asks_in start ∙ omega (arith, parts, one, more, sum)
@@ -271,9 +246,9 @@ all-count m (t ∷ ts) ready =
 pub before-count : (m : Meeting) → IsSoundMeeting m → asks_in (before_commit m []) ≡ adds_of m
 unfolding before_commit adds_of
 before-count m sound =
-    let reading : List Act = before_writes m in
-    let none : NoAsk reading = none-quiet reading (quiet-all reading (quiet-before_writes m)) in
+    let reading = before_writes m in
+    let none = none-quiet reading (quiet-all reading (quiet-before_writes m)) in
     let parts = count-append reading (begin_mark m ∷ all_news m (active m) []) in
     let zero_first = none-count reading none in
-    let news = all-count m (active m) (ready-all m sound) in
+    let news = all-count m (active m) (ready-all sound) in
     omega (arith, parts, zero_first, news)

@@ -1,13 +1,13 @@
 -- An id that was given was that of no record before.
-use Rattle.std.proofs.Common.{◌≡◌, ◌∙◌, ◌<◌, ◌||◌, ◌==◌, refl, ap, sym, subst, ℕ, zero, suc, Bool, true, false, List, [], ◌∷◌, ◌++◌, length, take, if◌then◌else◌, arith, is_some}
-use Rattle.std.specs.Prelude.{Option, Some, None}
+use Rattle.std.proofs.lemmas.Grind.{common_steps}
+use Rattle.std.proofs.Common.{◌≡◌, ◌∙◌, ◌<◌, ◌||◌, ap, sym, ℕ, zero, suc, Bool, true, false, List, [], ◌∷◌, ◌++◌, length, take, arith, is_some}
+use Rattle.std.specs.Prelude.{Option, None}
 use Rattle.std.specs.List.{AllByRecursion}
-use Rattle.std.proofs.lemmas.Bool.Decides.{nat_tests}
 use Rattle.pdb_values.specs.Contents.{ContentValue}
 use Rattle.pdb_values.specs.declared.record.Record.{Record}
 use Rattle.palm_device.specs.Records.{put_record}
 use Rattle.conduit_rules.specs.Plans.{replaced_rows}
-use Rattle.conduit_rules.specs.States.{Based, base_at, based_under, based_where, first, gone, no_base, row}
+use Rattle.conduit_rules.specs.States.{Based, base_at, based_under, first, no_base}
 use Rattle.conduit_rules.specs.declared.action.Action.{Action}
 use Rattle.conduit_merge.specs.Stops.{NoBase}
 use Rattle.conduit_merge.specs.Writes.{AreFree, adding, after, numbered, replaces}
@@ -26,15 +26,13 @@ pub record IsNewIn (records : List Record) (g : ℕ) : Type 0 where
 free-new : (es : List (ℕ × ContentValue)) (now records : List Record) → ((g : ℕ) → first g now ≡ None → first g records ≡ None) → AreFree es now
     → AllByRecursion (λ (e : ℕ × ContentValue). IsNewIn records e.0) es
 free-new [] now records back free = tt
-free-new (e ∷ es) now records back free = (
-  record { some = free.0.some; none = back e.0 (place-first e.0 now free.0.none) },
-  free-new es (put_record e.0 e.1 now) records (λ g none. back g (free_before e.0 e.1 now g none)) free.1,
-)
+free-new (e ∷ es) now records back free =
+    grind (arith, place-first e.0 now free.0.none, free-new es (put_record e.0 e.1 now) records, free_before e.0 e.1 now)
 
 got-new : (a : Action) (x : Found) (ids : List ℕ) → GotIds a x ids
     → AllByRecursion (λ (e : ℕ × ContentValue). IsNewIn x.records e.0) (numbered ids (chosen a x).adds)
 got-new a x ids got =
-    let es : List (ℕ × ContentValue) = replaced_rows (chosen a x).keep (shown x) in
+    let es = replaced_rows (chosen a x).keep (shown x) in
     free-new (numbered ids (chosen a x).adds) (after (replaces es) x.records) x.records
     (λ g none. free_before_all es x.records g (ap (first g) (sym (after-replaces es x.records)) ∙ none)) got
 
@@ -54,8 +52,7 @@ given-new Q (suc n) (r ∷ rows) es all = given-new Q n rows es all
 pub news-new : (a : Action) (x : Found) (ids : List ℕ) (n : ℕ) → GotIds a x ids → given_by (news_done a x ids n) ≡ ids
     → AllByRecursion (IsNewIn x.records) ids
 news-new a x ids n got all =
-    subst (AllByRecursion (IsNewIn x.records)) all
-    (given-new (IsNewIn x.records) n (replaced_rows (chosen a x).keep (shown x)) (numbered ids (chosen a x).adds) (got-new a x ids got))
+    grind (arith, given-new (IsNewIn x.records) n (replaced_rows (chosen a x).keep (shown x)) (numbered ids (chosen a x).adds) (got-new a x ids got))
 
 numbered-new : (Q : ℕ → Type 0) (ids : List ℕ) (cs : List ContentValue) → length ids ≡ length cs
     → AllByRecursion (λ (e : ℕ × ContentValue). Q e.0) (numbered ids cs) → AllByRecursion Q ids
@@ -67,8 +64,8 @@ numbered-new Q (i ∷ ids) (c ∷ cs) same all = (all.0, numbered-new Q ids cs (
     pred_same m n is = omega (arith, is)
 
 -- those of one that got all
-pub all-new : (a : Action) (x : Found) (ids : List ℕ) → GotAllIds a x ids → AllByRecursion (IsNewIn x.records) ids
-all-new a x ids got = numbered-new (IsNewIn x.records) ids (chosen a x).adds got.each (got-new a x ids got.got)
+pub all-new : {a : Action} {x : Found} {ids : List ℕ} → GotAllIds a x ids → AllByRecursion (IsNewIn x.records) ids
+all-new {a} {x} {ids} got = numbered-new (IsNewIn x.records) ids (chosen a x).adds got.each (got-new a x ids got.got)
 
 -- ---- what wasn't there before the news
 
@@ -84,35 +81,27 @@ back-given n [] es records g none = back-added n es records g none
 back-given zero (r ∷ rows) es records g none = none
 back-given (suc n) (r ∷ rows) es records g none = free_before r.0 r.1 records g (back-given n rows es (put_record r.0 r.1 records) g none)
 
-pub news-back : (a : Action) (x : Found) (ids : List ℕ) (n : ℕ) (later : List ℕ) → AllByRecursion (IsNewIn (after (news_done a x ids n) x.records)) later
-    → AllByRecursion (IsNewIn x.records) later
+pub news-back : (a : Action) (x : Found) (ids : List ℕ) (n : ℕ) (later : List ℕ)
+    → AllByRecursion (IsNewIn (after (news_done a x ids n) x.records)) later → AllByRecursion (IsNewIn x.records) later
 news-back a x ids n later all =
-    all-map (IsNewIn (after (news_done a x ids n) x.records)) (IsNewIn x.records) later
-    (λ g is. record {
-      some = is.some;
-      none = back-given n (replaced_rows (chosen a x).keep (shown x)) (numbered ids (chosen a x).adds) x.records g is.none;
-    }) all
+    grind (
+      arith,
+      all-map (IsNewIn (after (news_done a x ids n) x.records)) (IsNewIn x.records) later,
+      back-given n (replaced_rows (chosen a x).keep (shown x)) (numbered ids (chosen a x).adds) x.records,
+    )
 
 -- ---- no base row either
 
 base_none : (g : ℕ) (o : Option Record) → 0 < g → based_under true g o ≡ no_base → is_some o ≡ false
-base_none g None some is = refl
-base_none g (Some r) some is = absurd (by r.deleted (sym (ap (λ b. if b then no_base else based_where true (Some r)) other) ∙ is))
-  where
-    other : (g == 0) ≡ false
-    other = grind (arith, nat_tests, some)
+base_none g o some is = grind (arith, common_steps)
 
-    by : (deleted : Bool) → (if deleted then gone r.content else row r.content) ≡ no_base → ⊥
-    by true same = cc
-    by false same = cc
-
-neither : (a b : Bool) → a ≡ false → b ≡ false → (a || b) ≡ false
-neither a b no_a no_b = ap (λ x. x || b) no_a ∙ no_b
+neither : {a b : Bool} → a ≡ false → b ≡ false → (a || b) ≡ false
+neither {b} no_a no_b = ap (λ x. x || b) no_a ∙ no_b
 
 pub unknown-of : (x : Found) (ids : List ℕ) → AllByRecursion (IsNewIn x.records) ids → NoBase (base_at x.base true) ids → AreUnknown x ids
 unknown-of x [] new none = tt
 unknown-of x (g ∷ ids) new none = (
-  neither (is_some (first g x.records)) (is_some (first g x.base)) (ap is_some new.0.none) (base_none g (first g x.base) new.0.some none.0),
+  neither (ap is_some new.0.none) (base_none g (first g x.base) new.0.some none.0),
   unknown-of x ids new.1 none.1,
 )
 

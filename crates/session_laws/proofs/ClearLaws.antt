@@ -1,17 +1,16 @@
 -- Purges, the clean up and the reset, some or all of them: what each id holds after them, and that the rest of them leaves the same.
-use Rattle.std.proofs.Common.{◌≡◌, ◌⊎◌, inl, ℕ, zero, suc, ◌==◌, ◌&&◌, List, [], ◌∷◌, refl, ap, ◌∙◌, sym, subst, arith, true, false, Bool, Option, Some, None, is_some, map, filter, not, if◌then◌else◌, take}
+use Rattle.std.proofs.Common.{◌≡◌, ◌⊎◌, ℕ, zero, suc, ◌==◌, ◌&&◌, List, [], ◌∷◌, refl, ap, ◌∙◌, sym, subst, arith, Bool, Option, Some, None, is_some, map, filter, not, if◌then◌else◌, take}
 use Rattle.std.proofs.lemmas.Grind.{common_steps}
-use Rattle.std.proofs.lemmas.Bool.Decides.{nat_tests}
 use Rattle.pdb_values.specs.Contents.{ContentValue}
 use Rattle.pdb_values.specs.Records.{is_live}
 use Rattle.pdb_values.specs.declared.record.Record.{Record}
 use Rattle.palm_device.specs.Records.{without_record, clean}
-use Rattle.conduit_rules.specs.States.{Held, nothing, live, archived, held, record_held, first}
+use Rattle.conduit_rules.specs.States.{Held, nothing, live, archived, held, first}
 use Rattle.conduit_rules.specs.Plans.{is_purged, purged_ids}
 use Rattle.conduit_rules.proofs.AgreedLaws.{RowsDiffer}
 use Rattle.conduit_merge.specs.Merging.{AreShown, is_held_live}
 use Rattle.conduit_merge.specs.Writes.{Write, replace, add, purge, clean_up, reset, after}
-use Rattle.conduit_merge.proofs.AfterLaws.{finished, differ-filter, first-filter_none, has-purged}
+use Rattle.conduit_merge.proofs.AfterLaws.{finished, differ-filter, has-purged}
 use Rattle.conduit_merge.proofs.PutLaws.{without_record-nil, without_record-cons}
 
 -- purges of ids that have no row, clean ups and resets alone
@@ -36,57 +35,34 @@ clearing-take row (suc n) (reset ∷ ws) are = clearing-take row n ws are
 
 first-without : (i j : ℕ) (records : List Record) → first j records ≡ None → first j (without_record i records) ≡ None
 first-without i j [] none = ap (first j) (without_record-nil i)
-first-without i j (r ∷ records) none = ap (first j) (without_record-cons i r records) ∙ grind (arith, none, first-without i j records)
+first-without i j (r ∷ records) none = grind (arith, without_record-cons i r records, first-without i j records)
 
-differ_by : (b : Bool) (r : Record) (records less : List Record) → RowsDiffer (r ∷ records) → first r.id less ≡ None → RowsDiffer less → RowsDiffer (if b then records else r ∷ less)
-differ_by true r records less differ none later = differ.1
-differ_by false r records less differ none later = (none, later)
+differ_by : (b : Bool) (r : Record) (records less : List Record) → RowsDiffer (r ∷ records) → first r.id less ≡ None → RowsDiffer less
+    → RowsDiffer (if b then records else r ∷ less)
+differ_by b r records less differ none later = grind arith
 
 differ-without : (i : ℕ) (records : List Record) → RowsDiffer records → RowsDiffer (without_record i records)
 differ-without i [] differ = subst RowsDiffer (sym (without_record-nil i)) tt
 differ-without i (r ∷ records) differ =
-    subst RowsDiffer (sym (without_record-cons i r records))
-    (differ_by (r.id == i) r records (without_record i records) differ (first-without i r.id records differ.0) (differ-without i records differ.1))
+    grind (
+      arith,
+      without_record-cons i r records,
+      differ_by (r.id == i) r records (without_record i records) differ (first-without i r.id records differ.0) (differ-without i records differ.1),
+    )
 
-held-without : (i : ℕ) (records : List Record) (j : ℕ) → RowsDiffer records → held (without_record i records) j ≡ (if j == i then nothing else held records j)
-held-without i [] j differ = ap (λ rs. held rs j) (without_record-nil i) ∙ by (j == i)
-  where
-    by : (b : Bool) → nothing ≡ (if b then nothing else nothing)
-    by true = refl
-    by false = refl
-held-without i (r ∷ records) j differ = ap (λ rs. held rs j) (without_record-cons i r records) ∙ by (r.id == i) (r.id == j) refl refl (held-without i records j differ.1)
-  where
-    by : (out here : Bool) → (r.id == i) ≡ out → (r.id == j) ≡ here → held (without_record i records) j ≡ (if j == i then nothing else held records j)
-        → held (if out then records else r ∷ without_record i records) j ≡ (if j == i then nothing else held (r ∷ records) j)
-    by true true is_out is_here ih =
-        let id : r.id ≡ j = grind (arith, nat_tests, is_here) in
-        let none : first j records ≡ None = ap (λ k. first k records) (sym id) ∙ differ.0 in
-        grind (arith, nat_tests, is_out, is_here, none)
-    by true false is_out is_here ih = grind (arith, nat_tests, is_out, is_here)
-    by false true is_out is_here ih = grind (arith, nat_tests, is_out, is_here)
-    by false false is_out is_here ih = grind (arith, nat_tests, is_out, is_here, ih)
+held-without : (i : ℕ) (records : List Record) (j : ℕ) → RowsDiffer records
+    → held (without_record i records) j ≡ (if j == i then nothing else held records j)
+held-without i [] j differ = grind (arith, without_record-nil i)
+held-without i (r ∷ records) j differ = grind (arith, without_record-cons i r records, held-without i records j differ.1)
 
 abbrev only_live : Held → Held
 only_live nothing = nothing
 only_live (live c) = live c
 only_live (archived c) = nothing
 
-only_live_record : (r : Record) → only_live (record_held r) ≡ (if is_live r then live r.content else nothing)
-only_live_record r = grind arith
-
 held-cleaned : (records : List Record) (j : ℕ) → RowsDiffer records → held (filter is_live records) j ≡ only_live (held records j)
 held-cleaned [] j differ = refl
-held-cleaned (r ∷ records) j differ = by (r.id == j) (is_live r) refl refl (held-cleaned records j differ.1)
-  where
-    by : (here lives : Bool) → (r.id == j) ≡ here → is_live r ≡ lives → held (filter is_live records) j ≡ only_live (held records j)
-        → held (filter is_live (r ∷ records)) j ≡ only_live (held (r ∷ records) j)
-    by true true is_here is_live_ ih = grind (arith, is_here, is_live_, ih, only_live_record r)
-    by true false is_here is_live_ ih =
-        let same : r.id ≡ j = grind (arith, nat_tests, is_here) in
-        let none : first j records ≡ None = ap (λ k. first k records) (sym same) ∙ differ.0 in
-        grind (arith, is_here, is_live_, only_live_record r, first-filter_none is_live j records none)
-    by false true is_here is_live_ ih = grind (arith, is_here, is_live_, ih)
-    by false false is_here is_live_ ih = grind (arith, is_here, is_live_, ih)
+held-cleaned (r ∷ records) j differ = grind (arith, held-cleaned records j differ.1)
 
 held-clean : (records : List Record) (j : ℕ) → held (map clean records) j ≡ held records j
 held-clean [] j = refl
@@ -108,31 +84,25 @@ Fits (Some c) h now = now ≡ live c
 abbrev pub AllFit : (ℕ → Option ContentValue) → (ℕ → Held) → List Record → Type 0
 AllFit row h records = (i : ℕ) → Fits (row i) (h i) (held records i)
 
-fits_nothing : (k : Option ContentValue) (h now : Held) → k ≡ None → now ≡ nothing → Fits k h now
-fits_nothing None h now none is = inl is
-fits_nothing (Some c) h now none is = absurd (cc)
+fits-without : (row : ℕ → Option ContentValue) (h : ℕ → Held) (i : ℕ) (records : List Record) → row i ≡ None → RowsDiffer records → AllFit row h records
+    → AllFit row h (without_record i records)
+fits-without row h i records none differ fits j = grind (arith, held-without i records j differ)
 
-fits-without : (row : ℕ → Option ContentValue) (h : ℕ → Held) (i : ℕ) (records : List Record) → row i ≡ None → RowsDiffer records → AllFit row h records → AllFit row h (without_record i records)
-fits-without row h i records none differ fits j = subst (Fits (row j) (h j)) (sym (held-without i records j differ)) (by (j == i) refl)
-  where
-    by : (b : Bool) → (j == i) ≡ b → Fits (row j) (h j) (if b then nothing else held records j)
-    by true is = let same : j ≡ i = grind (arith, nat_tests, is) in fits_nothing (row j) (h j) nothing (ap row same ∙ none) refl
-    by false is = fits j
-
-fits_live : (k : Option ContentValue) (h now : Held) → Fits k h now → Fits k h (only_live now)
-fits_live (Some c) h now fits = ap only_live fits
-fits_live None h nothing fits = inl refl
-fits_live None h (live c) fits = fits
-fits_live None h (archived c) fits = inl refl
-
-pub fits-after : (row : ℕ → Option ContentValue) (h : ℕ → Held) (ws : List Write) (records : List Record) → AreClearing row ws → RowsDiffer records → AllFit row h records → AllFit row h (after ws records)
+pub fits-after : (row : ℕ → Option ContentValue) (h : ℕ → Held) (ws : List Write) (records : List Record) → AreClearing row ws → RowsDiffer records
+    → AllFit row h records → AllFit row h (after ws records)
 fits-after row h [] records are differ fits = fits
 fits-after row h (replace i c ∷ ws) records are differ fits = absurd are
 fits-after row h (add g c ∷ ws) records are differ fits = absurd are
-fits-after row h (purge i ∷ ws) records are differ fits = fits-after row h ws (without_record i records) are.1 (differ-without i records differ) (fits-without row h i records are.0 differ fits)
+fits-after row h (purge i ∷ ws) records are differ fits =
+    fits-after row h ws (without_record i records) are.1 (differ-without i records differ) (fits-without row h i records are.0 differ fits)
 fits-after row h (clean_up ∷ ws) records are differ fits =
-    fits-after row h ws (filter is_live records) are (differ-filter is_live records differ)
-    (λ j. subst (Fits (row j) (h j)) (sym (held-cleaned records j differ)) (fits_live (row j) (h j) (held records j) (fits j)))
+    grind (
+      arith,
+      fits-after row h ws (filter is_live records) are (differ-filter is_live records differ),
+      filter is_live records,
+      differ-filter is_live records differ,
+      held-cleaned records,
+    )
 fits-after row h (reset ∷ ws) records are differ fits =
     fits-after row h ws (map clean records) are (differ-clean records differ) (λ j. subst (Fits (row j) (h j)) (sym (held-clean records j)) (fits j))
 
@@ -145,30 +115,22 @@ has_row row r = is_some (row r.id) && is_live r
 abbrev pub with_rows : (ℕ → Option ContentValue) → List Record → List Record
 with_rows row records = map clean (filter (has_row row) records)
 
-rows-without : (row : ℕ → Option ContentValue) (i : ℕ) (records : List Record) → row i ≡ None → with_rows row (without_record i records) ≡ with_rows row records
+rows-without : (row : ℕ → Option ContentValue) (i : ℕ) (records : List Record) → row i ≡ None
+    → with_rows row (without_record i records) ≡ with_rows row records
 rows-without row i [] none = ap (with_rows row) (without_record-nil i)
-rows-without row i (r ∷ records) none = ap (with_rows row) (without_record-cons i r records) ∙ by (r.id == i) refl (rows-without row i records none)
-  where
-    by : (b : Bool) → (r.id == i) ≡ b → with_rows row (without_record i records) ≡ with_rows row records → with_rows row (if b then records else r ∷ without_record i records) ≡ with_rows row (r ∷ records)
-    by true is ih = let same : r.id ≡ i = grind (arith, nat_tests, is) in let bare : row r.id ≡ None = ap row same ∙ none in grind (arith, bare)
-    by false is ih = grind (arith, ih)
+rows-without row i (r ∷ records) none = grind (arith, without_record-cons i r records, rows-without row i records none)
 
 rows-live : (row : ℕ → Option ContentValue) (records : List Record) → with_rows row (filter is_live records) ≡ with_rows row records
 rows-live row [] = refl
-rows-live row (r ∷ records) = by (is_live r) (is_some (row r.id)) refl refl (rows-live row records)
-  where
-    by : (lives some : Bool) → is_live r ≡ lives → is_some (row r.id) ≡ some → with_rows row (filter is_live records) ≡ with_rows row records → with_rows row (filter is_live (r ∷ records)) ≡ with_rows row (r ∷ records)
-    by true true l s ih = grind (arith, l, s, ih)
-    by true false l s ih = grind (arith, l, s, ih)
-    by false true l s ih = grind (arith, l, s, ih)
-    by false false l s ih = grind (arith, l, s, ih)
+rows-live row (r ∷ records) = grind (arith, rows-live row records)
 
 rows-clean : (row : ℕ → Option ContentValue) (records : List Record) → with_rows row (map clean records) ≡ with_rows row records
 rows-clean row [] = refl
 rows-clean row (r ∷ records) = grind (arith, rows-clean row records)
 
 -- they are the same after any of these writes
-pub rows-after : (row : ℕ → Option ContentValue) (ws : List Write) (records : List Record) → AreClearing row ws → with_rows row (after ws records) ≡ with_rows row records
+pub rows-after : (row : ℕ → Option ContentValue) (ws : List Write) (records : List Record) → AreClearing row ws
+    → with_rows row (after ws records) ≡ with_rows row records
 rows-after row [] records are = refl
 rows-after row (replace i c ∷ ws) records are = absurd are
 rows-after row (add g c ∷ ws) records are = absurd are
@@ -177,17 +139,17 @@ rows-after row (clean_up ∷ ws) records are = rows-after row ws (filter is_live
 rows-after row (reset ∷ ws) records are = rows-after row ws (map clean records) are ∙ rows-clean row records
 
 -- and they are what all of the writes leave
-stays : (k : Option ContentValue) (h : Held) (lives : Bool) → is_held_live h ≡ lives → (not (is_purged k h) && lives) ≡ (is_some k && lives)
-stays None nothing lives is = grind (arith, is)
-stays None (live c) lives is = grind (arith, is)
-stays None (archived c) lives is = grind (arith, is)
-stays (Some c) h lives is = refl
+stays : (k : Option ContentValue) (h : Held) {lives : Bool} → is_held_live h ≡ lives → (not (is_purged k h) && lives) ≡ (is_some k && lives)
+stays k h is = grind arith
 
-pub finished-rows : (row : ℕ → Option ContentValue) (h : ℕ → Held) (records : List Record) → AreShown h records → finished (purged_ids row h) records ≡ with_rows row records
+pub finished-rows : (row : ℕ → Option ContentValue) (h : ℕ → Held) (records : List Record) → AreShown h records
+    → finished (purged_ids row h) records ≡ with_rows row records
 finished-rows row h [] shown = refl
-finished-rows row h (r ∷ records) shown = grind (arith, common_steps, has-purged row h r.id shown.0, stays (row r.id) (h r.id) (is_live r) shown.1, finished-rows row h records shown.2)
+finished-rows row h (r ∷ records) shown =
+    grind (arith, common_steps, has-purged row h r.id shown.0, stays (row r.id) (h r.id) shown.1, finished-rows row h records shown.2)
 
-pub differ-after : (row : ℕ → Option ContentValue) (ws : List Write) (records : List Record) → AreClearing row ws → RowsDiffer records → RowsDiffer (after ws records)
+pub differ-after : (row : ℕ → Option ContentValue) (ws : List Write) (records : List Record) → AreClearing row ws → RowsDiffer records
+    → RowsDiffer (after ws records)
 differ-after row [] records are differ = differ
 differ-after row (replace i c ∷ ws) records are differ = absurd are
 differ-after row (add g c ∷ ws) records are differ = absurd are

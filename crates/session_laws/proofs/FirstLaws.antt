@@ -29,27 +29,28 @@ last-out f n none =
     ∙ each_below-same (λ i. with_id i (put f n None i)) (λ i. with_id i (f i)) n (λ i l. ap (with_id i) (put_below f n i l))
     ∙ none
 
-head-is : (x e : ℕ × ContentValue) (xs rest : List (ℕ × ContentValue)) → x ∷ xs ≡ e ∷ rest → (x ≡ e) × (xs ≡ rest)
-head-is x e xs rest is = (let h : x ≡ e = cc in h, let t : xs ≡ rest = cc in t)
+head-is : {x : ℕ × ContentValue} (e : ℕ × ContentValue) {xs rest : List (ℕ × ContentValue)} → x ∷ xs ≡ e ∷ rest → (x ≡ e) × (xs ≡ rest)
+head-is {x} e {xs} {rest} is = (let h : x ≡ e = cc in h, let t : xs ≡ rest = cc in t)
 
 -- without its first content
-pub first-out : (f : ℕ → Option ContentValue) (e : ℕ × ContentValue) (rest : List (ℕ × ContentValue)) (n : ℕ) → with_ids f n ≡ e ∷ rest → (e.0 < n) × (with_ids (put f e.0 None) n ≡ rest)
-first-out f e rest zero is = absurd (let no : [] ≡ e ∷ rest = sym (each_below-zero (λ i. with_id i (f i))) ∙ is in cc)
-first-out f e rest (suc n) is = by (with_ids f n) (f n) refl refl (sym (with_ids-suc f n) ∙ is) (λ x xs i. first-out f x xs n i)
+pub first-out : (f : ℕ → Option ContentValue) {e : ℕ × ContentValue} {rest : List (ℕ × ContentValue)} (n : ℕ) → with_ids f n ≡ e ∷ rest
+    → (e.0 < n) × (with_ids (put f e.0 None) n ≡ rest)
+first-out f {e} {rest} zero is = absurd (let no : [] ≡ e ∷ rest = sym (each_below-zero (λ i. with_id i (f i))) ∙ is in cc)
+first-out f {e} {rest} (suc n) is = by (with_ids f n) (f n) refl refl (sym (with_ids-suc f n) ∙ is) (λ x xs i. first-out f n i)
   where
     by : (xs : List (ℕ × ContentValue)) (o : Option ContentValue) → with_ids f n ≡ xs → f n ≡ o → xs ++ with_id n o ≡ e ∷ rest
         → ((x : ℕ × ContentValue) (xs : List (ℕ × ContentValue)) → with_ids f n ≡ x ∷ xs → (x.0 < n) × (with_ids (put f x.0 None) n ≡ xs))
         → (e.0 < suc n) × (with_ids (put f e.0 None) (suc n) ≡ rest)
     by [] None below last is ih = absurd (cc)
     by [] (Some a) below last is ih =
-        let both = head-is (n, a) e [] rest is in
+        let both = head-is e is in
         let id : n ≡ e.0 = ap (λ (p : ℕ × ContentValue). p.0) both.0 in
         (omega (arith, id), ap (λ j. with_ids (put f j None) (suc n)) (sym id) ∙ last-out f n below ∙ both.1)
     by (x ∷ xs) o below last is ih =
-        let both = head-is x e (xs ++ with_id n o) rest is in
+        let both = head-is e is in
         let id : x.0 ≡ e.0 = ap (λ (p : ℕ × ContentValue). p.0) both.0 in
         let before = ih x xs below in
-        let l : x.0 < n = before.0 in (
+        let l = before.0 in (
           omega (arith, id, l),
           ap (λ j. with_ids (put f j None) (suc n)) (sym id)
               ∙ with_ids-suc (put f x.0 None) n

@@ -1,47 +1,37 @@
 -- The session after one that stopped among its replacements and adds ends at the merge under the ids of both.
-use Rattle.std.proofs.Common.{◌≡◌, ℕ, suc, ◌+◌, length, ◌==◌, List, [], ◌∷◌, ◌++◌, refl, ap, ◌∙◌, sym, subst, arith, true, false, Bool, Option, Some, None, map, if◌then◌else◌, drop, take-append-drop}
-use Rattle.std.proofs.lemmas.Bool.Decides.{nat_tests}
+use Rattle.std.proofs.Common.{◌≡◌, ℕ, ◌+◌, length, ◌==◌, List, [], ◌∷◌, ◌++◌, refl, ap, ◌∙◌, sym, subst, arith, true, false, Bool, Option, Some, if◌then◌else◌, drop, take-append-drop}
 use Rattle.pdb_values.specs.Contents.{ContentValue}
 use Rattle.pdb_values.specs.Records.{is_live}
 use Rattle.pdb_values.specs.declared.record.Record.{Record}
-use Rattle.conduit_rules.specs.ById.{id_bound, with_id}
 use Rattle.conduit_rules.specs.Choices.{Choice, Sides, choice, sides_of}
-use Rattle.conduit_rules.specs.States.{Held, nothing, held, held_where, record_held, first, Based, no_base, row, gone, based_where}
+use Rattle.conduit_rules.specs.States.{Held, nothing, held, record_held, first, Based, no_base, based_where}
 use Rattle.conduit_rules.specs.Views.{view_held, slow_view}
 use Rattle.conduit_rules.specs.Writes.{given_to}
 use Rattle.conduit_rules.specs.declared.action.Action.TheVariants.{Sync}
 use Rattle.conduit_rules.specs.declared.view.Seen.{Seen}
 use Rattle.conduit_rules.proofs.AgreedLaws.{RowsDiffer}
-use Rattle.conduit_rules.proofs.ByIdLaws.{each_below-same}
 use Rattle.conduit_rules.proofs.SettledLaws.{choice-gone, without_gone, IfGone}
-use Rattle.conduit_merge.specs.Merging.{row_at, settled_record, gone_record, merged_rows, merged_base, merged_records, merged_archive, one_copy_behind, is_held_live, AreShown, AreBounded}
-use Rattle.conduit_merge.specs.Stops.{sides_after, behind, with_add, rest_of, AreOf}
-use Rattle.conduit_merge.specs.Writes.{Write, replace, add, purge, clean_up, reset, after, giving, clearing, purges, whole, GotFreeIds}
+use Rattle.conduit_merge.specs.Merging.{merged_rows, merged_base, merged_records, merged_archive, is_held_live, AreShown, AreBounded}
+use Rattle.conduit_merge.specs.Stops.{sides_after, with_add, rest_of, AreOf}
+use Rattle.conduit_merge.specs.Writes.{Write, replace, add, purge, clean_up, reset, after, giving, clearing, whole, GotFreeIds}
 use Rattle.conduit_merge.proofs.AfterLaws.{after-all, after-append}
 use Rattle.conduit_merge.proofs.PutLaws.{differ-ids}
 use Rattle.conduit_merge.proofs.StopLaws.{sides-again, choice-after, of-take, writes-of, giving-of}
-use Rattle.session_laws.specs.Repeats.{Found, IsRead, Ended, ended, sides, chosen, shown, GotIds, news_done, given_by, left_among_news, NothingIfGone, NoneUnderGone, StopsAmongNews}
+use Rattle.session_laws.specs.Repeats.{Found, IsRead, Ended, ended, chosen, shown, GotIds, news_done, given_by, left_among_news, NothingIfGone, NoneUnderGone, StopsAmongNews}
 use Rattle.session_laws.proofs.ResumeLaws.{Resumed, resume}
 
 -- ---- gone rows that no record stands under
 
-pub counted : (zero : Bool) (o : Option Record) → (if zero then no_base else based_where false o) ≡ without_gone (if zero then no_base else based_where true o)
-counted true o = refl
-counted false None = refl
-counted false (Some r) = by r.deleted
-  where
-    by : (b : Bool) → (if b then no_base else row r.content) ≡ without_gone (if b then gone r.content else row r.content)
-    by true = refl
-    by false = refl
+pub counted : (zero : Bool) (o : Option Record)
+    → (if zero then no_base else based_where false o) ≡ without_gone (if zero then no_base else based_where true o)
+counted zero o = grind arith
 
-if_gone : (b : Based) (h k : Held) → k ≡ h → NothingIfGone b h → IfGone b (k ≡ nothing)
-if_gone no_base h k same free = tt
-if_gone (row b) h k same free = tt
-if_gone (gone b) h k same free = same ∙ free
+if_gone : (b : Based) {h k : Held} → k ≡ h → NothingIfGone b h → IfGone b (k ≡ nothing)
+if_gone b same free = grind arith
 
 -- whether they count doesn't matter then
-pub choice-counted : (view : List Seen) (rows base records : List Record) (gone_counts : Bool) → ((i : ℕ) → view_held view i ≡ held records i) → NoneUnderGone gone_counts base records
-    → choice (sides_of view rows base gone_counts) ≡ choice (sides_of view rows base true)
+pub choice-counted : (view : List Seen) (rows base records : List Record) (gone_counts : Bool) → ((i : ℕ) → view_held view i ≡ held records i)
+    → NoneUnderGone gone_counts base records → choice (sides_of view rows base gone_counts) ≡ choice (sides_of view rows base true)
 choice-counted view rows base records true shows free = refl
 choice-counted view rows base records false shows free =
     let s = sides_of view rows base true in
@@ -52,7 +42,7 @@ choice-counted view rows base records false shows free =
       loose_live = s.loose_live;
       loose_archived = s.loose_archived;
     } in
-    ap choice left_out ∙ choice-gone s (λ i. if_gone (s.base i) (held records i) (view_held view i) (shows i) (free i))
+    ap choice left_out ∙ choice-gone s (λ i. if_gone (s.base i) (shows i) (free i))
 
 -- ---- the writes make the merge
 
@@ -64,21 +54,11 @@ LivesShow h records = (i : ℕ) (r : Record) → first i records ≡ Some r → 
 
 pub are_shown : (h : ℕ → Held) (records : List Record) → RowsDiffer records → AreBounded records → LivesShow h records → AreShown h records
 are_shown h [] differ bounded lives = tt
-are_shown h (x ∷ records) differ bounded lives = (bounded.0, lives x.id x (grind (arith, nat_tests)), are_shown h records differ.1 bounded.1 (λ i r e. lives i r (later i r e)))
-  where
-    later : (i : ℕ) (r : Record) → first i records ≡ Some r → first i (x ∷ records) ≡ Some r
-    later i r e = by (x.id == i) refl
-      where
-        by : (b : Bool) → (x.id == i) ≡ b → first i (x ∷ records) ≡ Some r
-        by true is = let same : x.id ≡ i = grind (arith, nat_tests, is) in let none : first i records ≡ None = ap (λ j. first j records) (sym same) ∙ differ.0 in absurd (let h : None ≡ Some r = sym none ∙ e in cc)
-        by false is = grind (arith, nat_tests, is, e)
+are_shown h (x ∷ records) differ bounded lives = grind (arith, are_shown h records differ.1 bounded.1)
 
-pub whole-is : (ch : Choice) (h : ℕ → Held) (given : List ℕ) (records : List Record) → RowsDiffer records → AreBounded records → ((i : ℕ) → h i ≡ held records i) → GotFreeIds ch h given records
-    → after (whole ch h given) records ≡ merged_records ch h given records
-whole-is ch h given records differ bounded shows free =
-    after-all ch h given records differ
-    (are_shown h records differ bounded (λ i r e. ap is_held_live (shows i ∙ ap held_where e) ∙ live_held r))
-    (λ i none. shows i ∙ ap held_where none) free
+pub whole-is : (ch : Choice) (h : ℕ → Held) (given : List ℕ) (records : List Record) → RowsDiffer records → AreBounded records
+    → ((i : ℕ) → h i ≡ held records i) → GotFreeIds ch h given records → after (whole ch h given) records ≡ merged_records ch h given records
+whole-is ch h given records differ bounded shows free = grind (arith, after-all ch h given records differ, are_shown h records differ bounded)
 
 -- ---- one session after the other
 
@@ -90,45 +70,39 @@ ended_by ch h given records archive = record {
   archive = merged_archive ch archive;
 }
 
-pub rows-same : (ch ch1 : Choice) (given later : List ℕ) → ((i : ℕ) → row_at ch given i ≡ row_at ch1 later i) → merged_rows ch given ≡ merged_rows ch1 later
-rows-same ch ch1 given later same = ap (map settled_record) (each_below-same (λ i. with_id i (row_at ch given i)) (λ i. with_id i (row_at ch1 later i)) id_bound (λ i l. ap (with_id i) (same i)))
-
 -- the writes of both sessions are those of one
-both-writes : (done : List Write) (ch : Choice) (s : Sides) (later : List ℕ) (records : List Record) → Resumed done ch s later
+both-writes : (done : List Write) (ch : Choice) (s : Sides) {later : List ℕ} (records : List Record) → Resumed done ch s later
     → after (whole (rest_of done ch) (sides_after done s).handheld later) (after done records) ≡ after (whole ch s.handheld (given_by done ++ later)) records
-both-writes done ch s later records r =
-    let ch1 = rest_of done ch in
-    let h1 = (sides_after done s).handheld in
-    let cleared : clearing ch s.handheld ≡ clearing ch1 h1 = ap (λ is. purges is ++ clean_up ∷ reset ∷ []) r.purges in
-    after-append (giving ch1 h1 later) (clearing ch1 h1) (after done records)
-    ∙ ap (after (clearing ch1 h1)) (sym (after-append done (giving ch1 h1 later) records))
-    ∙ sym (after-append (done ++ giving ch1 h1 later) (clearing ch1 h1) records)
-    ∙ ap {A = List Write × List Write} (λ p. after (p.0 ++ p.1) records) (λ k. (sym r.writes k, sym cleared k))
+both-writes done ch s {later} records r =
+    grind (
+      arith,
+      after-append (giving (rest_of done ch) ((sides_after done s).handheld) later)
+          (clearing (rest_of done ch) ((sides_after done s).handheld)) (after done records),
+      after-append done (giving (rest_of done ch) ((sides_after done s).handheld) later) records,
+      after-append (done ++ giving (rest_of done ch) ((sides_after done s).handheld) later)
+          (clearing (rest_of done ch) ((sides_after done s).handheld)) records,
+    )
 
-resumed-end : (done : List Write) (ch : Choice) (s : Sides) (later : List ℕ) (records : List Record) (archive : List (ℕ × ContentValue)) → Resumed done ch s later
-    → RowsDiffer records → AreBounded records → ((i : ℕ) → s.handheld i ≡ held records i) → GotFreeIds ch s.handheld (given_by done) records
-    → RowsDiffer (after done records) → AreBounded (after done records) → ((i : ℕ) → (sides_after done s).handheld i ≡ held (after done records) i)
+resumed-end : (done : List Write) (ch : Choice) (s : Sides) {later : List ℕ} (records : List Record) (archive : List (ℕ × ContentValue))
+    → Resumed done ch s later → RowsDiffer records → AreBounded records → ((i : ℕ) → s.handheld i ≡ held records i)
+    → GotFreeIds ch s.handheld (given_by done) records → RowsDiffer (after done records) → AreBounded (after done records)
+    → ((i : ℕ) → (sides_after done s).handheld i ≡ held (after done records) i)
     → GotFreeIds (rest_of done ch) (sides_after done s).handheld later (after done records)
-    → ended_by (rest_of done ch) (sides_after done s).handheld later (after done records) archive ≡ ended_by ch s.handheld (given_by done ++ later) records archive
-resumed-end done ch s later records archive r differ bounded shows got then_differ then_bounded then_shows then_got =
-    let ch1 = rest_of done ch in
-    let h1 = (sides_after done s).handheld in
-    let rows = rows-same ch1 ch later (given_by done ++ later) (λ i. sym (r.rows i)) in
-    let all_records : merged_records ch1 h1 later (after done records) ≡ merged_records ch s.handheld (given_by done ++ later) records =
-    sym (whole-is ch1 h1 later (after done records) then_differ then_bounded then_shows then_got)
-    ∙ both-writes done ch s later records r
-    ∙ whole-is ch s.handheld (given_by done ++ later) records differ bounded shows (r.free records got then_got) in
-    λ k. record {
-      records = all_records k;
-      rows = rows k;
-      base = rows k ++ map gone_record (sym r.gone k);
-      archive = one_copy_behind [] (archive ++ sym r.archive k);
-    }
+    → ended_by (rest_of done ch) (sides_after done s).handheld later (after done records) archive ≡ ended_by ch s.handheld
+    (given_by done ++ later) records archive
+resumed-end done ch s {later} records archive r differ bounded shows got then_differ then_bounded then_shows then_got =
+    grind (
+      arith,
+      whole-is (rest_of done ch) ((sides_after done s).handheld) later (after done records) then_differ then_bounded then_shows then_got,
+      both-writes done ch s records r,
+      whole-is ch s.handheld (given_by done ++ later) records differ bounded shows (r.free records got then_got),
+    )
 
 -- ids that are free in both sessions are free in one, and that ends as the second does
-pub news_and_ids : (x : Found) (given later : List ℕ) (n : ℕ) → StopsAmongNews Sync x given n → IsRead (left_among_news Sync x given n) → GotIds Sync (left_among_news Sync x given n) later
+pub news_and_ids : (x : Found) {given : List ℕ} (later : List ℕ) (n : ℕ) → StopsAmongNews Sync x given n → IsRead (left_among_news Sync x given n)
+    → GotIds Sync (left_among_news Sync x given n) later
     → GotIds Sync x (given ++ later) × (ended Sync (left_among_news Sync x given n) later ≡ ended Sync x (given ++ later))
-news_and_ids x given later n stops read later_got =
+news_and_ids x {given} later n stops read later_got =
     let s = sides_of x.view x.rows x.base true in
     let ch = chosen Sync x in
     let done = news_done Sync x given n in
@@ -136,39 +110,34 @@ news_and_ids x given later n stops read later_got =
     let same : choice s ≡ ch = sym (choice-counted x.view x.rows x.base x.records x.gone_counts stops.read.shows stops.gone) in
     let all_of : AreOf (giving ch s.handheld given) ch s = subst (λ c. AreOf (giving c s.handheld given) c s) same
     (giving-of s given x.records stops.fresh stops.read.shows (subst (λ c. GotFreeIds c s.handheld given x.records) (sym same) stops.got)) in
-    let of : AreOf done ch s = of-take n (giving ch s.handheld given) ch s all_of in
-    let front : giving ch s.handheld (given_by done) ≡ done ++ drop n (giving ch s.handheld given) = ap (giving ch s.handheld) stops.all ∙ sym (take-append-drop n (giving ch s.handheld given)) in
-    let r = resume done ch s same of (drop n (giving ch s.handheld given)) front later in
-    let sides_are : sides y ≡ sides_after done s = sides-again x.view (slow_view (after done x.records)) done x.rows x.base x.records true (writes-of done ch s of) stops.read.shows read.shows in
+    let of = of-take n (giving ch s.handheld given) ch s all_of in
+    let front : giving ch s.handheld (given_by done) ≡ done ++ drop n (giving ch s.handheld given) = ap (giving ch s.handheld) stops.all
+    ∙ sym (take-append-drop n (giving ch s.handheld given)) in
+    let r = resume done s same of (drop n (giving ch s.handheld given)) front later in
+    let sides_are = sides-again x.view (slow_view (after done x.records)) done x.rows x.base x.records true (writes-of done ch s of) stops.read.shows
+    read.shows in
     let chosen_is : chosen Sync y ≡ rest_of done ch = ap choice sides_are ∙ choice-after done ch s same of in
     let shown_is : shown y ≡ (sides_after done s).handheld = ap (λ (t : Sides). t.handheld) sides_are in
     let got : GotFreeIds ch s.handheld (given_by done) x.records = subst (λ ids. GotFreeIds ch s.handheld ids x.records) (sym stops.all) stops.got in
-    let then_got : GotFreeIds (rest_of done ch) (sides_after done s).handheld later (after done x.records) = subst (λ (p : Choice × (ℕ → Held)). GotFreeIds p.0 p.1 later y.records) (λ k. (chosen_is k, shown_is k)) later_got in (
+    let then_got : GotFreeIds (rest_of done ch) (sides_after done s).handheld later (after done x.records) =
+    subst (λ (p : Choice × (ℕ → Held)). GotFreeIds p.0 p.1 later y.records) (λ k. (chosen_is k, shown_is k)) later_got in (
       subst (λ ids. GotFreeIds ch s.handheld (ids ++ later) x.records) stops.all (r.free x.records got then_got),
       ap {A = Choice × (ℕ → Held)} (λ p. ended_by p.0 p.1 later y.records x.archive) (λ k. (chosen_is k, shown_is k))
-          ∙ resumed-end done ch s later x.records x.archive r (differ-ids x.records stops.read.ids) stops.read.bounded stops.read.shows got
+          ∙ resumed-end done ch s x.records x.archive r (differ-ids x.records stops.read.ids) stops.read.bounded stops.read.shows got
           (differ-ids y.records read.ids) read.bounded (λ i. ap (λ (h : ℕ → Held). h i) (sym shown_is) ∙ read.shows i) then_got
           ∙ ap (λ ids. ended_by ch s.handheld (ids ++ later) x.records x.archive) stops.all,
     )
 
-pub news : (x : Found) (given later : List ℕ) (n : ℕ) → StopsAmongNews Sync x given n → IsRead (left_among_news Sync x given n) → GotIds Sync (left_among_news Sync x given n) later
-    → ended Sync (left_among_news Sync x given n) later ≡ ended Sync x (given ++ later)
-news x given later n stops read later_got = (news_and_ids x given later n stops read later_got).1
+pub news : (x : Found) {given : List ℕ} (later : List ℕ) (n : ℕ) → StopsAmongNews Sync x given n → IsRead (left_among_news Sync x given n)
+    → GotIds Sync (left_among_news Sync x given n) later → ended Sync (left_among_news Sync x given n) later ≡ ended Sync x (given ++ later)
+news x later n stops read later_got = (news_and_ids x later n stops read later_got).1
 
 -- ---- how many adds are left
 
 rest-adds : (done : List Write) (ch : Choice) (s : Sides) → AreOf done ch s → length (given_by done) + length (rest_of done ch).adds ≡ length ch.adds
-rest-adds [] ch s of = none (length ch.adds)
-  where
-    none : (m : ℕ) → 0 + m ≡ m
-    none m = omega arith
+rest-adds [] ch s of = grind arith
 rest-adds (replace i c ∷ ws) ch s of = rest-adds ws ch (given_to s i c) of.1
-rest-adds (add g a ∷ ws) ch s of =
-    let rest = rest-adds ws (with_add ch g a) (given_to s g a) of.4 in
-    one (length (given_by ws)) (length (rest_of ws (with_add ch g a)).adds) (length (behind ch.adds)) rest ∙ sym (ap length of.0)
-  where
-    one : (m n k : ℕ) → m + n ≡ k → suc m + n ≡ suc k
-    one m n k is = omega (arith, is)
+rest-adds (add g a ∷ ws) ch s of = grind (arith, rest-adds ws (with_add ch g a) (given_to s g a) of.4)
 rest-adds (purge i ∷ ws) ch s of = absurd of
 rest-adds (clean_up ∷ ws) ch s of = absurd of
 rest-adds (reset ∷ ws) ch s of = absurd of
@@ -183,7 +152,8 @@ news-adds x given n stops read =
     let same : choice s ≡ ch = sym (choice-counted x.view x.rows x.base x.records x.gone_counts stops.read.shows stops.gone) in
     let all_of : AreOf (giving ch s.handheld given) ch s = subst (λ c. AreOf (giving c s.handheld given) c s) same
     (giving-of s given x.records stops.fresh stops.read.shows (subst (λ c. GotFreeIds c s.handheld given x.records) (sym same) stops.got)) in
-    let of : AreOf done ch s = of-take n (giving ch s.handheld given) ch s all_of in
-    let sides_are : sides y ≡ sides_after done s = sides-again x.view (slow_view (after done x.records)) done x.rows x.base x.records true (writes-of done ch s of) stops.read.shows read.shows in
+    let of = of-take n (giving ch s.handheld given) ch s all_of in
+    let sides_are = sides-again x.view (slow_view (after done x.records)) done x.rows x.base x.records true (writes-of done ch s of) stops.read.shows
+    read.shows in
     let chosen_is : chosen Sync y ≡ rest_of done ch = ap choice sides_are ∙ choice-after done ch s same of in
     ap {A = List ℕ × Choice} (λ p. length p.0 + length (Choice.adds p.1)) (λ k. (sym stops.all k, chosen_is k)) ∙ rest-adds done ch s of

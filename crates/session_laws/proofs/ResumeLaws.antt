@@ -5,7 +5,7 @@ use Rattle.std.proofs.lemmas.Bool.Decides.{nat_tests}
 use Rattle.pdb_values.specs.Contents.{ContentValue}
 use Rattle.pdb_values.specs.declared.record.Record.{Record}
 use Rattle.palm_device.specs.Records.{put_record, IsFree}
-use Rattle.conduit_rules.specs.ById.{id_bound, put, at, with_id}
+use Rattle.conduit_rules.specs.ById.{id_bound, put, with_id}
 use Rattle.conduit_rules.specs.Choices.{Choice, Sides, choice}
 use Rattle.conduit_rules.specs.Fates.{Fate, fate}
 use Rattle.conduit_rules.specs.Plans.{replacement, lost, purged_at, replaced_rows, purged_ids, gone_rows}
@@ -22,94 +22,73 @@ use Rattle.session_laws.proofs.FirstLaws.{first-out}
 
 -- ---- a replacement that was made
 
-put_replacement : (keep : ℕ → Option ContentValue) (h : ℕ → Held) (i : ℕ) (c : ContentValue) → keep i ≡ Some c → (j : ℕ)
-    → replacement (keep j) (put h i (live c) j) ≡ put (λ m. replacement (keep m) (h m)) i None j
-put_replacement keep h i c kept j = by (j == i) refl
-  where
-    by : (b : Bool) → (j == i) ≡ b → replacement (keep j) (put h i (live c) j) ≡ put (λ m. replacement (keep m) (h m)) i None j
-    by true is = let same : j ≡ i = grind (arith, nat_tests, is) in let too : keep j ≡ Some c = ap keep same ∙ kept in grind (arith, is, too, same_content-same c)
-    by false is = grind (arith, is)
+module _ (keep : ℕ → Option ContentValue) (h : ℕ → Held) (i : ℕ) {c : ContentValue} (kept : keep i ≡ Some c) where
+  put_replacement : (j : ℕ) → replacement (keep j) (put h i (live c) j) ≡ put (λ m. replacement (keep m) (h m)) i None j
+  put_replacement j = by (j == i) refl
+    where
+      by : (b : Bool) → (j == i) ≡ b → replacement (keep j) (put h i (live c) j) ≡ put (λ m. replacement (keep m) (h m)) i None j
+      by true is = let same : j ≡ i = grind (arith, nat_tests, is) in let too : keep j ≡ Some c = ap keep same
+          ∙ kept in grind (arith, is, too, same_content-same c)
+      by false is = grind (arith, is)
 
-put_purged : (keep : ℕ → Option ContentValue) (h : ℕ → Held) (i : ℕ) (c : ContentValue) → keep i ≡ Some c → (j : ℕ) → purged_at (keep j) (h j) j ≡ purged_at (keep j) (put h i (live c) j) j
-put_purged keep h i c kept j = by (j == i) refl
-  where
-    by : (b : Bool) → (j == i) ≡ b → purged_at (keep j) (h j) j ≡ purged_at (keep j) (put h i (live c) j) j
-    by true is = let same : j ≡ i = grind (arith, nat_tests, is) in let too : keep j ≡ Some c = ap keep same ∙ kept in grind (arith, is, too)
-    by false is = grind (arith, is)
+  put_purged : (j : ℕ) → purged_at (keep j) (h j) j ≡ purged_at (keep j) (put h i (live c) j) j
+  put_purged j = grind arith
 
-put_lost : (keep : ℕ → Option ContentValue) (h : ℕ → Held) (i : ℕ) (c : ContentValue) → keep i ≡ Some c → (j : ℕ) → lost (keep j) (h j) ≡ lost (keep j) (put h i (live c) j)
-put_lost keep h i c kept j = by (j == i) refl
-  where
-    by : (b : Bool) → (j == i) ≡ b → lost (keep j) (h j) ≡ lost (keep j) (put h i (live c) j)
-    by true is = let same : j ≡ i = grind (arith, nat_tests, is) in let too : keep j ≡ Some c = ap keep same ∙ kept in grind (arith, is, too)
-    by false is = grind (arith, is)
+  put_lost : (j : ℕ) → lost (keep j) (h j) ≡ lost (keep j) (put h i (live c) j)
+  put_lost j = grind arith
 
-pub replaced_put : (keep : ℕ → Option ContentValue) (h : ℕ → Held) (i : ℕ) (c : ContentValue) (rest : List (ℕ × ContentValue)) → keep i ≡ Some c → replaced_rows keep h ≡ (i, c) ∷ rest
-    → replaced_rows keep (put h i (live c)) ≡ rest
-replaced_put keep h i c rest kept is =
-    each_below-same (λ j. with_id j (replacement (keep j) (put h i (live c) j))) (λ j. with_id j (put (λ m. replacement (keep m) (h m)) i None j)) id_bound (λ j l. ap (with_id j) (put_replacement keep h i c kept j))
-    ∙ (first-out (λ m. replacement (keep m) (h m)) (i, c) rest id_bound is).1
+  pub replaced_put : {rest : List (ℕ × ContentValue)} → replaced_rows keep h ≡ (i, c) ∷ rest → replaced_rows keep (put h i (live c)) ≡ rest
+  replaced_put is =
+      each_below-same (λ j. with_id j (replacement (keep j) (put h i (live c) j))) (λ j. with_id j (put (λ m. replacement (keep m) (h m)) i None j))
+      id_bound (λ j l. ap (with_id j) (put_replacement j))
+      ∙ (first-out (λ m. replacement (keep m) (h m)) id_bound is).1
 
-pub purges_put : (keep : ℕ → Option ContentValue) (h : ℕ → Held) (i : ℕ) (c : ContentValue) → keep i ≡ Some c → purged_ids keep h ≡ purged_ids keep (put h i (live c))
-purges_put keep h i c kept = each_below-same (λ j. purged_at (keep j) (h j) j) (λ j. purged_at (keep j) (put h i (live c) j) j) id_bound (λ j l. put_purged keep h i c kept j)
+  pub purges_put : purged_ids keep h ≡ purged_ids keep (put h i (live c))
+  purges_put = each_below-same (λ j. purged_at (keep j) (h j) j) (λ j. purged_at (keep j) (put h i (live c) j) j) id_bound (λ j l. put_purged j)
 
-gone_put : (keep : ℕ → Option ContentValue) (h : ℕ → Held) (i : ℕ) (c : ContentValue) → keep i ≡ Some c → gone_rows keep h ≡ gone_rows keep (put h i (live c))
-gone_put keep h i c kept = each_below-same (λ j. with_id j (lost (keep j) (h j))) (λ j. with_id j (lost (keep j) (put h i (live c) j))) id_bound (λ j l. ap (with_id j) (put_lost keep h i c kept j))
+  gone_put : gone_rows keep h ≡ gone_rows keep (put h i (live c))
+  gone_put = each_below-same (λ j. with_id j (lost (keep j) (h j))) (λ j. with_id j (lost (keep j) (put h i (live c) j))) id_bound
+      (λ j l. ap (with_id j) (put_lost j))
 
 -- ---- an add that was made
 
 -- whatever is looked at by what is kept and what is held, and is the same for nothing as for the add
-add_same : {A : Type 0} (F : ℕ → Option ContentValue → Held → A) (keep : ℕ → Option ContentValue) (h : ℕ → Held) (g : ℕ) (a : ContentValue) → keep g ≡ None → h g ≡ nothing
-    → F g None nothing ≡ F g (Some a) (live a) → (j : ℕ) → F j (keep j) (h j) ≡ F j (put keep g (Some a) j) (put h g (live a) j)
-add_same {A} F keep h g a none bare same j = by (j == g) refl
-  where
-    by : (b : Bool) → (j == g) ≡ b → F j (keep j) (h j) ≡ F j (if b then Some a else keep j) (if b then live a else h j)
-    by true is =
-        let here : j ≡ g = grind (arith, nat_tests, is) in
-        ap (λ m. F m (keep m) (h m)) here
-        ∙ ap {A = Option ContentValue × Held} (λ p. F g p.0 p.1) (λ k. (none k, bare k))
-        ∙ same
-        ∙ ap (λ m. F m (Some a) (live a)) (sym here)
-    by false is = refl
+add_same : {A : Type 0} (F : ℕ → Option ContentValue → Held → A) (keep : ℕ → Option ContentValue) (h : ℕ → Held) (g : ℕ) (a : ContentValue)
+    → keep g ≡ None → h g ≡ nothing → F g None nothing ≡ F g (Some a) (live a) → (j : ℕ)
+    → F j (keep j) (h j) ≡ F j (put keep g (Some a) j) (put h g (live a) j)
+add_same {A} F keep h g a none bare same j = grind arith
 
 no_replacement : (a : ContentValue) → replacement None nothing ≡ replacement (Some a) (live a)
 no_replacement a = grind (arith, same_content-same a)
 
-replaced_add : (keep : ℕ → Option ContentValue) (h : ℕ → Held) (g : ℕ) (a : ContentValue) → keep g ≡ None → h g ≡ nothing → replaced_rows keep h ≡ replaced_rows (put keep g (Some a)) (put h g (live a))
-replaced_add keep h g a none bare =
-    each_below-same (λ j. with_id j (replacement (keep j) (h j))) (λ j. with_id j (replacement (put keep g (Some a) j) (put h g (live a) j))) id_bound
-    (λ j l. add_same (λ m k x. with_id m (replacement k x)) keep h g a none bare (ap (with_id g) (no_replacement a)) j)
+module _ (keep : ℕ → Option ContentValue) (h : ℕ → Held) (g : ℕ) (a : ContentValue) (none : keep g ≡ None) (bare : h g ≡ nothing) where
+  replaced_add : replaced_rows keep h ≡ replaced_rows (put keep g (Some a)) (put h g (live a))
+  replaced_add =
+      each_below-same (λ j. with_id j (replacement (keep j) (h j))) (λ j. with_id j (replacement (put keep g (Some a) j) (put h g (live a) j))) id_bound
+      (λ j l. add_same (λ m k x. with_id m (replacement k x)) keep h g a none bare (ap (with_id g) (no_replacement a)) j)
 
-purges_add : (keep : ℕ → Option ContentValue) (h : ℕ → Held) (g : ℕ) (a : ContentValue) → keep g ≡ None → h g ≡ nothing → purged_ids keep h ≡ purged_ids (put keep g (Some a)) (put h g (live a))
-purges_add keep h g a none bare =
-    each_below-same (λ j. purged_at (keep j) (h j) j) (λ j. purged_at (put keep g (Some a) j) (put h g (live a) j) j) id_bound
-    (λ j l. add_same (λ m k x. purged_at k x m) keep h g a none bare refl j)
+  purges_add : purged_ids keep h ≡ purged_ids (put keep g (Some a)) (put h g (live a))
+  purges_add =
+      each_below-same (λ j. purged_at (keep j) (h j) j) (λ j. purged_at (put keep g (Some a) j) (put h g (live a) j) j) id_bound
+      (λ j l. add_same (λ m k x. purged_at k x m) keep h g a none bare refl j)
 
-gone_add : (keep : ℕ → Option ContentValue) (h : ℕ → Held) (g : ℕ) (a : ContentValue) → keep g ≡ None → h g ≡ nothing → gone_rows keep h ≡ gone_rows (put keep g (Some a)) (put h g (live a))
-gone_add keep h g a none bare =
-    each_below-same (λ j. with_id j (lost (keep j) (h j))) (λ j. with_id j (lost (put keep g (Some a) j) (put h g (live a) j))) id_bound
-    (λ j l. add_same (λ m k x. with_id m (lost k x)) keep h g a none bare refl j)
+  gone_add : gone_rows keep h ≡ gone_rows (put keep g (Some a)) (put h g (live a))
+  gone_add =
+      each_below-same (λ j. with_id j (lost (keep j) (h j))) (λ j. with_id j (lost (put keep g (Some a) j) (put h g (live a) j))) id_bound
+      (λ j l. add_same (λ m k x. with_id m (lost k x)) keep h g a none bare refl j)
 
-one_more : (same : Bool) (k o : Option ContentValue) (a : ContentValue) → (same ≡ true → k ≡ None) → option_or k (if same then Some a else o) ≡ option_or (if same then Some a else k) o
-one_more true k o a none = ap (λ x. option_or x (Some a)) (none refl)
-one_more false k o a none = refl
-
-swapped : (i g : ℕ) → (g == i) ≡ (i == g)
-swapped i g = grind (arith, nat_tests)
-
-kept_at : (keep : ℕ → Option ContentValue) (g i : ℕ) → keep g ≡ None → (g == i) ≡ true → keep i ≡ None
-kept_at keep g i none same = let is : g ≡ i = grind (arith, nat_tests, same) in ap keep (sym is) ∙ none
+one_more : (same : Bool) (k o : Option ContentValue) (a : ContentValue) → (same ≡ true → k ≡ None)
+    → option_or k (if same then Some a else o) ≡ option_or (if same then Some a else k) o
+one_more same k o a none = grind arith
 
 -- a row that stands under an add's id, whether it is to be added or is kept there
-row_add : (ch : Choice) (g : ℕ) (a : ContentValue) (gs : List ℕ) (i : ℕ) → ch.keep g ≡ None → ch.adds ≡ a ∷ behind ch.adds → row_at ch (g ∷ gs) i ≡ row_at (with_add ch g a) gs i
-row_add ch g a gs i none next =
-    ap (λ xs. option_or (ch.keep i) (at i (numbered (g ∷ gs) xs))) next
-    ∙ one_more (g == i) (ch.keep i) (at i (numbered gs (behind ch.adds))) a (kept_at ch.keep g i none)
-    ∙ ap (λ b. option_or (if b then Some a else ch.keep i) (at i (numbered gs (behind ch.adds)))) (swapped i g)
+row_add : (ch : Choice) (g : ℕ) {a : ContentValue} (gs : List ℕ) (i : ℕ) → ch.keep g ≡ None → ch.adds ≡ a ∷ behind ch.adds
+    → row_at ch (g ∷ gs) i ≡ row_at (with_add ch g a) gs i
+row_add ch g gs i none next = grind arith
 
 -- nothing is kept under an id that has no base row and that nothing holds
-not_kept : (b : Based) (h d : Held) → b ≡ no_base → h ≡ nothing → (fate b h d).keep ≡ None
-not_kept b h d none bare = ap {A = Based × Held} (λ p. Fate.keep (fate p.0 p.1 d)) (λ k. (none k, bare k))
+not_kept : {b : Based} {h : Held} (d : Held) → b ≡ no_base → h ≡ nothing → (fate b h d).keep ≡ None
+not_kept d none bare = ap {A = Based × Held} (λ p. Fate.keep (fate p.0 p.1 d)) (λ k. (none k, bare k))
 
 -- ---- the first of the writes
 
@@ -117,31 +96,28 @@ abbrev pub rows_behind : List (ℕ × ContentValue) → List (ℕ × ContentValu
 rows_behind [] = []
 rows_behind (e ∷ es) = es
 
-pub replace_head : (i : ℕ) (c : ContentValue) (es adds : List (ℕ × ContentValue)) (ws : List Write) → replaces es ++ adding adds ≡ replace i c ∷ ws
+pub replace_head : {i : ℕ} {c : ContentValue} (es adds : List (ℕ × ContentValue)) {ws : List Write} → replaces es ++ adding adds ≡ replace i c ∷ ws
     → (es ≡ (i, c) ∷ rows_behind es) × (replaces (rows_behind es) ++ adding adds ≡ ws)
-replace_head i c [] [] ws is = absurd (cc)
-replace_head i c [] (x ∷ xs) ws is = absurd (cc)
-replace_head i c (e ∷ es) adds ws is =
-    let id : e.0 ≡ i = cc in
-    let content : e.1 ≡ c = cc in
-    let rest : replaces es ++ adding adds ≡ ws = cc in
-    (λ k. (id k, content k) ∷ es, rest)
+replace_head [] [] is = absurd (cc)
+replace_head [] (x ∷ xs) is = absurd (cc)
+replace_head (e ∷ es) adds is = grind arith
 
-pub add_head : (g : ℕ) (a : ContentValue) (es adds : List (ℕ × ContentValue)) (ws : List Write) → replaces es ++ adding adds ≡ add g a ∷ ws → (es ≡ []) × (adding adds ≡ add g a ∷ ws)
-add_head g a [] adds ws is = (refl, is)
-add_head g a (e ∷ es) adds ws is = absurd (cc)
+pub add_head : {g : ℕ} {a : ContentValue} (es adds : List (ℕ × ContentValue)) {ws : List Write} → replaces es ++ adding adds ≡ add g a ∷ ws
+    → (es ≡ []) × (adding adds ≡ add g a ∷ ws)
+add_head [] adds is = (refl, is)
+add_head (e ∷ es) adds is = absurd (cc)
 
-add_tail : (g : ℕ) (a : ContentValue) (gs : List ℕ) (cs later : List ContentValue) (ws : List Write) → cs ≡ a ∷ later → adding (numbered (g ∷ gs) cs) ≡ add g a ∷ ws → adding (numbered gs later) ≡ ws
-add_tail g a gs cs later ws next is =
-    let now : add g a ∷ adding (numbered gs later) ≡ add g a ∷ ws = sym (ap (λ xs. adding (numbered (g ∷ gs) xs)) next) ∙ is in
-    cc
+add_tail : {g : ℕ} {a : ContentValue} (gs : List ℕ) {cs later : List ContentValue} {ws : List Write} → cs ≡ a ∷ later
+    → adding (numbered (g ∷ gs) cs) ≡ add g a ∷ ws → adding (numbered gs later) ≡ ws
+add_tail gs next is = grind arith
 
 -- ---- what was done and what is left
 
 -- ids that were free for what was done and for what is left are free for both
 abbrev pub AreFreeTogether : List Write → Choice → Sides → List ℕ → List Record → Type 0
 AreFreeTogether done ch s later records =
-    GotFreeIds ch s.handheld (given_by done) records → GotFreeIds (rest_of done ch) (sides_after done s).handheld later (after done records) → GotFreeIds ch s.handheld (given_by done ++ later) records
+    GotFreeIds ch s.handheld (given_by done) records → GotFreeIds (rest_of done ch) (sides_after done s).handheld later (after done records)
+    → GotFreeIds ch s.handheld (given_by done ++ later) records
 
 -- what one session would do is what was done, and then what is left to do
 pub record Resumed (done : List Write) (ch : Choice) (s : Sides) (later : List ℕ) : Type 0 where
@@ -152,43 +128,48 @@ pub record Resumed (done : List Write) (ch : Choice) (s : Sides) (later : List �
   pub archive : ch.archive ≡ (rest_of done ch).archive
   pub free : (records : List Record) → AreFreeTogether done ch s later records
 
-pub resume : (done : List Write) (ch : Choice) (s : Sides) → choice s ≡ ch → AreOf done ch s → (more : List Write) → giving ch s.handheld (given_by done) ≡ done ++ more → (later : List ℕ)
-    → Resumed done ch s later
-resume [] ch s e of more is later = record { writes = refl; purges = refl; gone = refl; rows = λ i. refl; archive = refl; free = λ records got then_got. then_got }
-resume (replace i c ∷ ws) ch s e of more is later =
+pub resume : (done : List Write) {ch : Choice} (s : Sides) → choice s ≡ ch → AreOf done ch s → (more : List Write)
+    → giving ch s.handheld (given_by done) ≡ done ++ more → (later : List ℕ) → Resumed done ch s later
+resume [] s e of more is later = grind arith
+resume (replace i c ∷ ws) {ch} s e of more is later =
     let s1 = given_to s i c in
     let rows = replaced_rows ch.keep s.handheld in
-    let head = replace_head i c rows (numbered (given_by ws) ch.adds) (ws ++ more) is in
-    let next : replaced_rows ch.keep s1.handheld ≡ rows_behind rows = replaced_put ch.keep s.handheld i c (rows_behind rows) of.0 head.0 in
-    let rest = resume ws ch s1 (choice-put s i c (ap (λ x. Choice.keep x i) e ∙ of.0) ∙ e) of.1 more (ap (λ es. replaces es ++ adding (numbered (given_by ws) ch.adds)) next ∙ head.1) later in
-    let now : (records : List Record) → after (replaces rows) records ≡ after (replaces (replaced_rows ch.keep s1.handheld)) (put_record i c records) = λ records.
+    let head = replace_head rows (numbered (given_by ws) ch.adds) is in
+    let next = replaced_put ch.keep s.handheld i of.0 head.0 in
+    let rest = resume ws s1 (choice-put s i c (ap (λ x. Choice.keep x i) e ∙ of.0)
+    ∙ e) of.1 more (ap (λ es. replaces es ++ adding (numbered (given_by ws) ch.adds)) next ∙ head.1) later in
+    let now : (records : List Record) → after (replaces rows) records ≡ after (replaces (replaced_rows ch.keep s1.handheld)) (put_record i c records) =
+    λ records.
     ap (λ es. after (replaces es) records) head.0 ∙ ap (λ es. after (replaces es) (put_record i c records)) (sym next) in
     record {
       writes = ap (λ es. replaces es ++ adding (numbered (given_by ws ++ later) ch.adds)) head.0
           ∙ ap (λ es. replace i c ∷ (replaces es ++ adding (numbered (given_by ws ++ later) ch.adds))) (sym next)
           ∙ ap (λ xs. replace i c ∷ xs) rest.writes;
-      purges = purges_put ch.keep s.handheld i c of.0 ∙ rest.purges;
-      gone = gone_put ch.keep s.handheld i c of.0 ∙ rest.gone;
+      purges = purges_put ch.keep s.handheld i of.0 ∙ rest.purges;
+      gone = gone_put ch.keep s.handheld i of.0 ∙ rest.gone;
       rows = rest.rows;
       archive = rest.archive;
-      free = λ records got then_got.
-          subst (AreFree (numbered (given_by ws ++ later) ch.adds)) (sym (now records))
+      free = λ records got then_got. subst (AreFree (numbered (given_by ws ++ later) ch.adds)) (sym (now records))
           (rest.free (put_record i c records) (subst (AreFree (numbered (given_by ws) ch.adds)) (now records) got) then_got);
     }
-resume (add g a ∷ ws) ch s e of more is later =
+resume (add g a ∷ ws) {ch} s e of more is later =
     let s1 = given_to s g a in
     let ch1 = with_add ch g a in
     let gs = given_by ws in
-    let none : ch.keep g ≡ None = sym (ap (λ x. Choice.keep x g) e) ∙ not_kept (s.base g) (s.handheld g) (s.desktop g) of.1 of.2 in
+    let none : ch.keep g ≡ None = sym (ap (λ x. Choice.keep x g) e) ∙ not_kept (s.desktop g) of.1 of.2 in
     let rows = replaced_rows ch.keep s.handheld in
-    let head = add_head g a rows (numbered (g ∷ gs) ch.adds) (ws ++ more) is in
-    let same : rows ≡ replaced_rows ch1.keep s1.handheld = replaced_add ch.keep s.handheld g a none of.2 in
+    let head = add_head rows (numbered (g ∷ gs) ch.adds) is in
+    let same = replaced_add ch.keep s.handheld g a none of.2 in
     let then_none : replaced_rows ch1.keep s1.handheld ≡ [] = sym same ∙ head.0 in
-    let again : choice s1 ≡ ch1 = choice-add s g a (behind ch.adds) of.1 of.2 of.3 (ap (λ x. Choice.adds x) e ∙ of.0) ∙ λ k. record { keep = put (e k).keep g (Some a); archive = (e k).archive; adds = behind ch.adds } in
-    let rest = resume ws ch1 s1 again of.4 more (ap (λ es. replaces es ++ adding (numbered gs (behind ch.adds))) then_none ∙ add_tail g a gs ch.adds (behind ch.adds) (ws ++ more) of.0 head.1) later in
-    let first_free : (ids : List ℕ) (records : List Record) → AreFree (numbered (g ∷ ids) ch.adds) (after (replaces rows) records) ≡ AreFree ((g, a) ∷ numbered ids (behind ch.adds)) records = λ ids records.
+    let again : choice s1 ≡ ch1 = choice-add s g a (behind ch.adds) of.1 of.2 of.3 (ap (λ x. Choice.adds x) e ∙ of.0)
+    ∙ λ k. record { keep = put (e k).keep g (Some a); archive = (e k).archive; adds = behind ch.adds } in
+    let rest = resume ws s1 again of.4 more (ap (λ es. replaces es ++ adding (numbered gs (behind ch.adds))) then_none ∙ add_tail gs of.0 head.1) later in
+    let first_free : (ids : List ℕ) (records : List Record)
+    → AreFree (numbered (g ∷ ids) ch.adds) (after (replaces rows) records) ≡ AreFree ((g, a) ∷ numbered ids (behind ch.adds)) records = λ ids records.
     ap {A = List ContentValue × List (ℕ × ContentValue)} (λ p. AreFree (numbered (g ∷ ids) p.0) (after (replaces p.1) records)) (λ k. (of.0 k, head.0 k)) in
-    let later_free : (ids : List ℕ) (records : List Record) → AreFree (numbered ids (behind ch.adds)) (after (replaces (replaced_rows ch1.keep s1.handheld)) records) ≡ AreFree (numbered ids (behind ch.adds)) records = λ ids records.
+    let later_free : (ids : List ℕ) (records : List Record)
+    → AreFree (numbered ids (behind ch.adds)) (after (replaces (replaced_rows ch1.keep s1.handheld)) records)
+    ≡ AreFree (numbered ids (behind ch.adds)) records = λ ids records.
     ap (λ es. AreFree (numbered ids (behind ch.adds)) (after (replaces es) records)) then_none in
     record {
       writes = ap {A = List ContentValue × List (ℕ × ContentValue)} (λ p. replaces p.1 ++ adding (numbered (g ∷ gs ++ later) p.0)) (λ k. (of.0 k, head.0 k))
@@ -196,13 +177,15 @@ resume (add g a ∷ ws) ch s e of more is later =
           ∙ ap (λ xs. add g a ∷ xs) rest.writes;
       purges = purges_add ch.keep s.handheld g a none of.2 ∙ rest.purges;
       gone = gone_add ch.keep s.handheld g a none of.2 ∙ rest.gone;
-      rows = λ i. row_add ch g a (gs ++ later) i none of.0 ∙ rest.rows i;
+      rows = λ i. row_add ch g (gs ++ later) i none of.0 ∙ rest.rows i;
       archive = rest.archive;
       free = λ records got then_got.
-          let both : IsFree g records × AreFree (numbered gs (behind ch.adds)) (put_record g a records) = subst (λ (T : Type 0). T) (first_free gs records) got in
-          let then_free = subst (λ (T : Type 0). T) (later_free (gs ++ later) (put_record g a records)) (rest.free (put_record g a records) (subst (λ (T : Type 0). T) (sym (later_free gs (put_record g a records))) both.1) then_got) in
+          let both : IsFree g records × AreFree (numbered gs (behind ch.adds)) (put_record g a records) =
+          subst (λ (T : Type 0). T) (first_free gs records) got in
+          let then_free = subst (λ (T : Type 0). T) (later_free (gs ++ later) (put_record g a records))
+          (rest.free (put_record g a records) (subst (λ (T : Type 0). T) (sym (later_free gs (put_record g a records))) both.1) then_got) in
           subst (λ (T : Type 0). T) (sym (first_free (gs ++ later) records)) (both.0, then_free);
     }
-resume (purge i ∷ ws) ch s e of more is later = absurd of
-resume (clean_up ∷ ws) ch s e of more is later = absurd of
-resume (reset ∷ ws) ch s e of more is later = absurd of
+resume (purge i ∷ ws) s e of more is later = absurd of
+resume (clean_up ∷ ws) s e of more is later = absurd of
+resume (reset ∷ ws) s e of more is later = absurd of

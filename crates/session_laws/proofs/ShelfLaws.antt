@@ -1,18 +1,16 @@
 -- What the desktop holds under a name once all databases of a session are merged.
-use Rattle.std.proofs.Common.{◌≡◌, ℕ, List, [], ◌∷◌, ◌++◌, refl, ap, ◌∙◌, sym, true, false, cond, Option, Some, None, take, drop}
+use Rattle.std.proofs.Common.{arith, ◌≡◌, ℕ, List, [], ◌∷◌, ◌++◌, refl, ap, ◌∙◌, true, false, Option, Some, None, take, drop}
 use Rattle.std.specs.Str.{bytes_eq}
 use Rattle.pdb_values.specs.Contents.{ContentValue}
 use Rattle.pdb_values.specs.Databases.{DatabaseValue}
 use Rattle.pdb_values.specs.NamedDatabases.{database_of}
 use Rattle.pdb_values.specs.declared.record.Record.{Record}
 use Rattle.pdb_values.proofs.NamedLaws.{bytes_eq-own, database_of-name, database_of-with_put}
-use Rattle.palm_device.specs.Blocks.{empty_database}
 use Rattle.conduit_merge.specs.Merging.{merged_archive, one_copy_behind}
 use Rattle.desk_store.specs.Shelves.{ShelvesValue}
 use Rattle.sync_session.specs.Archives.{archive_records, entries_of}
 use Rattle.sync_session.specs.Choosing.{choice}
-use Rattle.sync_session.specs.Heads.{rows_head}
-use Rattle.sync_session.specs.Merges.{rows_before, beside, archive_of, Merged, merged_of, put_archive, shelved, shelve, merged_shelves}
+use Rattle.sync_session.specs.Merges.{rows_before, archive_of, Merged, merged_of, put_archive, shelved, shelve, merged_shelves}
 use Rattle.sync_session.specs.News.{add_count}
 use Rattle.sync_session.specs.Tasks.{Meeting, Task, task_of, slot_of, records_of}
 use Rattle.session_laws.specs.Meetings.{ids_dealt}
@@ -34,17 +32,16 @@ abbrev pub archive_in : Merged → Option DatabaseValue
 archive_in x = x.archive
 
 pub rows-head : HasHead rows_in
-rows-head m t ids r d is = let same : (merged_of m t ids r).rows ≡ d = cc in sym (ap (λ (x : DatabaseValue). x.head.name) same)
+rows-head m t ids r d is = grind arith
 
 pub base-head : HasHead base_in
-base-head m t ids r d is = let same : (merged_of m t ids r).base ≡ d = cc in sym (ap (λ (x : DatabaseValue). x.head.name) same)
+base-head m t ids r d is = grind arith
 
-archive_head : (r d : DatabaseValue) (records : List Record) → archive_of r records ≡ Some d → d.head.name ≡ r.head.name
-archive_head r d [] is = absurd (cc)
-archive_head r d (e ∷ es) is = let same : beside r (e ∷ es) ≡ d = cc in sym (ap (λ (x : DatabaseValue). x.head.name) same)
+archive_head : (r : DatabaseValue) {d : DatabaseValue} (records : List Record) → archive_of r records ≡ Some d → d.head.name ≡ r.head.name
+archive_head r records is = grind arith
 
 pub archive-head : HasHead archive_in
-archive-head m t ids r d is = archive_head r d (archive_records (merged_archive (choice m t) (entries_of (records_of t.archive)))) is
+archive-head m t ids r d is = archive_head r (archive_records (merged_archive (choice m t) (entries_of (records_of t.archive)))) is
 
 abbrev put_role : (Merged → Option DatabaseValue) → Meeting → Task → List ℕ → Option DatabaseValue → List DatabaseValue → List DatabaseValue
 put_role f m t ids None databases = databases
@@ -58,73 +55,82 @@ abbrev own_role : (Merged → Option DatabaseValue) → Meeting → Task → Lis
 own_role f m t ids None old = old
 own_role f m t ids (Some r) old = if_put (f (merged_of m t ids r)) old
 
-rows_name_by : (name : List ℕ) (date : ℕ) (rows handheld : Option DatabaseValue) (r : DatabaseValue) → ((d : DatabaseValue) → rows ≡ Some d → d.head.name ≡ name) → ((d : DatabaseValue) → handheld ≡ Some d → d.head.name ≡ name)
+rows_name_by : (name : List ℕ) (date : ℕ) (rows handheld : Option DatabaseValue) {r : DatabaseValue}
+    → ((d : DatabaseValue) → rows ≡ Some d → d.head.name ≡ name) → ((d : DatabaseValue) → handheld ≡ Some d → d.head.name ≡ name)
     → rows_before date rows handheld ≡ Some r → r.head.name ≡ name
-rows_name_by name date (Some d) handheld r named handheld_named is = let same : d ≡ r = cc in sym (ap (λ (x : DatabaseValue). x.head.name) same) ∙ named d refl
-rows_name_by name date None (Some d) r named handheld_named is =
-    let same : empty_database (rows_head date d.head) ≡ r = cc in
-    sym (ap (λ (x : DatabaseValue). x.head.name) same) ∙ handheld_named d refl
-rows_name_by name date None None r named handheld_named is = absurd (cc)
+rows_name_by name date rows handheld named handheld_named is = grind arith
 
-rows_name : (m : Meeting) (t : Task) (r : DatabaseValue) → t ≡ task_of m t.name → rows_before m.wishes.date t.rows t.handheld ≡ Some r → r.head.name ≡ t.name
-rows_name m t r is before =
-    rows_name_by t.name m.wishes.date t.rows t.handheld r
-    (λ d e. database_of-name t.name (slot_of m).shelves.rows d (sym (ap (λ (x : Task). x.rows) is) ∙ e))
-    (λ d e. database_of-name t.name m.device.databases d (sym (ap (λ (x : Task). x.handheld) is) ∙ e))
-    before
+rows_name : (m : Meeting) (t : Task) {r : DatabaseValue} → t ≡ task_of m t.name → rows_before m.wishes.date t.rows t.handheld ≡ Some r
+    → r.head.name ≡ t.name
+rows_name m t is before =
+    grind (
+      arith,
+      rows_name_by t.name m.wishes.date t.rows t.handheld,
+      database_of-name t.name (slot_of m).shelves.rows,
+      database_of-name t.name m.device.databases,
+    )
 
 abbrev put_task : (Merged → Option DatabaseValue) → Meeting → Task → List ℕ → List DatabaseValue → List DatabaseValue
 put_task f m t ids databases = put_role f m t ids (rows_before m.wishes.date t.rows t.handheld) databases
 
-looked_other : (name : List ℕ) (o : Option DatabaseValue) (databases : List DatabaseValue) → ((d : DatabaseValue) → o ≡ Some d → bytes_eq d.head.name name ≡ false) → database_of name (put_archive o databases) ≡ database_of name databases
+looked_other : (name : List ℕ) (o : Option DatabaseValue) (databases : List DatabaseValue)
+    → ((d : DatabaseValue) → o ≡ Some d → bytes_eq d.head.name name ≡ false) → database_of name (put_archive o databases) ≡ database_of name databases
 looked_other name None databases apart = refl
-looked_other name (Some d) databases apart = database_of-with_put name d databases ∙ ap (λ c. cond c (Some d) (database_of name databases)) (apart d refl)
+looked_other name (Some d) databases apart = grind (arith, database_of-with_put name d databases)
 
-looked_here : (name : List ℕ) (o : Option DatabaseValue) (databases : List DatabaseValue) → ((d : DatabaseValue) → o ≡ Some d → bytes_eq d.head.name name ≡ true) → database_of name (put_archive o databases) ≡ if_put o (database_of name databases)
+looked_here : (name : List ℕ) (o : Option DatabaseValue) (databases : List DatabaseValue)
+    → ((d : DatabaseValue) → o ≡ Some d → bytes_eq d.head.name name ≡ true)
+    → database_of name (put_archive o databases) ≡ if_put o (database_of name databases)
 looked_here name None databases same = refl
-looked_here name (Some d) databases same = database_of-with_put name d databases ∙ ap (λ c. cond c (Some d) (database_of name databases)) (same d refl)
+looked_here name (Some d) databases same = grind (arith, database_of-with_put name d databases)
 
-role-own : (f : Merged → Option DatabaseValue) → HasHead f → (m : Meeting) → PutsOwn m (put_task f m) (λ t ids old. own_role f m t ids (rows_before m.wishes.date t.rows t.handheld) old)
+role-own : (f : Merged → Option DatabaseValue) → HasHead f → (m : Meeting)
+    → PutsOwn m (put_task f m) (λ t ids old. own_role f m t ids (rows_before m.wishes.date t.rows t.handheld) old)
 role-own f head m = record {
-  other = λ t ids databases name is apart. other_by t ids databases name apart (rows_before m.wishes.date t.rows t.handheld) (λ r e. rows_name m t r is e);
-  here = λ t ids databases is. here_by t ids databases (rows_before m.wishes.date t.rows t.handheld) (λ r e. rows_name m t r is e);
+  other = λ t ids databases name is apart. other_by t ids databases name apart (rows_before m.wishes.date t.rows t.handheld) (λ r e. rows_name m t is e);
+  here = λ t ids databases is. here_by t ids databases (rows_before m.wishes.date t.rows t.handheld) (λ r e. rows_name m t is e);
 }
   where
-    other_by : (t : Task) (ids : List ℕ) (databases : List DatabaseValue) (name : List ℕ) → bytes_eq t.name name ≡ false → (o : Option DatabaseValue) → ((r : DatabaseValue) → o ≡ Some r → r.head.name ≡ t.name)
-        → database_of name (put_role f m t ids o databases) ≡ database_of name databases
+    other_by : (t : Task) (ids : List ℕ) (databases : List DatabaseValue) (name : List ℕ) → bytes_eq t.name name ≡ false → (o : Option DatabaseValue)
+        → ((r : DatabaseValue) → o ≡ Some r → r.head.name ≡ t.name) → database_of name (put_role f m t ids o databases) ≡ database_of name databases
     other_by t ids databases name apart None named = refl
-    other_by t ids databases name apart (Some r) named = looked_other name (f (merged_of m t ids r)) databases (λ d e. ap (λ n. bytes_eq n name) (head m t ids r d e ∙ named r refl) ∙ apart)
+    other_by t ids databases name apart (Some r) named =
+        looked_other name (f (merged_of m t ids r)) databases (λ d e. ap (λ n. bytes_eq n name) (head m t ids r d e ∙ named r refl) ∙ apart)
 
-    here_by : (t : Task) (ids : List ℕ) (databases : List DatabaseValue) (o : Option DatabaseValue) → ((r : DatabaseValue) → o ≡ Some r → r.head.name ≡ t.name)
+    here_by : (t : Task) (ids : List ℕ) (databases : List DatabaseValue) (o : Option DatabaseValue)
+        → ((r : DatabaseValue) → o ≡ Some r → r.head.name ≡ t.name)
         → database_of t.name (put_role f m t ids o databases) ≡ own_role f m t ids o (database_of t.name databases)
     here_by t ids databases None named = refl
-    here_by t ids databases (Some r) named = looked_here t.name (f (merged_of m t ids r)) databases (λ d e. ap (λ n. bytes_eq n t.name) (head m t ids r d e ∙ named r refl) ∙ bytes_eq-own t.name)
+    here_by t ids databases (Some r) named =
+        looked_here t.name (f (merged_of m t ids r)) databases (λ d e. ap (λ n. bytes_eq n t.name) (head m t ids r d e ∙ named r refl) ∙ bytes_eq-own t.name)
 
 -- a shelf of the merged ones
 abbrev pub IsShelf : (ShelvesValue → List DatabaseValue) → (Merged → Option DatabaseValue) → Type 0
 IsShelf g f = (x : Merged) (shelves : ShelvesValue) → g (shelved x shelves) ≡ put_archive (f x) (g shelves)
 
-shelf-puts : (g : ShelvesValue → List DatabaseValue) (f : Merged → Option DatabaseValue) → IsShelf g f → (m : Meeting) (ts : List Task) (given : List ℕ) (shelves : ShelvesValue)
+shelf-puts : (g : ShelvesValue → List DatabaseValue) (f : Merged → Option DatabaseValue) → IsShelf g f
+    → (m : Meeting) (ts : List Task) (given : List ℕ) (shelves : ShelvesValue)
     → g (merged_shelves m ts given shelves) ≡ puts m (put_task f m) ts given (g shelves)
 unfolding merged_shelves
 shelf-puts g f is m [] given shelves = refl
 shelf-puts g f is m (t ∷ ts) given shelves =
-    let before = rows_before m.wishes.date t.rows t.handheld in
-    let ids = take (add_count m t) given in
-    shelf-puts g f is m ts (drop (add_count m t) given) (shelve m t ids before shelves)
-    ∙ ap (puts m (put_task f m) ts (drop (add_count m t) given)) (one ids before)
-  where
-    one : (ids : List ℕ) (o : Option DatabaseValue) → g (shelve m t ids o shelves) ≡ put_role f m t ids o (g shelves)
-    one ids None = refl
-    one ids (Some r) = is (merged_of m t ids r) shelves
+    grind (
+      arith,
+      shelf-puts g f is m ts (drop (add_count m t) given)
+          (shelve m t (take (add_count m t) given) (rows_before m.wishes.date t.rows t.handheld) shelves),
+    )
 
 pub shelf-merged : (g : ShelvesValue → List DatabaseValue) (f : Merged → Option DatabaseValue) → IsShelf g f → HasHead f
-    → (m : Meeting) (ts : List Task) (given : List ℕ) (shelves : ShelvesValue) (t : Task) (r : DatabaseValue) → AreTasks m ts → IsTask t ts → rows_before m.wishes.date t.rows t.handheld ≡ Some r
+    → (m : Meeting) (ts : List Task) (given : List ℕ) (shelves : ShelvesValue) (t : Task) {r : DatabaseValue} → AreTasks m ts → IsTask t ts
+    → rows_before m.wishes.date t.rows t.handheld ≡ Some r
     → database_of t.name (g (merged_shelves m ts given shelves)) ≡ if_put (f (merged_of m t (ids_dealt m ts given t.name) r)) (database_of t.name (g shelves))
-shelf-merged g f is head m ts given shelves t r are there before =
-    ap (database_of t.name) (shelf-puts g f is m ts given shelves)
-    ∙ own-changes m (put_task f m) (λ t ids old. own_role f m t ids (rows_before m.wishes.date t.rows t.handheld) old) (role-own f head m) ts given (g shelves) t are there
-    ∙ ap (λ o. own_role f m t (ids_dealt m ts given t.name) o (database_of t.name (g shelves))) before
+shelf-merged g f is head m ts given shelves t are there before =
+    grind (
+      arith,
+      shelf-puts g f is m ts given shelves,
+      own-changes (role-own f head m) ts given (g shelves) t are there,
+      own_role f m t (ids_dealt m ts given t.name),
+    )
 
 -- ---- an archive that is written, or left as it is
 
@@ -137,9 +143,11 @@ nothing_old [] new is = refl
 nothing_old (e ∷ old) new is = absurd (cc)
 
 pub archive-entries : (r : DatabaseValue) (was : Option DatabaseValue) (new : List (ℕ × ContentValue))
-    → entries_of (records_of (if_put (archive_of r (archive_records (one_copy_behind [] (entries_of (records_of was) ++ new)))) was)) ≡ one_copy_behind [] (entries_of (records_of was) ++ new)
+    → entries_of (records_of (if_put (archive_of r (archive_records (one_copy_behind [] (entries_of (records_of was) ++ new)))) was)) ≡ one_copy_behind []
+    (entries_of (records_of was) ++ new)
 archive-entries r was new = by (one_copy_behind [] (entries_of (records_of was) ++ new)) refl
   where
-    by : (es : List (ℕ × ContentValue)) → one_copy_behind [] (entries_of (records_of was) ++ new) ≡ es → entries_of (records_of (if_put (archive_of r (archive_records es)) was)) ≡ es
+    by : (es : List (ℕ × ContentValue)) → one_copy_behind [] (entries_of (records_of was) ++ new) ≡ es
+        → entries_of (records_of (if_put (archive_of r (archive_records es)) was)) ≡ es
     by [] is = nothing_old (entries_of (records_of was)) new is
     by (e ∷ es) is = entries-again (e ∷ es)

@@ -1,5 +1,5 @@
 -- What a stopped session leaves can be read: its ids are those of records.
-use Rattle.std.proofs.Common.{◌≡◌, ℕ, zero, suc, ◌<◌, ◌≤◌, ◌^◌, ◌==◌, List, [], ◌∷◌, ◌++◌, refl, ap, ◌∙◌, sym, subst, arith, true, false, Bool, Option, Some, None, map, filter, if◌then◌else◌, nat_lt, take}
+use Rattle.std.proofs.Common.{◌≡◌, ℕ, zero, suc, ◌<◌, ◌≤◌, ◌^◌, List, [], ◌∷◌, ◌++◌, refl, ap, ◌∙◌, sym, subst, arith, true, Bool, Option, Some, None, map, filter, nat_lt, take}
 use Rattle.std.proofs.lemmas.Bool.Decides.{nat_tests}
 use Rattle.pdb_values.specs.Contents.{ContentValue}
 use Rattle.pdb_values.specs.Records.{is_live}
@@ -64,19 +64,11 @@ ids-after (reset ∷ ws) records can ids = ids-after ws (map clean records) can 
 
 bounded-without : (i : ℕ) (records : List Record) → AreBounded records → AreBounded (without_record i records)
 bounded-without i [] bounded = subst AreBounded (sym (without_record-nil i)) tt
-bounded-without i (r ∷ records) bounded = subst AreBounded (sym (without_record-cons i r records)) (by (r.id == i) (bounded-without i records bounded.1))
-  where
-    by : (b : Bool) → AreBounded (without_record i records) → AreBounded (if b then records else r ∷ without_record i records)
-    by true later = bounded.1
-    by false later = (bounded.0, later)
+bounded-without i (r ∷ records) bounded = grind (arith, without_record-cons i r records, bounded-without i records bounded.1)
 
 bounded-filter : (keep : Record → Bool) (records : List Record) → AreBounded records → AreBounded (filter keep records)
 bounded-filter keep [] bounded = tt
-bounded-filter keep (r ∷ records) bounded = by (keep r) (bounded-filter keep records bounded.1)
-  where
-    by : (b : Bool) → AreBounded (filter keep records) → AreBounded (if b then r ∷ filter keep records else filter keep records)
-    by true later = (bounded.0, later)
-    by false later = later
+bounded-filter keep (r ∷ records) bounded = grind (arith, bounded-filter keep records bounded.1)
 
 bounded-clean : (records : List Record) → AreBounded records → AreBounded (map clean records)
 bounded-clean [] bounded = tt
@@ -98,7 +90,8 @@ rows_append (x ∷ xs) ys can more = (can.0, can.1, rows_append xs ys can.2 more
 
 can-rows : (f : ℕ → Option ContentValue) (n : ℕ) → f 0 ≡ None → n ≤ id_bound → CanWrite (replaces (with_ids f n))
 can-rows f zero none l = subst (λ es. CanWrite (replaces es)) (sym (each_below-zero (λ i. with_id i (f i)))) tt
-can-rows f (suc n) none l = subst (λ es. CanWrite (replaces es)) (sym (with_ids-suc f n)) (rows_append (with_ids f n) (with_id n (f n)) (can-rows f n none (omega (arith, l))) (one n (f n) refl l))
+can-rows f (suc n) none l = subst (λ es. CanWrite (replaces es)) (sym (with_ids-suc f n))
+    (rows_append (with_ids f n) (with_id n (f n)) (can-rows f n none (omega (arith, l))) (one n (f n) refl l))
   where
     one : (m : ℕ) (o : Option ContentValue) → f m ≡ o → suc m ≤ id_bound → CanWrite (replaces (with_id m o))
     one m None is l = tt
@@ -110,7 +103,11 @@ can-rows f (suc n) none l = subst (λ es. CanWrite (replaces es)) (sym (with_ids
 
 can-adds : (es : List (ℕ × ContentValue)) (now : List Record) → AreFree es now → CanWrite (adding es)
 can-adds [] now free = tt
-can-adds (e ∷ es) now free = (free.0.some, subst (λ n. nat_lt e.0 n ≡ true) (sym id_bound-is) (below e.0 free.0.bound), can-adds es (put_record e.0 e.1 now) free.1)
+can-adds (e ∷ es) now free = (
+  free.0.some,
+  subst (λ n. nat_lt e.0 n ≡ true) (sym id_bound-is) (below e.0 free.0.bound),
+  can-adds es (put_record e.0 e.1 now) free.1,
+)
   where
     below : (n : ℕ) → n ≤ 16777215 → nat_lt n (2 ^ 24) ≡ true
     below n l = grind (arith, nat_tests, l)
@@ -140,6 +137,7 @@ pub read-commit : (a : Action) (x : Found) (given : List ℕ) (n : ℕ) → IsRe
 read-commit a x given n read got =
     let ch = chosen a x in
     let ws = giving ch (shown x) given ++ clearing_done a x n in
-    let can = can-append (giving ch (shown x) given) (clearing_done a x n) (can-giving a x given read got) (can-take n (clearing ch (shown x)) (can-purges (purged_ids ch.keep (shown x)) (clean_up ∷ reset ∷ []) tt)) in
+    let can = can-append (giving ch (shown x) given) (clearing_done a x n) (can-giving a x given read got)
+    (can-take n (clearing ch (shown x)) (can-purges (purged_ids ch.keep (shown x)) (clean_up ∷ reset ∷ []) tt)) in
     let bounded = bounded-after ws x.records can read.bounded in
     record { ids = ids-after ws x.records can read.ids; bounded = bounded; shows = slow_shows (after ws x.records) bounded }

@@ -1,5 +1,5 @@
 -- A meeting behind a whole session finds each database merged.
-use Rattle.std.proofs.Common.{◌&&◌, false, is_none, ◌≡◌, ◌||◌, ℕ, List, [], ◌∷◌, refl, ap, ◌∙◌, sym, subst, true, Option, Some, None, is_some}
+use Rattle.std.proofs.Common.{arith, ◌&&◌, false, is_none, ◌≡◌, ◌||◌, ℕ, List, [], ◌∷◌, refl, ap, ◌∙◌, sym, subst, true, Option, Some, is_some}
 use Rattle.pdb_values.specs.Databases.{DatabaseValue}
 use Rattle.pdb_values.specs.NamedDatabases.{database_of}
 use Rattle.conduit_rules.specs.Choices.{Choice}
@@ -14,7 +14,7 @@ use Rattle.sync_session.specs.Skips.{active, head_of}
 use Rattle.sync_session.specs.Tasks.{action_of_word, Meeting, Task, task_of, slot_of, records_of}
 use Rattle.session_laws.specs.Meetings.{IsLikeFirst, StandsLike, found, found_of, action_at, ids_dealt, ids_at, holding_after, IsActive, IsMergedAt, LeftAtEnd, LeftMerged, AllFollow, last_of, places_of}
 use Rattle.session_laws.specs.Renaming.{AreUnknown, SameEnds}
-use Rattle.session_laws.specs.Repeats.{IsRead, Ended, ended, chosen, shown, GotAllIds, Place, AreStops, all_ids}
+use Rattle.session_laws.specs.Repeats.{IsRead, ended, chosen, shown, GotAllIds, Place, AreStops, all_ids}
 use Rattle.session_laws.proofs.MeetingLaws.{meetings-same}
 use Rattle.session_laws.proofs.MergedLaws.{handheld-merged}
 use Rattle.session_laws.proofs.ShelfLaws.{shelf-merged, rows_in, base_in, archive_in, rows-head, base-head, archive-head, archive-entries}
@@ -31,23 +31,16 @@ unfolding sides
 shown-is m t = refl
 
 some_of : (o : Option DatabaseValue) → is_some o ≡ true → (d : DatabaseValue) × (o ≡ Some d)
-some_of None is = absurd (cc)
-some_of (Some d) is = (d, refl)
+some_of o is = grind arith
 
 rows_there : (date : ℕ) (h r : Option DatabaseValue) → (is_some h || is_some r) ≡ true → is_some (rows_before date r h) ≡ true
-rows_there date h (Some d) there = refl
-rows_there date (Some d) None there = refl
-rows_there date None None there = absurd (cc)
+rows_there date h r there = grind arith
 
 handheld_there : (h r : Option DatabaseValue) → (is_some h || is_some r) ≡ true → is_some (handheld_before h r) ≡ true
-handheld_there (Some d) r there = refl
-handheld_there None (Some d) there = refl
-handheld_there None None there = absurd (cc)
+handheld_there h r there = grind arith
 
-before_records : (h r : Option DatabaseValue) (b : DatabaseValue) → handheld_before h r ≡ Some b → b.records ≡ records_of h
-before_records (Some d) r b is = let same : d ≡ b = cc in sym (ap (λ (x : DatabaseValue). x.records) same)
-before_records None (Some d) b is = sym (ap records_of is)
-before_records None None b is = absurd (cc)
+before_records : (h r : Option DatabaseValue) {b : DatabaseValue} → handheld_before h r ≡ Some b → b.records ≡ records_of h
+before_records h r is = grind arith
 
 -- the slot's shelves are the merged ones
 slot_shelves : (m : Meeting) (given : List ℕ) → (merged_slot m given).shelves ≡ merged_shelves m (active m) given (slot_of m).shelves
@@ -67,27 +60,33 @@ merged-at m next given name slot is =
     let ids = ids_dealt m (active m) given name in
     let shelves = ap (λ (s : SlotValue). s.shelves) slot ∙ slot_shelves m given in
     let is_task = is-active m name is.there is.kept in
-    let rows = ap (λ s. database_of name s.rows) shelves ∙ shelf-merged (λ s. s.rows) rows_in (λ x s. refl) rows-head m (active m) given (slot_of m).shelves t r.0 (are-active m) is_task r.1 in
-    let base = ap (λ s. database_of name s.bases) shelves ∙ shelf-merged (λ s. s.bases) base_in (λ x s. refl) base-head m (active m) given (slot_of m).shelves t r.0 (are-active m) is_task r.1 in
-    let archive = ap (λ s. database_of name s.archives) shelves ∙ shelf-merged (λ s. s.archives) archive_in (λ x s. refl) archive-head m (active m) given (slot_of m).shelves t r.0 (are-active m) is_task r.1 in
+    let rows = ap (λ s. database_of name s.rows) shelves
+    ∙ shelf-merged (λ s. s.rows) rows_in (λ x s. refl) rows-head m (active m) given (slot_of m).shelves t (are-active m) is_task r.1 in
+    let base = ap (λ s. database_of name s.bases) shelves
+    ∙ shelf-merged (λ s. s.bases) base_in (λ x s. refl) base-head m (active m) given (slot_of m).shelves t (are-active m) is_task r.1 in
+    let archive = ap (λ s. database_of name s.archives) shelves
+    ∙ shelf-merged (λ s. s.archives) archive_in (λ x s. refl) archive-head m (active m) given (slot_of m).shelves t (are-active m) is_task r.1 in
     record {
       there = ap is_some rows;
       rows = ap records_of rows ∙ ap (λ c. merged_rows c ids) (chosen-is m t);
       base = ap records_of base ∙ ap {A = Choice × (ℕ → Held)} (λ p. merged_base p.0 p.1 ids) (λ k. (chosen-is m t k, shown-is m t k));
-      archive = ap (λ o. entries_of (records_of o)) archive ∙ archive-entries r.0 t.archive (choice m t).archive ∙ ap (λ c. merged_archive c (entries_of (records_of t.archive))) (chosen-is m t);
+      archive = ap (λ o. entries_of (records_of o)) archive ∙ archive-entries r.0 t.archive (choice m t).archive
+          ∙ ap (λ c. merged_archive c (entries_of (records_of t.archive))) (chosen-is m t);
     }
 
-pub whole-found : (m next : Meeting) (given : List ℕ) (name : List ℕ) → LeftMerged m next given → IsActive m name → LeftAtEnd m next (ids_dealt m (active m) given) name
+pub whole-found : (m next : Meeting) (given : List ℕ) (name : List ℕ) → LeftMerged m next given → IsActive m name
+    → LeftAtEnd m next (ids_dealt m (active m) given) name
 whole-found m next given name left is =
     let t = task_of m name in
     let b = some_of (handheld_before t.handheld t.rows) (handheld_there t.handheld t.rows (on_a_side m name is.there)) in
     let ids = ids_dealt m (active m) given name in
-    let databases = ap (database_of name) (left.databases ∙ device_databases m given) ∙ handheld-merged m (active m) given t b.0 (are-active m) (is-active m name is.there is.kept) b.1 in
+    let databases = ap (database_of name) (left.databases ∙ device_databases m given)
+    ∙ handheld-merged m (active m) given t b.0 (are-active m) (is-active m name is.there is.kept) b.1 in
     record {
       asks = left.asks;
       merged = merged-at m next given name left.slot is;
       records = ap records_of databases
-          ∙ ap (merged_records (choice m t) (seen_held m t) ids) (before_records t.handheld t.rows b.0 b.1)
+          ∙ ap (merged_records (choice m t) (seen_held m t) ids) (before_records t.handheld t.rows b.1)
           ∙ ap {A = Choice × (ℕ → Held)} (λ p. merged_records p.0 p.1 ids (records_of t.handheld)) (λ k. (chosen-is m t k, shown-is m t k));
     }
 
@@ -97,44 +96,49 @@ whole-found m next given name left is =
 abbrev behind : Meeting → List ℕ → Meeting
 behind m given = record { device = merged_device m given; slots = merged_slot m given ∷ []; picked = 0; wishes = m.wishes }
 
-pub holds-end : (m : Meeting) (given : List ℕ) (name : List ℕ) → IsActive m name → holding_after m given name ≡ ended (action_at m name) (found_of m name) (ids_at m given name)
+pub holds-end : (m : Meeting) (given : List ℕ) (name : List ℕ) → IsActive m name
+    → holding_after m given name ≡ ended (action_at m name) (found_of m name) (ids_at m given name)
 holds-end m given name is =
-    let whole = whole-found m (behind m given) given name (record { asks = record { actions = refl; slow = refl }; databases = refl; slot = refl }) is in
-    λ k. record { records = whole.records k; rows = whole.merged.rows k; base = whole.merged.base k; archive = whole.merged.archive k }
+    grind (arith, whole-found m (behind m given) given name (record { asks = record { actions = refl; slow = refl }; databases = refl; slot = refl }) is)
 
-pub meetings-hold : (m : Meeting) (name : List ℕ) (es : List (Meeting × Place)) (later new : List ℕ) → IsActive m name → IsActive (last_of m es) name → AllFollow m name es
-    → IsRead (found_of m name) → AreStops (action_at m name) (found_of m name) (places_of es)
-    → GotAllIds (action_at m name) (found_of (last_of m es) name) (ids_at (last_of m es) later name) → AreUnknown (found_of m name) (all_ids (action_at m name) (places_of es) (ids_at (last_of m es) later name))
+pub meetings-hold : (m : Meeting) (name : List ℕ) (es : List (Meeting × Place)) (later new : List ℕ) → IsActive m name → IsActive (last_of m es) name
+    → AllFollow m name es → IsRead (found_of m name) → AreStops (action_at m name) (found_of m name) (places_of es)
+    → GotAllIds (action_at m name) (found_of (last_of m es) name) (ids_at (last_of m es) later name)
+    → AreUnknown (found_of m name) (all_ids (action_at m name) (places_of es) (ids_at (last_of m es) later name))
     → GotAllIds (action_at m name) (found_of m name) (ids_at m new name) → AreUnknown (found_of m name) (ids_at m new name)
     → SameEnds (found_of m name) (holding_after (last_of m es) later name) (holding_after m new name)
 meetings-hold m name es later new is last_is follow read stops got un new_got new_un =
-    subst (λ (p : Ended × Ended). SameEnds (found_of m name) p.0 p.1) (λ k. (sym (holds-end (last_of m es) later name last_is) k, sym (holds-end m new name is) k))
-    (meetings-same m name es (ids_at (last_of m es) later name) (ids_at m new name) follow read stops got un new_got new_un)
+    grind (
+      arith,
+      holds-end (last_of m es) later name last_is,
+      holds-end m new name is,
+      meetings-same m name es (ids_at (last_of m es) later name) (ids_at m new name) follow read stops got un new_got new_un,
+    )
 
 -- ---- no database is skipped that wasn't
 
-stands-like : (m next : Meeting) (given : List ℕ) (name : List ℕ) → LeftMerged m next given → IsActive m name → StandsLike m next name
-stands-like m next given name left is =
+stands-like : (m next : Meeting) {given : List ℕ} (name : List ℕ) → LeftMerged m next given → IsActive m name → StandsLike m next name
+stands-like m next {given} name left is =
     let t = task_of m name in
     let ids = ids_at m given name in
     let b = some_of (handheld_before t.handheld t.rows) (handheld_there t.handheld t.rows (on_a_side m name is.there)) in
     let r = some_of (rows_before m.wishes.date t.rows t.handheld) (rows_there m.wishes.date t.handheld t.rows (on_a_side m name is.there)) in
     let is_task = is-active m name is.there is.kept in
-    let handheld : head_of (task_of next name).handheld ≡ Some b.0.head = ap head_of (ap (database_of name) (left.databases ∙ device_databases m given) ∙ handheld-merged m (active m) given t b.0 (are-active m) is_task b.1) in
+    let handheld : head_of (task_of next name).handheld ≡ Some b.0.head =
+    ap head_of (ap (database_of name) (left.databases ∙ device_databases m given) ∙ handheld-merged m (active m) given t b.0 (are-active m) is_task b.1) in
     let shelves = ap (λ (s : SlotValue). s.shelves) left.slot ∙ slot_shelves m given in
     let rows : head_of (task_of next name).rows ≡ Some r.0.head =
-    ap head_of (ap (λ s. database_of name s.rows) shelves ∙ shelf-merged (λ s. s.rows) rows_in (λ x s. refl) rows-head m (active m) given (slot_of m).shelves t r.0 (are-active m) is_task r.1) in
+    ap head_of (ap (λ s. database_of name s.rows) shelves
+    ∙ shelf-merged (λ s. s.rows) rows_in (λ x s. refl) rows-head m (active m) given (slot_of m).shelves t (are-active m) is_task r.1) in
     record {
       action = ap (λ items. action_of_word (action_for name items)) left.asks.actions;
       handheld = subst (IsLikeFirst (head_of t.handheld) (head_of t.rows)) (sym handheld) (handheld-like t.handheld t.rows b.0 b.1);
-      rows = subst (IsLikeFirst (head_of t.rows) (head_of t.handheld)) (sym rows) (rows-like m.wishes.date t.handheld t.rows r.0 r.1);
+      rows = subst (IsLikeFirst (head_of t.rows) (head_of t.handheld)) (sym rows) (rows-like m.wishes.date t.handheld t.rows r.1);
       has_handheld = λ none. absurd (let no : false ≡ true = sym (ap is_none handheld) ∙ none in cc);
       has_rows = λ none. absurd (let no : false ≡ true = sym (ap is_none rows) ∙ none in cc);
       has_base = λ both. absurd (let no : false ≡ true = sym (ap (λ o. is_none o && is_some (task_of next name).base) handheld) ∙ both in cc);
     }
 
 pub active-again : (m next : Meeting) (given : List ℕ) (name : List ℕ) → LeftMerged m next given → IsActive m name → IsActive next name
-active-again m next given name left is = record {
-  there = rows-name next name (merged-at m next given name left.slot is).there;
-  kept = kept-stays m next name (stands-like m next given name left is) is.kept;
-}
+active-again m next given name left is =
+    grind (arith, rows-name next name (merged-at m next given name left.slot is).there, kept-stays m next name (stands-like m next name left is) is.kept)

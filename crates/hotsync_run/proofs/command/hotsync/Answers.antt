@@ -3,23 +3,23 @@ use Rattle.std.specs.Prelude.{Some, map, string_bytes}
 use Rattle.run_words.specs.Commands.{task_of}
 use Rattle.run_words.specs.Views.{task_view}
 use Rattle.run_words.specs.declared.command.Command.{Command}
-use Rattle.hotsync_run.specs.Told.{CallTold, SinkTold, folder_told, sink_told, source_told}
+use Rattle.hotsync_run.specs.Told.{CallTold, folder_told, sink_told, source_told}
 use Rattle.hotsync_run.proofs.CallLaws.{only_memory, unread_call}
 use Rattle.hotsync_run.proofs.MakeWords.{few_asked}
 use Rattle.hotsync_run.proofs.command.hotsync.Goals as goal
 
 pub make-status-requires : goal.make-status-requires
 make-status-requires g c =
-    few_asked (map string_bytes c.args.words.now) c.in-Ok-Make.words.seed c.in-Ok-Make.words.count
+    few_asked (map string_bytes c.args.words.now)
     (c.in-Ok-Make.ensures.command ∙ ap (λ (command : Command). Some (task_view command)) c.in-Ok-Make.field-0-is)
 
 pub returns-in-Err-NoMemory-clause-run : goal.returns-in-Err-NoMemory-clause-run
 returns-in-Err-NoMemory-clause-run g c =
     let before : CallTold = record { palm = folder_told g.H.Folder.contents g.H.Folder.moments g.H.Folder.paths g.H.Folder.faults c.args.device; desk = folder_told g.D.Folder.contents g.D.Folder.moments g.D.Folder.paths g.D.Folder.faults c.args.desk; source = source_told g.S.Source.left g.S.Source.paths g.S.Source.faults c.args.source.now; trace = sink_told g.T.Sink.taken g.T.Sink.paths g.T.Sink.faults c.args.trace.now } in
-    let out : SinkTold = sink_told g.O.Sink.taken g.O.Sink.paths g.O.Sink.faults c.args.out.now in
-    let out_after : SinkTold = sink_told g.O.Sink.taken g.O.Sink.paths g.O.Sink.faults c.print_refusal-status-in-Err-NoMemory.new.out in
+    let out = sink_told g.O.Sink.taken g.O.Sink.paths g.O.Sink.faults c.args.out.now in
+    let out_after = sink_told g.O.Sink.taken g.O.Sink.paths g.O.Sink.faults c.print_refusal-status-in-Err-NoMemory.new.out in
     let said = c.print_refusal-status-in-Err-NoMemory in
     let end = c.not_started-in-Err-NoMemory in
-    let memory = only_memory said.result said.ensures.status in
+    let memory = only_memory said.ensures.status in
     rw (end.ensures.status, end.ensures.device, end.ensures.desk, memory)
-    (unread_call (task_of (map string_bytes c.args.words.now)) before out out_after end.result.report end.ensures.report (rw memory at said.ensures.printed))
+    (unread_call (task_of (map string_bytes c.args.words.now)) before end.ensures.report (rw memory at said.ensures.printed))

@@ -1,4 +1,4 @@
-use Rattle.std.proofs.Common.{◌≡◌, ◌∙◌, ap, sym, subst, Err}
+use Rattle.std.proofs.Common.{◌∙◌, ap, sym, subst, Err}
 use Rattle.hotsync_run.specs.Looks.{IsTextIn}
 use Rattle.hotsync_run.proofs.LookLaws.{look_done, look_refused}
 use Rattle.hotsync_run.proofs.PrintedLaws.{printed_weaken}
@@ -8,11 +8,11 @@ pub returns-in-Ok : goal.returns-in-Ok
 returns-in-Ok g c =
     let left = g.S.Source.left c.args.source.now in
     let found = c.in-Ok.ensures in
-    look_done c.args.words.look c.args.words.file.now _ _ _ _ c.print_text.result c.print_text.ensures.status found.readable found.path found.opened
-    (printed_weaken (λ text. text ≡ c.as_str.result.now) (IsTextIn c.args.words.look left) _ _ c.print_text.result (λ text is. subst (IsTextIn c.args.words.look left) (sym (is ∙ c.as_str.ensures.value)) found.text) c.print_text.ensures.printed)
+    look_done c.args.words.file.now _ _ c.print_text.ensures.status found.readable found.path found.opened
+    (printed_weaken (IsTextIn c.args.words.look left) (λ text is. subst (IsTextIn c.args.words.look left) (sym (is ∙ c.as_str.ensures.value)) found.text) c.print_text.ensures.printed)
 
 pub returns-in-Err : goal.returns-in-Err
 returns-in-Err g c =
     let found = c.in-Err.ensures in
-    look_refused c.args.words.look c.args.words.file.now _ _ _ _ c.in-Err.refusal c.print_refusal.result c.print_refusal.ensures.status found.refusal found.shown (λ e. found.failed (ap Err e)) found.path
-    (printed_weaken (λ text. ⊥) (IsTextIn c.args.words.look (g.S.Source.left c.args.source.now)) _ _ c.print_refusal.result (λ text no. absurd no) c.print_refusal.ensures.printed)
+    look_refused c.args.words.file.now _ _ c.print_refusal.ensures.status found.refusal found.shown (λ e. found.failed (ap Err e)) found.path
+    (printed_weaken (IsTextIn c.args.words.look (g.S.Source.left c.args.source.now)) (λ text no. absurd no) c.print_refusal.ensures.printed)

@@ -3,4 +3,4 @@ use Rattle.hotsync_run.proofs.MakeScripts.{made_script_is}
 use Rattle.hotsync_run.proofs.make.losing_script.Goals as goal
 
 pub returns-in-Ok : goal.returns-in-Ok
-returns-in-Ok c = made_script_is c.as_bytes.result.now c.in-Ok.script (c.as_bytes.ensures.value ∙ c.in_ok-text.ensures) c.in-Ok.ensures.read
+returns-in-Ok c = made_script_is c.in-Ok.script (c.as_bytes.ensures.value ∙ c.in_ok-text.ensures) c.in-Ok.ensures.read

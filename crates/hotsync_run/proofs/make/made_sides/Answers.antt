@@ -5,7 +5,7 @@ use Rattle.hotsync_run.proofs.MakeLaws.{made_opened}
 use Rattle.hotsync_run.proofs.make.made_sides.Goals as goal
 
 pub returns-clause-desk : goal.returns-clause-desk
-returns-clause-desk c = made_opened (made c.args.seed c.args.count) _ _ (c.new-2.ensures.contents ∙ c.in_ok-device.ensures.desk) c.in-Ok-open.ensures.opened
+returns-clause-desk c = made_opened (made c.args.seed c.args.count) (c.new-2.ensures.contents ∙ c.in_ok-device.ensures.desk) c.in-Ok-open.ensures.opened
 
 pub returns-clause-slots : goal.returns-clause-slots
 returns-clause-slots c = subst (λ o. IsDesk o c.in-Ok-open.desk.slots) (returns-clause-desk c) c.in-Ok-open.ensures.desk

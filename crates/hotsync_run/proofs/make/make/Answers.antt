@@ -1,20 +1,20 @@
 use Rattle.std.proofs.Common.{◌≡◌, ◌∙◌, ap}
 use Rattle.made_folders.specs.Items.{made}
 use Rattle.hotsync_run.specs.Lines.{done_lines}
-use Rattle.hotsync_run.specs.Told.{SinkTold, sink_told}
+use Rattle.hotsync_run.specs.Told.{sink_told}
 use Rattle.hotsync_run.proofs.MakeLaws.{ends_printed, made_printed}
 use Rattle.hotsync_run.proofs.PrintedLaws.{printed_weaken}
 use Rattle.hotsync_run.proofs.make.make.Goals as goal
 
 pub returns : goal.returns
 returns g c =
-    let out : SinkTold = sink_told g.O.Sink.taken g.O.Sink.paths g.O.Sink.faults c.args.out.now in
-    let out_after : SinkTold = sink_told g.O.Sink.taken g.O.Sink.paths g.O.Sink.faults c.print_status-status.new.out in
+    let out = sink_told g.O.Sink.taken g.O.Sink.paths g.O.Sink.faults c.args.out.now in
+    let out_after = sink_told g.O.Sink.taken g.O.Sink.paths g.O.Sink.faults c.print_status-status.new.out in
     let status = c.made_session-status.result.0 in
     let report = c.made_session-status.result.1 in
     let printed = c.print_status-status in
     record {
-      ran = made_printed (made c.args.seed c.args.count) status printed.result report printed.ensures.status c.made_session-status.ensures.made;
-      ends = ends_printed status printed.result printed.ensures.status c.made_session-status.ensures.ends;
-      printed = printed_weaken (λ text. text ≡ done_lines c.deref.result.now) (λ text. text ≡ done_lines report.databases.items) out out_after printed.result (λ text is. is ∙ ap done_lines c.deref.ensures.value) printed.ensures.printed;
+      ran = made_printed (made c.args.seed c.args.count) status report printed.result printed.ensures.status c.made_session-status.ensures.made;
+      ends = ends_printed printed.result printed.ensures.status c.made_session-status.ensures.ends;
+      printed = printed_weaken (λ text. text ≡ done_lines report.databases.items) (λ text is. is ∙ ap done_lines c.deref.ensures.value) printed.ensures.printed;
     }

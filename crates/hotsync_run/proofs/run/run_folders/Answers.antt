@@ -1,8 +1,7 @@
 use Rattle.std.proofs.Common.{◌≡◌, ◌∙◌, ap}
-use Rattle.run_words.specs.Runs.{Run}
 use Rattle.run_words.specs.Views.{run_view}
 use Rattle.hotsync_run.specs.Lines.{done_lines}
-use Rattle.hotsync_run.specs.Told.{CallTold, SinkTold, folder_told, sink_told, source_told}
+use Rattle.hotsync_run.specs.Told.{CallTold, folder_told, sink_told, source_told}
 use Rattle.hotsync_run.proofs.PrintedLaws.{printed_weaken}
 use Rattle.hotsync_run.proofs.RunLaws.{run_printed}
 use Rattle.hotsync_run.proofs.UndisturbedLaws.{run_ends_well}
@@ -10,17 +9,17 @@ use Rattle.hotsync_run.proofs.run.run_folders.Goals as goal
 
 pub returns-clause-run : goal.returns-clause-run
 returns-clause-run g c =
-    let run : Run = run_view c.args.words.now in
+    let run = run_view c.args.words.now in
     let before : CallTold = record { palm = folder_told g.H.Folder.contents g.H.Folder.moments g.H.Folder.paths g.H.Folder.faults c.args.device; desk = folder_told g.D.Folder.contents g.D.Folder.moments g.D.Folder.paths g.D.Folder.faults c.args.desk; source = source_told g.S.Source.left g.S.Source.paths g.S.Source.faults c.args.source.now; trace = sink_told g.T.Sink.taken g.T.Sink.paths g.T.Sink.faults c.args.trace.now } in
     let answer = c.judged_run-answer.result in
     let after : CallTold = record { palm = folder_told g.H.Folder.contents g.H.Folder.moments g.H.Folder.paths g.H.Folder.faults answer.device; desk = folder_told g.D.Folder.contents g.D.Folder.moments g.D.Folder.paths g.D.Folder.faults answer.desk; source = source_told g.S.Source.left g.S.Source.paths g.S.Source.faults c.judged_run-answer.new.source; trace = sink_told g.T.Sink.taken g.T.Sink.paths g.T.Sink.faults c.judged_run-answer.new.trace } in
-    let out : SinkTold = sink_told g.O.Sink.taken g.O.Sink.paths g.O.Sink.faults c.args.out.now in
-    let out_after : SinkTold = sink_told g.O.Sink.taken g.O.Sink.paths g.O.Sink.faults c.print_status-status.new.out in
+    let out = sink_told g.O.Sink.taken g.O.Sink.paths g.O.Sink.faults c.args.out.now in
+    let out_after = sink_told g.O.Sink.taken g.O.Sink.paths g.O.Sink.faults c.print_status-status.new.out in
     let printed = c.print_status-status.ensures.printed in
     let status = c.print_status-status.result in
-    let ran = run_printed run before after answer.status status answer.report c.print_status-status.ensures.status c.judged_run-answer.ensures.ran in
+    let ran = run_printed c.judged_run-answer.ensures.ran status c.print_status-status.ensures.status in
     record {
       ran = ran;
-      complete = run_ends_well run before after out out_after status answer.report (λ text. text ≡ done_lines c.deref.result.now) ran printed;
-      printed = printed_weaken (λ text. text ≡ done_lines c.deref.result.now) (λ text. text ≡ done_lines answer.report.databases.items) out out_after c.print_status-status.result (λ text is. is ∙ ap done_lines c.deref.ensures.value) printed;
+      complete = run_ends_well run before after out out_after status answer.report ran printed;
+      printed = printed_weaken (λ text. text ≡ done_lines answer.report.databases.items) (λ text is. is ∙ ap done_lines c.deref.ensures.value) printed;
     }

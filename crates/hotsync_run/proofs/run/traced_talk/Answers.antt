@@ -1,8 +1,7 @@
 use Rattle.std.proofs.Common.{◌∙◌, ap, sym}
 use Rattle.palm_device.specs.Devices.{Device}
 use Rattle.palm_device.specs.Handles.{no_handles}
-use Rattle.run_words.specs.Views.{run_view}
-use Rattle.hotsync_run.specs.Told.{folder_told, sink_told}
+use Rattle.hotsync_run.specs.Told.{sink_told}
 use Rattle.hotsync_run.proofs.TraceLaws.{talk_traced}
 use Rattle.hotsync_run.proofs.run.traced_talk.Goals as goal
 
@@ -12,8 +11,6 @@ returns-clause-talk g c =
     let device : Device = record { databases = c.args.store.databases; user = c.args.store.user; handles = no_handles } in
     let trace = sink_told g.T.Sink.taken g.T.Sink.paths g.T.Sink.faults c.args.trace.now in
     let trace_after = sink_told g.T.Sink.taken g.T.Sink.paths g.T.Sink.faults c.write_frames-status.new.trace in
-    talk_traced (run_view c.args.words.now) c.args.script device c.args.desk.slots (folder_told g.H.Folder.contents g.H.Folder.moments g.H.Folder.paths g.H.Folder.faults c.args.store.folder)
-    (folder_told g.H.Folder.contents g.H.Folder.moments g.H.Folder.paths g.H.Folder.faults answer.device) (folder_told g.D.Folder.contents g.D.Folder.moments g.D.Folder.paths g.D.Folder.faults c.args.desk.folder)
-    (folder_told g.D.Folder.contents g.D.Folder.moments g.D.Folder.paths g.D.Folder.faults answer.desk) trace trace_after answer.status c.write_frames-status.result answer.report c.talk-answer.ensures
+    talk_traced trace trace_after c.write_frames-status.result c.talk-answer.ensures
     (rw (sym c.deref.ensures.value) c.write_frames-status.ensures.traces)
     (λ none. ap (λ sink. g.T.Sink.taken sink) (c.write_frames-status.ensures.silent (c.deref.ensures.value ∙ none)))
