@@ -1,5 +1,6 @@
 -- The least id that three lists have in front.
-use Rattle.std.proofs.Common.{◌≡◌, ℕ, ◌≤◌, ◌==◌, List, [], ◌∷◌, refl, ap, ◌∙◌, sym, subst, arith, Option, Some, None, Bool, true, false, is_some, if◌then◌else◌, slice_get, ◌||◌}
+use Rattle.std.proofs.Common.{◌≡◌, ℕ, ◌≤◌, ◌==◌, List, [], ◌∷◌, refl, arith, Option, Some, None, Bool, true, false, is_some, if◌then◌else◌}
+use Rattle.std.proofs.Common.{slice_get, ◌||◌, rules}
 use Rattle.std.specs.Option.{option_map}
 use Rattle.std.proofs.lemmas.Bool.Decides.{nat_tests}
 use Rattle.pdb_values.specs.declared.record.Record.{Record}
@@ -7,6 +8,7 @@ use Rattle.conduit_rules.specs.Fronts.{seen_id, record_id, IsFront, NoneAhead, h
 use Rattle.conduit_rules.specs.Runs.{front_under, IsFrom, where_id}
 use Rattle.conduit_rules.specs.declared.front.Front.{Front}
 use Rattle.conduit_rules.specs.declared.view.Seen.{Seen}
+use Rattle.std.proofs.lemmas.Grind.{common_steps}
 
 -- an id isn't below another, if there is one
 abbrev AtLeast : ℕ → Option ℕ → Type 0
@@ -24,14 +26,7 @@ record IsLeast (i : ℕ) (o p q : Option ℕ) : Type 0 where
   some : (is_at i o || (is_at i p || is_at i q)) ≡ true
 
 least : (o p q : Option ℕ) (i : ℕ) → lesser_of (lesser_of o p) q ≡ Some i → IsLeast i o p q
-least None None None i e = absurd (cc)
-least None None (Some c) i e = record { first = tt; second = tt; third = grind (arith, nat_tests, e); some = grind (arith, nat_tests, e) }
-least None (Some b) None i e = record { first = tt; second = grind (arith, nat_tests, e); third = tt; some = grind (arith, nat_tests, e) }
-least None (Some b) (Some c) i e = record { first = tt; second = grind (arith, nat_tests, e); third = grind (arith, nat_tests, e); some = grind (arith, nat_tests, e) }
-least (Some a) None None i e = record { first = grind (arith, nat_tests, e); second = tt; third = tt; some = grind (arith, nat_tests, e) }
-least (Some a) None (Some c) i e = record { first = grind (arith, nat_tests, e); second = tt; third = grind (arith, nat_tests, e); some = grind (arith, nat_tests, e) }
-least (Some a) (Some b) None i e = record { first = grind (arith, nat_tests, e); second = grind (arith, nat_tests, e); third = tt; some = grind (arith, nat_tests, e) }
-least (Some a) (Some b) (Some c) i e = record { first = grind (arith, nat_tests, e); second = grind (arith, nat_tests, e); third = grind (arith, nat_tests, e); some = grind (arith, nat_tests, e) }
+least o p q i e = search (rules)
 
 from_head : {A : Type 0} (id : A → ℕ) (i : ℕ) (es : List (ℕ × A)) → AtLeast i (head_id_of id (slice_get es 0)) → IsFrom id i es
 from_head id i [] is = tt
@@ -53,43 +48,21 @@ some_map : {A B : Type 0} (g : A → B) (o : Option A) → is_some (option_map g
 some_map g None = refl
 some_map g (Some a) = refl
 
-pub front-is : (f : Front) (view : List (ℕ × Seen)) (rows olds : List (ℕ × Record)) (s : Option (ℕ × Seen)) (r b : Option (ℕ × Record)) → s ≡ slice_get view 0 → r ≡ slice_get rows 0 → b ≡ slice_get olds 0
-    → option_map (λ e. (e.0, e.1.now)) f.seen ≡ where_id seen_id f.id s → option_map (λ e. (e.0, e.1.now)) f.row ≡ where_id record_id f.id r → option_map (λ e. (e.0, e.1.now)) f.base ≡ where_id record_id f.id b
+pub front-is : (f : Front) (view : List (ℕ × Seen)) (rows olds : List (ℕ × Record)) (s : Option (ℕ × Seen)) (r b : Option (ℕ × Record)) → s ≡ slice_get view 0
+    → r ≡ slice_get rows 0 → b ≡ slice_get olds 0
+    → option_map (λ e. (e.0, e.1.now)) f.seen ≡ where_id seen_id f.id s → option_map (λ e. (e.0, e.1.now)) f.row ≡ where_id record_id f.id r
+    → option_map (λ e. (e.0, e.1.now)) f.base ≡ where_id record_id f.id b
     → lesser_of (lesser_of (head_id_of seen_id s) (head_id_of record_id r)) (head_id_of record_id b) ≡ Some f.id → IsFront f view rows olds
-front-is f view rows olds s r b is_s is_r is_b at_s at_r at_b is =
-    let found = least (head_id_of seen_id s) (head_id_of record_id r) (head_id_of record_id b) f.id is in
-    let seen_some : is_some f.seen ≡ is_at f.id (head_id_of seen_id s) = sym (some_map (λ e. (e.0, e.1.now)) f.seen) ∙ ap is_some at_s ∙ some_where seen_id f.id s in
-    let row_some : is_some f.row ≡ is_at f.id (head_id_of record_id r) = sym (some_map (λ e. (e.0, e.1.now)) f.row) ∙ ap is_some at_r ∙ some_where record_id f.id r in
-    let base_some : is_some f.base ≡ is_at f.id (head_id_of record_id b) = sym (some_map (λ e. (e.0, e.1.now)) f.base) ∙ ap is_some at_b ∙ some_where record_id f.id b in
-    record {
-      seen = at_s ∙ ap (where_id seen_id f.id) is_s ∙ front_at seen_id f.id view;
-      row = at_r ∙ ap (where_id record_id f.id) is_r ∙ front_at record_id f.id rows;
-      base = at_b ∙ ap (where_id record_id f.id) is_b ∙ front_at record_id f.id olds;
-      least_seen = from_head seen_id f.id view (subst (λ o. AtLeast f.id (head_id_of seen_id o)) is_s found.first);
-      least_row = from_head record_id f.id rows (subst (λ o. AtLeast f.id (head_id_of record_id o)) is_r found.second);
-      least_base = from_head record_id f.id olds (subst (λ o. AtLeast f.id (head_id_of record_id o)) is_b found.third);
-      some = ap {A = Bool × Bool × Bool} (λ p. p.0 || (p.1 || p.2)) (λ k. (seen_some k, row_some k, base_some k)) ∙ found.some;
-    }
+front-is f view rows olds s r b is_s is_r is_b at_s at_r at_b is = search (rules, least, some_map, some_where, front_at, from_head)
 
 no_id : (o p q : Option ℕ) → lesser_of (lesser_of o p) q ≡ None → (o ≡ None) × (p ≡ None) × (q ≡ None)
-no_id None None None e = (refl, refl, refl)
-no_id None None (Some c) e = absurd (cc)
-no_id None (Some b) None e = absurd (cc)
-no_id None (Some b) (Some c) e = absurd (cc)
-no_id (Some a) None None e = absurd (cc)
-no_id (Some a) None (Some c) e = absurd (cc)
-no_id (Some a) (Some b) None e = absurd (cc)
-no_id (Some a) (Some b) (Some c) e = absurd (cc)
+no_id o p q e = grind (arith, common_steps, nat_tests)
 
 no_head : {A : Type 0} (id : A → ℕ) (es : List (ℕ × A)) → head_id_of id (slice_get es 0) ≡ None → es ≡ []
 no_head id [] e = refl
-no_head id (x ∷ es) e = absurd (cc)
+no_head id (x ∷ es) e = cc
 
-pub front-none : (view : List (ℕ × Seen)) (rows olds : List (ℕ × Record)) (s : Option (ℕ × Seen)) (r b : Option (ℕ × Record)) → s ≡ slice_get view 0 → r ≡ slice_get rows 0 → b ≡ slice_get olds 0
+pub front-none : (view : List (ℕ × Seen)) (rows olds : List (ℕ × Record)) (s : Option (ℕ × Seen)) (r b : Option (ℕ × Record)) → s ≡ slice_get view 0
+    → r ≡ slice_get rows 0 → b ≡ slice_get olds 0
     → lesser_of (lesser_of (head_id_of seen_id s) (head_id_of record_id r)) (head_id_of record_id b) ≡ None → NoneAhead view rows olds
-front-none view rows olds s r b is_s is_r is_b is =
-    let none = no_id (head_id_of seen_id s) (head_id_of record_id r) (head_id_of record_id b) is in (
-      no_head seen_id view (ap (head_id_of seen_id) (sym is_s) ∙ none.0),
-      no_head record_id rows (ap (head_id_of record_id) (sym is_r) ∙ none.1),
-      no_head record_id olds (ap (head_id_of record_id) (sym is_b) ∙ none.2),
-    )
+front-none view rows olds s r b is_s is_r is_b is = search (rules, no_id, no_head)

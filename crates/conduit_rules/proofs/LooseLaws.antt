@@ -10,6 +10,7 @@ use Rattle.conduit_rules.specs.States.{first}
 abbrev pub is_loose_after : (ℕ → Bool) → List Record → ℕ → Bool
 is_loose_after based earlier i = is_some (first i earlier) || not (based i)
 
-pub loose-push : (based : ℕ → Bool) (xs : List Record) (r : Record) → loose based (xs ++ r ∷ []) ≡ loose based xs ++ (if is_loose_after based xs r.id then r ∷ [] else [])
+pub loose-push : (based : ℕ → Bool) (xs : List Record) (r : Record)
+    → loose based (xs ++ r ∷ []) ≡ loose based xs ++ (if is_loose_after based xs r.id then r ∷ [] else [])
 loose-push based [] r = grind (arith, nat_tests)
 loose-push based (x ∷ xs) r = grind (arith, nat_tests, loose-push (put based x.id false) xs r, loose-push based xs r)

@@ -10,27 +10,38 @@ use Rattle.conduit_rules.proofs.NewsLaws.{unpaired-same}
 -- how often a content is left without a partner
 pub count-unpaired : (c : ContentValue) (free : ContentValue → ℕ) (xs : List ContentValue) → count_of c (unpaired free xs) ≡ count_of c xs - free c
 count-unpaired c free [] = omega arith
-count-unpaired c free (x ∷ xs) = grind (arith, common_steps, same_content-same, same_content-is x c, same_content-is c x, count-unpaired c free xs, count-unpaired c (less_one free x) xs)
+count-unpaired c free (x ∷ xs) = grind (
+  arith,
+  common_steps,
+  same_content-same,
+  same_content-is x c,
+  same_content-is c x,
+  count-unpaired c free xs,
+  count-unpaired c (less_one free x) xs,
+)
 
 -- the new records of the handheld and the adds together have each content as often as the side that has it more often
-pub greater_kept : (c : ContentValue) (mates news : List ContentValue) → count_of c mates + count_of c (unpaired (λ x. count_of x mates) news) ≡ max (count_of c mates) (count_of c news)
+pub greater_kept : (c : ContentValue) (mates news : List ContentValue)
+    → count_of c mates + count_of c (unpaired (λ x. count_of x mates) news) ≡ max (count_of c mates) (count_of c news)
 greater_kept c mates news = omega (arith, count-unpaired c (λ x. count_of x mates) news)
 
 back : (free : ContentValue → ℕ) (x c : ContentValue) → less_one (more_one free x) x c ≡ free c
 back free x c = grind arith
 
 swap : (free : ContentValue → ℕ) (x a c : ContentValue) → free x ≢ 0 → less_one (more_one free a) x c ≡ more_one (less_one free x) a c
-swap free x a c some = grind (arith, some, same_content-is, same_content-same)
+swap free x a c some = grind (arith, same_content-is, same_content-same)
 
 -- with one more partner of the first that has none, the rest is what is left
-pub unpaired-one_more : (free : ContentValue → ℕ) (xs : List ContentValue) (a : ContentValue) (rest : List ContentValue) → unpaired free xs ≡ a ∷ rest → unpaired (more_one free a) xs ≡ rest
-unpaired-one_more free [] a rest e = absurd (cc)
-unpaired-one_more free (x ∷ xs) a rest e = grind (
-  arith,
-  common_steps,
-  e,
-  same_content-same,
-  unpaired-one_more (less_one free x) xs a rest,
-  unpaired-same (less_one (more_one free x) x) free xs (back free x),
-  λ (some : free x ≢ 0). unpaired-same (less_one (more_one free a) x) (more_one (less_one free x) a) xs (λ c. swap free x a c some),
-)
+pub unpaired-one_more : (free : ContentValue → ℕ) (xs : List ContentValue) (a : ContentValue) (rest : List ContentValue) → unpaired free xs ≡ a ∷ rest
+    → unpaired (more_one free a) xs ≡ rest
+unpaired-one_more free [] a rest e = cc
+unpaired-one_more free (x ∷ xs) a rest e =
+    grind (
+      arith,
+      common_steps,
+      same_content-same,
+      unpaired-one_more (less_one free x) xs a rest,
+      unpaired-same (less_one (more_one free x) x) free xs
+          (back free x),
+      λ (some : free x ≢ 0). unpaired-same (less_one (more_one free a) x) (more_one (less_one free x) a) xs (λ c. swap free x a c some),
+    )

@@ -1,5 +1,6 @@
 -- The lists of a plan: their ids rise, what is replaced is kept, and what is gone or deleted isn't.
-use Rattle.std.proofs.Common.{◌≡◌, ℕ, zero, suc, ◌≤◌, ◌&&◌, ◌||◌, ◌==◌, List, [], ◌∷◌, ◌++◌, refl, ap, ◌∙◌, sym, subst, arith, Option, Some, None, Bool, true, false, map, if◌then◌else◌, nat_lt, append-nil}
+use Rattle.std.proofs.Common.{◌≡◌, ℕ, zero, suc, ◌≤◌, ◌&&◌, ◌||◌, ◌==◌, List, [], ◌∷◌, ◌++◌, refl, ap, ◌∙◌, arith, Option, None, Bool}
+use Rattle.std.proofs.Common.{map, if◌then◌else◌, nat_lt, append-nil, rules}
 use Rattle.std.specs.List.{list_any}
 use Rattle.std.specs.Option.{option_or}
 use Rattle.std.proofs.lemmas.Grind.{common_steps}
@@ -8,8 +9,8 @@ use Rattle.std.proofs.lemmas.List.{map-append}
 use Rattle.std.proofs.lemmas.List.Folds.{list_any-append}
 use Rattle.pdb_values.specs.Contents.{ContentValue}
 use Rattle.conduit_rules.specs.ById.{id_bound, each_below, with_id, at}
-use Rattle.conduit_rules.specs.States.{Held, nothing, live, archived, live_of}
-use Rattle.conduit_rules.specs.Plans.{replacement, lost, is_purged, kept_rows, replaced_rows, gone_rows, purged_ids}
+use Rattle.conduit_rules.specs.States.{Held}
+use Rattle.conduit_rules.specs.Plans.{replacement, kept_rows, replaced_rows}
 use Rattle.conduit_rules.proofs.ByIdLaws.{each_below-zero, each_below-suc}
 
 -- rising from a number on, and below another
@@ -29,89 +30,51 @@ abbrev pub ids_of : {A : Type 0} → List (ℕ × A) → List ℕ
 ids_of es = map (λ e. e.0) es
 
 rising_with : {A : Type 0} (is : List ℕ) (n : ℕ) (o : Option A) → IsRisingFrom 0 is n → IsRisingFrom 0 (is ++ ids_of (with_id n o)) (suc n)
-rising_with is n None rising = subst (λ xs. IsRisingFrom 0 xs (suc n)) (sym (append-nil is)) (rising_more 0 is n rising)
-rising_with is n (Some a) rising = rising_push 0 is n rising
+rising_with is n o rising = search (rules, append-nil, rising_more, rising_push)
 
 -- a list of values with their ids is in rising ids
 pub rising-with_id : {A : Type 0} (g : ℕ → Option A) (n : ℕ) → IsRisingFrom 0 (ids_of (each_below (λ i. with_id i (g i)) n)) n
-rising-with_id g zero = subst (λ es. IsRisingFrom 0 (ids_of es) 0) (sym (each_below-zero (λ i. with_id i (g i)))) (omega arith)
+rising-with_id g zero = rw (each_below-zero (λ i. with_id i (g i))) (omega arith)
 rising-with_id {A} g (suc n) =
     let F : ℕ → List (ℕ × A) = λ i. with_id i (g i) in
-    let more : ids_of (each_below F (suc n)) ≡ ids_of (each_below F n) ++ ids_of (with_id n (g n)) = ap ids_of (each_below-suc F n) ∙ map-append (λ e. e.0) (each_below F n) (with_id n (g n)) in
-    subst (λ is. IsRisingFrom 0 is (suc n)) (sym more) (rising_with (ids_of (each_below F n)) n (g n) (rising-with_id g n))
+    let more : ids_of (each_below F (suc n)) ≡ ids_of (each_below F n) ++ ids_of (with_id n (g n)) = ap ids_of (each_below-suc F n)
+    ∙ map-append (λ e. e.0) (each_below F n) (with_id n (g n)) in
+    rw more (rising_with (ids_of (each_below F n)) n (g n) (rising-with_id g n))
 
 abbrev pub where_true : (ℕ → Bool) → ℕ → List ℕ
 where_true p i = if p i then i ∷ [] else []
 
 rising_if : (is : List ℕ) (n : ℕ) (b : Bool) → IsRisingFrom 0 is n → IsRisingFrom 0 (is ++ (if b then n ∷ [] else [])) (suc n)
-rising_if is n false rising = subst (λ xs. IsRisingFrom 0 xs (suc n)) (sym (append-nil is)) (rising_more 0 is n rising)
-rising_if is n true rising = rising_push 0 is n rising
+rising_if is n b rising = search (rules, append-nil, rising_more, rising_push)
 
 -- a list of ids is rising
 pub rising-where : (p : ℕ → Bool) (n : ℕ) → IsRisingFrom 0 (each_below (where_true p) n) n
-rising-where p zero = subst (λ is. IsRisingFrom 0 is 0) (sym (each_below-zero (where_true p))) (omega arith)
-rising-where p (suc n) = subst (λ is. IsRisingFrom 0 is (suc n)) (sym (each_below-suc (where_true p) n)) (rising_if (each_below (where_true p) n) n (p n) (rising-where p n))
+rising-where p zero = rw (each_below-zero (where_true p)) (omega arith)
+rising-where p (suc n) = rw (each_below-suc (where_true p) n) (rising_if (each_below (where_true p) n) n (p n) (rising-where p n))
 
 at-append : {A : Type 0} (j : ℕ) (es fs : List (ℕ × A)) → at j (es ++ fs) ≡ option_or (at j es) (at j fs)
 at-append j [] fs = refl
 at-append j (e ∷ es) fs = grind (arith, common_steps, at-append j es fs)
 
-at_one : {A : Type 0} (j n : ℕ) (below : Option A) (g : ℕ → Option A) → below ≡ (if nat_lt j n then g j else None) → option_or below (at j (with_id n (g n))) ≡ (if nat_lt j (suc n) then g j else None)
-at_one j n below g is = grind (arith, nat_tests, is)
+at_one : {A : Type 0} (j n : ℕ) (below : Option A) (g : ℕ → Option A) → below ≡ (if nat_lt j n then g j else None)
+    → option_or below (at j (with_id n (g n))) ≡ (if nat_lt j (suc n) then g j else None)
+at_one j n below g is = grind (arith, nat_tests)
 
 -- what stands under an id in a list in rising ids
 pub at-each_below : {A : Type 0} (g : ℕ → Option A) (n j : ℕ) → at j (each_below (λ i. with_id i (g i)) n) ≡ (if nat_lt j n then g j else None)
-at-each_below g zero j = ap (at j) (each_below-zero (λ i. with_id i (g i))) ∙ grind (arith, nat_tests)
-at-each_below g (suc n) j = ap (at j) (each_below-suc (λ i. with_id i (g i)) n) ∙ at-append j (each_below (λ i. with_id i (g i)) n) (with_id n (g n)) ∙ at_one j n (at j (each_below (λ i. with_id i (g i)) n)) g (at-each_below g n j)
+at-each_below g zero j = grind (arith, common_steps, nat_tests, each_below-zero)
+at-each_below g (suc n) j = grind (arith, common_steps, nat_tests, each_below-suc, at-append, at_one, at-each_below g n j)
 
 abbrev pub has : ℕ → List ℕ → Bool
 has j is = list_any (λ i. i == j) is
 
 has_one : (j n : ℕ) (below : Bool) (p : ℕ → Bool) → below ≡ (nat_lt j n && p j) → (below || has j (where_true p n)) ≡ (nat_lt j (suc n) && p j)
-has_one j n below p is = grind (arith, nat_tests, is)
+has_one j n below p is = grind (arith, nat_tests)
 
 -- an id that stands in a list of ids
 pub has-each_below : (p : ℕ → Bool) (n j : ℕ) → has j (each_below (where_true p) n) ≡ (nat_lt j n && p j)
 has-each_below p zero j = ap (has j) (each_below-zero (where_true p)) ∙ grind (arith, nat_tests)
-has-each_below p (suc n) j = ap (has j) (each_below-suc (where_true p) n) ∙ list_any-append (λ i. i == j) (each_below (where_true p) n) (where_true p n) ∙ has_one j n (has j (each_below (where_true p) n)) p (has-each_below p n j)
-
-replaced_where : (b : Bool) (k : Option ContentValue) (h : Held) (c : ContentValue) → (if b then replacement k h else None) ≡ Some c → (if b then k else None) ≡ Some c
-replaced_where false k h c e = e
-replaced_where true None h c e = e
-replaced_where true (Some x) nothing c e = e
-replaced_where true (Some x) (live y) c e = grind (arith, e)
-replaced_where true (Some x) (archived y) c e = e
-
--- what is replaced is kept, with that content
-pub replaced_is_kept : (keep : ℕ → Option ContentValue) (handheld : ℕ → Held) (i : ℕ) (c : ContentValue) → at i (replaced_rows keep handheld) ≡ Some c → at i (kept_rows keep) ≡ Some c
-replaced_is_kept keep handheld i c e =
-    at-each_below keep id_bound i
-    ∙ replaced_where (nat_lt i id_bound) (keep i) (handheld i) c (sym (at-each_below (λ j. replacement (keep j) (handheld j)) id_bound i) ∙ e)
-
-gone_where : (b : Bool) (k : Option ContentValue) (h : Held) (c : ContentValue) → (if b then lost k h else None) ≡ Some c → (if b then k else None) ≡ None
-gone_where false k h c e = refl
-gone_where true None h c e = refl
-gone_where true (Some x) h c e = absurd (cc)
-
--- what is gone isn't kept
-pub gone_is_not_kept : (keep : ℕ → Option ContentValue) (handheld : ℕ → Held) (i : ℕ) (c : ContentValue) → at i (gone_rows keep handheld) ≡ Some c → at i (kept_rows keep) ≡ None
-gone_is_not_kept keep handheld i c e =
-    at-each_below keep id_bound i
-    ∙ gone_where (nat_lt i id_bound) (keep i) (handheld i) c (sym (at-each_below (λ j. lost (keep j) (handheld j)) id_bound i) ∙ e)
-
-purged_where : (b : Bool) (k : Option ContentValue) (h : Held) → (b && is_purged k h) ≡ true → ((if b then k else None) ≡ None) × ((if b then lost k h else None) ≡ live_of h)
-purged_where false k h e = absurd (cc)
-purged_where true None nothing e = absurd (cc)
-purged_where true None (live x) e = (refl, refl)
-purged_where true None (archived x) e = absurd (cc)
-purged_where true (Some c) h e = absurd (cc)
-
--- what is deleted isn't kept, and is gone with the content of the live record
-pub purged_is_gone : (keep : ℕ → Option ContentValue) (handheld : ℕ → Held) (i : ℕ) → has i (purged_ids keep handheld) ≡ true
-    → (at i (kept_rows keep) ≡ None) × (at i (gone_rows keep handheld) ≡ live_of (handheld i))
-purged_is_gone keep handheld i e =
-    let both = purged_where (nat_lt i id_bound) (keep i) (handheld i) (sym (has-each_below (λ j. is_purged (keep j) (handheld j)) id_bound i) ∙ e) in
-    (at-each_below keep id_bound i ∙ both.0, at-each_below (λ j. lost (keep j) (handheld j)) id_bound i ∙ both.1)
+has-each_below p (suc n) j = grind (arith, common_steps, nat_tests, each_below-suc, list_any-append, has_one, has-each_below p n j)
 
 -- the ids of each list rise
 pub kept_rise : (keep : ℕ → Option ContentValue) → IsRisingFrom 0 (ids_of (kept_rows keep)) id_bound
@@ -119,9 +82,3 @@ kept_rise keep = rising-with_id keep id_bound
 
 pub replaced_rise : (keep : ℕ → Option ContentValue) (handheld : ℕ → Held) → IsRisingFrom 0 (ids_of (replaced_rows keep handheld)) id_bound
 replaced_rise keep handheld = rising-with_id (λ i. replacement (keep i) (handheld i)) id_bound
-
-pub gone_rise : (keep : ℕ → Option ContentValue) (handheld : ℕ → Held) → IsRisingFrom 0 (ids_of (gone_rows keep handheld)) id_bound
-gone_rise keep handheld = rising-with_id (λ i. lost (keep i) (handheld i)) id_bound
-
-pub purged_rise : (keep : ℕ → Option ContentValue) (handheld : ℕ → Held) → IsRisingFrom 0 (purged_ids keep handheld) id_bound
-purged_rise keep handheld = rising-where (λ i. is_purged (keep i) (handheld i)) id_bound

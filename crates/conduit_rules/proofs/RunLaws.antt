@@ -1,5 +1,6 @@
 -- A list in rising ids: what is in front, what is behind it, and what is left once the front is passed.
-use Rattle.std.proofs.Common.{◌≡◌, ◌⊎◌, ⊎_elim, inl, inr, ℕ, suc, ◌≤◌, ◌<◌, ◌==◌, List, [], ◌∷◌, refl, ap, sym, subst, arith, Option, Some, None, Bool, true, false, is_some, drop, if◌then◌else◌}
+use Rattle.std.proofs.Common.{◌≡◌, ◌⊎◌, ⊎_elim, inl, inr, ℕ, suc, ◌≤◌, ◌<◌, ◌==◌, List, [], ◌∷◌, refl, ap, arith, Option, Some, None, Bool, true}
+use Rattle.std.proofs.Common.{false, is_some, drop, if◌then◌else◌, rules}
 use Rattle.std.specs.List.{find, AllByRecursion}
 use Rattle.std.specs.Option.{option_map}
 use Rattle.std.proofs.lemmas.Grind.{common_steps}
@@ -14,12 +15,7 @@ first_of (e ∷ es) = Some e.1
 -- the first of an id in a list
 pub find-under : {A : Type 0} (id : A → ℕ) (i p : ℕ) (xs : List A) → find (λ x. id x == i) xs ≡ first_of (under id i (placed_from p xs))
 find-under id i p [] = refl
-find-under {A} id i p (x ∷ xs) = by (id x == i) (find-under id i (suc p) xs)
-  where
-    by : (b : Bool) → find (λ x. id x == i) xs ≡ first_of (under id i (placed_from (suc p) xs))
-        → (if b then Some x else find (λ x. id x == i) xs) ≡ first_of (if b then (p, x) ∷ under id i (placed_from (suc p) xs) else under id i (placed_from (suc p) xs))
-    by true rest = refl
-    by false rest = rest
+find-under {A} id i p (x ∷ xs) = grind (arith, common_steps, nat_tests, find-under id i (suc p) xs)
 
 pub rising-lower : {A : Type 0} (id : A → ℕ) (low high : ℕ) (es : List (ℕ × A)) → low ≤ high → IsRising id high es → IsRising id low es
 rising-lower id low high [] below rising = tt
@@ -28,72 +24,45 @@ rising-lower id low high (e ∷ es) below rising = (omega (arith, rising.0), ris
 -- nothing is under an id below those of a list
 pub under-below : {A : Type 0} (id : A → ℕ) (i low : ℕ) (es : List (ℕ × A)) → IsRising id low es → i < low → under id i es ≡ []
 under-below id i low [] rising below = refl
-under-below id i low (e ∷ es) rising below =
-    let other : (id e.1 == i) ≡ false = grind (arith, nat_tests, rising.0, below) in
-    let later = under-below id i (id e.1) es rising.1 (omega (arith, rising.0)) in
-    grind (arith, common_steps, other, later)
+under-below id i low (e ∷ es) rising below = grind (arith, common_steps, nat_tests, under-below id i (id e.1) es rising.1 (omega (arith, rising.0)))
 
 -- an id below that of the entry in front
 pub under-before : {A : Type 0} (id : A → ℕ) (i j low : ℕ) (es : List (ℕ × A)) → IsRising id low es → IsFrom id i es → j < i → under id j es ≡ []
-under-before id i j low [] rising from before = refl
-under-before id i j low (e ∷ es) rising from before = under-below id j (id e.1) (e ∷ es) (omega arith, rising.1) (omega (arith, from))
+under-before id i j low es rising from before = grind (arith, common_steps, nat_tests, under-below)
 
 -- the first of the least id is in front, if there is one
-pub first-front : {A : Type 0} (id : A → ℕ) (i low : ℕ) (es : List (ℕ × A)) → IsRising id low es → IsFrom id i es → first_of (under id i es) ≡ option_map (λ (e : ℕ × A). e.1) (front_under id i es)
-first-front id i low [] rising from = refl
-first-front {A} id i low (e ∷ es) rising from = by (id e.1 == i) refl
-  where
-    by : (b : Bool) → (id e.1 == i) ≡ b → first_of (under id i (e ∷ es)) ≡ option_map (λ (x : ℕ × A). x.1) (front_under id i (e ∷ es))
-    by true is = grind (arith, common_steps, is)
-    by false is =
-        let above : i < id e.1 = grind (arith, nat_tests, is, from) in
-        let later = under-below id i (id e.1) es rising.1 above in
-        grind (arith, common_steps, is, later)
+pub first-front : {A : Type 0} (id : A → ℕ) (i low : ℕ) (es : List (ℕ × A)) → IsRising id low es → IsFrom id i es
+    → first_of (under id i es) ≡ option_map (λ (e : ℕ × A). e.1) (front_under id i es)
+first-front id i low es rising from = grind (arith, common_steps, nat_tests, under-below)
 
 -- what is left once an entry in front that bears this id is passed
 abbrev pub behind_front : {A : Type 0} → (A → ℕ) → ℕ → List (ℕ × A) → List (ℕ × A)
 behind_front id i [] = []
 behind_front id i (e ∷ es) = if id e.1 == i then es else e ∷ es
 
-pub drop-front : {A : Type 0} (id : A → ℕ) (i : ℕ) (es : List (ℕ × A)) (b : Bool) → b ≡ is_some (front_under id i es) → drop (if b then 1 else 0) es ≡ behind_front id i es
-drop-front id i [] b is = grind (arith, common_steps)
-drop-front id i (e ∷ es) b is = by (id e.1 == i) refl
-  where
-    by : (t : Bool) → (id e.1 == i) ≡ t → drop (if b then 1 else 0) (e ∷ es) ≡ behind_front id i (e ∷ es)
-    by true here =
-        let one : b ≡ true = grind (arith, is, here) in
-        grind (arith, common_steps, one, here)
-    by false here =
-        let none : b ≡ false = grind (arith, is, here) in
-        grind (arith, common_steps, none, here)
+pub drop-front : {A : Type 0} (id : A → ℕ) (i : ℕ) (es : List (ℕ × A)) (b : Bool) → b ≡ is_some (front_under id i es)
+    → drop (if b then 1 else 0) es ≡ behind_front id i es
+drop-front id i es b is = grind (arith, common_steps, nat_tests)
 
 pub rising-behind : {A : Type 0} (id : A → ℕ) (i : ℕ) (es : List (ℕ × A)) → IsRising id 0 es → IsRising id 0 (behind_front id i es)
-rising-behind id i [] rising = tt
-rising-behind id i (e ∷ es) rising = by (id e.1 == i)
-  where
-    by : (t : Bool) → IsRising id 0 (if t then es else e ∷ es)
-    by true = rising-lower id 0 (id e.1) es (omega arith) rising.1
-    by false = rising
+rising-behind id i es rising = search (rules, rising-lower)
 
 -- another id loses nothing
 pub under-behind : {A : Type 0} (id : A → ℕ) (i j : ℕ) (es : List (ℕ × A)) → (i == j) ≡ false → under id j (behind_front id i es) ≡ under id j es
-under-behind id i j [] other = refl
-under-behind id i j (e ∷ es) other = by (id e.1 == i) refl
-  where
-    by : (t : Bool) → (id e.1 == i) ≡ t → under id j (behind_front id i (e ∷ es)) ≡ under id j (e ∷ es)
-    by true is =
-        let not_j : (id e.1 == j) ≡ false = grind (arith, nat_tests, is, other) in
-        grind (arith, common_steps, is, not_j)
-    by false is = grind (arith, common_steps, is)
+under-behind id i j es other = grind (arith, common_steps, nat_tests)
 
 -- a property of each entry, by ids
 pub each-by_id : {A : Type 0} (id : A → ℕ) (P : ℕ × A → Type 0) (es : List (ℕ × A)) → ((i : ℕ) → AllByRecursion P (under id i es)) → AllByRecursion P es
 each-by_id id P [] all = tt
-each-by_id {A} id P (e ∷ es) all = (here (id e.1 == id e.1) (grind (arith, nat_tests)) (all (id e.1)), each-by_id id P es (λ i. later (id e.1 == i) (under id i es) (all i)))
+each-by_id {A} id P (e ∷ es) all = (
+  here (id e.1 == id e.1) (grind (arith, nat_tests)) (all (id e.1)),
+  each-by_id id P es
+      (λ i. later (id e.1 == i) (under id i es) (all i)),
+)
   where
     here : (b : Bool) → b ≡ true → AllByRecursion P (if b then e ∷ under id (id e.1) es else under id (id e.1) es) → P e
     here true is each = each.0
-    here false is each = absurd (cc)
+    here false is each = cc
 
     later : (b : Bool) (rest : List (ℕ × A)) → AllByRecursion P (if b then e ∷ rest else rest) → AllByRecursion P rest
     later true rest each = each.1
@@ -118,7 +87,7 @@ among-under {A} id e (x ∷ es) is = ⊎_elim (λ (here : x ≡ e). first here) 
   where
     put_first : (b : Bool) → b ≡ true → x ≡ e → IsAmong e (if b then x ∷ under id (id e.1) es else under id (id e.1) es)
     put_first true is here = inl here
-    put_first false is here = absurd (cc)
+    put_first false is here = cc
 
     first : x ≡ e → IsAmong e (under id (id e.1) (x ∷ es))
     first here = put_first (id x.1 == id e.1) (grind (arith, nat_tests, ap (λ (y : ℕ × A). id y.1) here)) here
@@ -137,25 +106,17 @@ under-among {A} id i e (x ∷ es) is = by (id x.1 == i) is (under-among id i e e
 
 -- each entry of a list stands in its run
 pub run-has : {A : Type 0} (id : A → ℕ) (list : List A) (run : List (ℕ × A)) (e : ℕ × A) → IsRunOf id list run → IsAmong e (placed list) → IsAmong e run
-run-has id list run e is there = under-among id (id e.1) e run (subst (IsAmong e) (sym (is.same (id e.1))) (among-under id e (placed list) there))
+run-has id list run e is there = under-among id (id e.1) e run (rw (is.same (id e.1)) (among-under id e (placed list) there))
 
 -- and each entry of a run stands in its list
-pub run-each : {A : Type 0} (id : A → ℕ) (P : ℕ × A → Type 0) (list : List A) (run : List (ℕ × A)) → IsRunOf id list run → AllByRecursion P (placed list) → AllByRecursion P run
-run-each id P list run is all = each-by_id id P run (λ i. subst (AllByRecursion P) (sym (is.same i)) (each-under id P i (placed list) all))
+pub run-each : {A : Type 0} (id : A → ℕ) (P : ℕ × A → Type 0) (list : List A) (run : List (ℕ × A)) → IsRunOf id list run → AllByRecursion P (placed list)
+    → AllByRecursion P run
+run-each id P list run is all = each-by_id id P run (λ i. rw (is.same i) (each-under id P i (placed list) all))
 
 pub each-behind : {A : Type 0} (id : A → ℕ) (P : ℕ × A → Type 0) (i : ℕ) (es : List (ℕ × A)) → AllByRecursion P es → AllByRecursion P (behind_front id i es)
-each-behind id P i [] all = tt
-each-behind {A} id P i (e ∷ es) all = by (id e.1 == i)
-  where
-    by : (t : Bool) → AllByRecursion P (if t then es else e ∷ es)
-    by true = all.1
-    by false = all
+each-behind id P i es all = search (rules)
 
 -- what was ahead is still ahead, or was in front
-pub among-behind : {A : Type 0} (id : A → ℕ) (i : ℕ) (e : ℕ × A) (es : List (ℕ × A)) → IsAmong e es → (front_under id i es ≡ Some e) ⊎ IsAmong e (behind_front id i es)
-among-behind id i e [] is = absurd is
-among-behind {A} id i e (x ∷ es) is = by (id x.1 == i) is
-  where
-    by : (t : Bool) → IsAmong e (x ∷ es) → ((if t then Some x else None) ≡ Some e) ⊎ IsAmong e (if t then es else x ∷ es)
-    by true there = ⊎_elim (λ (here : x ≡ e). inl (ap (λ (y : ℕ × A). Some y) here)) (λ (later : IsAmong e es). inr later) there
-    by false there = inr there
+pub among-behind : {A : Type 0} (id : A → ℕ) (i : ℕ) (e : ℕ × A) (es : List (ℕ × A)) → IsAmong e es
+    → (front_under id i es ≡ Some e) ⊎ IsAmong e (behind_front id i es)
+among-behind id i e es is = grind (arith, common_steps, nat_tests)

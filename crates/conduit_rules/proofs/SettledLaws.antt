@@ -1,17 +1,14 @@
 -- Once both sides are merged nothing is decided anew.
-use Rattle.std.proofs.Common.{◌≡◌, ◌⊎◌, ⊎_elim, ℕ, [], ◌++◌, refl, ap, ◌∙◌, arith, Option, Some, None, option_to_list, map, subst, sym}
+use Rattle.std.proofs.Common.{◌≡◌, ◌⊎◌, ℕ, [], refl, arith, Option, Some, None}
 use Rattle.pdb_values.specs.Contents.{ContentValue}
-use Rattle.conduit_rules.specs.Contents.{count_of}
 use Rattle.conduit_rules.specs.States.{Held, nothing, live, archived, Based, no_base, row, gone}
 use Rattle.conduit_rules.specs.Fates.{Fate, fate}
-use Rattle.conduit_rules.specs.ById.{id_bound, with_id}
-use Rattle.conduit_rules.specs.News.{unpaired}
-use Rattle.conduit_rules.specs.Choices.{Sides, Choice, fate_at, partner, partners, choice}
-use Rattle.conduit_rules.specs.Plans.{replacement, lost, purged_at, replaced_rows, gone_rows, purged_ids}
+use Rattle.conduit_rules.specs.Choices.{Sides, partner, choice}
 use Rattle.conduit_rules.proofs.ByIdLaws.{each_below-none}
-use Rattle.conduit_rules.proofs.ContentLaws.{same_content-same}
 use Rattle.conduit_rules.proofs.TableLaws.{cell-settled, gone_cell-live, gone_cell-archived}
 use Rattle.conduit_rules.proofs.ChoiceLaws.{same_choice}
+use Rattle.std.proofs.lemmas.Grind.{common_steps}
+use Rattle.std.proofs.lemmas.Bool.Decides.{nat_tests}
 
 -- an id under which this is kept, and nothing is left to do on the desktop
 abbrev pub IsSettled : Option ContentValue → Based → Held → Held → Type 0
@@ -27,70 +24,13 @@ gone_nothing : (b : ContentValue) (d : Held) → fate (gone b) nothing d ≡ onl
 gone_nothing b d = grind arith
 
 pub fate-settled : (k : Option ContentValue) (b : Based) (h d : Held) → IsSettled k b h d → fate b h d ≡ record { keep = k; archive = []; news = None }
-fate-settled (Some c) b h d is = ap {A = Based × Held × Held} (λ x. fate x.0 x.1 x.2) (λ i. (is.0 i, is.1 i, is.2 i)) ∙ cell-settled c
-fate-settled None no_base h d is = ap (λ x. fate no_base x d) is
-fate-settled None (row b) h d is = absurd is
-fate-settled None (gone b) h d is =
-    ⊎_elim (λ (e : h ≡ nothing). ap (λ x. fate (gone b) x d) e ∙ gone_nothing b d)
-    (λ r. ⊎_elim (λ (e : h ≡ live b). ap (λ x. fate (gone b) x d) e ∙ gone_cell-live b) (λ (e : h ≡ archived b). ap (λ x. fate (gone b) x d) e ∙ gone_cell-archived b) r) is
+fate-settled k b h d is = grind (arith, common_steps, nat_tests, cell-settled, gone_nothing, gone_cell-live, gone_cell-archived)
 
 -- what was merged is chosen again, with nothing to archive and nothing to add
-pub choice-settled : (t : Sides) (keep : ℕ → Option ContentValue) → ((i : ℕ) → IsSettled (keep i) (t.base i) (t.handheld i) (t.desktop i)) → t.loose_live ≡ [] → t.loose_archived ≡ []
+pub choice-settled : (t : Sides) (keep : ℕ → Option ContentValue) → ((i : ℕ) → IsSettled (keep i) (t.base i) (t.handheld i) (t.desktop i)) → t.loose_live ≡ []
+    → t.loose_archived ≡ []
     → choice t ≡ record { keep = keep; archive = []; adds = [] }
-choice-settled t keep is no_live no_archived =
-    let fates : (i : ℕ) → fate_at t i ≡ only (keep i) = λ i. fate-settled (keep i) (t.base i) (t.handheld i) (t.desktop i) (is i) in
-    let news = each_below-none (λ i. option_to_list (fate_at t i).news) id_bound (λ i. ap (λ f. option_to_list (Fate.news f)) (fates i)) in
-    let put_away = each_below-none (λ i. map (λ c. (i, c)) (fate_at t i).archive) id_bound (λ i. ap (λ f. map (λ c. (i, c)) (Fate.archive f)) (fates i)) in
-    λ k. record {
-      keep = λ i. (fates i k).keep;
-      archive = map (λ c. (0, c)) (no_archived k) ++ put_away k;
-      adds = unpaired (λ c. count_of c (partners t)) (no_live k ++ news k);
-    }
-
--- both sides and the base agree under an id: a row that all have, or nothing at all
-abbrev pub IsAgreed : Option ContentValue → Based → Held → Held → Type 0
-IsAgreed (Some c) b h d = (b ≡ row c) × (h ≡ live c) × (d ≡ live c)
-IsAgreed None b h d = (b ≡ no_base) × (h ≡ nothing)
-
-settled_from : (k : Option ContentValue) (b : Based) (h d : Held) → IsAgreed k b h d → IsSettled k b h d
-settled_from (Some c) b h d is = is
-settled_from None b h d is = subst (λ x. IsSettled None x h d) (sym is.0) is.1
-
-agreed_replacement : (k : Option ContentValue) (b : Based) (h d : Held) → IsAgreed k b h d → replacement k h ≡ None
-agreed_replacement (Some c) b h d is = grind (arith, is.1, same_content-same c)
-agreed_replacement None b h d is = refl
-
-agreed_lost : (k : Option ContentValue) (b : Based) (h d : Held) → IsAgreed k b h d → lost k h ≡ None
-agreed_lost (Some c) b h d is = refl
-agreed_lost None b h d is = grind (arith, is.1)
-
-agreed_purged : (k : Option ContentValue) (b : Based) (h d : Held) (i : ℕ) → IsAgreed k b h d → purged_at k h i ≡ []
-agreed_purged (Some c) b h d i is = refl
-agreed_purged None b h d i is = grind (arith, is.1)
-
--- nothing is replaced, archived, forgotten, added or deleted
-pub record IsEmptyPlan (s : Sides) : Type 0 where
-  pub replace : replaced_rows (choice s).keep s.handheld ≡ []
-  pub archive : (choice s).archive ≡ []
-  pub gone : gone_rows (choice s).keep s.handheld ≡ []
-  pub adds : (choice s).adds ≡ []
-  pub purge : purged_ids (choice s).keep s.handheld ≡ []
-
-agreed_choice : (s : Sides) (keep : ℕ → Option ContentValue) → ((i : ℕ) → IsAgreed (keep i) (s.base i) (s.handheld i) (s.desktop i)) → s.loose_live ≡ [] → s.loose_archived ≡ []
-    → choice s ≡ record { keep = keep; archive = []; adds = [] }
-agreed_choice s keep is no_live no_archived = choice-settled s keep (λ i. settled_from (keep i) (s.base i) (s.handheld i) (s.desktop i) (is i)) no_live no_archived
-
--- where both sides and the base agree, the plan is to keep what is there
-pub agreed_plan : (s : Sides) (keep : ℕ → Option ContentValue) → ((i : ℕ) → IsAgreed (keep i) (s.base i) (s.handheld i) (s.desktop i)) → s.loose_live ≡ [] → s.loose_archived ≡ [] → IsEmptyPlan s
-agreed_plan s keep is no_live no_archived =
-    let chosen = agreed_choice s keep is no_live no_archived in
-    record {
-      replace = ap (λ ch. replaced_rows (Choice.keep ch) s.handheld) chosen ∙ each_below-none (λ i. with_id i (replacement (keep i) (s.handheld i))) id_bound (λ i. ap (with_id i) (agreed_replacement (keep i) (s.base i) (s.handheld i) (s.desktop i) (is i)));
-      archive = ap (λ ch. Choice.archive ch) chosen;
-      gone = ap (λ ch. gone_rows (Choice.keep ch) s.handheld) chosen ∙ each_below-none (λ i. with_id i (lost (keep i) (s.handheld i))) id_bound (λ i. ap (with_id i) (agreed_lost (keep i) (s.base i) (s.handheld i) (s.desktop i) (is i)));
-      adds = ap (λ ch. Choice.adds ch) chosen;
-      purge = ap (λ ch. purged_ids (Choice.keep ch) s.handheld) chosen ∙ each_below-none (λ i. purged_at (keep i) (s.handheld i) i) id_bound (λ i. agreed_purged (keep i) (s.base i) (s.handheld i) (s.desktop i) i (is i));
-    }
+choice-settled t keep is no_live no_archived = grind (arith, common_steps, nat_tests, fate-settled, each_below-none)
 
 -- gone rows left out
 abbrev pub without_gone : Based → Based
@@ -99,20 +39,18 @@ without_gone (row b) = row b
 without_gone (gone b) = no_base
 
 abbrev pub IfGone : Based → Type 0 → Type 0
-IfGone no_base P = Unit {0}
-IfGone (row b) P = Unit {0}
 IfGone (gone b) P = P
+IfGone basis P = Unit {0}
 
 gone_fate : (b : Based) (h d : Held) → IfGone b (h ≡ nothing) → fate (without_gone b) h d ≡ fate b h d
-gone_fate no_base h d free = refl
-gone_fate (row b) h d free = refl
-gone_fate (gone b) h d free = grind (arith, free)
+gone_fate (gone b) h d free = grind arith
+gone_fate b h d free = refl
 
 gone_mate : (b : Based) (h : Held) → IfGone b (h ≡ nothing) → partner (without_gone b) h ≡ partner b h
-gone_mate no_base h free = refl
-gone_mate (row b) h free = refl
-gone_mate (gone b) h free = grind (arith, free)
+gone_mate (gone b) h free = grind arith
+gone_mate b h free = refl
 
 -- where no record stands under a gone id, gone rows don't matter
 pub choice-gone : (s : Sides) → ((i : ℕ) → IfGone (s.base i) (s.handheld i ≡ nothing)) → choice (record s { base = λ i. without_gone (s.base i) }) ≡ choice s
-choice-gone s free = same_choice (record s { base = λ i. without_gone (s.base i) }) s refl refl (λ i. gone_fate (s.base i) (s.handheld i) (s.desktop i) (free i)) (λ i. gone_mate (s.base i) (s.handheld i) (free i))
+choice-gone s free = same_choice (record s { base = λ i. without_gone (s.base i) }) s refl refl
+    (λ i. gone_fate (s.base i) (s.handheld i) (s.desktop i) (free i)) (λ i. gone_mate (s.base i) (s.handheld i) (free i))

@@ -1,5 +1,6 @@
 -- Rows at their places: one place more.
-use Rattle.std.proofs.Common.{◌≡◌, ℕ, ◌+◌, ◌<◌, List, [], ◌∷◌, ◌++◌, refl, ap, ◌∙◌, sym, Option, Some, None, Bool, true, false, if◌then◌else◌, length, take, get_or, set, map, option_to_list, append-nil, append_assoc, Bor}
+use Rattle.std.proofs.Common.{◌≡◌, ℕ, ◌+◌, ◌<◌, List, [], ◌∷◌, ◌++◌, refl, Option, Some, None, Bool, true, false, if◌then◌else◌, length, take}
+use Rattle.std.proofs.Common.{get_or, set, map, option_to_list, append-nil, append_assoc, Bor, rules}
 use Rattle.std.specs.Option.{option_copied, option_map}
 use Rattle.std.proofs.lemmas.List.{take_more, map-append, map-set}
 use Rattle.std.proofs.lemmas.List.Concat.{flat_map-append}
@@ -13,22 +14,25 @@ copied_if : (b : Bool) (item : Bor Record) → option_copied (if b then Some ite
 copied_if true item = refl
 copied_if false item = refl
 
-pub noted-set : (items : List (Option (Bor Record))) (place : ℕ) (item : Bor Record) (row : Option (ℕ × Bor Record)) (b : Bool) (slot : Option (Bor Record)) → row ≡ Some (place, item) → slot ≡ (if b then Some item else None)
+pub noted-set : (items : List (Option (Bor Record))) (place : ℕ) (item : Bor Record) (row : Option (ℕ × Bor Record)) (b : Bool) (slot : Option (Bor Record))
+    → row ≡ Some (place, item) → slot ≡ (if b then Some item else None)
     → map option_copied (set items place slot) ≡ noted (option_map (λ e. (e.0, e.1.now)) row) b (map option_copied items)
 noted-set items place item row b slot is slot_is =
-    map-set option_copied items place slot
-    ∙ ap (set (map option_copied items) place) (ap option_copied slot_is ∙ copied_if b item)
-    ∙ sym (ap (λ r. noted (option_map (λ e. (e.0, e.1.now)) r) b (map option_copied items)) is)
+    cc (map-set option_copied items place slot, copied_if b item)
 
 abbrev pub found_upto : ℕ → List (Option (Bor Record)) → List Record
 found_upto k slots = found_in (map option_copied (take k slots))
 
-found-more : (slots : List (Option (Bor Record))) (k : ℕ) (o : Option (Bor Record)) → k < length slots → o ≡ get_or slots k o → found_upto (k + 1) slots ≡ found_upto k slots ++ option_to_list (option_copied o)
+found-more : (slots : List (Option (Bor Record))) (k : ℕ) (o : Option (Bor Record)) → k < length slots → o ≡ get_or slots k o
+    → found_upto (k + 1) slots ≡ found_upto k slots ++ option_to_list (option_copied o)
 found-more slots k o within is =
-    ap (λ xs. found_in (map option_copied xs)) (take_more slots k o within ∙ ap (λ (x : Option (Bor Record)). take k slots ++ x ∷ []) (sym is))
-    ∙ ap found_in (map-append option_copied (take k slots) (o ∷ []))
-    ∙ flat_map-append option_to_list (map option_copied (take k slots)) (option_copied o ∷ [])
-    ∙ ap (λ xs. found_upto k slots ++ xs) (append-nil (option_to_list (option_copied o)))
+    cc (
+      take_more slots k o within,
+      map-append option_copied (take k slots) (o ∷ []),
+      flat_map-append option_to_list (map option_copied (take k slots))
+          (option_copied o ∷ []),
+      append-nil (option_to_list (option_copied o)),
+    )
 
 abbrev pub live_in : Option Record → List ContentValue
 live_in None = []
@@ -39,17 +43,19 @@ archived_in None = []
 archived_in (Some r) = with_id 0 (archived_of (record_held r))
 
 live_one : (o : Option Record) → live_contents (option_to_list o) ≡ live_in o
-live_one None = refl
-live_one (Some r) = append-nil (option_to_list (live_of (record_held r)))
+live_one o = search (rules, append-nil)
 
-pub live-more : (slots : List (Option (Bor Record))) (k : ℕ) (o : Option (Bor Record)) (old new : List ContentValue) → k < length slots → o ≡ get_or slots k o → new ≡ (old ++ live_contents (found_upto k slots)) ++ live_in (option_copied o)
+pub live-more : (slots : List (Option (Bor Record))) (k : ℕ) (o : Option (Bor Record)) (old new : List ContentValue) → k < length slots → o ≡ get_or slots k o
+    → new ≡ (old ++ live_contents (found_upto k slots)) ++ live_in (option_copied o)
     → new ≡ old ++ live_contents (found_upto (k + 1) slots)
 live-more slots k o old new within is grew =
-    grew
-    ∙ append_assoc old (live_contents (found_upto k slots)) (live_in (option_copied o))
-    ∙ ap (λ xs. old ++ xs) (ap (λ ys. live_contents (found_upto k slots) ++ ys) (sym (live_one (option_copied o)))
-    ∙ sym (flat_map-append (λ r. option_to_list (live_of (record_held r))) (found_upto k slots) (option_to_list (option_copied o)))
-    ∙ ap live_contents (sym (found-more slots k o within is)))
+    cc (
+      append_assoc old (live_contents (found_upto k slots)) (live_in (option_copied o)),
+      live_one (option_copied o),
+      flat_map-append (λ r. option_to_list
+          (live_of (record_held r))) (found_upto k slots) (option_to_list (option_copied o)),
+      found-more slots k o within is,
+    )
 
 abbrev with_zero : ContentValue → ℕ × ContentValue
 with_zero c = (0, c)
@@ -59,16 +65,20 @@ archived_content None = refl
 archived_content (Some c) = refl
 
 archived_one : (o : Option Record) → map with_zero (archived_records (option_to_list o)) ≡ archived_in o
-archived_one None = refl
-archived_one (Some r) = archived_content (archived_of (record_held r))
+archived_one o = search (rules, archived_content)
 
-pub archived-more : (slots : List (Option (Bor Record))) (k : ℕ) (o : Option (Bor Record)) (old new : List (ℕ × ContentValue)) → k < length slots → o ≡ get_or slots k o
+pub archived-more : (slots : List (Option (Bor Record))) (k : ℕ) (o : Option (Bor Record)) (old new : List (ℕ × ContentValue)) → k < length slots
+    → o ≡ get_or slots k o
     → new ≡ (old ++ map with_zero (archived_records (found_upto k slots))) ++ archived_in (option_copied o)
     → new ≡ old ++ map with_zero (archived_records (found_upto (k + 1) slots))
 archived-more slots k o old new within is grew =
     let so_far = archived_records (found_upto k slots) in
-    grew
-    ∙ append_assoc old (map with_zero so_far) (archived_in (option_copied o))
-    ∙ ap (λ xs. old ++ xs) (ap (λ ys. map with_zero so_far ++ ys) (sym (archived_one (option_copied o)))
-    ∙ sym (map-append with_zero so_far (archived_records (option_to_list (option_copied o))))
-    ∙ ap (map with_zero) (sym (flat_map-append (λ r. option_to_list (archived_of (record_held r))) (found_upto k slots) (option_to_list (option_copied o))) ∙ ap archived_records (sym (found-more slots k o within is))))
+    cc (
+      append_assoc old (map with_zero so_far) (archived_in (option_copied o)),
+      archived_one (option_copied o),
+      map-append with_zero so_far
+          (archived_records (option_to_list (option_copied o))),
+      flat_map-append (λ r. option_to_list (archived_of (record_held r))) (found_upto k slots)
+          (option_to_list (option_copied o)),
+      found-more slots k o within is,
+    )

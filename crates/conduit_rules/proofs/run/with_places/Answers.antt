@@ -6,4 +6,4 @@ use Rattle.conduit_rules.proofs.run.with_places.Goals as goal
 pub loop-place-preserved : goal.loop-place-preserved
 loop-place-preserved g c =
     let next = placed-next c.args.list.now c.loop-place.place c.index-list-place.result c.loop-place-test.true c.index-list-place.is in
-    grind (arith, common_steps, next, c.in_ok-push.ensures.items, c.loop-place.invariant)
+    grind (arith, common_steps, c.in_ok-push.ensures.items, c.loop-place.invariant)
