@@ -1,8 +1,7 @@
 -- An exchange is an act: what the table makes of its request at the device.
-use Rattle.std.proofs.Common.{◌≡◌, ◌∙◌, refl, ap, sym, ℕ, false, List, [], ◌∷◌, ◌++◌}
-use Rattle.std.specs.Prelude.{Option, Some, None, Result, Ok, ◌==◌}
+use Rattle.std.proofs.Common.{◌≡◌, refl, ℕ, false, List, [], ◌∷◌}
+use Rattle.std.specs.Prelude.{Option, Some, None, Ok, ◌==◌}
 use Rattle.dlp_args.specs.Fields.{Fields}
-use Rattle.dlp_requests.specs.declared.fault.RequestFault.{RequestFault}
 use Rattle.dlp_requests.specs.Forms as form
 use Rattle.dlp_requests.specs.Forms.{Form, kinds_of}
 use Rattle.dlp_requests.specs.RequestReading.{request_at}
@@ -11,12 +10,13 @@ use Rattle.dlp_requests.specs.RequestValues.{RequestValue}
 use Rattle.dlp_requests.proofs.RequestLaws.{request_again, request_written}
 use Rattle.palm_device.specs.Devices.{Device}
 use Rattle.dlp_commands.specs.Changes.{asks_by}
-use Rattle.dlp_commands.specs.DeviceSteps.{DeviceStep, function_number, outcome, served, served_by, tried, tried_by}
-use Rattle.dlp_commands.specs.Reached.{Tried, writes}
+use Rattle.dlp_commands.specs.DeviceSteps.{DeviceStep, function_number, outcome, served, tried, tried_by}
+use Rattle.dlp_commands.specs.Reached.{writes}
 use Rattle.dlp_commands.specs.Writings.{WriteRecord}
 use Rattle.dlp_commands.specs.Talks.{Talk, Answered, WasAnswered}
 use Rattle.desktop_session.specs.Acts.{Act, act, acted, text, AsksNoId}
 use Rattle.desktop_session.specs.Says.{saying}
+use Rattle.std.proofs.Common.{rules}
 
 -- a request is read back
 pub read_back : (value : RequestValue) → IsRequest value → request_at (request_text value) ≡ Ok value
@@ -30,36 +30,9 @@ write_fixed free other device handle id attributes category bytes fixed = rw fix
 
 form_fixed : (free other : ℕ) (device : Device) (f : Form) (fields : Fields (kinds_of f)) → asks_by f fields ≡ false
     → tried_by free device f fields ≡ tried_by other device f fields
-form_fixed free other device form.ReadUserInfo fields fixed = refl
-form_fixed free other device form.WriteUserInfo fields fixed = refl
-form_fixed free other device form.ReadDbList fields fixed = refl
-form_fixed free other device form.OpenDb fields fixed = refl
-form_fixed free other device form.CreateDb fields fixed = refl
-form_fixed free other device form.CloseDb fields fixed = refl
-form_fixed free other device form.DeleteDb fields fixed = refl
-form_fixed free other device form.ReadAppBlock fields fixed = refl
-form_fixed free other device form.ReadSortBlock fields fixed = refl
-form_fixed free other device form.WriteAppBlock fields fixed = refl
-form_fixed free other device form.WriteSortBlock fields fixed = refl
-form_fixed free other device form.ReadNextModifiedRec fields fixed = refl
-form_fixed free other device form.ReadRecordById fields fixed = refl
-form_fixed free other device form.ReadRecordByIndex fields fixed = refl
 form_fixed free other device form.WriteRecord (handle, (flags, (id, (attributes, (category, (bytes, end)))))) fixed =
     write_fixed free other device handle id attributes category bytes fixed
-form_fixed free other device form.DeleteRecord fields fixed = refl
-form_fixed free other device form.ReadResourceByIndex fields fixed = refl
-form_fixed free other device form.ReadResourceByType fields fixed = refl
-form_fixed free other device form.WriteResource fields fixed = refl
-form_fixed free other device form.DeleteResource fields fixed = refl
-form_fixed free other device form.CleanUpDatabase fields fixed = refl
-form_fixed free other device form.ResetSyncFlags fields fixed = refl
-form_fixed free other device form.ResetRecordIndex fields fixed = refl
-form_fixed free other device form.AddSyncLogEntry fields fixed = refl
-form_fixed free other device form.ReadOpenDbInfo fields fixed = refl
-form_fixed free other device form.MoveCategory fields fixed = refl
-form_fixed free other device form.OpenConduit fields fixed = refl
-form_fixed free other device form.EndOfSync fields fixed = refl
-form_fixed free other device form.ReadRecordIdList fields fixed = refl
+form_fixed free other device f fields fixed = refl
 
 pub tried_fixed : (free other : ℕ) (device : Device) (value : RequestValue) → AsksNoId value → tried free device value ≡ tried other device value
 unfolding tried
@@ -71,30 +44,23 @@ tried_fixed free other device value fixed = form_fixed free other device value.f
 pub step_tried : (old new : Device) (value : RequestValue) (answer : List ℕ) → IsRequest value → (step : DeviceStep old (request_text value) answer new)
     → outcome old (function_number value) (tried step.free old value) ≡ (answer, new)
 unfolding served
-step_tried old new value answer fits step =
-    sym (ap (λ (r : Result RequestValue RequestFault). served_by old step.free (request_text value) r) (read_back value fits)) ∙ step.is
+step_tried old new value answer fits step = search (rules, read_back)
 
-pub step_act : (old new : Device) (value : RequestValue) (answer : List ℕ) → IsRequest value → AsksNoId value
-    → DeviceStep old (request_text value) answer new → acted (act value) old ≡ (answer, new)
+pub step_act : {old new : Device} (value : RequestValue) {answer : List ℕ} → IsRequest value → AsksNoId value → DeviceStep old (request_text value) answer new
+    → acted (act value) old ≡ (answer, new)
 unfolding acted
-step_act old new value answer fits fixed step =
-    ap (λ (t : Tried). outcome old (function_number value) t) (tried_fixed 0 step.free old value fixed) ∙ step_tried old new value answer fits step
+step_act {old} {new} value {answer} fits fixed step =
+    cc (tried_fixed 0 step.free old value fixed, step_tried old new value answer fits step)
 
 -- what was answered is the act
-pub told_one : (old : Talk) (new : Option Talk) (one : Act) (answer : List ℕ) (was : WasAnswered old (text one) answer new)
+pub told_one : {old : Talk} {new : Option Talk} (one : Act) {answer : List ℕ} (was : WasAnswered old (text one) answer new)
     → acted one old.device ≡ (answer, was.device) → new ≡ saying (one ∷ []) (Some old)
 unfolding saying
-told_one old new one answer was is =
-    was.is
-    ∙ ap (λ (p : List ℕ × Device). Some (record {
-      device = p.1;
-      exchanges = old.exchanges ++ record { request = text one; reply = p.0 } ∷ [];
-      left = None;
-    })) (sym is)
+told_one one was is = search (rules)
 
-pub saying_answered : (old new : Option Talk) (value : RequestValue) (answer : List ℕ) → IsRequest value → AsksNoId value
+pub saying_answered : {new : Option Talk} (old : Option Talk) (value : RequestValue) (answer : List ℕ) → IsRequest value → AsksNoId value
     → Answered old (request_text value) answer new → new ≡ saying (act value ∷ []) old
 unfolding saying text
-saying_answered None new value answer fits fixed is = is
-saying_answered (Some old) new value answer fits fixed is =
-    told_one old new (act value) answer is (step_act old.device is.device value answer fits fixed is.step)
+saying_answered None value answer fits fixed is = is
+saying_answered (Some old) value answer fits fixed is =
+    told_one (act value) is (step_act value fits fixed is.step)

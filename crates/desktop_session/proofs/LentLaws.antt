@@ -1,6 +1,6 @@
 -- What is lent of a device's records, and its ids.
-use Rattle.std.proofs.Common.{◌≡◌, ◌∙◌, ◌≤◌, ◌<◌, ◌+◌, ◌*◌, ◌/◌, ◌^◌, refl, ap, sym, subst, ℕ, zero, suc, true, List, [], ◌∷◌, ◌++◌, length, take, drop, arith}
-use Rattle.std.specs.Prelude.{Option, Some, None, Result, Ok, nat_le, option_and_then, slice_get}
+use Rattle.std.proofs.Common.{◌≡◌, ◌∙◌, ◌≤◌, ◌<◌, ◌+◌, ◌*◌, ◌/◌, ◌^◌, refl, ap, sym, ℕ, zero, suc, true, List, [], ◌∷◌, ◌++◌, length, take, drop, arith}
+use Rattle.std.specs.Prelude.{Option, Some, Result, Ok, nat_le, option_and_then, slice_get}
 use Rattle.std.specs.Option.{option_map}
 use Rattle.pdb_values.specs.Databases.{DatabaseValue}
 use Rattle.pdb_values.specs.NamedDatabases.{database_of}
@@ -26,43 +26,41 @@ use Rattle.desktop_session.specs.Answers.{record_of, resource_of, said_in}
 use Rattle.desktop_session.specs.Lent.{LentResource, LentValue, record_lent, resource_lent}
 use Rattle.desktop_session.specs.Lists.{id_parts, ids_in, ids_listed}
 use Rattle.desktop_session.specs.Requests.{listing_ids, reading_at, reading_next, reading_of, reading_resource}
-use Rattle.desktop_session.specs.Tellings.{IsProper, tells, told}
+use Rattle.desktop_session.specs.Tellings.{IsProper, told}
 use Rattle.desktop_session.proofs.GrowLaws.{take_whole}
 use Rattle.desktop_session.proofs.RequestFits.{at_fits, ids_fit, next_fits, of_fits, resource_fits}
 use Rattle.desktop_session.proofs.RowLaws.{next_row}
 use Rattle.desktop_session.proofs.TellLaws.{act_sayable, acted_reads}
+use Rattle.std.proofs.lemmas.Grind.{common_steps}
+use Rattle.std.proofs.lemmas.Bool.Decides.{nat_tests}
+use Rattle.std.proofs.Common.{rules}
 
 -- ---- the database of a handle keeps its bounds
 
-found_at : (device : Device) (base : Base) (opened : Opened) (o : Option DatabaseValue) → database_of opened.name device.databases ≡ o
+found_at : (device : Device) {base : Base} (opened : Opened) (o : Option DatabaseValue) → database_of opened.name device.databases ≡ o
     → option_map (λ database. let b : Base = record { opened = opened; database = database } in b) o ≡ Some base
     → database_of base.opened.name device.databases ≡ Some base.database
-found_at device base opened None here is = absurd cc
-found_at device base opened (Some database) here is =
-    let b : Base = record { opened = opened; database = database } in
-    let same : b ≡ base = cc in
-    subst (λ (x : Base). database_of x.opened.name device.databases ≡ Some x.database) same here
+found_at device opened o here is = grind (arith, common_steps, nat_tests)
 
-led_to : (device : Device) (base : Base) (o : Option Opened) → option_and_then (base_of device) o ≡ Some base
+led_to : (device : Device) {base : Base} (o : Option Opened) → option_and_then (base_of device) o ≡ Some base
     → database_of base.opened.name device.databases ≡ Some base.database
-led_to device base None is = absurd cc
-led_to device base (Some opened) is = found_at device base opened (database_of opened.name device.databases) refl is
+led_to device o is = grind (arith, common_steps, nat_tests, found_at)
 
-base_bounded : (device : Device) (handle : ℕ) (base : Base) → IsProper device → base_at device handle ≡ Some base → IsBoundedDatabase base.database
-base_bounded device handle base proper is =
+base_bounded : {device : Device} (handle : ℕ) {base : Base} → IsProper device → base_at device handle ≡ Some base → IsBoundedDatabase base.database
+base_bounded {device} handle {base} proper is =
     AllByRecursion-database_of IsBoundedDatabase base.opened.name device.databases base.database proper.bounded.databases
-    (led_to device base (opened_at handle device.handles) is)
+    (led_to device (opened_at handle device.handles) is)
 
-record_short : (device : Device) (handle place : ℕ) (base : Base) (item : Record) → IsProper device → base_at device handle ≡ Some base
+record_short : {device : Device} (handle place : ℕ) {base : Base} {item : Record} → IsProper device → base_at device handle ≡ Some base
     → slice_get base.database.records place ≡ Some item → length item.content.bytes ≤ 65500
-record_short device handle place base item proper is there =
-    let bounded = base_bounded device handle base proper is in
+record_short handle place {base} {item} proper is there =
+    let bounded = base_bounded handle proper is in
     (AllByRecursion-get IsBoundedRecord base.database.records place item bounded.records there).short
 
-resource_short : (device : Device) (handle place : ℕ) (base : Base) (resource : Resource) → IsProper device → base_at device handle ≡ Some base
+resource_short : {device : Device} (handle place : ℕ) {base : Base} {resource : Resource} → IsProper device → base_at device handle ≡ Some base
     → slice_get base.database.resources place ≡ Some resource → length resource.bytes ≤ 65500
-resource_short device handle place base resource proper is there =
-    let bounded = base_bounded device handle base proper is in
+resource_short handle place {base} {resource} proper is there =
+    let bounded = base_bounded handle proper is in
     (AllByRecursion-get IsBoundedResource base.database.resources place resource bounded.resources there).short
 
 whole_bytes : (bytes : List ℕ) → length bytes ≤ 65500 → take 65535 (drop 0 bytes) ≡ bytes
@@ -76,29 +74,26 @@ none_past n = grind arith
 record_said : Record → List ℕ → Result LentValue SessionFault
 record_said item bytes = Ok (record { id = item.id; attributes = wire_attributes item; category = item.content.category; bytes = bytes })
 
-told_at : (device : Device) (handle place : ℕ) (base : Base) (item : Record) → base_at device handle ≡ Some base → on_records base.database ≡ true
+told_at : (device : Device) (handle place : ℕ) {base : Base} {item : Record} → base_at device handle ≡ Some base → on_records base.database ≡ true
     → slice_get base.database.records place ≡ Some item
     → told (reading_at handle place) device ≡ reply.ReadRecord item.id place (length item.content.bytes) (wire_attributes item) item.content.category
     (take 65535 (drop 0 item.content.bytes))
 unfolding told tried
-told_at device handle place base item is records there = rw is (rw records (rw there (rw (none_past (length item.content.bytes)) refl)))
+told_at device handle place is records there = search (rules, none_past)
 
 pub lent_at : (device : Device) (handle place : ℕ) (base : Base) (item : Record) → IsProper device → handle < 2 ^ 8 → place < 2 ^ 16
     → base_at device handle ≡ Some base → on_records base.database ≡ true → slice_get base.database.records place ≡ Some item
     → said_in record_of (reply_at 0x20 (acted (reading_at handle place) device).0) ≡ Ok (record_lent item)
 unfolding record_said
 lent_at device handle place base item proper byte half is records there =
-    let read = acted_reads (reading_at handle place) device proper (act_sayable (reading_at handle place).asks device (at_fits handle place byte half) refl) in
-    ap (said_in record_of) (read ∙ ap Ok (told_at device handle place base item is records there))
-    ∙ ap (record_said item) (whole_bytes item.content.bytes (record_short device handle place base item proper is there))
+    grind (arith, common_steps, nat_tests, acted_reads, act_sayable, at_fits, told_at, record_said, whole_bytes, record_short)
 
-told_of : (device : Device) (handle id place : ℕ) (base : Base) (item : Record) → base_at device handle ≡ Some base → on_records base.database ≡ true
+told_of : (device : Device) {place : ℕ} (handle id : ℕ) {base : Base} {item : Record} → base_at device handle ≡ Some base → on_records base.database ≡ true
     → place_of_id id base.database.records ≡ Some place → slice_get base.database.records place ≡ Some item
     → told (reading_of handle id) device ≡ reply.ReadRecord item.id place (length item.content.bytes) (wire_attributes item) item.content.category
     (take 65535 (drop 0 item.content.bytes))
 unfolding told tried
-told_of device handle id place base item is records found there =
-    rw is (rw records (rw found (rw there (rw (none_past (length item.content.bytes)) refl))))
+told_of device handle id is records found there = grind (arith, common_steps, nat_tests, none_past)
 
 pub lent_of : (device : Device) (handle id place : ℕ) (base : Base) (item : Record) → IsProper device → handle < 2 ^ 8 → id < 2 ^ 32
     → base_at device handle ≡ Some base → on_records base.database ≡ true → place_of_id id base.database.records ≡ Some place
@@ -106,45 +101,50 @@ pub lent_of : (device : Device) (handle id place : ℕ) (base : Base) (item : Re
     → said_in record_of (reply_at 0x20 (acted (reading_of handle id) device).0) ≡ Ok (record_lent item)
 unfolding record_said
 lent_of device handle id place base item proper byte word is records found there =
-    let read = acted_reads (reading_of handle id) device proper (act_sayable (reading_of handle id).asks device (of_fits handle id byte word) refl) in
-    ap (said_in record_of) (read ∙ ap Ok (told_of device handle id place base item is records found there))
-    ∙ ap (record_said item) (whole_bytes item.content.bytes (record_short device handle place base item proper is there))
+    grind (arith, common_steps, nat_tests, acted_reads, act_sayable, of_fits, told_of, record_said, whole_bytes, record_short)
 
-told_next : (device : Device) (handle place : ℕ) (base : Base) (item : Record) → base_at device handle ≡ Some base → on_records base.database ≡ true
+told_next : (device : Device) {place : ℕ} (handle : ℕ) {base : Base} {item : Record} → base_at device handle ≡ Some base → on_records base.database ≡ true
     → next_changed base.opened.next base.database.records ≡ Some place → slice_get base.database.records place ≡ Some item
     → told (reading_next handle) device ≡ whole place item
 unfolding told
-told_next device handle place base item is records first there = ap (tells 0x1F) (next_row device handle place base item is records first there)
+told_next device handle is records first there = cc (next_row device handle is records first there)
 
 pub lent_next : (device : Device) (handle place : ℕ) (base : Base) (item : Record) → IsProper device → handle < 2 ^ 8
     → base_at device handle ≡ Some base → on_records base.database ≡ true → next_changed base.opened.next base.database.records ≡ Some place
     → slice_get base.database.records place ≡ Some item
     → said_in record_of (reply_at 0x1F (acted (reading_next handle) device).0) ≡ Ok (record_lent item)
 lent_next device handle place base item proper byte is records first there =
-    let read = acted_reads (reading_next handle) device proper (act_sayable (reading_next handle).asks device (next_fits handle byte) refl) in
-    ap (said_in record_of) (read ∙ ap Ok (told_next device handle place base item is records first there))
+    grind (arith, common_steps, nat_tests, acted_reads, act_sayable, next_fits, told_next)
 
 -- ---- resources
 
 resource_said : Resource → List ℕ → Result LentResource SessionFault
 resource_said resource bytes = Ok (record { kind = resource.kind.0; id = resource.id; bytes = bytes })
 
-told_resource : (device : Device) (handle place : ℕ) (base : Base) (resource : Resource) → base_at device handle ≡ Some base
-    → on_resources base.database ≡ true → slice_get base.database.resources place ≡ Some resource
+told_resource : (device : Device) (handle place : ℕ) {base : Base} {resource : Resource} → base_at device handle ≡ Some base → on_resources base.database ≡ true
+    → slice_get base.database.resources place ≡ Some resource
     → told (reading_resource handle place) device ≡ reply.ReadResource resource.kind.0 resource.id place (length resource.bytes)
     (take 65535 (drop 0 resource.bytes))
 unfolding told tried
-told_resource device handle place base resource is resources there = rw is (rw resources (rw there (rw (none_past (length resource.bytes)) refl)))
+told_resource device handle place is resources there = search (rules, none_past)
 
 pub lent_resource_at : (device : Device) (handle place : ℕ) (base : Base) (resource : Resource) → IsProper device → handle < 2 ^ 8 → place < 2 ^ 16
     → base_at device handle ≡ Some base → on_resources base.database ≡ true → slice_get base.database.resources place ≡ Some resource
     → said_in resource_of (reply_at 0x23 (acted (reading_resource handle place) device).0) ≡ Ok (resource_lent resource)
 unfolding resource_said
 lent_resource_at device handle place base resource proper byte half is resources there =
-    let read = acted_reads (reading_resource handle place) device proper
-    (act_sayable (reading_resource handle place).asks device (resource_fits handle place byte half) refl) in
-    ap (said_in resource_of) (read ∙ ap Ok (told_resource device handle place base resource is resources there))
-    ∙ ap (resource_said resource) (whole_bytes resource.bytes (resource_short device handle place base resource proper is there))
+    grind (
+      arith,
+      common_steps,
+      nat_tests,
+      acted_reads,
+      act_sayable,
+      resource_fits handle place byte half,
+      told_resource device handle place is resources there,
+      resource_said resource,
+      whole_bytes,
+      resource_short handle place proper is there,
+    )
 
 -- ---- ids
 
@@ -153,34 +153,30 @@ take_nil zero = refl
 take_nil (suc n) = refl
 
 take_more : {A : Type 0} (xs : List A) (a b : ℕ) → take a xs ++ take b (drop a xs) ≡ take (a + b) xs
-take_more xs zero b = ap (λ n. take n xs) (let same : b ≡ 0 + b = omega arith in same)
+take_more xs zero b = grind (arith, common_steps, nat_tests)
 take_more [] (suc a) b = take_nil b ∙ sym (take_nil (suc a + b))
 take_more (x ∷ xs) (suc a) b =
     ap (λ ys. x ∷ ys) (take_more xs a b) ∙ ap (λ n. take n (x ∷ xs)) (let same : suc (a + b) ≡ suc a + b = omega arith in same)
 
-told_ids : (device : Device) (handle start : ℕ) (base : Base) → base_at device handle ≡ Some base → on_records base.database ≡ true
+told_ids : (device : Device) (handle start : ℕ) {base : Base} → base_at device handle ≡ Some base → on_records base.database ≡ true
     → told (listing_ids handle start) device ≡ reply.ReadRecordIdList (take 8000 (drop start (ids_of base.database.records)))
 unfolding told tried
-told_ids device handle start base is records = rw is (rw records refl)
+told_ids device handle start is records = rw is (rw records refl)
 
-ids_reply : (device : Device) (handle start : ℕ) (base : Base) → IsProper device → handle < 2 ^ 8 → start < 2 ^ 16 → base_at device handle ≡ Some base
+ids_reply : {device : Device} (handle start : ℕ) {base : Base} → IsProper device → handle < 2 ^ 8 → start < 2 ^ 16 → base_at device handle ≡ Some base
     → on_records base.database ≡ true
     → ids_in (reply_at 0x31 (acted (listing_ids handle start) device).0) ≡ take 8000 (drop start (ids_of base.database.records))
-ids_reply device handle start base proper byte half is records =
-    let read = acted_reads (listing_ids handle start) device proper
-    (act_sayable (listing_ids handle start).asks device (ids_fit handle start byte half) refl) in
-    ap ids_in (read ∙ ap Ok (told_ids device handle start base is records))
+ids_reply handle start proper byte half is records = grind (arith, common_steps, nat_tests, acted_reads, act_sayable, ids_fit, told_ids)
 
-ids_so_far : (device : Device) (handle parts : ℕ) (base : Base) → IsProper device → handle < 2 ^ 8 → parts ≤ 9 → base_at device handle ≡ Some base
+ids_so_far : {device : Device} (handle parts : ℕ) {base : Base} → IsProper device → handle < 2 ^ 8 → parts ≤ 9 → base_at device handle ≡ Some base
     → on_records base.database ≡ true → ids_listed device handle parts ≡ take (8000 * parts) (ids_of base.database.records)
 unfolding ids_listed
-ids_so_far device handle zero base proper byte few is records =
-    ap (λ n. take n (ids_of base.database.records)) (let none : 0 ≡ 8000 * 0 = omega arith in none)
-ids_so_far device handle (suc parts) base proper byte few is records =
+ids_so_far handle zero {base} proper byte few is records = grind (arith, common_steps, nat_tests)
+ids_so_far {device} handle (suc parts) {base} proper byte few is records =
     let ids = ids_of base.database.records in
     ap (λ xs. xs ++ ids_in (reply_at 0x31 (acted (listing_ids handle (8000 * parts)) device).0))
-    (ids_so_far device handle parts base proper byte (omega arith) is records)
-    ∙ ap (λ ys. take (8000 * parts) ids ++ ys) (ids_reply device handle (8000 * parts) base proper byte (omega arith) is records)
+    (ids_so_far handle parts proper byte (omega arith) is records)
+    ∙ ap (λ ys. take (8000 * parts) ids ++ ys) (ids_reply handle (8000 * parts) proper byte (omega arith) is records)
     ∙ take_more ids (8000 * parts) 8000
     ∙ ap (λ n. take n ids) (let same : 8000 * parts + 8000 ≡ 8000 * suc parts = omega arith in same)
 
@@ -190,5 +186,5 @@ pub ids_are : (device : Device) (handle count : ℕ) (base : Base) → IsProper 
 ids_are device handle count base proper byte half is records all =
     let few : (count + 7999) / 8000 ≤ 9 = omega arith in
     let enough : count ≤ 8000 * ((count + 7999) / 8000) = omega arith in
-    ids_so_far device handle (id_parts count) base proper byte few is records
+    ids_so_far handle (id_parts count) proper byte few is records
     ∙ take_whole (ids_of base.database.records) (8000 * id_parts count) (omega arith)

@@ -1,16 +1,15 @@
 -- What a reply with ids says.
-use Rattle.std.proofs.Common.{◌≡◌, sym, ℕ, List}
+use Rattle.std.proofs.Common.{◌≡◌, ℕ, List}
 use Rattle.std.specs.Prelude.{Result, Ok, Err}
 use Rattle.dlp_replies.specs.declared.fault.ReplyFault.{ReplyFault}
-use Rattle.dlp_replies.specs.ReplyValues as reply
 use Rattle.dlp_replies.specs.ReplyValues.{ReplyValue}
 use Rattle.desktop_session.specs.Answers.{ids_of, said_in}
 use Rattle.desktop_session.specs.Lists.{ids_in}
+use Rattle.std.proofs.Common.{rules}
 
-value_said : (value : ReplyValue) (ids : List ℕ) → said_in ids_of (Ok value) ≡ Ok ids → ids ≡ ids_of value
-value_said (reply.Refused number code) ids is = absurd cc
-value_said other ids is = let same : ids_of other ≡ ids = cc in sym same
+value_said : (value : ReplyValue) {ids : List ℕ} → said_in ids_of (Ok value) ≡ Ok ids → ids ≡ ids_of value
+value_said value is = search (rules)
 
-pub ids_said : (read : Result ReplyValue ReplyFault) (ids : List ℕ) → said_in ids_of read ≡ Ok ids → ids ≡ ids_in read
-ids_said (Ok value) ids is = value_said value ids is
-ids_said (Err fault) ids is = absurd cc
+pub ids_said : (read : Result ReplyValue ReplyFault) {ids : List ℕ} → said_in ids_of read ≡ Ok ids → ids ≡ ids_in read
+ids_said (Ok value) is = value_said value is
+ids_said (Err fault) is = cc

@@ -1,23 +1,19 @@
 -- A record that is put: the step gives its id, and the reply bears it.
-use Rattle.std.proofs.Common.{◌≡◌, ◌∙◌, ◌≤◌, ◌<◌, refl, sym, ap, subst, ℕ, zero, suc, false, List, [], ◌∷◌, arith}
+use Rattle.std.proofs.Common.{◌≡◌, ◌≤◌, ◌<◌, refl, ap, ℕ, suc, false, List, [], ◌∷◌, arith}
 use Rattle.std.specs.Prelude.{Option, Some, None, IfOk, IfSome, Result, Ok, Err, ◌==◌}
 use Rattle.pdb_values.specs.Contents.{ContentValue}
 use Rattle.dlp_requests.specs.Forms as form
 use Rattle.dlp_requests.specs.RequestTexts.{IsRequest, request_text}
 use Rattle.dlp_requests.specs.RequestValues.{RequestValue}
-use Rattle.dlp_requests.specs.declared.fault.RequestFault.{RequestFault}
-use Rattle.dlp_replies.specs.Frames.{reply_text}
 use Rattle.dlp_replies.specs.ReplyReading.{reply_at}
 use Rattle.dlp_replies.specs.ReplyValues as reply
 use Rattle.dlp_replies.specs.ReplyValues.{ReplyValue}
-use Rattle.dlp_replies.specs.declared.fault.ReplyFault.{ReplyFault}
 use Rattle.pdb_values.specs.Databases.{DatabaseValue}
 use Rattle.palm_device.specs.Devices.{Device}
-use Rattle.palm_device.specs.Handles.{Base, base_at, is_writable}
+use Rattle.palm_device.specs.Handles.{Base, base_at}
 use Rattle.palm_device.specs.Records.{IsFree}
 use Rattle.dlp_commands.specs.declared.link.LinkFault.{LinkFault}
 use Rattle.dlp_commands.specs.DeviceSteps.{MayGive, MayGiveTo, function_number, outcome, tried}
-use Rattle.dlp_commands.specs.Errors.{none_open, not_supported, read_only, check, need}
 use Rattle.dlp_commands.specs.Holding.{fits}
 use Rattle.dlp_commands.specs.Reached.{Tried, writes}
 use Rattle.dlp_commands.specs.Talks.{Talk, Answered}
@@ -29,7 +25,7 @@ use Rattle.dlp_commands.specs.Writings as writing
 use Rattle.dlp_commands.specs.Writings.{may_write, written_in, written_on}
 use Rattle.desktop_session.specs.declared.fault.SessionFault.{SessionFault}
 use Rattle.desktop_session.specs.Acts.{AsksNoId, act, acted, text}
-use Rattle.desktop_session.specs.Answers.{answer_by, id_of, said_in}
+use Rattle.desktop_session.specs.Answers.{id_of, said_in}
 use Rattle.desktop_session.specs.Puts.{IsGiven, Puts}
 use Rattle.desktop_session.specs.Requests.{putting, secret_bit}
 use Rattle.desktop_session.specs.Says.{saying}
@@ -38,6 +34,9 @@ use Rattle.desktop_session.specs.Stops.{Asked, Stops}
 use Rattle.desktop_session.proofs.ActLaws.{read_back, step_tried, told_one}
 use Rattle.desktop_session.proofs.SaysLaws.{sent_answered}
 use Rattle.desktop_session.proofs.TellLaws.{IfDone, done_then, need_some, read_again}
+use Rattle.std.proofs.lemmas.Grind.{common_steps}
+use Rattle.std.proofs.lemmas.Bool.Decides.{nat_tests}
+use Rattle.std.proofs.Common.{rules}
 
 -- the reply bears the id, which is one
 abbrev IsWritten : ℕ → Device × ReplyValue → Type 0
@@ -45,30 +44,15 @@ IsWritten free done = (done.1 ≡ reply.WriteRecord free) × (free ≤ 16777215)
 
 written_done : (free attributes category : ℕ) (bytes : List ℕ) (database : DatabaseValue)
     → IfDone (λ changed. changed.1 ≡ reply.WriteRecord free) (written_in free (writing.WriteRecord 0 attributes category bytes) database)
-written_done free attributes category bytes database =
-    let P : DatabaseValue × ReplyValue → Type 0 = λ changed. changed.1 ≡ reply.WriteRecord free in
-    done_then (check not_supported (fits (written_on (writing.WriteRecord 0 attributes category bytes)) database)) _ P (λ suited a.
-    done_then (may_write 0 category database.records) _ P (λ allowed b. refl))
+written_done free attributes category bytes database = grind (arith, common_steps, nat_tests, done_then)
 
-done_holds : {A : Type 0} (P : A → Type 0) (r : Result A ℕ) (x : A) → IfDone P r → r ≡ Ok x → P x
-done_holds P (Ok y) x holds is = subst P (let same : y ≡ x = cc in same) holds
-done_holds P (Err code) x holds is = absurd cc
+done_holds : {A : Type 0} (P : A → Type 0) (r : Result A ℕ) {x : A} → IfDone P r → r ≡ Ok x → P x
+done_holds P r holds is = search (rules)
 
 new_done : (free : ℕ) (device : Device) (handle attributes category : ℕ) (bytes : List ℕ)
     → IfSome (base_at device handle) (λ base. ◌≡◌ {A = ℕ} 0 0 → IsFree free base.database.records)
     → IfDone (IsWritten free) (writes free device handle (writing.WriteRecord 0 attributes category bytes))
-new_done free device handle attributes category bytes may =
-    let P = IsWritten free in
-    done_then (need none_open (base_at device handle)) _ P (λ base a.
-    done_then (check read_only (is_writable base)) _ P (λ allowed b.
-    done_then (written_in free (writing.WriteRecord 0 attributes category bytes) base.database) _ P (λ changed c.
-    let free_one : IsFree free base.database.records =
-    subst (λ (o : Option Base). IfSome o (λ base. ◌≡◌ {A = ℕ} 0 0 → IsFree free base.database.records)) (need_some none_open
-    (base_at device handle) base a) may refl in (
-      done_holds (λ changed. changed.1 ≡ reply.WriteRecord free) (written_in free (writing.WriteRecord 0 attributes category bytes) base.database) changed
-          (written_done free attributes category bytes base.database) c,
-      free_one.bound,
-    ))))
+new_done free device handle attributes category bytes may = search (rules, done_then, need_some, done_holds, written_done)
 
 -- ---- what the reply says
 
@@ -85,47 +69,27 @@ answers_own (Ok id) = refl
 answers_own (Err fault) = tt
 
 -- what was done or refused is answered under this id
-said_of : (free : ℕ) (old : Device) (value : RequestValue) (r : Tried) (bytes : List ℕ) → function_number value ≡ 0x21 → IfDone (IsWritten free) r → Keeps
-    (Done old value) r
-    → (outcome old 0x21 r).0 ≡ bytes → IfOk (said_in id_of (reply_at 0x21 bytes)) (λ id. id ≡ free)
-said_of free old value (Ok done) bytes function written keeps is =
-    let text : reply_text (reply.WriteRecord free) ≡ bytes = ap reply_text (sym written.0) ∙ is in
-    let read : reply_at 0x21 bytes ≡ Ok (reply.WriteRecord free) = ap (reply_at 0x21) (sym text) ∙ read_again 0x21 (reply.WriteRecord free)
-    (id_reply free written.1) in
-    subst (λ (r : Result ReplyValue ReplyFault). IfOk (said_in id_of r) (λ id. id ≡ free)) (sym read) refl
-said_of free old value (Err code) bytes function written keeps is =
-    let read : reply_at 0x21 bytes ≡ Ok (reply.Refused 0x21 code) = ap (reply_at 0x21) (sym is) ∙ read_again 0x21 (reply.Refused 0x21 code)
-    (refused_reply 0x21 code keeps.0 keeps.1) in
-    subst (λ (r : Result ReplyValue ReplyFault). IfOk (said_in id_of r) (λ id. id ≡ free)) (sym read) tt
+said_of : (free : ℕ) (old : Device) (value : RequestValue) (r : Tried) {bytes : List ℕ} → function_number value ≡ 0x21 → IfDone (IsWritten free) r
+    → Keeps (Done old value) r → (outcome old 0x21 r).0 ≡ bytes → IfOk (said_in id_of (reply_at 0x21 bytes)) (λ id. id ≡ free)
+said_of free old value (Ok done) {bytes} function written keeps is = grind (arith, common_steps, nat_tests, read_again, id_reply)
+said_of free old value (Err code) {bytes} function written keeps is =
+    let read : reply_at 0x21 bytes ≡ Ok (reply.Refused 0x21 code) = cc (read_again 0x21 (reply.Refused 0x21 code) (refused_reply 0x21 code keeps.0 keeps.1)) in
+    rw read tt
 
 -- ---- a record that is put
 
 base_none : (o : Option Base) (id given : ℕ) → 0 < id → IfSome o (λ base. id ≡ 0 → IsFree given base.database.records)
-base_none None id given some = tt
-base_none (Some base) id given some = λ zero. absurd (omega arith)
+base_none o id given some = search (rules)
 
 given_none : (o : Option Talk) (handle id : ℕ) → 0 < id → IsGiven 0 handle id o
-given_none None handle id some = tt
-given_none (Some talk) handle id some = base_none (base_at talk.device handle) id 0 some
+given_none o handle id some = search (rules, base_none)
 
 answers_other : (answer : Result ℕ SessionFault) (id : ℕ) → 0 < id → IfOk answer (λ answer. id ≡ 0 → answer ≡ 0)
-answers_other (Ok x) id some = λ zero. absurd (omega arith)
-answers_other (Err fault) id some = tt
+answers_other answer id some = search (rules)
 
 answers_new : (answer : Result ℕ SessionFault) (given : ℕ) → IfOk answer (λ id. id ≡ given) → IfOk answer (λ answer. ◌≡◌ {A = ℕ} 0 0 → answer ≡ given)
 answers_new (Ok x) given is = λ zero. is
 answers_new (Err fault) given is = tt
-
-pub puts_old : {L : Type 0} (talk : L → Option Talk) (since : L → L → Type 0) (fault : L → Option LinkFault) (downs : L → ℕ) (handle id : ℕ)
-    (content : ContentValue) (old new : SessionValue L) (answer : Result ℕ SessionFault) → 0 < id
-    → Asked talk since fault downs (putting 0 handle id content) old new → Puts talk since fault downs handle id content old new answer
-puts_old talk since fault downs handle id content old new answer some asked = record {
-  given = 0;
-  asked = asked;
-  free = λ none. given_none (talk old.link) handle id some;
-  new_id = answers_other answer id some;
-  old_id = λ other. refl;
-}
 
 -- the exchange of a new record, where the device is told or not
 record IsNew (handle : ℕ) (content : ContentValue) (old new : Option Talk) (bytes : List ℕ) (answer : Result ℕ SessionFault) : Type 0 where
@@ -138,97 +102,43 @@ record IsNew (handle : ℕ) (content : ContentValue) (old new : Option Talk) (by
 may_of : (old : Device) (handle free : ℕ) (content : ContentValue) → IsRequest (putting 0 handle 0 content).asks
     → MayGive old (request_text (putting 0 handle 0 content).asks) free → MayGiveTo old free (Ok (putting 0 handle 0 content).asks)
 unfolding MayGive
-may_of old handle free content fits may =
-    subst (λ (r : Result RequestValue RequestFault). MayGiveTo old free r) (read_back (putting 0 handle 0 content).asks fits) may
+may_of old handle free content fits may = search (rules, read_back)
 
-is_new : (handle : ℕ) (content : ContentValue) (old new : Option Talk) (bytes : List ℕ) (answer : Result ℕ SessionFault)
-    → IsRequest (putting 0 handle 0 content).asks → Answered old (text (putting 0 handle 0 content)) bytes new
-    → answer ≡ said_in id_of (reply_at 0x21 bytes) → IsNew handle content old new bytes answer
+is_new : (handle : ℕ) (content : ContentValue) (old new : Option Talk) (bytes : List ℕ) {answer : Result ℕ SessionFault}
+    → IsRequest (putting 0 handle 0 content).asks → Answered old (text (putting 0 handle 0 content)) bytes new → answer ≡ said_in id_of (reply_at 0x21 bytes)
+    → IsNew handle content old new bytes answer
 unfolding saying text acted tried
-is_new handle content None new bytes answer fits is says = record {
+is_new handle content None new bytes {answer} fits is says = record {
   given = value_in answer;
   said = is;
   told = tt;
   free = tt;
   same = answers_own answer;
 }
-is_new handle content (Some old) new bytes answer fits is says =
+is_new handle content (Some old) new bytes fits is says =
     let value : RequestValue = (putting 0 handle 0 content).asks in
     let free = is.step.free in
     let may : MayGiveTo old.device free (Ok value) = may_of old.device handle free content fits is.step.may in
     let one : acted (putting free handle 0 content) old.device ≡ (bytes, is.device) = step_tried old.device is.device value bytes fits is.step in
     record {
       given = free;
-      said = told_one old new (putting free handle 0 content) bytes is one;
-      told = ap (λ (p : List ℕ × Device). p.0) (sym one);
+      said = told_one (putting free handle 0 content) is one;
+      told = cc;
       free = may;
-      same = subst (λ (a : Result ℕ SessionFault). IfOk a (λ id. id ≡ free)) (sym says)
-          (said_of free old.device value (tried free old.device value) bytes refl
+      same = rw says (said_of free old.device value (tried free old.device value) refl
           (new_done free old.device handle (secret_bit content.secret) content.category content.bytes may)
           (tried_done free old.device value may) (ap (λ (p : List ℕ × Device). p.0) one));
     }
-
-pub puts_new : {L : Type 0} (talk : L → Option Talk) (since : L → L → Type 0) (fault : L → Option LinkFault) (downs : L → ℕ) (handle : ℕ)
-    (content : ContentValue) (old new : SessionValue L) (answer : Result ℕ SessionFault) → IsRequest (putting 0 handle 0 content).asks
-    → Answered (talk old.link) (text (putting 0 handle 0 content)) new.reply (talk new.link)
-    → Stops talk since fault downs (text (putting 0 handle 0 content) ∷ []) old.link new.link → new.user ≡ old.user → new.abandoned ≡ old.abandoned
-    → answer ≡ said_in id_of (reply_at 0x21 new.reply) → Puts talk since fault downs handle 0 content old new answer
-unfolding text
-puts_new talk since fault downs handle content old new answer fits is stops user abandoned says =
-    let found = is_new handle content (talk old.link) (talk new.link) new.reply answer fits is says in
-    record {
-      given = found.given;
-      asked = record {
-        stops = stops;
-        does = λ none. record { said = found.said; sent = sent_answered (talk old.link) (talk new.link) (text (putting 0 handle 0 content)) new.reply is };
-        told = λ none. found.told;
-        user = user;
-        abandoned = abandoned;
-      };
-      free = λ none. found.free;
-      new_id = answers_new answer found.given found.same;
-      old_id = λ some. absurd (omega arith);
-    }
-
-no_fault_err : (fault : Option LinkFault) (now : SessionFault) → fault ≡ None → ◌≡◌ {A = Result (Unit {0}) SessionFault} (Err now) (answer_by fault (Ok tt)) → ⊥
-no_fault_err None now none is = cc
-no_fault_err (Some fault) now none is = cc
-
--- nothing was answered
-pub puts_failed : {L : Type 0} (talk : L → Option Talk) (since : L → L → Type 0) (fault : L → Option LinkFault) (downs : L → ℕ) (handle id : ℕ)
-    (content : ContentValue) (old new : SessionValue L) (now : SessionFault)
-    → ◌≡◌ {A = Result (Unit {0}) SessionFault} (Err now) (answer_by (fault new.link) (Ok tt))
-    → Stops talk since fault downs (text (putting 0 handle id content) ∷ []) old.link new.link → new.user ≡ old.user → new.abandoned ≡ old.abandoned
-    → Puts talk since fault downs handle id content old new (Err now)
-puts_failed talk since fault downs handle id content old new now is stops user abandoned = record {
-  given = 0;
-  asked = record {
-    stops = stops;
-    does = λ none. absurd (no_fault_err (fault new.link) now none is);
-    told = λ none. absurd (no_fault_err (fault new.link) now none is);
-    user = user;
-    abandoned = abandoned;
-  };
-  free = λ none. absurd (no_fault_err (fault new.link) now none is);
-  new_id = tt;
-  old_id = λ some. refl;
-}
-
--- ---- from the request as it was written
 
 is_not_zero : (n : ℕ) → (suc n == 0) ≡ false
 is_not_zero n = grind arith
 
 -- the request for a record to be put
-pub put_value : (handle id number bits sort : ℕ) (content : ContentValue) (bytes : List ℕ) → number ≡ id → bits ≡ secret_bit content.secret
+pub put_value : {id number bits sort : ℕ} (handle : ℕ) (content : ContentValue) {bytes : List ℕ} → number ≡ id → bits ≡ secret_bit content.secret
     → sort ≡ content.category → bytes ≡ content.bytes
     → ◌≡◌ {A = RequestValue} (record { form = form.WriteRecord; fields = (handle, (0x80, (number, (bits, (sort, (bytes, tt)))))) })
     (putting 0 handle id content).asks
-put_value handle id number bits sort content bytes one two three four =
-    ap (λ n. record { form = form.WriteRecord; fields = (handle, (0x80, (n, (bits, (sort, (bytes, tt)))))) }) one
-    ∙ ap (λ n. record { form = form.WriteRecord; fields = (handle, (0x80, (id, (n, (sort, (bytes, tt)))))) }) two
-    ∙ ap (λ n. record { form = form.WriteRecord; fields = (handle, (0x80, (id, (secret_bit content.secret, (n, (bytes, tt)))))) }) three
-    ∙ ap (λ (b : List ℕ). record { form = form.WriteRecord; fields = (handle, (0x80, (id, (secret_bit content.secret, (content.category, (b, tt)))))) }) four
+put_value handle content one two three four = grind (arith, common_steps, nat_tests)
 
 -- what was asked by a request
 pub record IsPut {L : Type 0} (talk : L → Option Talk) (since : L → L → Type 0) (fault : L → Option LinkFault) (downs : L → ℕ) (value : RequestValue)
@@ -240,27 +150,38 @@ pub record IsPut {L : Type 0} (talk : L → Option Talk) (since : L → L → Ty
   pub user : new.user ≡ old.user
   pub abandoned : new.abandoned ≡ old.abandoned
 
-puts_same : {L : Type 0} (talk : L → Option Talk) (since : L → L → Type 0) (fault : L → Option LinkFault) (downs : L → ℕ) (handle id : ℕ)
-    (content : ContentValue) (old new : SessionValue L) (answer : Result ℕ SessionFault)
-    → IsPut talk since fault downs (putting 0 handle id content).asks old new → answer ≡ said_in id_of (reply_at 0x21 new.reply)
-    → Puts talk since fault downs handle id content old new answer
-puts_same talk since fault downs handle zero content old new answer put says =
-    puts_new talk since fault downs handle content old new answer put.fits put.answered put.stops put.user put.abandoned says
-puts_same talk since fault downs handle (suc n) content old new answer put says =
-    puts_old talk since fault downs handle (suc n) content old new answer (omega arith) (put.asked (is_not_zero n))
+module _ {L : Type 0} {talk : L → Option Talk} {since : L → L → Type 0} {fault : L → Option LinkFault} {downs : L → ℕ} {handle : ℕ} {content : ContentValue}
+    {old new : SessionValue L} {answer : Result ℕ SessionFault} where
+  pub puts_old : {id : ℕ} → 0 < id → Asked talk since fault downs (putting 0 handle id content) old new
+      → Puts talk since fault downs handle id content old new answer
+  puts_old some asked = search (rules, given_none, answers_other)
 
-pub puts_at : {L : Type 0} (talk : L → Option Talk) (since : L → L → Type 0) (fault : L → Option LinkFault) (downs : L → ℕ) (handle id : ℕ)
-    (content : ContentValue) (old new : SessionValue L) (answer : Result ℕ SessionFault) (value : RequestValue) → value ≡ (putting 0 handle id content).asks
-    → IsPut talk since fault downs value old new → answer ≡ said_in id_of (reply_at 0x21 new.reply)
-    → Puts talk since fault downs handle id content old new answer
-puts_at talk since fault downs handle id content old new answer value same put says =
-    puts_same talk since fault downs handle id content old new answer (subst (λ (v : RequestValue). IsPut talk since fault downs v old new) same put) says
+  pub puts_new : IsRequest (putting 0 handle 0 content).asks → Answered (talk old.link) (text (putting 0 handle 0 content)) new.reply (talk new.link)
+      → Stops talk since fault downs (text (putting 0 handle 0 content) ∷ []) old.link new.link → new.user ≡ old.user → new.abandoned ≡ old.abandoned
+      → answer ≡ said_in id_of (reply_at 0x21 new.reply) → Puts talk since fault downs handle 0 content old new answer
+  unfolding text
+  puts_new fits is stops user abandoned says =
+      let found = is_new handle content (talk old.link) (talk new.link) new.reply fits is says in
+      record {
+        given = found.given;
+        asked = record {
+          stops = stops;
+          does = λ none. record { said = found.said; sent = sent_answered (talk old.link) (talk new.link) (text (putting 0 handle 0 content)) new.reply is };
+          told = λ none. found.told;
+          user = user;
+          abandoned = abandoned;
+        };
+        free = λ none. found.free;
+        new_id = answers_new answer found.given found.same;
+        old_id = λ some. absurd (omega arith);
+      }
 
-pub puts_failed_at : {L : Type 0} (talk : L → Option Talk) (since : L → L → Type 0) (fault : L → Option LinkFault) (downs : L → ℕ) (handle id : ℕ)
-    (content : ContentValue) (old new : SessionValue L) (now : SessionFault) (value : RequestValue) → value ≡ (putting 0 handle id content).asks
-    → ◌≡◌ {A = Result (Unit {0}) SessionFault} (Err now) (answer_by (fault new.link) (Ok tt))
-    → Stops talk since fault downs (text (act value) ∷ []) old.link new.link → new.user ≡ old.user → new.abandoned ≡ old.abandoned
-    → Puts talk since fault downs handle id content old new (Err now)
-puts_failed_at talk since fault downs handle id content old new now value same is stops user abandoned =
-    puts_failed talk since fault downs handle id content old new now is
-    (subst (λ (v : RequestValue). Stops talk since fault downs (text (act v) ∷ []) old.link new.link) same stops) user abandoned
+  -- ---- from the request as it was written
+
+  puts_same : (id : ℕ) → IsPut talk since fault downs (putting 0 handle id content).asks old new → answer ≡ said_in id_of (reply_at 0x21 new.reply)
+      → Puts talk since fault downs handle id content old new answer
+  puts_same id put says = search (rules, puts_new, puts_old, is_not_zero)
+
+  pub puts_at : {id : ℕ} {value : RequestValue} → value ≡ (putting 0 handle id content).asks → IsPut talk since fault downs value old new
+      → answer ≡ said_in id_of (reply_at 0x21 new.reply) → Puts talk since fault downs handle id content old new answer
+  puts_at same put says = search (rules, puts_same)

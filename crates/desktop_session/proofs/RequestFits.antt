@@ -1,5 +1,5 @@
 -- The requests of a session fit into a message.
-use Rattle.std.proofs.Common.{◌≡◌, ◌≤◌, ◌<◌, ◌^◌, refl, ℕ, Bool, true, false, cond, List, [], ◌∷◌, length, arith, lit<}
+use Rattle.std.proofs.Common.{◌≡◌, ◌≤◌, ◌<◌, ◌^◌, refl, ℕ, Bool, true, false, cond, List, ◌∷◌, length, arith, lit<}
 use Rattle.std.specs.Prelude.{◌==◌, None, IfSome, replicate}
 use Rattle.std.specs.List.{list_any}
 use Rattle.pdb_values.specs.Contents.{ContentValue}
@@ -14,10 +14,13 @@ use Rattle.dlp_requests.specs.RequestTexts.{IsRequest}
 use Rattle.dlp_requests.proofs.RequestLaws.{IsRequest-short}
 use Rattle.dlp_commands.proofs.Fits.{date_length, has_no_zero}
 use Rattle.dlp_commands.specs.UserFunctions.{name_length}
-use Rattle.desktop_session.specs.Requests.{beginning, cleaning, closing, counting, deleting, ending, listing, listing_ids, making_of, marking, opening_in, putting, putting_resource, reading_app, reading_at, reading_next, reading_of, reading_resource, reading_sort, reading_user, removing, resetting, secret_bit, some_name, writing_app, writing_sort}
+use Rattle.desktop_session.specs.Requests.{beginning, cleaning, closing, counting, deleting, ending, listing, listing_ids, making_of, marking, opening_in}
+use Rattle.desktop_session.specs.Requests.{putting, putting_resource, reading_app, reading_at, reading_next, reading_of, reading_resource, reading_sort}
+use Rattle.desktop_session.specs.Requests.{reading_user, removing, resetting, secret_bit, some_name, writing_app, writing_sort}
+use Rattle.std.proofs.Common.{rules}
 
-no_zero : (name : List ℕ) → IsName name → HasNoZero name
-no_zero name is = place_past (λ byte. byte == 0) name is.nonzero
+no_zero : {name : List ℕ} → IsName name → HasNoZero name
+no_zero {name} is = place_past (λ byte. byte == 0) name is.nonzero
 
 pub user_fits : IsRequest reading_user.asks
 user_fits = IsRequest-short reading_user.asks tt tt
@@ -32,7 +35,7 @@ pub list_fits : (start : ℕ) → start < 2 ^ 16 → IsRequest (listing start).a
 list_fits start half = IsRequest-short (listing start).asks (lit< tt, (lit< tt, half)) (tt, (tt, (tt, tt)))
 
 pub open_fits : (mode : ℕ) (name : List ℕ) → mode < 2 ^ 8 → IsName name → IsRequest (opening_in mode name).asks
-open_fits mode name byte is = IsRequest-short (opening_in mode name).asks (lit< tt, (byte, no_zero name is)) (
+open_fits mode name byte is = IsRequest-short (opening_in mode name).asks (lit< tt, (byte, no_zero is)) (
   tt,
   (
     tt,
@@ -44,11 +47,11 @@ pub make_fits : (creator kind : List ℕ) (attributes version : ℕ) (name : Lis
     → version < 2 ^ 16 → IsName name → IsRequest (making_of creator kind attributes version name).asks
 make_fits creator kind attributes version name first second small few is =
     IsRequest-short (making_of creator kind attributes version name).asks
-    (first, (second, (lit< tt, (tt, (small, (few, no_zero name is))))))
+    (first, (second, (lit< tt, (tt, (small, (few, no_zero is))))))
     (tt, (tt, (tt, (tt, (tt, (tt, (let short = is.short in omega arith, tt)))))))
 
 pub delete_fits : (name : List ℕ) → IsName name → IsRequest (deleting name).asks
-delete_fits name is = IsRequest-short (deleting name).asks (lit< tt, (tt, no_zero name is)) (tt, (tt, (let short = is.short in omega arith, tt)))
+delete_fits name is = IsRequest-short (deleting name).asks (lit< tt, (tt, no_zero is)) (tt, (tt, (let short = is.short in omega arith, tt)))
 
 pub close_fits : (handle : ℕ) → handle < 2 ^ 8 → IsRequest (closing handle).asks
 close_fits handle byte = IsRequest-short (closing handle).asks byte (tt, tt)
@@ -102,8 +105,7 @@ secret_bound false = lit< tt
 
 pub putting_fits : (handle id : ℕ) (content : ContentValue) → handle < 2 ^ 8 → id < 2 ^ 32 → content.category < 2 ^ 8
     → length content.bytes ≤ 65500 → IsRequest (putting 0 handle id content).asks
-putting_fits handle id content byte word sort short =
-    put_fits handle id (secret_bit content.secret) content.category content.bytes byte word (secret_bound content.secret) sort short
+putting_fits handle id content byte word sort short = search (rules, put_fits, secret_bound)
 
 pub remove_fits : (handle id : ℕ) → handle < 2 ^ 8 → id < 2 ^ 32 → IsRequest (removing handle id).asks
 remove_fits handle id byte word = IsRequest-short (removing handle id).asks (byte, (lit< tt, word)) (tt, (tt, (tt, tt)))
@@ -128,22 +130,18 @@ put_resource_fits handle kind id bytes byte four half short =
 -- ---- what is set of the user
 
 chosen_bound : (b : Bool) (n limit : ℕ) → n < limit → cond b n 0 < limit
-chosen_bound true n limit below = below
-chosen_bound false n limit below = omega arith
+chosen_bound b n limit below = search (rules)
 
 chosen_date : (b : Bool) (seconds : ℕ) → length (cond b (wire_date seconds) (replicate 8 0)) ≡ 8
 chosen_date true seconds = date_length seconds
 chosen_date false seconds = refl
 
 name_fits : (b : Bool) (name : List ℕ) → HasNoZero name → length name ≤ 40 → IfSome (cond b (some_name name) None) (λ text. HasNoZero text × (length text ≤ 40))
-name_fits false name none short = tt
-name_fits true [] none short = tt
-name_fits true (byte ∷ bytes) none short = (none, short)
+name_fits b name none short = search (rules)
 
 length_fits : (b : Bool) (name : List ℕ) → length name ≤ 40 → name_length (cond b (some_name name) None) < 2 ^ 8
-length_fits false name short = lit< tt
-length_fits true [] short = lit< tt
 length_fits true (byte ∷ bytes) short = omega arith
+length_fits b name short = lit< tt
 
 pub mark_fits : (mark : UserInfo) (bits : ℕ) → mark.user < 2 ^ 32 → mark.viewer < 2 ^ 32 → mark.pc < 2 ^ 32 → bits < 2 ^ 8 → length mark.name ≤ 40
     → list_any (λ byte. byte == 0) mark.name ≡ false → IsRequest (marking mark bits).asks

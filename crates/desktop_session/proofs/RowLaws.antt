@@ -13,16 +13,10 @@ use Rattle.palm_device.specs.declared.opened.Opened.{Opened}
 use Rattle.dlp_commands.specs.DatabaseFunctions.{close_db}
 use Rattle.dlp_commands.specs.DeviceSteps.{tried}
 use Rattle.dlp_commands.specs.Holding.{on_records}
-use Rattle.dlp_commands.specs.Reached.{read_next_modified_rec, reads, with_index, writes}
-use Rattle.dlp_commands.specs.Readings.{read_in, whole}
+use Rattle.dlp_commands.specs.Reached.{read_next_modified_rec, with_index, writes}
+use Rattle.dlp_commands.specs.Readings.{whole}
 use Rattle.dlp_commands.specs.Writings.{WritingValue, written_in}
-use Rattle.dlp_commands.specs.declared.reading.Reading.{Reading}
 use Rattle.desktop_session.specs.Requests.{closing, counting, reading_next}
-
--- a function that reads
-pub reads_row : (device : Device) (handle : ℕ) (asked : Reading) (base : Base) (answer : ReplyValue) → base_at device handle ≡ Some base
-    → read_in asked base.database ≡ Ok answer → reads device handle asked ≡ Ok (device, answer)
-reads_row device handle asked base answer is found = rw is (rw found refl)
 
 -- a function that writes
 pub writes_row : (free : ℕ) (device : Device) (handle : ℕ) (asked : WritingValue) (base : Base) (changed : DatabaseValue) (answer : ReplyValue)
@@ -37,20 +31,20 @@ unfolding tried close_db
 close_row device handle opened is = rw is refl
 
 -- ReadOpenDBInfo of what is open
-pub count_row : (device : Device) (handle : ℕ) (base : Base) → base_at device handle ≡ Some base
+pub count_row : (device : Device) (handle : ℕ) {base : Base} → base_at device handle ≡ Some base
     → tried 0 device (counting handle).asks ≡ Ok (device, reply.ReadOpenDbInfo (entry_count base.database))
 unfolding tried
-count_row device handle base is = rw is refl
+count_row device handle is = rw is refl
 
 -- ReadNextModifiedRec: the first changed record from the record index on
-pub next_row : (device : Device) (handle place : ℕ) (base : Base) (item : Record) → base_at device handle ≡ Some base → on_records base.database ≡ true
+pub next_row : (device : Device) {place : ℕ} (handle : ℕ) {base : Base} {item : Record} → base_at device handle ≡ Some base → on_records base.database ≡ true
     → next_changed base.opened.next base.database.records ≡ Some place → slice_get base.database.records place ≡ Some item
     → tried 0 device (reading_next handle).asks ≡ Ok (with_index device handle (place + 1), whole place item)
 unfolding tried read_next_modified_rec
-next_row device handle place base item is records first found = rw is (rw records (rw first (rw found refl)))
+next_row device handle is records first found = rw is (rw records (rw first (rw found refl)))
 
 -- and where none is left: not found
-pub no_next_row : (device : Device) (handle : ℕ) (base : Base) → base_at device handle ≡ Some base → on_records base.database ≡ true
+pub no_next_row : (device : Device) (handle : ℕ) {base : Base} → base_at device handle ≡ Some base → on_records base.database ≡ true
     → next_changed base.opened.next base.database.records ≡ None → tried 0 device (reading_next handle).asks ≡ Err 5
 unfolding tried read_next_modified_rec
-no_next_row device handle base is records none = rw is (rw records (rw none refl))
+no_next_row device handle is records none = rw is (rw records (rw none refl))

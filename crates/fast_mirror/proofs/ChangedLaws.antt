@@ -1,5 +1,5 @@
 -- The changed records are read one after the other, until none is left.
-use Rattle.std.proofs.Common.{◌≡◌, ◌∙◌, ◌<◌, ◌+◌, ◌-◌, refl, ap, sym, subst, ℕ, suc, List, [], ◌∷◌, ◌++◌, append_assoc, arith}
+use Rattle.std.proofs.Common.{◌≡◌, ◌∙◌, ◌<◌, ◌+◌, ◌-◌, refl, ap, sym, ℕ, suc, List, [], ◌∷◌, ◌++◌, append_assoc, arith, rules}
 use Rattle.std.proofs.lemmas.List.{append-nil}
 use Rattle.std.specs.Prelude.{Option, Some, None, IfSome, Ok, Err}
 use Rattle.dlp_replies.specs.ReplyReading.{reply_at}
@@ -10,7 +10,7 @@ use Rattle.conduit_rules.specs.declared.view.Seen.{Seen}
 use Rattle.desktop_session.specs.declared.fault.SessionFault.{SessionFault}
 use Rattle.desktop_session.specs.Acts.{Act, acted}
 use Rattle.desktop_session.specs.Requests.{reading_next}
-use Rattle.desktop_session.specs.Says.{said, saying}
+use Rattle.desktop_session.specs.Says.{saying}
 use Rattle.desktop_session.specs.Sessions.{SessionValue}
 use Rattle.desktop_session.specs.Stops.{Asked}
 use Rattle.desktop_session.specs.Tellings.{device_after}
@@ -36,95 +36,47 @@ pub record ChangedSoFar {L : Type 0} (talk : L → Option Talk) (since : L → L
   pub said : SoFar talk since fault downs acts old now
   pub goes_on : IfSome (talk old.link) (λ told. GoesOn handle most k acts seen told.device)
 
-begins : (o : Option Talk) (handle most : ℕ) (seen : List Seen) → seen ≡ [] → IfSome o (λ told. GoesOn handle most 0 [] seen told.device)
-begins None handle most seen none = tt
-begins (Some told) handle most seen none =
-    let all : most ≡ most - 0 = omega arith in
-    record {
-      reads = ap (λ n. changed_reads handle n told.device) all;
-      shows = ap (λ n. changed_seen handle n told.device) all ∙ ap (λ xs. xs ++ changed_seen handle (most - 0) told.device) (sym none);
-    }
-
-pub changed_none : {L : Type 0} (talk : L → Option Talk) (since : L → L → Type 0) (fault : L → Option LinkFault) (downs : L → ℕ)
-    (itself : (a : L) → since a a) (handle most : ℕ) (seen : List Seen) (old : SessionValue L) → seen ≡ []
-    → ChangedSoFar talk since fault downs handle most 0 seen old old
-changed_none talk since fault downs itself handle most seen old none = record {
-  acts = [];
-  said = none_said talk since fault downs itself old;
-  goes_on = begins (talk old.link) handle most seen none;
-}
-
--- ---- the next request
+begins : (o : Option Talk) (handle most : ℕ) {seen : List Seen} → seen ≡ [] → IfSome o (λ told. GoesOn handle most 0 [] seen told.device)
+begins o handle most none = search (rules)
 
 -- the device's own reply
-reply_now : (first now : Option Talk) (handle : ℕ) (acts : List Act) (bytes : List ℕ) → now ≡ saying acts first
+reply_now : {now : Option Talk} (first : Option Talk) (handle : ℕ) (acts : List Act) (bytes : List ℕ) → now ≡ saying acts first
     → IfSome now (λ told. bytes ≡ (acted (reading_next handle) told.device).0)
     → IfSome first (λ told. seen_in (reply_at 0x1F bytes) ≡ next_seen handle (device_after acts told.device))
 unfolding saying
-reply_now None now handle acts bytes is told = tt
-reply_now (Some talk) now handle acts bytes is told =
-    let here : bytes ≡ (acted (reading_next handle) (said acts talk).device).0 =
-    subst (λ (o : Option Talk). IfSome o (λ told. bytes ≡ (acted (reading_next handle) told.device).0)) is told in
-    ap (λ bytes. seen_in (reply_at 0x1F bytes)) (here ∙ ap (λ d. (acted (reading_next handle) d).0) (said_device acts talk))
+reply_now first handle acts bytes is told = grind (arith, said_device)
 
 left_one : (most k : ℕ) → k < most → most - k ≡ suc (most - (k + 1))
 left_one most k below = omega arith
 
 -- what is left is the next request, and what follows where it lends something
-next_left : (handle most k : ℕ) (device : Device) (lent : List Seen) → k < most → lent ≡ next_seen handle device
-    → (changed_reads handle (most - k) device
-    ≡ reading_next handle ∷ where_lent lent (changed_reads handle (most - (k + 1)) (acted (reading_next handle) device).1))
-    × (changed_seen handle (most - k) device ≡ lent ++ where_lent lent (changed_seen handle (most - (k + 1)) (acted (reading_next handle) device).1))
+next_left : (handle most k : ℕ) (device : Device) {lent : List Seen} → k < most → lent ≡ next_seen handle device
+    → (changed_reads handle (most - k) device ≡ reading_next handle ∷ where_lent lent
+    (changed_reads handle (most - (k + 1)) (acted (reading_next handle) device).1)) ×
+    (changed_seen handle (most - k) device ≡ lent ++ where_lent lent (changed_seen handle (most - (k + 1)) (acted (reading_next handle) device).1))
 unfolding changed_reads changed_seen
-next_left handle most k device lent below is = rw (left_one most k below, is) (refl, refl)
+next_left handle most k device below is = rw (left_one most k below, is) (refl, refl)
 
 -- one record more
-goes_more : (o : Option Talk) (handle most k : ℕ) (acts : List Act) (seen now : List Seen) (entry : Seen) (lent : List Seen) → k < most
+goes_more : (o : Option Talk) (handle most k : ℕ) (acts : List Act) {now : List Seen} (seen : List Seen) {entry : Seen} {lent : List Seen} → k < most
     → lent ≡ entry ∷ [] → now ≡ seen ++ entry ∷ [] → IfSome o (λ told. lent ≡ next_seen handle (device_after acts told.device))
     → IfSome o (λ told. GoesOn handle most k acts seen told.device)
     → IfSome o (λ told. GoesOn handle most (k + 1) (acts ++ reading_next handle ∷ []) now told.device)
-goes_more None handle most k acts seen now entry lent below one added lends on = tt
-goes_more (Some told) handle most k acts seen now entry lent below one added lends on =
+goes_more None handle most k acts seen below one added lends on = tt
+goes_more (Some told) handle most k acts {now} seen {entry} below one added lends on =
     let here = device_after acts told.device in
-    let left = next_left handle most k here (entry ∷ []) below (sym one ∙ lends) in
+    let left = next_left handle most k here below (sym one ∙ lends) in
     let there : device_after (acts ++ reading_next handle ∷ []) told.device ≡ (acted (reading_next handle) here).1 =
     after_append acts (reading_next handle ∷ []) told.device in
     record {
-      reads = on.reads ∙ ap (λ xs. acts ++ xs) left.0
-          ∙ sym (append_assoc acts (reading_next handle ∷ []) (changed_reads handle (most - (k + 1)) (acted (reading_next handle) here).1))
-          ∙ ap (λ d. (acts ++ reading_next handle ∷ []) ++ changed_reads handle (most - (k + 1)) d) (sym there);
-      shows = on.shows ∙ ap (λ xs. seen ++ xs) left.1
-          ∙ sym (append_assoc seen (entry ∷ []) (changed_seen handle (most - (k + 1)) (acted (reading_next handle) here).1))
-          ∙ ap (λ xs. xs ++ changed_seen handle (most - (k + 1)) (acted (reading_next handle) here).1) (sym added)
-          ∙ ap (λ d. now ++ changed_seen handle (most - (k + 1)) d) (sym there);
+      reads = cc (append_assoc acts (reading_next handle ∷ []) (changed_reads handle (most - (k + 1)) (acted (reading_next handle) here).1));
+      shows = cc (append_assoc seen (entry ∷ []) (changed_seen handle (most - (k + 1)) (acted (reading_next handle) here).1));
     }
 
-asked_here : {L : Type 0} (talk : L → Option Talk) (since : L → L → Type 0) (fault : L → Option LinkFault) (downs : L → ℕ) (handle here : ℕ)
-    (now new : SessionValue L) → here ≡ handle → Asked talk since fault downs (reading_next here) now new
-    → Asked talk since fault downs (reading_next handle) now new
-asked_here talk since fault downs handle here now new is asked = subst (λ h. Asked talk since fault downs (reading_next h) now new) is asked
-
-pub changed_on : {L : Type 0} (talk : L → Option Talk) (since : L → L → Type 0) (fault : L → Option LinkFault) (downs : L → ℕ)
-    (since_more : (a b c : L) → since a b → since b c → since a c) (handle here most k : ℕ) (seen more : List Seen) (entry : Seen)
-    (old now new : SessionValue L) → here ≡ handle → k < most → fault new.link ≡ None → seen_in (reply_at 0x1F new.reply) ≡ entry ∷ []
-    → more ≡ seen ++ entry ∷ [] → ChangedSoFar talk since fault downs handle most k seen old now
-    → Asked talk since fault downs (reading_next here) now new → ChangedSoFar talk since fault downs handle most (k + 1) more old new
-changed_on talk since fault downs since_more handle here most k seen more entry old now new is below none one added before asked =
-    let asked = asked_here talk since fault downs handle here now new is asked in
-    record {
-      acts = before.acts ++ reading_next handle ∷ [];
-      said = said_on talk since fault downs since_more before.acts (reading_next handle) old now new none before.said asked;
-      goes_on = goes_more (talk old.link) handle most k before.acts seen more entry (seen_in (reply_at 0x1F new.reply)) below one added
-          (reply_now (talk old.link) (talk now.link) handle before.acts new.reply before.said.does.said (asked.told none)) before.goes_on;
-    }
-
--- ---- the end
-
-pub changed_whole : {L : Type 0} (talk : L → Option Talk) (since : L → L → Type 0) (fault : L → Option LinkFault) (downs : L → ℕ) (handle most k : ℕ)
-    (seen : List Seen) (old now : SessionValue L) → k ≡ most → ChangedSoFar talk since fault downs handle most k seen old now
-    → ChangedSoFar talk since fault downs handle most most seen old now
-changed_whole talk since fault downs handle most k seen old now is before =
-    subst (λ n. ChangedSoFar talk since fault downs handle most n seen old now) is before
+asked_here : {L : Type 0} {talk : L → Option Talk} {since : L → L → Type 0} {fault : L → Option LinkFault} {downs : L → ℕ} {handle here : ℕ}
+    {now new : SessionValue L}
+    → here ≡ handle → Asked talk since fault downs (reading_next here) now new → Asked talk since fault downs (reading_next handle) now new
+asked_here is asked = search (rules)
 
 -- what was read grows
 pub read_more : (seen : List Seen) (entry : Seen) → AreRead seen → IsRead entry → AreRead (seen ++ entry ∷ [])
@@ -135,12 +87,7 @@ read_more (first ∷ seen) entry read one = (read.0, read_more seen entry read.1
 all_said : (o : Option Talk) (handle most : ℕ) (acts : List Act) (seen : List Seen) → IfSome o (λ told. GoesOn handle most most acts seen told.device)
     → IfSome o (λ told. (acts ≡ changed_reads_of handle most (Some told)) × (seen ≡ changed_seen handle most told.device))
 unfolding changed_reads changed_seen
-all_said None handle most acts seen on = tt
-all_said (Some told) handle most acts seen on =
-    let none : most - most ≡ 0 = omega arith in (
-      sym (on.reads ∙ ap (λ n. acts ++ changed_reads handle n (device_after acts told.device)) none ∙ append-nil acts),
-      sym (on.shows ∙ ap (λ n. seen ++ changed_seen handle n (device_after acts told.device)) none ∙ append-nil seen),
-    )
+all_said o handle most acts seen on = grind (arith, append-nil)
 
 first_of : (P Q : Talk → Type 0) (o : Option Talk) → IfSome o (λ told. P told × Q told) → IfSome o P
 first_of P Q None both = tt
@@ -150,49 +97,16 @@ second_of : (P Q : Talk → Type 0) (o : Option Talk) → IfSome o (λ told. P t
 second_of P Q None both = tt
 second_of P Q (Some told) both = both.1
 
-pub changed_all : {L : Type 0} (talk : L → Option Talk) (since : L → L → Type 0) (fault : L → Option LinkFault) (downs : L → ℕ) (handle most : ℕ)
-    {A : Type 0} (seen : List Seen) (old now : SessionValue L) (answer : A) → ChangedSoFar talk since fault downs handle most most seen old now
-    → Asks talk since fault downs (changed_reads_of handle most (talk old.link)) old now (Ok answer)
-changed_all talk since fault downs handle most seen old now answer all =
-    asks_as talk since fault downs all.acts (changed_reads_of handle most) old now (Ok answer)
-    (first_of _ _ (talk old.link) (all_said (talk old.link) handle most all.acts seen all.goes_on))
-    (said_all talk since fault downs all.acts old now answer all.said)
-
-pub shown_all : {L : Type 0} (talk : L → Option Talk) (since : L → L → Type 0) (fault : L → Option LinkFault) (downs : L → ℕ) (handle most : ℕ)
-    (seen : List Seen) (old now : SessionValue L) → ChangedSoFar talk since fault downs handle most most seen old now
-    → IfSome (talk old.link) (λ told. seen ≡ changed_seen handle most told.device)
-shown_all talk since fault downs handle most seen old now all =
-    second_of _ _ (talk old.link) (all_said (talk old.link) handle most all.acts seen all.goes_on)
-
 -- one request more, that lent nothing
-ends_said : (o : Option Talk) (handle most k : ℕ) (acts : List Act) (seen : List Seen) (lent : List Seen) → k < most → lent ≡ []
+ends_said : (o : Option Talk) (handle most k : ℕ) (acts : List Act) (seen : List Seen) {lent : List Seen} → k < most → lent ≡ []
     → IfSome o (λ told. lent ≡ next_seen handle (device_after acts told.device)) → IfSome o (λ told. GoesOn handle most k acts seen told.device)
     → IfSome o (λ told. (acts ++ reading_next handle ∷ [] ≡ changed_reads_of handle most (Some told)) × (seen ≡ changed_seen handle most told.device))
-ends_said None handle most k acts seen lent below none lends on = tt
-ends_said (Some told) handle most k acts seen lent below none lends on =
-    let left = next_left handle most k (device_after acts told.device) [] below (sym none ∙ lends) in (
+ends_said None handle most k acts seen below none lends on = tt
+ends_said (Some told) handle most k acts seen below none lends on =
+    let left = next_left handle most k (device_after acts told.device) below (sym none ∙ lends) in (
       sym (on.reads ∙ ap (λ xs. acts ++ xs) left.0),
       sym (on.shows ∙ ap (λ xs. seen ++ xs) left.1 ∙ append-nil seen),
     )
-
-pub changed_ends : {L : Type 0} (talk : L → Option Talk) (since : L → L → Type 0) (fault : L → Option LinkFault) (downs : L → ℕ)
-    (since_more : (a b c : L) → since a b → since b c → since a c) (handle here most k : ℕ) {A : Type 0} (seen : List Seen)
-    (old now new : SessionValue L) (answer : A) → here ≡ handle → k < most → fault new.link ≡ None → seen_in (reply_at 0x1F new.reply) ≡ []
-    → ChangedSoFar talk since fault downs handle most k seen old now → Asked talk since fault downs (reading_next here) now new
-    → Asks talk since fault downs (changed_reads_of handle most (talk old.link)) old new (Ok answer)
-    × IfSome (talk old.link) (λ told. seen ≡ changed_seen handle most told.device)
-changed_ends talk since fault downs since_more handle here most k seen old now new answer is below none lent before asked =
-    let asked = asked_here talk since fault downs handle here now new is asked in
-    let both = ends_said (talk old.link) handle most k before.acts seen (seen_in (reply_at 0x1F new.reply)) below lent
-    (reply_now (talk old.link) (talk now.link) handle before.acts new.reply before.said.does.said (asked.told none)) before.goes_on in (
-      asks_as talk since fault downs (before.acts ++ reading_next handle ∷ []) (changed_reads_of handle most) old new (Ok answer)
-          (first_of _ _ (talk old.link) both)
-          (said_all talk since fault downs (before.acts ++ reading_next handle ∷ []) old new answer
-          (said_on talk since fault downs since_more before.acts (reading_next handle) old now new none before.said asked)),
-      second_of _ _ (talk old.link) both,
-    )
-
--- ---- a stop
 
 -- what would follow behind the next request
 then_of : Option Talk → ℕ → ℕ → List Act → List Act
@@ -205,21 +119,75 @@ next_said : (o : Option Talk) (handle most k : ℕ) (acts : List Act) (seen : Li
     → IfSome o (λ told. GoesOn handle most k acts seen told.device)
     → IfSome o (λ told. acts ++ reading_next handle ∷ then_of o handle (most - (k + 1)) acts ≡ changed_reads_of handle most (Some told))
 unfolding then_of
-next_said None handle most k acts seen below on = tt
-next_said (Some told) handle most k acts seen below on =
-    let here = device_after acts told.device in
-    let left = next_left handle most k here (next_seen handle here) below refl in
-    sym (on.reads ∙ ap (λ xs. acts ++ xs) left.0)
+next_said o handle most k acts seen below on = grind (arith, next_left)
 
-pub changed_stop : {L A : Type 0} (talk : L → Option Talk) (since : L → L → Type 0) (fault : L → Option LinkFault) (downs : L → ℕ)
-    (since_more : (a b c : L) → since a b → since b c → since a c) (handle here most k : ℕ) (seen : List Seen) (old now new : SessionValue L)
-    (cause : SessionFault) → here ≡ handle → k < most → ChangedSoFar talk since fault downs handle most k seen old now
-    → Asked talk since fault downs (reading_next here) now new
-    → Asks {A = A} talk since fault downs (changed_reads_of handle most (talk old.link)) old new (Err cause)
-changed_stop talk since fault downs since_more handle here most k seen old now new cause is below before asked =
-    let follows = then_of (talk old.link) handle (most - (k + 1)) before.acts in
-    asks_as talk since fault downs (before.acts ++ reading_next handle ∷ follows) (changed_reads_of handle most) old new (Err cause)
-    (next_said (talk old.link) handle most k before.acts seen below before.goes_on)
-    (asks_then talk since fault downs since_more before.acts (reading_next handle ∷ follows) old now new (Err cause) before.said
-    (asked_part talk since fault downs (reading_next handle) follows now new cause
-    (asked_here talk since fault downs handle here now new is asked)))
+module _ {L : Type 0} {talk : L → Option Talk} {since : L → L → Type 0} {fault : L → Option LinkFault} {downs : L → ℕ} {handle most : ℕ} {seen : List Seen}
+    {old : SessionValue L} where
+  pub changed_none : (itself : (a : L) → since a a) → seen ≡ [] → ChangedSoFar talk since fault downs handle most 0 seen old old
+  changed_none itself none = record {
+    acts = [];
+    said = none_said talk since fault downs itself old;
+    goes_on = begins (talk old.link) handle most none;
+  }
+
+  -- ---- the next request
+
+  pub changed_on : (since_more : (a b c : L) → since a b → since b c → since a c) {here k : ℕ} {more : List Seen} {entry : Seen} {now new : SessionValue L}
+      → here ≡ handle → k < most → fault new.link ≡ None → seen_in (reply_at 0x1F new.reply) ≡ entry ∷ [] → more ≡ seen ++ entry ∷ []
+      → ChangedSoFar talk since fault downs handle most k seen old now → Asked talk since fault downs (reading_next here) now new
+      → ChangedSoFar talk since fault downs handle most (k + 1) more old new
+  changed_on since_more {k} {new} is below none one added before asked =
+      let asked = asked_here is asked in
+      record {
+        acts = before.acts ++ reading_next handle ∷ [];
+        said = said_on since_more none before.said asked;
+        goes_on = goes_more (talk old.link) handle most k before.acts seen below one added
+            (reply_now (talk old.link) handle before.acts new.reply before.said.does.said (asked.told none)) before.goes_on;
+      }
+
+  -- ---- the end
+
+  pub changed_whole : {k : ℕ} {now : SessionValue L} → k ≡ most → ChangedSoFar talk since fault downs handle most k seen old now
+      → ChangedSoFar talk since fault downs handle most most seen old now
+  changed_whole is before = search (rules)
+
+  pub changed_all : {A : Type 0} {now : SessionValue L} {answer : A} → ChangedSoFar talk since fault downs handle most most seen old now
+      → Asks talk since fault downs (changed_reads_of handle most (talk old.link)) old now (Ok answer)
+  changed_all {answer} all =
+      asks_as (changed_reads_of handle most)
+      (first_of _ _ (talk old.link) (all_said (talk old.link) handle most all.acts seen all.goes_on))
+      (said_all answer all.said)
+
+  pub shown_all : {now : SessionValue L} → ChangedSoFar talk since fault downs handle most most seen old now
+      → IfSome (talk old.link) (λ told. seen ≡ changed_seen handle most told.device)
+  shown_all all =
+      second_of _ _ (talk old.link) (all_said (talk old.link) handle most all.acts seen all.goes_on)
+
+  pub changed_ends : (since_more : (a b c : L) → since a b → since b c → since a c) {here k : ℕ} {A : Type 0} {now new : SessionValue L} (answer : A)
+      → here ≡ handle → k < most → fault new.link ≡ None → seen_in (reply_at 0x1F new.reply) ≡ []
+      → ChangedSoFar talk since fault downs handle most k seen old now → Asked talk since fault downs (reading_next here) now new
+      → Asks talk since fault downs (changed_reads_of handle most (talk old.link)) old new (Ok answer) × IfSome (talk old.link)
+      (λ told. seen ≡ changed_seen handle most told.device)
+  changed_ends since_more {k} {new} answer is below none lent before asked =
+      let asked = asked_here is asked in
+      let both = ends_said (talk old.link) handle most k before.acts seen below lent
+      (reply_now (talk old.link) handle before.acts new.reply before.said.does.said (asked.told none)) before.goes_on in (
+        asks_as (changed_reads_of handle most)
+            (first_of _ _ (talk old.link) both)
+            (said_all answer
+            (said_on since_more none before.said asked)),
+        second_of _ _ (talk old.link) both,
+      )
+
+  -- ---- a stop
+
+  pub changed_stop : {A : Type 0} (since_more : (a b c : L) → since a b → since b c → since a c) {here k : ℕ} {now new : SessionValue L} (cause : SessionFault)
+      → here ≡ handle → k < most → ChangedSoFar talk since fault downs handle most k seen old now → Asked talk since fault downs (reading_next here) now new
+      → Asks {A = A} talk since fault downs (changed_reads_of handle most (talk old.link)) old new (Err cause)
+  changed_stop since_more {k} {now} {new} cause is below before asked =
+      let follows = then_of (talk old.link) handle (most - (k + 1)) before.acts in
+      asks_as (changed_reads_of handle most)
+      (next_said (talk old.link) handle most k before.acts seen below before.goes_on)
+      (asks_then talk since fault downs since_more before.acts (reading_next handle ∷ follows) old now new (Err cause) before.said
+      (asked_part talk since fault downs (reading_next handle) follows now new cause
+      (asked_here is asked)))

@@ -1,13 +1,14 @@
 -- What a fast reading asks for fits into messages.
-use Rattle.std.proofs.Common.{◌≡◌, ◌≤◌, ◌<◌, ◌+◌, ◌*◌, ◌/◌, ◌^◌, refl, sym, subst, ℕ, zero, suc, Bool, true, false, List, [], ◌∷◌, ◌++◌, length, if◌then◌else◌, arith}
-use Rattle.std.specs.Prelude.{Option, Some, None, filter, replicate}
+use Rattle.std.proofs.Common.{◌≡◌, ◌≤◌, ◌<◌, ◌+◌, ◌*◌, ◌/◌, ◌^◌, refl, ℕ, zero, suc, true, List, [], ◌∷◌, ◌++◌, length}
+use Rattle.std.proofs.Common.{arith, rules}
+use Rattle.std.specs.Prelude.{Option, Some, filter, replicate}
 use Rattle.pdb_values.specs.declared.record.Record.{Record}
 use Rattle.palm_device.specs.Devices.{Device}
 use Rattle.palm_device.specs.Handles.{Base, base_at as opened_base}
 use Rattle.palm_device.specs.Records.{is_changed}
 use Rattle.dlp_commands.specs.Holding.{on_records}
 use Rattle.conduit_rules.specs.ById.{each_below, each_id, id_bound}
-use Rattle.conduit_rules.specs.States.{Based, no_base, row, gone, base_at, first}
+use Rattle.conduit_rules.specs.States.{Based, first}
 use Rattle.conduit_rules.proofs.ByIdLaws.{each_below-suc, each_below-zero, id_bound-is}
 use Rattle.desktop_session.specs.Acts.{Act, acted}
 use Rattle.desktop_session.specs.Lists.{id_listings, id_parts}
@@ -41,7 +42,7 @@ counting_free handle byte device = (act_sayable (counting handle).asks device (c
 
 listing_free : (handle start : ℕ) → handle < 2 ^ 8 → start < 2 ^ 16 → AreFree (listing_ids handle start ∷ [])
 unfolding AreFree
-listing_free handle start byte half device = (act_sayable (listing_ids handle start).asks device (ids_fit handle start byte half) refl, tt)
+listing_free handle start byte half device = search (rules, act_sayable, ids_fit)
 
 listings_free : (handle parts : ℕ) → handle < 2 ^ 8 → parts ≤ 9 → AreFree (id_listings handle parts)
 unfolding id_listings
@@ -52,7 +53,7 @@ listings_free handle (suc parts) byte few =
 
 next_free : (handle : ℕ) → handle < 2 ^ 8 → AreFree (reading_next handle ∷ [])
 unfolding AreFree
-next_free handle byte device = (act_sayable (reading_next handle).asks device (next_fits handle byte) refl, tt)
+next_free handle byte device = search (rules, act_sayable, next_fits)
 
 nexts_free : (handle n : ℕ) → handle < 2 ^ 8 → AreFree (replicate n (reading_next handle))
 nexts_free handle zero byte = none_free
@@ -61,30 +62,19 @@ nexts_free handle (suc n) byte =
 
 own_free : (handle id : ℕ) → handle < 2 ^ 8 → id < 2 ^ 32 → AreFree (reading_of handle id ∷ [])
 unfolding AreFree
-own_free handle id byte word device = (act_sayable (reading_of handle id).asks device (of_fits handle id byte word) refl, tt)
+own_free handle id byte word device = search (rules, act_sayable, of_fits)
 
 other_free : (handle id : ℕ) (based : Based) → handle < 2 ^ 8 → id < 2 ^ 32 → AreFree (other_reads handle id based)
-other_free handle id no_base byte word = own_free handle id byte word
-other_free handle id (row content) byte word = none_free
-other_free handle id (gone content) byte word = own_free handle id byte word
+other_free handle id based byte word = search (rules, none_free, own_free)
 
 asks_free : (rows : List Record) (handle i : ℕ) (found : Option Record) → handle < 2 ^ 8 → i < id_bound
     → ((item : Record) → found ≡ Some item → item.id ≡ i) → AreFree (asks_of rows handle found)
-asks_free rows handle i None byte below own = none_free
-asks_free rows handle i (Some item) byte below own = by (is_changed item)
-  where
-    by : (c : Bool) → AreFree (if c then [] else other_reads handle item.id (base_at rows false item.id))
-    by true = none_free
-    by false =
-        let short : i < 2 ^ 24 = subst (λ (n : ℕ). i < n) id_bound-is below in
-        let here : item.id ≡ i = own item refl in
-        other_free handle item.id (base_at rows false item.id) byte (omega (arith, here, short))
+asks_free rows handle i found byte below own = search (rules, none_free, id_bound-is, other_free)
 
 each_free : (f : ℕ → List Act) (n : ℕ) → ((i : ℕ) → i < n → AreFree (f i)) → AreFree (each_below f n)
-each_free f zero each = subst AreFree (sym (each_below-zero f)) none_free
+each_free f zero each = rw (each_below-zero f) none_free
 each_free f (suc n) each =
-    subst AreFree (sym (each_below-suc f n))
-    (append_free (each_below f n) (f n) (each_free f n (λ i below. each i (omega arith))) (each n (omega arith)))
+    rw (each_below-suc f n) (append_free (each_below f n) (f n) (each_free f n (λ i below. each i (omega arith))) (each n (omega arith)))
 
 asked_free : (rows : List Record) (handle : ℕ) (records : List Record) → handle < 2 ^ 8 → length records < 2 ^ 16 → AreFree (fast_asks rows handle records)
 asked_free rows handle records byte few =
@@ -96,12 +86,12 @@ asked_free rows handle records byte few =
     (listings_free handle (id_parts (length records)) byte parts))
     (append_free nexts others (nexts_free handle (suc (length (filter is_changed records))) byte)
     (each_free (λ i. asks_of rows handle (first i records)) id_bound
-    (λ i below. asks_free rows handle i (first i records) byte below (λ item found. first_id i records item found))))
+    (λ i below. asks_free rows handle i (first i records) byte below (λ item found. first_id records found))))
 
 pub fast_sayable : (device : Device) (handle : ℕ) (base : Base) (rows : List Record) → IsProper device → handle < 2 ^ 8
     → opened_base device handle ≡ Some base → on_records base.database ≡ true → base.opened.next ≡ 0
     → AreSayable (fast_reads rows handle device) device
 unfolding AreFree
 fast_sayable device handle base rows proper byte is records new =
-    subst (λ acts. AreSayable acts device) (sym (fast_reads-are device handle base rows proper byte is records new))
-    (asked_free rows handle base.database.records byte (few_records device handle base proper is) device)
+    rw (fast_reads-are device handle base rows proper byte is records new)
+    (asked_free rows handle base.database.records byte (few_records handle proper is) device)

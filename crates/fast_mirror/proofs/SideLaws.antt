@@ -1,15 +1,11 @@
 -- A fast reading's three stretches: the ids, the changed records, the others.
-use Rattle.std.proofs.Common.{◌≡◌, ◌∙◌, ◌*◌, refl, ap, sym, subst, ℕ, zero, suc, List, [], ◌∷◌, ◌++◌, length, map}
+use Rattle.std.proofs.Common.{◌≡◌, ◌*◌, refl, ℕ, zero, suc, List, [], ◌∷◌, ◌++◌, length, map, rules}
 use Rattle.std.proofs.lemmas.List.{map-append}
 use Rattle.std.specs.Prelude.{Option, Some, None, IfOk, IfSome, OnOk, Result, Ok, Err}
 use Rattle.pdb_values.specs.declared.record.Record.{Record}
 use Rattle.palm_device.specs.Devices.{Device}
-use Rattle.palm_device.specs.Handles.{base_at as opened_base}
-use Rattle.dlp_replies.specs.ReplyValues.{ReplyValue}
-use Rattle.dlp_commands.specs.DeviceSteps.{outcome, tried}
-use Rattle.dlp_commands.specs.Errors.{need, none_open}
-use Rattle.dlp_commands.specs.Reached.{Tried, reads as reached}
-use Rattle.dlp_commands.specs.Readings.{read_in}
+use Rattle.dlp_commands.specs.DeviceSteps.{tried}
+use Rattle.dlp_commands.specs.Reached.{reads as reached}
 use Rattle.dlp_commands.specs.Talks.{Talk}
 use Rattle.dlp_commands.specs.declared.link.LinkFault.{LinkFault}
 use Rattle.dlp_commands.specs.declared.reading.Reading.TheVariants as reading
@@ -17,7 +13,7 @@ use Rattle.conduit_rules.specs.ById.{each_id}
 use Rattle.conduit_rules.specs.declared.view.Seen.{Seen}
 use Rattle.desktop_session.specs.declared.fault.SessionFault.{SessionFault}
 use Rattle.desktop_session.specs.Acts.{Act, acted, text}
-use Rattle.desktop_session.specs.Lists.{id_listings, id_parts}
+use Rattle.desktop_session.specs.Lists.{id_listings}
 use Rattle.desktop_session.specs.Requests.{listing_ids}
 use Rattle.desktop_session.specs.Says.{said, saying}
 use Rattle.desktop_session.specs.Sessions.{SessionValue}
@@ -26,63 +22,48 @@ use Rattle.desktop_session.specs.Tellings.{device_after}
 use Rattle.desktop_session.proofs.StopLaws.{does_then, stops_then}
 use Rattle.desktop_session.proofs.TellLaws.{IfDone, done_then, said_device}
 use Rattle.slow_mirror.specs.Asks.{Asks}
-use Rattle.slow_mirror.specs.Reads.{entries_told}
 use Rattle.slow_mirror.proofs.AskLaws.{all_said, asks_part, asks_then}
-use Rattle.slow_mirror.proofs.ReadLaws.{after_append, count_same}
+use Rattle.slow_mirror.proofs.ReadLaws.{after_append, count_same, outcome_same, Same}
 use Rattle.fast_mirror.specs.FastReads.{changed_acts, changed_reads, changed_reads_of, changed_seen, changed_told, fast_reads, fast_reads_of, fast_shown}
 use Rattle.fast_mirror.specs.FastReads.{ids_told, listing_acts, reads_at, shown_at}
 use Rattle.fast_mirror.proofs.ToldLaws.{asks_as}
 
 -- ---- a list of ids leaves the device as it was
 
-abbrev Same : Device → Device × ReplyValue → Type 0
-Same device done = done.0 ≡ device
-
-outcome_same : (device : Device) (number : ℕ) (r : Tried) → IfDone (Same device) r → (outcome device number r).1 ≡ device
-outcome_same device number (Ok done) same = same
-outcome_same device number (Err code) same = refl
-
 ids_keep : (device : Device) (handle start : ℕ) → IfDone (Same device) (reached device handle (reading.RecordIds start 8000))
-ids_keep device handle start =
-    let P : Device × ReplyValue → Type 0 = Same device in
-    done_then (need none_open (opened_base device handle)) _ P (λ base a.
-    done_then (read_in (reading.RecordIds start 8000) base.database) _ P (λ said b. refl {a = device}))
+ids_keep device handle start = search (rules, done_then)
 
 ids_same : (device : Device) (handle start : ℕ) → (acted (listing_ids handle start) device).1 ≡ device
 unfolding acted tried
-ids_same device handle start = outcome_same device 0x31 (reached device handle (reading.RecordIds start 8000)) (ids_keep device handle start)
+ids_same device handle start = search (rules, outcome_same, ids_keep)
 
 parts_same : (handle parts : ℕ) (device : Device) → device_after (id_listings handle parts) device ≡ device
 unfolding id_listings
 parts_same handle zero device = refl
 parts_same handle (suc parts) device =
-    after_append (id_listings handle parts) (listing_ids handle (8000 * parts) ∷ []) device
-    ∙ ap (λ d. (acted (listing_ids handle (8000 * parts)) d).1) (parts_same handle parts device) ∙ ids_same device handle (8000 * parts)
+    cc (
+      after_append (id_listings handle parts) (listing_ids handle (8000 * parts) ∷ []) device,
+      parts_same handle parts device,
+      ids_same device handle
+          (8000 * parts),
+    )
 
 listing_same : (handle : ℕ) (talk : Talk) → device_after (listing_acts handle (Some talk)) talk.device ≡ talk.device
-listing_same handle talk =
-    ap (device_after (id_listings handle (id_parts (entries_told talk.device handle)))) (count_same talk.device handle)
-    ∙ parts_same handle (id_parts (entries_told talk.device handle)) talk.device
+listing_same handle talk = search (rules, count_same, parts_same)
 
 -- ---- what is told of the device
 
 -- behind the ids the device is the first one
-pub listed_now : (P : Device → Type 0) (first now : Option Talk) (handle : ℕ) → now ≡ saying (listing_acts handle first) first
+pub listed_now : (P : Device → Type 0) {now : Option Talk} (first : Option Talk) (handle : ℕ) → now ≡ saying (listing_acts handle first) first
     → IfSome now (λ talk. P talk.device) → IfSome first (λ talk. P talk.device)
 unfolding saying
-listed_now P None now handle is holds = tt
-listed_now P (Some talk) now handle is holds =
-    let after : P (said (listing_acts handle (Some talk)) talk).device = subst (λ (o : Option Talk). IfSome o (λ talk. P talk.device)) is holds in
-    subst P (said_device (listing_acts handle (Some talk)) talk ∙ listing_same handle talk) after
+listed_now P first handle is holds = search (rules, said_device, listing_same)
 
 -- behind acts it is the one after them
-after_said : (P : Device → Type 0) (first now : Option Talk) (acts : List Act) → now ≡ saying acts first
-    → IfSome now (λ talk. P talk.device) → IfSome first (λ talk. P (device_after acts talk.device))
+after_said : (P : Device → Type 0) {now : Option Talk} (first : Option Talk) (acts : List Act) → now ≡ saying acts first → IfSome now (λ talk. P talk.device)
+    → IfSome first (λ talk. P (device_after acts talk.device))
 unfolding saying
-after_said P None now acts is holds = tt
-after_said P (Some talk) now acts is holds =
-    let after : P (said acts talk).device = subst (λ (o : Option Talk). IfSome o (λ talk. P talk.device)) is holds in
-    subst P (said_device acts talk) after
+after_said P first acts is holds = search (rules, said_device)
 
 told_changed : (now : Option Talk) (handle most : ℕ) → IfSome now (λ talk. changed_reads_of handle most now ≡ changed_reads handle most talk.device)
 told_changed None handle most = tt
@@ -97,63 +78,44 @@ pub record Knows (handle here most : ℕ) (ids : List ℕ) (seen : List Seen) (a
   pub said : acts ≡ changed_reads here most device
   pub shown : seen ≡ changed_seen here most device
 
-acts_known : (handle here most : ℕ) (ids : List ℕ) (seen : List Seen) (acts : List Act) (device : Device) → Knows handle here most ids seen acts device
+acts_known : {handle here most : ℕ} {ids : List ℕ} {seen : List Seen} {acts : List Act} {device : Device} → Knows handle here most ids seen acts device
     → acts ≡ changed_acts handle device
-acts_known handle here most ids seen acts device knows =
-    knows.said ∙ ap (λ h. changed_reads h most device) knows.same
-    ∙ ap (λ n. changed_reads handle n device) (knows.most_is ∙ ap (λ (xs : List ℕ). suc (length xs)) knows.listed)
+acts_known knows = search (rules)
 
-seen_known : (handle here most : ℕ) (ids : List ℕ) (seen : List Seen) (acts : List Act) (device : Device) → Knows handle here most ids seen acts device
+seen_known : {handle here most : ℕ} {ids : List ℕ} {seen : List Seen} {acts : List Act} {device : Device} → Knows handle here most ids seen acts device
     → seen ≡ changed_told handle device
-seen_known handle here most ids seen acts device knows =
-    knows.shown ∙ ap (λ h. changed_seen h most device) knows.same
-    ∙ ap (λ n. changed_seen handle n device) (knows.most_is ∙ ap (λ (xs : List ℕ). suc (length xs)) knows.listed)
+seen_known knows = search (rules)
 
-reads_known : (base : List Record) (handle here most : ℕ) (ids : List ℕ) (seen : List Seen) (acts : List Act) (talk : Talk)
+reads_known : (base : List Record) {handle here most : ℕ} {ids : List ℕ} {seen : List Seen} {acts : List Act} (talk : Talk)
     → Knows handle here most ids seen acts talk.device
     → listing_acts handle (Some talk) ++ (acts ++ each_id (reads_at base here ids seen)) ≡ fast_reads_of base handle (Some talk)
 unfolding fast_reads
-reads_known base handle here most ids seen acts talk knows =
-    let device = talk.device in
-    let front = listing_acts handle (Some talk) in
-    ap (λ xs. front ++ (xs ++ each_id (reads_at base here ids seen))) (acts_known handle here most ids seen acts device knows)
-    ∙ ap (λ h. front ++ (changed_acts handle device ++ each_id (reads_at base h ids seen))) knows.same
-    ∙ ap (λ xs. front ++ (changed_acts handle device ++ each_id (reads_at base handle xs seen))) knows.listed
-    ∙ ap (λ xs. front ++ (changed_acts handle device ++ each_id (reads_at base handle (ids_told handle device) xs)))
-    (seen_known handle here most ids seen acts device knows)
+reads_known base talk knows = search (rules, acts_known, seen_known)
 
-shown_known : (base : List Record) (handle here most : ℕ) (ids : List ℕ) (seen shown : List Seen) (acts : List Act) (device : Device)
+shown_known : (base : List Record) {handle here most : ℕ} {ids : List ℕ} {seen shown : List Seen} {acts : List Act} {device : Device}
     → Knows handle here most ids seen acts device → shown ≡ each_id (shown_at base here (device_after acts device) ids seen)
     → shown ≡ fast_shown base handle device
 unfolding fast_shown
-shown_known base handle here most ids seen shown acts device knows is =
-    let after = device_after (changed_acts handle device) device in
-    is ∙ ap (λ xs. each_id (shown_at base here (device_after xs device) ids seen)) (acts_known handle here most ids seen acts device knows)
-    ∙ ap (λ h. each_id (shown_at base h after ids seen)) knows.same
-    ∙ ap (λ xs. each_id (shown_at base handle after xs seen)) knows.listed
-    ∙ ap (λ xs. each_id (shown_at base handle after (ids_told handle device) xs)) (seen_known handle here most ids seen acts device knows)
+shown_known base knows is = search (rules, acts_known, seen_known)
 
-knows_by : (first : Option Talk) (handle here most : ℕ) (ids : List ℕ) (seen : List Seen) (acts : List Act) → here ≡ handle → most ≡ suc (length ids)
+knows_by : (first : Option Talk) {handle here most : ℕ} (ids : List ℕ) (seen : List Seen) (acts : List Act) → here ≡ handle → most ≡ suc (length ids)
     → IfSome first (λ talk. ids ≡ ids_told handle talk.device) → IfSome first (λ talk. acts ≡ changed_reads here most talk.device)
     → IfSome first (λ talk. seen ≡ changed_seen here most talk.device) → IfSome first (λ talk. Knows handle here most ids seen acts talk.device)
-knows_by None handle here most ids seen acts same most_is listed said shown = tt
-knows_by (Some talk) handle here most ids seen acts same most_is listed said shown =
-    record { same = same; most_is = most_is; listed = listed; said = said; shown = shown }
+knows_by first ids seen acts same most_is listed x7 shown = search (rules)
 
-pub knows_all : (first now : Option Talk) (handle here most : ℕ) (ids : List ℕ) (seen : List Seen) → here ≡ handle → most ≡ suc (length ids)
+pub knows_all : {now : Option Talk} (first : Option Talk) {handle here most : ℕ} (ids : List ℕ) (seen : List Seen) → here ≡ handle → most ≡ suc (length ids)
     → now ≡ saying (listing_acts handle first) first → IfSome first (λ talk. ids ≡ ids_told handle talk.device)
     → IfSome now (λ talk. seen ≡ changed_seen here most talk.device)
     → IfSome first (λ talk. Knows handle here most ids seen (changed_reads_of here most now) talk.device)
-knows_all first now handle here most ids seen same most_is said listed shown =
-    knows_by first handle here most ids seen (changed_reads_of here most now) same most_is listed
-    (listed_now (λ d. changed_reads_of here most now ≡ changed_reads here most d) first now handle said (told_changed now here most))
-    (listed_now (λ d. seen ≡ changed_seen here most d) first now handle said shown)
+knows_all {now} first {handle} {here} {most} ids seen same most_is said listed shown =
+    knows_by first ids seen (changed_reads_of here most now) same most_is listed
+    (listed_now (λ d. changed_reads_of here most now ≡ changed_reads here most d) first handle said (told_changed now here most))
+    (listed_now (λ d. seen ≡ changed_seen here most d) first handle said shown)
 
 reads_if : (first : Option Talk) (base : List Record) (handle here most : ℕ) (ids : List ℕ) (seen : List Seen) (acts : List Act)
     → IfSome first (λ talk. Knows handle here most ids seen acts talk.device)
     → IfSome first (λ talk. listing_acts handle first ++ (acts ++ each_id (reads_at base here ids seen)) ≡ fast_reads_of base handle (Some talk))
-reads_if None base handle here most ids seen acts knows = tt
-reads_if (Some talk) base handle here most ids seen acts knows = reads_known base handle here most ids seen acts talk knows
+reads_if first base handle here most ids seen acts knows = search (rules, reads_known)
 
 -- ---- the stretches, one behind the other
 
@@ -162,40 +124,33 @@ on_both (Ok x) f holds = f holds
 on_both (Err cause) f holds = tt
 
 -- a stretch behind another, where the link's fault is known at the end
-asks_behind : {L A : Type 0} (talk : L → Option Talk) (since : L → L → Type 0) (fault : L → Option LinkFault) (downs : L → ℕ)
-    (since_more : (a b c : L) → since a b → since b c → since a c) (xs ys : List Act) (old now new : SessionValue L) (answer : Result A SessionFault)
-    → Stops talk since fault downs (map text xs) old.link now.link → Does talk xs old.link now.link
-    → (now.user ≡ old.user) × (now.abandoned ≡ old.abandoned) → OnOk answer (fault new.link ≡ None)
-    → Asks talk since fault downs ys now new answer → Asks talk since fault downs (xs ++ ys) old new answer
-asks_behind talk since fault downs since_more xs ys old now new answer stops does rest none asks = record {
-  stops = subst (λ requests. Stops talk since fault downs requests old.link new.link) (sym (map-append text xs ys))
-      (stops_then talk since fault downs since_more xs (map text ys) old.link now.link new.link does stops asks.stops);
-  does = on_both answer (does_then talk xs ys old.link now.link new.link does) asks.does;
-  clear = on_both answer (λ clear before. clear) none;
-  user = asks.user ∙ rest.0;
-  abandoned = asks.abandoned ∙ rest.1;
-}
+asks_behind : {L A : Type 0} {talk : L → Option Talk} {since : L → L → Type 0} {fault : L → Option LinkFault} {downs : L → ℕ}
+    (since_more : (a b c : L) → since a b → since b c → since a c) {xs ys : List Act} {now new : SessionValue L} (old : SessionValue L)
+    {answer : Result A SessionFault}
+    → Stops talk since fault downs (map text xs) old.link now.link → Does talk xs old.link now.link → (now.user ≡ old.user) × (now.abandoned ≡ old.abandoned)
+    → OnOk answer (fault new.link ≡ None) → Asks talk since fault downs ys now new answer → Asks talk since fault downs (xs ++ ys) old new answer
+asks_behind since_more old stops does rest none asks = search (rules, map-append, stops_then, on_both, does_then)
 
 -- all of it
-pub side_asked : {L A B : Type 0} (talk : L → Option Talk) (since : L → L → Type 0) (fault : L → Option LinkFault) (downs : L → ℕ)
-    (since_more : (a b c : L) → since a b → since b c → since a c) (base : List Record) (handle here there most : ℕ)
-    (ids lent : List ℕ) (seen : List Seen) (old now mid new : SessionValue L) (changed : B) (answer : Result A SessionFault) → there ≡ here → lent ≡ ids
-    → Stops talk since fault downs (map text (listing_acts handle (talk old.link))) old.link now.link
+pub side_asked : {L A B : Type 0} {talk : L → Option Talk} {since : L → L → Type 0} {fault : L → Option LinkFault} {downs : L → ℕ}
+    (since_more : (a b c : L) → since a b → since b c → since a c) (base : List Record) {here there : ℕ} (handle most : ℕ) {ids lent : List ℕ}
+    (seen : List Seen) {old now mid new : SessionValue L} {changed : B} {answer : Result A SessionFault}
+    → there ≡ here → lent ≡ ids → Stops talk since fault downs (map text (listing_acts handle (talk old.link))) old.link now.link
     → Does talk (listing_acts handle (talk old.link)) old.link now.link → (now.user ≡ old.user) × (now.abandoned ≡ old.abandoned)
     → OnOk answer (fault new.link ≡ None)
     → IfSome (talk old.link) (λ told. Knows handle here most ids seen (changed_reads_of here most (talk now.link)) told.device)
     → Asks talk since fault downs (changed_reads_of here most (talk now.link)) now mid (Ok changed)
     → Asks talk since fault downs (each_id (reads_at base there lent seen)) mid new answer
     → Asks talk since fault downs (fast_reads_of base handle (talk old.link)) old new answer
-side_asked talk since fault downs since_more base handle here there most ids lent seen old now mid new changed answer same is stops does rest none knows second third =
+side_asked {talk} {since} {fault} {downs} since_more base {here} {there} handle most {ids} seen {old} {now} {mid} {new} {changed} {answer} same is stops does
+    rest none knows second third =
     let acts = changed_reads_of here most (talk now.link) in
     let others = each_id (reads_at base here ids seen) in
-    asks_as talk since fault downs (listing_acts handle (talk old.link) ++ (acts ++ others)) (fast_reads_of base handle) old new answer
+    asks_as (fast_reads_of base handle)
     (reads_if (talk old.link) base handle here most ids seen acts knows)
-    (asks_behind talk since fault downs since_more (listing_acts handle (talk old.link)) (acts ++ others) old now new answer stops does rest none
+    (asks_behind since_more old stops does rest none
     (asks_then talk since fault downs since_more acts others now mid new answer (all_said talk since fault downs acts now mid changed second)
-    (subst (λ h. Asks talk since fault downs (each_id (reads_at base h ids seen)) mid new answer) same
-    (subst (λ (xs : List ℕ). Asks talk since fault downs (each_id (reads_at base there xs seen)) mid new answer) is third))))
+    (rw (← same) (rw (← is) third))))
 
 -- ---- a stop
 
@@ -211,15 +166,14 @@ unfolding behind_ids fast_reads
 ids_said None base handle = tt
 ids_said (Some talk) base handle = refl
 
-pub side_listed : {L A : Type 0} (talk : L → Option Talk) (since : L → L → Type 0) (fault : L → Option LinkFault) (downs : L → ℕ)
-    (base : List Record) (handle : ℕ) (old now : SessionValue L) (cause : SessionFault)
-    → Stops talk since fault downs (map text (listing_acts handle (talk old.link))) old.link now.link
-    → (now.user ≡ old.user) × (now.abandoned ≡ old.abandoned)
+pub side_listed : {L A : Type 0} {talk : L → Option Talk} {since : L → L → Type 0} {fault : L → Option LinkFault} {downs : L → ℕ} (base : List Record)
+    (handle : ℕ) (old now : SessionValue L) (cause : SessionFault)
+    → Stops talk since fault downs (map text (listing_acts handle (talk old.link))) old.link now.link → (now.user ≡ old.user) × (now.abandoned ≡ old.abandoned)
     → Asks {A = A} talk since fault downs (fast_reads_of base handle (talk old.link)) old now (Err cause)
-side_listed {L} {A} talk since fault downs base handle old now cause stops rest =
+side_listed {L} {A} {talk} {since} {fault} {downs} base handle old now cause stops rest =
     let front = listing_acts handle (talk old.link) in
     let follows = behind_ids base handle (talk old.link) in
-    asks_as talk since fault downs (front ++ follows) (fast_reads_of base handle) old now (Err cause) (ids_said (talk old.link) base handle)
+    asks_as (fast_reads_of base handle) (ids_said (talk old.link) base handle)
     (asks_part {A = A} {B = A} talk since fault downs front follows old now cause cause
     (record { stops = stops; does = tt; clear = tt; user = rest.0; abandoned = rest.1 }))
 
@@ -228,34 +182,29 @@ behind_changed : List Record → ℕ → Option Talk → List Act
 behind_changed base handle None = []
 behind_changed base handle (Some talk) = each_id (reads_at base handle (ids_told handle talk.device) (changed_told handle talk.device))
 
-changed_said : (first : Option Talk) (base : List Record) (handle here most : ℕ) (ids : List ℕ) (acts : List Act) → here ≡ handle
-    → most ≡ suc (length ids) → IfSome first (λ talk. ids ≡ ids_told handle talk.device)
-    → IfSome first (λ talk. acts ≡ changed_reads here most talk.device)
+changed_said : (first : Option Talk) (base : List Record) {handle here most : ℕ} (ids : List ℕ) (acts : List Act) → here ≡ handle → most ≡ suc (length ids)
+    → IfSome first (λ talk. ids ≡ ids_told handle talk.device) → IfSome first (λ talk. acts ≡ changed_reads here most talk.device)
     → IfSome first (λ talk. listing_acts handle first ++ (acts ++ behind_changed base handle first) ≡ fast_reads_of base handle (Some talk))
 unfolding behind_changed fast_reads
-changed_said None base handle here most ids acts same most_is listed said = tt
-changed_said (Some talk) base handle here most ids acts same most_is listed said =
-    let seen = changed_seen here most talk.device in
-    ap (λ xs. listing_acts handle (Some talk) ++ (xs ++ behind_changed base handle (Some talk)))
-    (acts_known handle here most ids seen acts talk.device
-    (record { same = same; most_is = most_is; listed = listed; said = said; shown = refl {a = seen} }))
+changed_said first base ids acts same most_is listed x7 = search (rules, behind_changed, acts_known)
 
-pub side_changed : {L A B : Type 0} (talk : L → Option Talk) (since : L → L → Type 0) (fault : L → Option LinkFault) (downs : L → ℕ)
-    (since_more : (a b c : L) → since a b → since b c → since a c) (base : List Record) (handle here most : ℕ) (ids : List ℕ)
-    (old now mid : SessionValue L) (cause other : SessionFault) → here ≡ handle → most ≡ suc (length ids)
-    → Stops talk since fault downs (map text (listing_acts handle (talk old.link))) old.link now.link
+pub side_changed : {L A B : Type 0} {talk : L → Option Talk} {since : L → L → Type 0} {fault : L → Option LinkFault} {downs : L → ℕ}
+    (since_more : (a b c : L) → since a b → since b c → since a c) (base : List Record) {handle here most : ℕ} (ids : List ℕ) {now mid : SessionValue L}
+    (old : SessionValue L) {cause : SessionFault} (other : SessionFault)
+    → here ≡ handle → most ≡ suc (length ids) → Stops talk since fault downs (map text (listing_acts handle (talk old.link))) old.link now.link
     → Does talk (listing_acts handle (talk old.link)) old.link now.link → (now.user ≡ old.user) × (now.abandoned ≡ old.abandoned)
     → IfSome (talk old.link) (λ told. ids ≡ ids_told handle told.device)
     → Asks {A = A} talk since fault downs (changed_reads_of here most (talk now.link)) now mid (Err cause)
     → Asks {A = B} talk since fault downs (fast_reads_of base handle (talk old.link)) old mid (Err other)
-side_changed {L} {A} {B} talk since fault downs since_more base handle here most ids old now mid cause other same most_is stops does rest listed asks =
+side_changed {L} {A} {B} {talk} {since} {fault} {downs} since_more base {handle} {here} {most} ids {now} {mid} old {cause} other same most_is stops does rest
+    listed asks =
     let acts = changed_reads_of here most (talk now.link) in
     let follows = behind_changed base handle (talk old.link) in
-    asks_as talk since fault downs (listing_acts handle (talk old.link) ++ (acts ++ follows)) (fast_reads_of base handle) old mid (Err other)
-    (changed_said (talk old.link) base handle here most ids acts same most_is listed
-    (listed_now (λ d. acts ≡ changed_reads here most d) (talk old.link) (talk now.link) handle does.said (told_changed (talk now.link) here most)))
-    (asks_behind {A = B} talk since fault downs since_more (listing_acts handle (talk old.link)) (acts ++ follows) old now mid (Err other) stops does rest
-    tt (asks_part {A = A} {B = B} talk since fault downs acts follows now mid cause other asks))
+    asks_as (fast_reads_of base handle)
+    (changed_said (talk old.link) base ids acts same most_is listed
+    (listed_now (λ d. acts ≡ changed_reads here most d) (talk old.link) handle does.said (told_changed (talk now.link) here most)))
+    (asks_behind since_more old stops does rest
+    tt (asks_part talk since fault downs acts follows now mid cause other asks))
 
 -- ---- what is shown
 
@@ -265,25 +214,24 @@ shown_if : (first : Option Talk) (base : List Record) (handle here most : ℕ) (
     → IfSome first (λ talk. shown ≡ fast_shown base handle talk.device)
 shown_if None base handle here most ids seen shown acts knows is = tt
 shown_if (Some talk) base handle here most ids seen shown acts knows is =
-    shown_known base handle here most ids seen shown acts talk.device knows is
+    shown_known base knows is
 
-pub side_shown : {A : Type 0} (items : A → List Seen) (first now mid : Option Talk) (base : List Record) (handle here there most : ℕ)
-    (ids lent : List ℕ) (seen : List Seen) (answer : Result A SessionFault) → there ≡ here → lent ≡ ids → now ≡ saying (listing_acts handle first) first
-    → mid ≡ saying (changed_reads_of here most now) now
+pub side_shown : {A : Type 0} (items : A → List Seen) {now mid : Option Talk} (first : Option Talk) (base : List Record) {here there : ℕ} (handle most : ℕ)
+    {ids lent : List ℕ} (seen : List Seen) (answer : Result A SessionFault)
+    → there ≡ here → lent ≡ ids → now ≡ saying (listing_acts handle first) first → mid ≡ saying (changed_reads_of here most now) now
     → IfSome first (λ talk. Knows handle here most ids seen (changed_reads_of here most now) talk.device)
     → IfOk answer (λ view. IfSome mid (λ talk. items view ≡ each_id (shown_at base there talk.device lent seen)))
     → IfOk answer (λ view. IfSome first (λ talk. items view ≡ fast_shown base handle talk.device))
-side_shown items first now mid base handle here there most ids lent seen (Ok view) same is listed changed knows shown =
+side_shown items {now} {mid} first base {here} {there} handle most {ids} seen (Ok view) same is listed changed knows shown =
     let acts = changed_reads_of here most now in
     shown_if first base handle here most ids seen (items view) acts knows
-    (listed_now (λ d. items view ≡ each_id (shown_at base here (device_after acts d) ids seen)) first now handle listed
-    (after_said (λ d. items view ≡ each_id (shown_at base here d ids seen)) now mid acts changed
-    (subst (λ h. IfSome mid (λ talk. items view ≡ each_id (shown_at base h talk.device ids seen))) same
-    (subst (λ (xs : List ℕ). IfSome mid (λ talk. items view ≡ each_id (shown_at base there talk.device xs seen))) is shown))))
-side_shown items first now mid base handle here there most ids lent seen (Err cause) same is listed changed knows shown = tt
+    (listed_now (λ d. items view ≡ each_id (shown_at base here (device_after acts d) ids seen)) first handle listed
+    (after_said (λ d. items view ≡ each_id (shown_at base here d ids seen)) now acts changed
+    (rw (← same) (rw (← is) shown))))
+side_shown items first base handle most seen (Err cause) same is listed changed knows shown = tt
 
 -- ---- the link has no fault
 
-pub side_none : {A : Type 0} (answer : Result A SessionFault) (before after : Option LinkFault) → before ≡ None
+pub side_none : {A : Type 0} (answer : Result A SessionFault) {before : Option LinkFault} (after : Option LinkFault) → before ≡ None
     → OnOk answer (before ≡ None → after ≡ None) → OnOk answer (after ≡ None)
-side_none answer before after none clear = on_both answer (λ clear. clear none) clear
+side_none answer after none clear = on_both answer (λ clear. clear none) clear

@@ -1,60 +1,47 @@
 -- Where no device is told, nothing is told of acts.
-use Rattle.std.proofs.Common.{◌≡◌, ◌∙◌, refl, ap, sym, subst, ℕ, List, map}
+use Rattle.std.proofs.Common.{◌≡◌, ◌∙◌, refl, ap, sym, ℕ, List, rules}
 use Rattle.std.specs.Prelude.{Option, Some, None, IfSome, OnOk, Result, Ok, Err}
 use Rattle.dlp_commands.specs.declared.link.LinkFault.{LinkFault}
 use Rattle.dlp_commands.specs.Talks.{Talk}
 use Rattle.desktop_session.specs.declared.fault.SessionFault.{SessionFault}
-use Rattle.desktop_session.specs.Acts.{Act, text}
-use Rattle.desktop_session.specs.Says.{Begins, grown, saying, sent}
+use Rattle.desktop_session.specs.Acts.{Act}
+use Rattle.desktop_session.specs.Says.{grown, saying, sent}
 use Rattle.desktop_session.specs.Sessions.{SessionValue}
 use Rattle.desktop_session.specs.Stops.{Does, Stops}
 use Rattle.slow_mirror.specs.Asks.{Asks}
 
-grown_none : (o : Option Talk) (requests : List (List ℕ)) → o ≡ None → grown (sent o) requests ≡ None
+grown_none : {o : Option Talk} (requests : List (List ℕ)) → o ≡ None → grown (sent o) requests ≡ None
 unfolding grown sent
-grown_none o requests none = rw none refl
+grown_none requests none = rw none refl
 
-saying_none : (o : Option Talk) (acts : List Act) → o ≡ None → saying acts o ≡ None
+saying_none : {o : Option Talk} (acts : List Act) → o ≡ None → saying acts o ≡ None
 unfolding saying
-saying_none o acts none = rw none refl
+saying_none acts none = rw none refl
 
 pub does_none_told : {L : Type 0} (talk : L → Option Talk) (xs ys : List Act) (old new : L) → talk old ≡ None → Does talk xs old new → Does talk ys old new
-does_none_told talk xs ys old new none does = record {
-  said = does.said ∙ saying_none (talk old) xs none ∙ sym (saying_none (talk old) ys none);
-  sent = does.sent ∙ grown_none (talk old) (map text xs) none ∙ sym (grown_none (talk old) (map text ys) none);
-}
+does_none_told talk xs ys old new none does = search (rules, saying_none, grown_none)
 
 on_ok : {A : Type 0} {P Q : Type 0} (answer : Result A SessionFault) → (P → Q) → OnOk answer P → OnOk answer Q
 on_ok (Ok x) f holds = f holds
 on_ok (Err cause) f holds = tt
 
-pub stops_none_told : {L : Type 0} (talk : L → Option Talk) (since : L → L → Type 0) (fault : L → Option LinkFault) (downs : L → ℕ)
-    (xs ys : List (List ℕ)) (old new : L) → talk old ≡ None → Stops talk since fault downs xs old new → Stops talk since fault downs ys old new
-stops_none_told talk since fault downs xs ys old new none stops = record {
-  only = subst (Begins (sent (talk new))) (grown_none (talk old) xs none ∙ sym (grown_none (talk old) ys none)) stops.only;
-  kept = stops.kept;
-  tells = stops.tells;
-  later = stops.later;
-  fell = stops.fell;
-}
+pub stops_none_told : {L : Type 0} {talk : L → Option Talk} {since : L → L → Type 0} {fault : L → Option LinkFault} {downs : L → ℕ} {xs : List (List ℕ)}
+    (ys : List (List ℕ)) {old new : L}
+    → talk old ≡ None → Stops talk since fault downs xs old new → Stops talk since fault downs ys old new
+stops_none_told ys none stops = search (rules, grown_none)
 
-asks_none_told : {L A : Type 0} (talk : L → Option Talk) (since : L → L → Type 0) (fault : L → Option LinkFault) (downs : L → ℕ) (xs ys : List Act)
-    (old new : SessionValue L) (answer : Result A SessionFault) → talk old.link ≡ None → Asks talk since fault downs xs old new answer
-    → Asks talk since fault downs ys old new answer
-asks_none_told talk since fault downs xs ys old new answer none asks = record {
-  stops = stops_none_told talk since fault downs (map text xs) (map text ys) old.link new.link none asks.stops;
-  does = on_ok answer (does_none_told talk xs ys old.link new.link none) asks.does;
-  clear = asks.clear;
-  user = asks.user;
-  abandoned = asks.abandoned;
-}
+asks_none_told : {L A : Type 0} {talk : L → Option Talk} {since : L → L → Type 0} {fault : L → Option LinkFault} {downs : L → ℕ} {xs : List Act}
+    (ys : List Act) {old new : SessionValue L} {answer : Result A SessionFault}
+    → talk old.link ≡ None → Asks talk since fault downs xs old new answer → Asks talk since fault downs ys old new answer
+asks_none_told ys none asks = search (rules, stops_none_told, on_ok, does_none_told)
 
 -- the same acts, by what is told
-pub asks_as : {L A : Type 0} (talk : L → Option Talk) (since : L → L → Type 0) (fault : L → Option LinkFault) (downs : L → ℕ) (xs : List Act)
-    (ys : Option Talk → List Act) (old new : SessionValue L) (answer : Result A SessionFault) → IfSome (talk old.link) (λ told. xs ≡ ys (Some told))
-    → Asks talk since fault downs xs old new answer → Asks talk since fault downs (ys (talk old.link)) old new answer
-asks_as {L} {A} talk since fault downs xs ys old new answer same asks = by (talk old.link) refl same
+pub asks_as : {L A : Type 0} {talk : L → Option Talk} {since : L → L → Type 0} {fault : L → Option LinkFault} {downs : L → ℕ} {xs : List Act}
+    (ys : Option Talk → List Act) {old new : SessionValue L} {answer : Result A SessionFault}
+    → IfSome (talk old.link) (λ told. xs ≡ ys (Some told)) → Asks talk since fault downs xs old new answer
+    → Asks talk since fault downs (ys (talk old.link)) old new answer
+asks_as {L} {A} {talk} {since} {fault} {downs} {xs} ys {old} {new} {answer} same asks = by (talk old.link) refl same
   where
     by : (o : Option Talk) → talk old.link ≡ o → IfSome o (λ told. xs ≡ ys (Some told)) → Asks talk since fault downs (ys (talk old.link)) old new answer
-    by None is same = asks_none_told talk since fault downs xs (ys (talk old.link)) old new answer is asks
-    by (Some told) is same = subst (λ acts. Asks talk since fault downs acts old new answer) (same ∙ ap ys (sym is)) asks
+    by None is same = asks_none_told (ys (talk old.link)) is asks
+    by (Some told) is same = rw (← same ∙ ap ys (sym is)) asks

@@ -1,5 +1,6 @@
 -- What a stable sort by ids leaves, once all but the first entry of each id are gone.
-use Rattle.std.proofs.Common.{◌≡◌, ◌∙◌, ◌<◌, ◌≤◌, ◌==◌, refl, ap, sym, subst, arith, ℕ, zero, suc, Bool, true, false, List, [], ◌∷◌, ◌++◌, length, map, filter, cond, Option, Some, None, option_to_list, get_or, if◌then◌else◌}
+use Rattle.std.proofs.Common.{◌≡◌, ◌∙◌, ◌<◌, ◌≤◌, ◌==◌, refl, ap, sym, arith, ℕ, zero, suc, Bool, true, false, List, [], ◌∷◌, length, map, filter}
+use Rattle.std.proofs.Common.{cond, Option, Some, None, option_to_list, get_or, rules}
 use Rattle.std.specs.Ordering.{nat_cmp}
 use Rattle.std.specs.List.{AllByRecursion, dedup, dedup_from}
 use Rattle.std.specs.List.Sorted.{IsNonDecreasingBy, IsPermutation, IsStableByKey}
@@ -15,6 +16,7 @@ use Rattle.conduit_rules.proofs.PlanLaws.{IsRisingFrom, ids_of}
 use Rattle.conduit_rules.proofs.RisingLaws.{each_below-rising}
 use Rattle.conduit_rules.proofs.SortLaws.{same-by_key}
 use Rattle.slow_mirror.specs.Entries.{AreBounded, ordered}
+use Rattle.std.proofs.lemmas.Grind.{common_steps}
 
 -- ---- the first entry of an id
 
@@ -23,12 +25,7 @@ same_id later kept = later.id == kept.id
 
 first-dedup_from : (i : ℕ) (k : Seen) (xs : List Seen) → first_seen i (dedup_from same_id k xs) ≡ first_seen i (k ∷ xs)
 first-dedup_from i k [] = refl
-first-dedup_from i k (x ∷ xs) = by (same_id x k) refl (first-dedup_from i k xs) (first-dedup_from i x xs)
-  where
-    by : (b : Bool) → same_id x k ≡ b → first_seen i (dedup_from same_id k xs) ≡ first_seen i (k ∷ xs) → first_seen i (dedup_from same_id x xs) ≡ first_seen i (x ∷ xs)
-        → first_seen i (cond b (dedup_from same_id k xs) (k ∷ dedup_from same_id x xs)) ≡ first_seen i (k ∷ x ∷ xs)
-    by true is kept later = kept ∙ grind (arith, nat_tests, is)
-    by false is kept later = grind (arith, nat_tests, later)
+first-dedup_from i k (x ∷ xs) = grind (arith, common_steps, nat_tests, first-dedup_from i k xs, first-dedup_from i x xs)
 
 first-dedup : (i : ℕ) (xs : List Seen) → first_seen i (dedup same_id xs) ≡ first_seen i xs
 first-dedup i [] = refl
@@ -41,14 +38,10 @@ front (x ∷ xs) = Some x
 
 first-filter : (i : ℕ) (xs : List Seen) → first_seen i xs ≡ front (filter (λ s. s.id == i) xs)
 first-filter i [] = refl
-first-filter i (x ∷ xs) = by (x.id == i) refl (first-filter i xs)
-  where
-    by : (b : Bool) → (x.id == i) ≡ b → first_seen i xs ≡ front (filter (λ s. s.id == i) xs) → (if b then Some x else first_seen i xs) ≡ front (if b then x ∷ filter (λ s. s.id == i) xs else filter (λ s. s.id == i) xs)
-    by true is rest = refl
-    by false is rest = rest
+first-filter i (x ∷ xs) = grind (arith, common_steps, nat_tests, first-filter i xs)
 
 first-stable : (i : ℕ) (xs ys : List Seen) → IsStableByKey (λ (s : Seen). s.id) nat_cmp xs ys → first_seen i ys ≡ first_seen i xs
-first-stable i xs ys stable = first-filter i ys ∙ ap front (same-by_key (λ (s : Seen). s.id) xs ys stable i) ∙ sym (first-filter i xs)
+first-stable i xs ys stable = cc (first-filter i ys, same-by_key (λ (s : Seen). s.id) xs ys stable i, first-filter i xs)
 
 -- ---- entries in rising ids, none twice
 
@@ -63,16 +56,17 @@ RisesFrom low (s ∷ ss) end = (low ≤ s.id) × RisesFrom (suc s.id) ss end
 rises-dedup_from : (low end : ℕ) (k : Seen) (xs : List Seen) → low ≤ k.id → k.id < end → IsSortedFrom k.id xs end → RisesFrom low (dedup_from same_id k xs) end
 rises-dedup_from low end k [] above below sorted = (above, below)
 rises-dedup_from low end k (x ∷ xs) above below sorted =
-    by (same_id x k) refl (λ is. rises-dedup_from low end k xs above below (subst (λ j. IsSortedFrom j xs end) is sorted.2)) (λ over. rises-dedup_from (suc k.id) end x xs over sorted.1 sorted.2)
+    by (same_id x k) refl (λ is. rises-dedup_from low end k xs above below (rw (← is) sorted.2))
+    (λ over. rises-dedup_from (suc k.id) end x xs over sorted.1 sorted.2)
   where
-    by : (b : Bool) → same_id x k ≡ b → (x.id ≡ k.id → RisesFrom low (dedup_from same_id k xs) end) → (suc k.id ≤ x.id → RisesFrom (suc k.id) (dedup_from same_id x xs) end)
+    by : (b : Bool) → same_id x k ≡ b → (x.id ≡ k.id → RisesFrom low (dedup_from same_id k xs) end)
+        → (suc k.id ≤ x.id → RisesFrom (suc k.id) (dedup_from same_id x xs) end)
         → RisesFrom low (cond b (dedup_from same_id k xs) (k ∷ dedup_from same_id x xs)) end
     by true is kept later = kept (grind (arith, nat_tests, is))
     by false is kept later = (above, later (let over : suc k.id ≤ x.id = grind (arith, nat_tests, is, sorted.0) in over))
 
 rises-dedup : (end : ℕ) (xs : List Seen) → IsSortedFrom 0 xs end → RisesFrom 0 (dedup same_id xs) end
-rises-dedup end [] sorted = omega arith
-rises-dedup end (x ∷ xs) sorted = rises-dedup_from 0 end x xs sorted.0 sorted.1 sorted.2
+rises-dedup end xs sorted = search (rules, rises-dedup_from)
 
 -- ---- what stands under each id
 
@@ -89,28 +83,25 @@ rising-paired low end (s ∷ ss) rises = (rises.0, rising-paired (suc s.id) end 
 
 unpaired : (ss : List Seen) → map (λ e. e.1) (paired ss) ≡ ss
 unpaired [] = refl
-unpaired (s ∷ ss) = ap (λ xs. s ∷ xs) (unpaired ss)
+unpaired (s ∷ ss) = cc (unpaired ss)
 
 map-with_id : (i : ℕ) (o : Option Seen) → map (λ e. e.1) (with_id i o) ≡ option_to_list o
 map-with_id i None = refl
 map-with_id i (Some s) = refl
 
 map-each_below : (f : ℕ → Option Seen) (n : ℕ) → map (λ e. e.1) (each_below (λ i. with_id i (f i)) n) ≡ each_below (λ i. option_to_list (f i)) n
-map-each_below f zero = ap (map (λ e. e.1)) (each_below-zero (λ i. with_id i (f i))) ∙ sym (each_below-zero (λ i. option_to_list (f i)))
-map-each_below f (suc n) =
-    ap (map (λ e. e.1)) (each_below-suc (λ i. with_id i (f i)) n)
-    ∙ map-append (λ e. e.1) (each_below (λ i. with_id i (f i)) n) (with_id n (f n))
-    ∙ ap (λ xs. xs ++ map (λ e. e.1) (with_id n (f n))) (map-each_below f n)
-    ∙ ap (λ xs. each_below (λ i. option_to_list (f i)) n ++ xs) (map-with_id n (f n))
-    ∙ sym (each_below-suc (λ i. option_to_list (f i)) n)
+map-each_below f zero = grind (arith, common_steps, nat_tests, each_below-zero)
+map-each_below f (suc n) = grind (arith, common_steps, nat_tests, each_below-suc, map-append, map-each_below f n, map-with_id)
 
 -- a list in rising ids is what stands under each id
 each_below-first_seen : (end : ℕ) (ss : List Seen) → RisesFrom 0 ss end → each_below (λ i. option_to_list (first_seen i ss)) end ≡ ss
 each_below-first_seen end ss rises =
-    each_below-same (λ i. option_to_list (first_seen i ss)) (λ i. option_to_list (at i (paired ss))) end (λ i l. ap option_to_list (sym (at-paired i ss)))
-    ∙ sym (map-each_below (λ i. at i (paired ss)) end)
-    ∙ ap (map (λ e. e.1)) (each_below-rising end (paired ss) (rising-paired 0 end ss rises))
-    ∙ unpaired ss
+    cc (
+      each_below-same (λ i. option_to_list (first_seen i ss)) (λ i. option_to_list (at i (paired ss))) end (λ i l. ap option_to_list (sym (at-paired i ss))),
+      map-each_below (λ i. at i (paired ss)) end,
+      each_below-rising end (paired ss) (rising-paired 0 end ss rises),
+      unpaired ss,
+    )
 
 -- ---- a sorted list
 
@@ -128,16 +119,15 @@ pub record InOrder (xs zs : List Seen) : Type 0 where
   pub kept : zs ≡ ordered xs
   pub rises : ordered zs ≡ zs
 
-pub in_order-sorted : (xs ys zs : List Seen) → IsStableByKey (λ (s : Seen). s.id) nat_cmp xs ys → IsPermutation xs ys → IsNonDecreasingBy (λ (s : Seen). s.id) ys
-    → AreBounded xs → zs ≡ dedup same_id ys → InOrder xs zs
-in_order-sorted xs ys zs stable moved rises bounded is =
+pub in_order-sorted : {zs : List Seen} (xs ys : List Seen) → IsStableByKey (λ (s : Seen). s.id) nat_cmp xs ys → IsPermutation xs ys
+    → IsNonDecreasingBy (λ (s : Seen). s.id) ys → AreBounded xs → zs ≡ dedup same_id ys → InOrder xs zs
+in_order-sorted xs ys stable moved rises bounded is =
     let within : AllByRecursion (λ (s : Seen). s.id < id_bound) ys =
     recursion_from_All (λ (s : Seen). s.id < id_bound) ys (All-permutation (λ (s : Seen). s.id < id_bound) xs ys moved bounded) in
     let sorted = sorted-from 0 id_bound ys (λ k d l. omega arith) within rises in
     let whole = each_below-first_seen id_bound (dedup same_id ys) (rises-dedup id_bound ys sorted) in
     record {
-      kept = is ∙ sym whole
-          ∙ each_below-same (λ i. option_to_list (first_seen i (dedup same_id ys))) (λ i. option_to_list (first_seen i xs)) id_bound
-          (λ i l. ap option_to_list (first-dedup i ys ∙ first-stable i xs ys stable));
-      rises = subst (λ ss. ordered ss ≡ ss) (sym is) whole;
+      kept = cc (each_below-same (λ i. option_to_list (first_seen i (dedup same_id ys))) (λ i. option_to_list (first_seen i xs)) id_bound (λ i l. ap
+          option_to_list (first-dedup i ys ∙ first-stable i xs ys stable)));
+      rises = rw is whole;
     }

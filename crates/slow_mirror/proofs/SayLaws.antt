@@ -1,10 +1,10 @@
 -- What a mirror asks for fits into messages, and new records get ids that are free at their turn.
-use Rattle.std.proofs.Common.{◌≤◌, ◌<◌, ◌^◌, refl, ℕ, zero, suc, List, [], ◌∷◌, ◌++◌, map, arith}
+use Rattle.std.proofs.Common.{◌≤◌, ◌<◌, ◌^◌, refl, ℕ, zero, suc, List, [], ◌∷◌, ◌++◌, map, arith, rules}
 use Rattle.std.specs.List.{AllByRecursion}
 use Rattle.pdb_values.specs.Contents.{ContentValue}
 use Rattle.palm_device.specs.Devices.{Device}
 use Rattle.desktop_session.specs.Acts.{Act, acted}
-use Rattle.desktop_session.specs.Requests.{cleaning, counting, putting, reading_at, removing, resetting}
+use Rattle.desktop_session.specs.Requests.{putting, reading_at, removing}
 use Rattle.desktop_session.specs.Tellings.{AreSayable}
 use Rattle.desktop_session.proofs.RequestFits.{at_fits, clean_fits, count_fits, putting_fits, remove_fits, reset_fits}
 use Rattle.desktop_session.proofs.TellLaws.{act_sayable}
@@ -24,8 +24,7 @@ reads_sayable handle (suc count) device byte few =
     (λ d. (act_sayable (reading_at handle count).asks d (at_fits handle count byte (omega arith)) refl, tt))
 
 pub slow_sayable : (device : Device) (handle count : ℕ) → handle < 2 ^ 8 → count ≤ 2 ^ 16 → AreSayable (slow_reads handle count) device
-slow_sayable device handle count byte few =
-    (act_sayable (counting handle).asks device (count_fits handle byte) refl, reads_sayable handle count (acted (counting handle) device).1 byte few)
+slow_sayable device handle count byte few = search (rules, act_sayable, count_fits, reads_sayable)
 
 pub puts_sayable : (device : Device) (handle : ℕ) (entries : List (ℕ × ContentValue)) (given : List ℕ) → handle < 2 ^ 8 → ArePuttable entries
     → AreIdsOf entries given → AreFreeFor handle entries given device → AreSayable (puts handle given entries) device
@@ -48,9 +47,4 @@ removes_sayable device handle (id ∷ ids) byte bounded = (
 
 pub purges_sayable : (device : Device) (handle : ℕ) (ids : List ℕ) → handle < 2 ^ 8 → AllByRecursion (λ (id : ℕ). id ≤ 16777215) ids
     → AreSayable (purge_writes handle ids) device
-purges_sayable device handle ids byte bounded =
-    sayable-append (map (removing handle) ids) (cleaning handle ∷ resetting handle ∷ []) device (removes_sayable device handle ids byte bounded)
-    (λ d. (
-      act_sayable (cleaning handle).asks d (clean_fits handle byte) refl,
-      (act_sayable (resetting handle).asks (acted (cleaning handle) d).1 (reset_fits handle byte) refl, tt),
-    ))
+purges_sayable device handle ids byte bounded = search (rules, sayable-append, removes_sayable, act_sayable, clean_fits, reset_fits)

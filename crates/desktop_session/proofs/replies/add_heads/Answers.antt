@@ -7,5 +7,5 @@ use Rattle.desktop_session.proofs.replies.add_heads.Goals as goal
 pub loop-place-preserved : goal.loop-place-preserved
 loop-place-preserved c =
     c.in_ok-push.ensures.items
-    ∙ grows (λ (entry : ℕ × DbHead). entry.1) c.in-Some.entries c.args.heads.now.items c.loop-place.heads.items c.loop-place.place c.unwrap-entry.result
+    ∙ grows (λ (entry : ℕ × DbHead). entry.1) c.in-Some.entries c.args.heads.now.items c.loop-place.place
     (sym c.get.ensures ∙ c.unwrap-entry.ensures) c.loop-place.invariant

@@ -1,5 +1,5 @@
 -- All ids are appended.
-use Rattle.std.proofs.Common.{◌∙◌, ◌++◌, sym, ap, ℕ, List, arith}
+use Rattle.std.proofs.Common.{◌∙◌, sym, ℕ, arith}
 use Rattle.dlp_replies.specs.ReplyReading.{reply_at}
 use Rattle.desktop_session.proofs.GrowLaws.{grows, whole_same}
 use Rattle.desktop_session.proofs.ListedLaws.{ids_said}
@@ -8,10 +8,13 @@ use Rattle.desktop_session.proofs.replies.add_ids.Goals as goal
 pub loop-place-preserved : goal.loop-place-preserved
 loop-place-preserved c =
     c.in_ok-push.ensures.items
-    ∙ grows (λ (id : ℕ). id) c.in_ok-ids.ids c.args.all.now.items c.loop-place.all.items c.loop-place.place c.unwrap-id.result
+    ∙ grows (λ (id : ℕ). id) c.in_ok-ids.ids c.args.all.now.items c.loop-place.place
     (sym c.get.ensures ∙ c.unwrap-id.ensures) c.loop-place.invariant
 
 pub returns-clause-ids : goal.returns-clause-ids
 returns-clause-ids c =
-    whole_same c.in_ok-ids.ids c.args.all.now.items c.loop-place.all.items c.loop-place.place (omega arith) c.loop-place.invariant
-    ∙ ap (λ (ids : List ℕ). c.args.all.now.items ++ ids) (ids_said (reply_at 0x31 c.args.bytes.now) c.in_ok-ids.ids c.in_ok-ids.ensures)
+    cc (
+      whole_same c.in_ok-ids.ids c.args.all.now.items c.loop-place.place (omega arith) c.loop-place.invariant,
+      ids_said (reply_at 0x31 c.args.bytes.now)
+          c.in_ok-ids.ensures,
+    )

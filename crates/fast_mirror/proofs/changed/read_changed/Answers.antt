@@ -14,10 +14,10 @@ pub loop-request-init : goal.loop-request-init
 loop-request-init g c = record {
   reference = refl;
   handle = refl;
-  said = changed_none g.L.Link.talk g.L.Link.since g.L.Link.fault g.L.Link.downs g.met.L.Link.since_itself c.args.db.now.handle c.args.most
-      c.new-seen.result.items c.args.db.now.linked.now c.new-seen.ensures.items;
-  bounded = subst AreBounded (sym c.new-seen.ensures.items) (All-nil (λ (s : Seen). s.id < id_bound));
-  read = subst AreRead (sym c.new-seen.ensures.items) tt;
+  said = changed_none g.met.L.Link.since_itself
+      c.new-seen.ensures.items;
+  bounded = rw c.new-seen.ensures.items (All-nil (λ (s : Seen). s.id < id_bound));
+  read = rw c.new-seen.ensures.items tt;
   none = λ some. absurd (omega arith);
 }
 
@@ -25,11 +25,10 @@ pub loop-request-preserved : goal.loop-request-preserved
 loop-request-preserved g c =
     let before = c.loop-request.invariant in
     record {
-      reference = c.in_ok-entry.ensures.same_reference ∙ before.reference;
-      handle = c.in_ok-entry.ensures.same_handle ∙ before.handle;
-      said = changed_on g.L.Link.talk g.L.Link.since g.L.Link.fault g.L.Link.downs g.met.L.Link.since_more c.args.db.now.handle c.loop-request.db.handle
-          c.args.most c.loop-request._request c.loop-request.seen.items c.push.new.items.items c.in-Some.entry c.args.db.now.linked.now
-          c.loop-request.db.linked.now c.read_next.new.db.linked.now before.handle c.loop-request-test.true c.in_ok-entry.ensures.none
+      reference = cc;
+      handle = cc;
+      said = changed_on g.met.L.Link.since_more
+          before.handle c.loop-request-test.true c.in_ok-entry.ensures.none
           (c.in_ok-entry.ensures.seen ∙ ap option_to_list c.in-Some.is) c.in_ok-push.ensures.items before.said c.in_ok-entry.ensures.asked;
       bounded = subst AreBounded (sym c.in_ok-push.ensures.items)
           (All-push (λ (s : Seen). s.id < id_bound) c.loop-request.seen.items c.in-Some.entry before.bounded
@@ -44,51 +43,45 @@ returns-in_err-entry-clause-asks g c =
     let p = err_from_is_err_and c.from_residual.result c.from_residual.ensures.1 in
     let before = c.loop-request.invariant in
     rw (p.1, p.2)
-    (changed_stop g.L.Link.talk g.L.Link.since g.L.Link.fault g.L.Link.downs g.met.L.Link.since_more c.args.db.now.handle c.loop-request.db.handle
-    c.args.most c.loop-request._request c.loop-request.seen.items c.args.db.now.linked.now c.loop-request.db.linked.now
-    c.read_next.new.db.linked.now _ before.handle c.loop-request-test.true before.said c.in_err-entry.ensures.asked)
+    (changed_stop g.met.L.Link.since_more
+    _ before.handle c.loop-request-test.true before.said c.in_err-entry.ensures.asked)
 
 pub returns-in_err-push-clause-asks : goal.returns-in_err-push-clause-asks
 returns-in_err-push-clause-asks g c =
     let p = err_from_is_err_and c.from_residual-in_err-push.result c.from_residual-in_err-push.ensures.1 in
     let before = c.loop-request.invariant in
     rw (p.1, p.2)
-    (changed_stop g.L.Link.talk g.L.Link.since g.L.Link.fault g.L.Link.downs g.met.L.Link.since_more c.args.db.now.handle c.loop-request.db.handle
-    c.args.most c.loop-request._request c.loop-request.seen.items c.args.db.now.linked.now c.loop-request.db.linked.now
-    c.read_next.new.db.linked.now _ before.handle c.loop-request-test.true before.said c.in_ok-entry.ensures.asked)
+    (changed_stop g.met.L.Link.since_more
+    _ before.handle c.loop-request-test.true before.said c.in_ok-entry.ensures.asked)
 
 pub returns-in_default-clause-asks : goal.returns-in_default-clause-asks
 returns-in_default-clause-asks g c =
     let before = c.loop-request.invariant in
     let none : c.in_ok-entry.field-0 ≡ None = search rules in
-    (changed_ends g.L.Link.talk g.L.Link.since g.L.Link.fault g.L.Link.downs g.met.L.Link.since_more c.args.db.now.handle c.loop-request.db.handle
-    c.args.most c.loop-request._request c.loop-request.seen.items c.args.db.now.linked.now c.loop-request.db.linked.now
-    c.read_next.new.db.linked.now c.loop-request.seen before.handle c.loop-request-test.true c.in_ok-entry.ensures.none
+    (changed_ends g.met.L.Link.since_more
+    c.loop-request.seen before.handle c.loop-request-test.true c.in_ok-entry.ensures.none
     (c.in_ok-entry.ensures.seen ∙ ap option_to_list none) before.said c.in_ok-entry.ensures.asked).0
 
 pub returns-in_default-clause-seen : goal.returns-in_default-clause-seen
 returns-in_default-clause-seen g c =
     let before = c.loop-request.invariant in
     let none : c.in_ok-entry.field-0 ≡ None = search rules in
-    (changed_ends g.L.Link.talk g.L.Link.since g.L.Link.fault g.L.Link.downs g.met.L.Link.since_more c.args.db.now.handle c.loop-request.db.handle
-    c.args.most c.loop-request._request c.loop-request.seen.items c.args.db.now.linked.now c.loop-request.db.linked.now
-    c.read_next.new.db.linked.now c.loop-request.seen before.handle c.loop-request-test.true c.in_ok-entry.ensures.none
+    (changed_ends g.met.L.Link.since_more
+    c.loop-request.seen before.handle c.loop-request-test.true c.in_ok-entry.ensures.none
     (c.in_ok-entry.ensures.seen ∙ ap option_to_list none) before.said c.in_ok-entry.ensures.asked).1
 
 pub returns-clause-asks : goal.returns-clause-asks
 returns-clause-asks g c =
     let before = c.loop-request.invariant in
     let all : c.loop-request._request ≡ c.args.most = omega arith in
-    changed_all g.L.Link.talk g.L.Link.since g.L.Link.fault g.L.Link.downs c.args.db.now.handle c.args.most c.loop-request.seen.items
-    c.args.db.now.linked.now c.loop-request.db.linked.now c.loop-request.seen
-    (changed_whole g.L.Link.talk g.L.Link.since g.L.Link.fault g.L.Link.downs c.args.db.now.handle c.args.most c.loop-request._request
-    c.loop-request.seen.items c.args.db.now.linked.now c.loop-request.db.linked.now all before.said)
+    changed_all
+    (changed_whole
+    all before.said)
 
 pub returns-clause-seen : goal.returns-clause-seen
 returns-clause-seen g c =
     let before = c.loop-request.invariant in
     let all : c.loop-request._request ≡ c.args.most = omega arith in
-    shown_all g.L.Link.talk g.L.Link.since g.L.Link.fault g.L.Link.downs c.args.db.now.handle c.args.most c.loop-request.seen.items
-    c.args.db.now.linked.now c.loop-request.db.linked.now
-    (changed_whole g.L.Link.talk g.L.Link.since g.L.Link.fault g.L.Link.downs c.args.db.now.handle c.args.most c.loop-request._request
-    c.loop-request.seen.items c.args.db.now.linked.now c.loop-request.db.linked.now all before.said)
+    shown_all
+    (changed_whole
+    all before.said)

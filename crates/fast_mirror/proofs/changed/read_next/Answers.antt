@@ -1,8 +1,7 @@
 -- What is lent keeps the bounds of a record, and is seen as it is.
-use Rattle.std.proofs.Common.{◌≡◌, ◌∙◌, ◌∷◌, [], ap, sym, subst}
+use Rattle.std.proofs.Common.{◌≡◌, ◌∙◌, ◌∷◌, [], ap, sym}
 use Rattle.std.specs.Prelude.{Ok, Some}
 use Rattle.std.specs.Option.{option_map}
-use Rattle.dlp_args.specs.Views.{Gives}
 use Rattle.dlp_replies.specs.ReplyReading.{reply_at}
 use Rattle.conduit_rules.specs.declared.view.Seen.{Seen}
 use Rattle.desktop_session.specs.Answers.{answer_by, or_none, record_of, said_in}
@@ -16,25 +15,25 @@ entry_of-requires g c =
     let last = c.next_changed.follows.lender-at-none in
     let said = answer_by (g.L.Link.fault last.linked.now.link) (or_none (said_in record_of (reply_at 0x1F last.linked.now.reply))) in
     let gives : said ≡ Ok (Some (lent_value c.in-Ok-Some.lent)) =
-    subst (λ r. Gives (option_map lent_value) r said) c.in-Ok-Some.is c.next_changed.follows.holds-at-none.3
+    rw c.in-Ok-Some.is at c.next_changed.follows.holds-at-none.3
     ∙ ap (λ o. Ok (option_map lent_value o)) c.in-Ok-Some.field-0-is in
-    (found_short _ _ (lent_value c.in-Ok-Some.lent) (next_short last.linked.now.reply) gives).bytes
+    (found_short _ _ (next_short last.linked.now.reply) gives).bytes
 
 pub returns-in_ok-entry_of-in-Ok-Some-clause-seen : goal.returns-in_ok-entry_of-in-Ok-Some-clause-seen
 returns-in_ok-entry_of-in-Ok-Some-clause-seen g c =
     let last = c.next_changed.follows.lender-at-none in
     let said = answer_by (g.L.Link.fault last.linked.now.link) (or_none (said_in record_of (reply_at 0x1F last.linked.now.reply))) in
     let gives : said ≡ Ok (Some (lent_value c.in-Ok-Some.lent)) =
-    subst (λ r. Gives (option_map lent_value) r said) c.in-Ok-Some.is c.next_changed.follows.holds-at-none.3
+    rw c.in-Ok-Some.is at c.next_changed.follows.holds-at-none.3
     ∙ ap (λ o. Ok (option_map lent_value o)) c.in-Ok-Some.field-0-is in
-    found_seen _ _ (lent_value c.in-Ok-Some.lent) gives ∙ ap (λ (s : Seen). s ∷ []) (sym c.in_ok-entry_of-in-Ok-Some.ensures)
+    found_seen _ _ gives ∙ ap (λ (s : Seen). s ∷ []) (sym c.in_ok-entry_of-in-Ok-Some.ensures)
 
 pub returns-in_ok-entry_of-in-Ok-Some-clause-bounded : goal.returns-in_ok-entry_of-in-Ok-Some-clause-bounded
 returns-in_ok-entry_of-in-Ok-Some-clause-bounded g c =
     let last = c.next_changed.follows.lender-at-none in
     let said = answer_by (g.L.Link.fault last.linked.now.link) (or_none (said_in record_of (reply_at 0x1F last.linked.now.reply))) in
     let gives : said ≡ Ok (Some (lent_value c.in-Ok-Some.lent)) =
-    subst (λ r. Gives (option_map lent_value) r said) c.in-Ok-Some.is c.next_changed.follows.holds-at-none.3
+    rw c.in-Ok-Some.is at c.next_changed.follows.holds-at-none.3
     ∙ ap (λ o. Ok (option_map lent_value o)) c.in-Ok-Some.field-0-is in
-    let short = found_short _ _ (lent_value c.in-Ok-Some.lent) (next_short last.linked.now.reply) gives in
+    let short = found_short _ _ (next_short last.linked.now.reply) gives in
     rw (ap (λ (s : Seen). s.id) c.in_ok-entry_of-in-Ok-Some.ensures) (bounded_id c.in-Ok-Some.lent.id short.id)

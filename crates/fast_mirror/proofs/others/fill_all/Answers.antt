@@ -12,9 +12,9 @@ loop-entry-init g c = record {
   handle = refl;
   count = search rules;
   all = c.into_iter-entry-iterator.ensures.into_iter_gives.0;
-  fills = fills_none c.new-seen.result.items c.new-seen.ensures.items;
-  said = filled_none g.L.Link.talk g.L.Link.since g.L.Link.fault g.L.Link.downs g.met.L.Link.since_itself c.args.base.now c.args.db.now.handle
-      c.new-seen.result.items c.args.db.now.linked.now c.new-seen.ensures.items;
+  fills = fills_none c.new-seen.ensures.items;
+  said = filled_none g.met.L.Link.since_itself
+      c.new-seen.ensures.items;
 }
 
 pub loop-entry-preserved : goal.loop-entry-preserved
@@ -22,16 +22,15 @@ loop-entry-preserved g c =
     let before = c.loop-entry.invariant in
     let step : c.loop-entry.entry-iterator.rest.items ≡ c.in-Some.entry ∷ c.next.new.self.rest.items = search rules in
     record {
-      reference = c.in_ok-fill.ensures.same_reference ∙ before.reference;
-      handle = c.in_ok-fill.ensures.same_handle ∙ before.handle;
+      reference = cc;
+      handle = cc;
       count = let one : c.loop-entry.entry-iterator.rest.len ≡ c.next.new.self.rest.len + 1 = search rules in
           let all = ap length step in let whole = before.count in omega arith;
-      all = append_assoc c.loop-entry.yielded (c.in-Some.entry ∷ []) c.next.new.self.rest.items ∙ ap (λ xs. c.loop-entry.yielded ++ xs) (sym step)
-          ∙ before.all;
-      fills = fills_on c.loop-entry.yielded c.in-Some.entry c.loop-entry.seen.items c.fill.new.seen.items before.fills c.in_ok-fill.ensures.adds;
-      said = filled_on g.L.Link.talk g.L.Link.since g.L.Link.fault g.L.Link.downs g.met.L.Link.since_more c.args.base.now c.args.db.now.handle
-          c.loop-entry.db.handle c.loop-entry.yielded c.in-Some.entry c.loop-entry.seen.items c.fill.new.seen.items c.args.db.now.linked.now
-          c.loop-entry.db.linked.now c.fill.new.db.linked.now c.in_ok-fill.field-0 before.handle before.said c.in_ok-fill.ensures.asks
+      all = cc (append_assoc c.loop-entry.yielded (c.in-Some.entry ∷ []) c.next.new.self.rest.items);
+      fills = fills_on c.in-Some.entry before.fills c.in_ok-fill.ensures.adds;
+      said = filled_on g.met.L.Link.since_more
+          c.in-Some.entry
+          before.handle before.said c.in_ok-fill.ensures.asks
           c.in_ok-fill.ensures.seen;
     }
 
@@ -41,34 +40,34 @@ returns-in_err-fill-clause-asks g c =
     let before = c.loop-entry.invariant in
     let step : c.loop-entry.entry-iterator.rest.items ≡ c.in-Some.entry ∷ c.next.new.self.rest.items = search rules in
     let all : c.loop-entry.yielded ++ c.in-Some.entry ∷ c.next.new.self.rest.items ≡ c.args.entries.items =
-    ap (λ xs. c.loop-entry.yielded ++ xs) (sym step) ∙ before.all in
+    cc in
     rw (p.1, p.2)
-    (filled_stop g.L.Link.talk g.L.Link.since g.L.Link.fault g.L.Link.downs g.met.L.Link.since_more c.args.base.now c.args.db.now.handle
-    c.loop-entry.db.handle c.loop-entry.yielded c.next.new.self.rest.items c.args.entries.items c.in-Some.entry c.loop-entry.seen.items
-    c.args.db.now.linked.now c.loop-entry.db.linked.now c.fill.new.db.linked.now _ _ before.handle all before.said c.in_err-fill.ensures.asks)
+    (filled_stop g.met.L.Link.since_more
+    c.next.new.self.rest.items c.in-Some.entry
+    _ before.handle all before.said c.in_err-fill.ensures.asks)
 
 pub returns-clause-asks : goal.returns-clause-asks
 returns-clause-asks g c =
     let none : c.loop-entry.entry-iterator.rest.items ≡ [] =
     none_left c.loop-entry.entry-iterator.rest.items (sym c.loop-entry.invariant.count ∙ c.in-None.ensures.steps.0) in
     let all : c.loop-entry.yielded ≡ c.args.entries.items =
-    sym (append-nil c.loop-entry.yielded) ∙ ap (λ xs. c.loop-entry.yielded ++ xs) (sym none) ∙ c.loop-entry.invariant.all in
-    filled_all g.L.Link.talk g.L.Link.since g.L.Link.fault g.L.Link.downs c.args.base.now c.args.db.now.handle c.loop-entry.yielded
-    c.args.entries.items c.loop-entry.seen.items c.args.db.now.linked.now c.loop-entry.db.linked.now _ all c.loop-entry.invariant.said
+    cc (append-nil c.loop-entry.yielded) in
+    filled_all
+    all c.loop-entry.invariant.said
 
 pub returns-clause-seen : goal.returns-clause-seen
 returns-clause-seen g c =
     let none : c.loop-entry.entry-iterator.rest.items ≡ [] =
     none_left c.loop-entry.entry-iterator.rest.items (sym c.loop-entry.invariant.count ∙ c.in-None.ensures.steps.0) in
     let all : c.loop-entry.yielded ≡ c.args.entries.items =
-    sym (append-nil c.loop-entry.yielded) ∙ ap (λ xs. c.loop-entry.yielded ++ xs) (sym none) ∙ c.loop-entry.invariant.all in
-    shown_all g.L.Link.talk g.L.Link.since g.L.Link.fault g.L.Link.downs c.args.base.now c.args.db.now.handle c.loop-entry.yielded
-    c.args.entries.items c.loop-entry.seen.items c.args.db.now.linked.now c.loop-entry.db.linked.now all c.loop-entry.invariant.said
+    cc (append-nil c.loop-entry.yielded) in
+    shown_all
+    all c.loop-entry.invariant.said
 
 pub returns-clause-fills : goal.returns-clause-fills
 returns-clause-fills g c =
     let none : c.loop-entry.entry-iterator.rest.items ≡ [] =
     none_left c.loop-entry.entry-iterator.rest.items (sym c.loop-entry.invariant.count ∙ c.in-None.ensures.steps.0) in
     let all : c.loop-entry.yielded ≡ c.args.entries.items =
-    sym (append-nil c.loop-entry.yielded) ∙ ap (λ xs. c.loop-entry.yielded ++ xs) (sym none) ∙ c.loop-entry.invariant.all in
-    fills_all c.loop-entry.yielded c.args.entries.items c.loop-entry.seen.items all c.loop-entry.invariant.fills
+    cc (append-nil c.loop-entry.yielded) in
+    fills_all all c.loop-entry.invariant.fills

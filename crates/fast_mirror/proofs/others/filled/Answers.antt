@@ -8,15 +8,15 @@ use Rattle.fast_mirror.proofs.others.filled.Goals as goal
 pub returns-then-not-matches-clause-asks : goal.returns-then-not-matches-clause-asks
 returns-then-not-matches-clause-asks g c =
     let read : waits c.args.entry.state ≡ false = search rules in
-    nothing_asked g.L.Link.talk g.L.Link.since g.L.Link.fault g.L.Link.downs g.met.L.Link.since_itself _ c.args.db.now.linked.now _
+    nothing_asked g.met.L.Link.since_itself
     (read_asks c.args.base.now c.args.db.now.handle c.args.entry read)
 
 pub returns-in_err-content-in-Some-clause-asks : goal.returns-in_err-content-in-Some-clause-asks
 returns-in_err-content-in-Some-clause-asks g c =
-    nothing_asked g.L.Link.talk g.L.Link.since g.L.Link.fault g.L.Link.downs g.met.L.Link.since_itself _ c.args.db.now.linked.now _
-    (row_asks c.args.base.now c.args.db.now.handle c.args.entry c.in-Some.content.now (sym c.row_of.ensures ∙ ap option_copied c.in-Some.is))
+    nothing_asked g.met.L.Link.since_itself
+    (row_asks c.args.base.now c.args.db.now.handle c.args.entry (sym c.row_of.ensures ∙ ap option_copied c.in-Some.is))
 
 pub returns-in-Some-clause-asks : goal.returns-in-Some-clause-asks
 returns-in-Some-clause-asks g c =
-    nothing_asked g.L.Link.talk g.L.Link.since g.L.Link.fault g.L.Link.downs g.met.L.Link.since_itself _ c.args.db.now.linked.now _
-    (row_asks c.args.base.now c.args.db.now.handle c.args.entry c.in-Some.content.now (sym c.row_of.ensures ∙ ap option_copied c.in-Some.is))
+    nothing_asked g.met.L.Link.since_itself
+    (row_asks c.args.base.now c.args.db.now.handle c.args.entry (sym c.row_of.ensures ∙ ap option_copied c.in-Some.is))

@@ -17,9 +17,9 @@ entry_of-requires g c =
     let last = c.by_id.follows.lender-at-none in
     let said = answer_by (g.L.Link.fault last.linked.now.link) (or_none (said_in record_of (reply_at 0x20 last.linked.now.reply))) in
     let gives : said ≡ Ok (Some (lent_value c.in-Ok-Some.lent)) =
-    subst (λ r. Gives (option_map lent_value) r said) c.in-Ok-Some.is c.by_id.follows.holds-at-none.3
+    rw c.in-Ok-Some.is at c.by_id.follows.holds-at-none.3
     ∙ ap (λ o. Ok (option_map lent_value o)) c.in-Ok-Some.field-0-is in
-    (found_short _ _ (lent_value c.in-Ok-Some.lent) (record_short last.linked.now.reply) gives).bytes
+    (found_short _ _ (record_short last.linked.now.reply) gives).bytes
 
 pub returns-in_ok-state-in-Ok-Some-clause-seen : goal.returns-in_ok-state-in-Ok-Some-clause-seen
 returns-in_ok-state-in-Ok-Some-clause-seen g c =
@@ -29,5 +29,5 @@ returns-in_ok-state-in-Ok-Some-clause-seen g c =
     subst (λ r. Gives (option_map lent_value) r said) c.in-Ok-Some.is c.by_id.follows.holds-at-none.3
     ∙ ap (λ o. Ok (option_map lent_value o)) c.in-Ok-Some.field-0-is in
     let seen : seen_in (reply_at 0x20 last.linked.now.reply) ≡ c.in_ok-state-in-Ok-Some.field-0 ∷ [] =
-    found_seen _ _ (lent_value c.in-Ok-Some.lent) gives ∙ ap (λ (s : Seen). s ∷ []) (sym c.in_ok-state-in-Ok-Some.ensures) in
+    found_seen _ _ gives ∙ ap (λ (s : Seen). s ∷ []) (sym c.in_ok-state-in-Ok-Some.ensures) in
     ap (map (λ (entry : Seen). record entry { id = c.args.id })) (sym seen)

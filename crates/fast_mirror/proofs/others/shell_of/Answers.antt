@@ -1,6 +1,5 @@
-use Rattle.std.proofs.Common.{◌≤◌, subst, ℕ}
 use Rattle.slow_mirror.proofs.EntryLaws.{bounded_id}
 use Rattle.fast_mirror.proofs.others.shell_of.Goals as goal
 
 pub returns-clause-bounded : goal.returns-clause-bounded
-returns-clause-bounded c = bounded_id c.args.id (subst (λ (n : ℕ). n ≤ 16777215) c.number.ensures.number c.number.ensures.bound)
+returns-clause-bounded c = bounded_id c.args.id (rw (← c.number.ensures.number) c.number.ensures.bound)

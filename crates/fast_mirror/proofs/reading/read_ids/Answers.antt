@@ -17,18 +17,18 @@ returns-in_err-count-clause-stops g c =
 
 pub returns-clause-stops : goal.returns-clause-stops
 returns-clause-stops g c =
-    listing_stops g.L.Link.talk g.L.Link.since g.L.Link.fault g.L.Link.downs g.met.L.Link.since_more c.args.db.now.handle c.count.new.self.handle
-    c.in_ok-count.count c.args.db.now.linked.now c.count.new.self.linked.now c.ids.new.self.linked.now.link c.in_ok-count.ensures.same_handle
+    listing_stops g.met.L.Link.since_more
+    c.in_ok-count.ensures.same_handle
     c.in_ok-count.ensures.answer c.in_ok-count.ensures.asked c.ids.ensures.stops
 
 pub returns-clause-does : goal.returns-clause-does
 returns-clause-does g c =
-    listing_done g.L.Link.talk g.L.Link.since g.L.Link.fault g.L.Link.downs c.args.db.now.handle c.count.new.self.handle
-    c.in_ok-count.count c.args.db.now.linked.now c.count.new.self.linked.now c.ids.new.self.linked.now.link c.ids.result
+    listing_done
+    c.ids.new.self.linked.now.link c.ids.result
     c.in_ok-count.ensures.same_handle c.in_ok-count.ensures.answer c.in_ok-count.ensures.asked c.ids.ensures.does
 
 pub returns-clause-ids : goal.returns-clause-ids
 returns-clause-ids g c =
-    listing_ids g.L.Link.talk g.L.Link.since g.L.Link.fault g.L.Link.downs c.args.db.now.handle c.count.new.self.handle
-    c.in_ok-count.count c.args.db.now.linked.now c.count.new.self.linked.now (λ ids. ids.items) c.ids.result
+    listing_ids
+    (λ ids. ids.items) c.ids.result
     c.in_ok-count.ensures.same_handle c.in_ok-count.ensures.answer c.in_ok-count.ensures.asked c.ids.ensures.ids

@@ -1,6 +1,5 @@
-use Rattle.std.proofs.Common.{◌≡◌, ◌∙◌, refl, ap, sym, ◌==◌, Some, slice_get}
+use Rattle.std.proofs.Common.{◌≡◌, ◌∙◌, refl, ap, sym, Some, slice_get}
 use Rattle.pdb_values.specs.declared.record.Record.{Record}
-use Rattle.fast_mirror.specs.Places.{or_place}
 use Rattle.fast_mirror.proofs.PlaceLaws.{get_there, place_on}
 use Rattle.fast_mirror.proofs.rows.places_of.Goals as goal
 
@@ -11,7 +10,11 @@ pub loop-place-preserved : goal.loop-place-preserved
 loop-place-preserved c = λ id.
     let item = c.index-base-place.result in
     let here : slice_get c.args.base.now c.loop-place.place ≡ Some item =
-    get_there c.args.base.now c.loop-place.place item c.loop-place-test.true c.index-base-place.is in
-    c.in_ok-note.ensures id ∙ ap (λ o. or_place o (c.number.result == id) c.loop-place.place) (c.loop-place.invariant id)
-    ∙ place_on id c.loop-place.place c.number.result c.args.base.now item here
-    (c.number.ensures.number ∙ ap (λ (item : Record). item.id) (sym c.index-base-place.is))
+    get_there c.args.base.now c.loop-place.place c.loop-place-test.true c.index-base-place.is in
+    cc (
+      c.in_ok-note.ensures id,
+      c.loop-place.invariant id,
+      place_on id c.loop-place.place c.args.base.now here
+          (c.number.ensures.number ∙ ap (λ (item : Record). item.id)
+          (sym c.index-base-place.is)),
+    )

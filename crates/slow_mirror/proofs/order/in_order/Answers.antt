@@ -9,7 +9,7 @@ use Rattle.slow_mirror.proofs.order.in_order.Goals as goal
 pub returns : goal.returns
 returns c =
     let kept : InOrder c.args.seen.items c.dedup_by.new.self.items =
-    in_order-sorted c.args.seen.items c.sort_by_key.new.self.items c.dedup_by.new.self.items
+    in_order-sorted c.args.seen.items c.sort_by_key.new.self.items
     (c.sort_by_key.ensures.stable (λ (s : Seen). s.id) (answers_always _ _ _ (λ f a r h k. search rules)))
     c.sort_by_key.ensures.permutation
     (IsNonDecreasingBy-from_sort_by_key (λ (s : Seen). s.id) _ c.in_ok-sort_by_key.ensures.sorted (λ a r q k. search rules))

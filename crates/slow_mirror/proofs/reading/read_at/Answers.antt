@@ -1,7 +1,6 @@
 -- What is lent keeps the bounds of a record, and is seen as it is.
-use Rattle.std.proofs.Common.{◌≡◌, ◌∙◌, ◌∷◌, [], ap, sym, subst}
+use Rattle.std.proofs.Common.{◌≡◌, ◌∙◌, ◌∷◌, [], ap, sym}
 use Rattle.std.specs.Prelude.{Ok}
-use Rattle.dlp_args.specs.Views.{Gives}
 use Rattle.dlp_replies.specs.ReplyReading.{reply_at}
 use Rattle.conduit_rules.specs.declared.view.Seen.{Seen}
 use Rattle.desktop_session.specs.Answers.{answer_by, record_of, said_in}
@@ -13,20 +12,20 @@ pub entry_of-requires : goal.entry_of-requires
 entry_of-requires g c =
     let last = c.at.follows.lender-at-none in
     let said = answer_by (g.L.Link.fault last.linked.now.link) (said_in record_of (reply_at 0x20 last.linked.now.reply)) in
-    let gives : said ≡ Ok (lent_value c.in-Ok.lent) = subst (λ r. Gives lent_value r said) c.in-Ok.is c.at.follows.holds-at-none.3 in
-    (lent_short _ _ (lent_value c.in-Ok.lent) (record_short last.linked.now.reply) gives).bytes
+    let gives : said ≡ Ok (lent_value c.in-Ok.lent) = rw c.in-Ok.is at c.at.follows.holds-at-none.3 in
+    (lent_short _ _ (record_short last.linked.now.reply) gives).bytes
 
 pub returns-in_ok-entry_of-in-Ok-clause-seen : goal.returns-in_ok-entry_of-in-Ok-clause-seen
 returns-in_ok-entry_of-in-Ok-clause-seen g c =
     let last = c.at.follows.lender-at-none in
     let said = answer_by (g.L.Link.fault last.linked.now.link) (said_in record_of (reply_at 0x20 last.linked.now.reply)) in
-    let gives : said ≡ Ok (lent_value c.in-Ok.lent) = subst (λ r. Gives lent_value r said) c.in-Ok.is c.at.follows.holds-at-none.3 in
-    (lent_seen _ _ (lent_value c.in-Ok.lent) gives).1 ∙ ap (λ (s : Seen). s ∷ []) (sym c.in_ok-entry_of-in-Ok.ensures)
+    let gives : said ≡ Ok (lent_value c.in-Ok.lent) = rw c.in-Ok.is at c.at.follows.holds-at-none.3 in
+    (lent_seen _ _ gives).1 ∙ ap (λ (s : Seen). s ∷ []) (sym c.in_ok-entry_of-in-Ok.ensures)
 
 pub returns-in_ok-entry_of-in-Ok-clause-bounded : goal.returns-in_ok-entry_of-in-Ok-clause-bounded
 returns-in_ok-entry_of-in-Ok-clause-bounded g c =
     let last = c.at.follows.lender-at-none in
     let said = answer_by (g.L.Link.fault last.linked.now.link) (said_in record_of (reply_at 0x20 last.linked.now.reply)) in
-    let gives : said ≡ Ok (lent_value c.in-Ok.lent) = subst (λ r. Gives lent_value r said) c.in-Ok.is c.at.follows.holds-at-none.3 in
-    let short = lent_short _ _ (lent_value c.in-Ok.lent) (record_short last.linked.now.reply) gives in
+    let gives : said ≡ Ok (lent_value c.in-Ok.lent) = rw c.in-Ok.is at c.at.follows.holds-at-none.3 in
+    let short = lent_short _ _ (record_short last.linked.now.reply) gives in
     rw (ap (λ (s : Seen). s.id) c.in_ok-entry_of-in-Ok.ensures) (bounded_id c.in-Ok.lent.id short.id)

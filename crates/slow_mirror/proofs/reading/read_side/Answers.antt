@@ -1,9 +1,8 @@
 -- The number of entries, and then each record.
 use Rattle.std.proofs.lemmas.Result.{err_from_is_err_and}
-use Rattle.std.specs.Prelude.{Err, Ok}
 use Rattle.dlp_replies.specs.ReplyReading.{reply_at}
 use Rattle.desktop_session.specs.Requests.{counting}
-use Rattle.slow_mirror.specs.Reads.{entries_of, reads, slow_reads}
+use Rattle.slow_mirror.specs.Reads.{entries_of, reads}
 use Rattle.slow_mirror.proofs.AskLaws.{asked_part, asks_other, asks_refused}
 use Rattle.slow_mirror.proofs.ReadLaws.{count_from, count_told, shown_from, whole_asked}
 use Rattle.slow_mirror.proofs.reading.read_side.Goals as goal
@@ -22,30 +21,27 @@ returns-in_err-seen-clause-asks g c =
     let p = err_from_is_err_and c.from_residual-in_err-seen.result c.from_residual-in_err-seen.ensures.1 in
     let handle = c.args.db.now.handle in
     rw (p.1, p.2)
-    (asks_refused g.L.Link.talk g.L.Link.since g.L.Link.fault g.L.Link.downs
-    (slow_reads handle (entries_of (g.L.Link.talk c.args.db.now.linked.now.link) handle)) c.args.db.now.linked.now c.read_all.new.db.linked.now _
-    (whole_asked g.L.Link.talk g.L.Link.since g.L.Link.fault g.L.Link.downs g.met.L.Link.since_more handle c.count.new.self.handle
-    c.in_ok-count.count c.args.db.now.linked.now c.count.new.self.linked.now c.read_all.new.db.linked.now (Err _) c.in_ok-count.ensures.same_handle
+    (asks_refused
+    (whole_asked g.met.L.Link.since_more
+    c.in_ok-count.ensures.same_handle
     c.in_ok-count.ensures.answer c.in_ok-count.ensures.asked c.in_err-seen.ensures.asks))
 
 pub returns-in_err-in_order-clause-asks : goal.returns-in_err-in_order-clause-asks
 returns-in_err-in_order-clause-asks g c =
     let handle = c.args.db.now.handle in
-    asks_other g.L.Link.talk g.L.Link.since g.L.Link.fault g.L.Link.downs
-    (slow_reads handle (entries_of (g.L.Link.talk c.args.db.now.linked.now.link) handle)) c.args.db.now.linked.now c.read_all.new.db.linked.now
-    c.in_ok-seen.seen _
-    (whole_asked g.L.Link.talk g.L.Link.since g.L.Link.fault g.L.Link.downs g.met.L.Link.since_more handle c.count.new.self.handle c.in_ok-count.count
-    c.args.db.now.linked.now c.count.new.self.linked.now c.read_all.new.db.linked.now (Ok c.in_ok-seen.seen) c.in_ok-count.ensures.same_handle
+    asks_other
+    _
+    (whole_asked g.met.L.Link.since_more
+    c.in_ok-count.ensures.same_handle
     c.in_ok-count.ensures.answer c.in_ok-count.ensures.asked c.in_ok-seen.ensures.asks)
 
 pub returns-clause-asks : goal.returns-clause-asks
 returns-clause-asks g c =
     let handle = c.args.db.now.handle in
-    asks_other g.L.Link.talk g.L.Link.since g.L.Link.fault g.L.Link.downs
-    (slow_reads handle (entries_of (g.L.Link.talk c.args.db.now.linked.now.link) handle)) c.args.db.now.linked.now c.read_all.new.db.linked.now
-    c.in_ok-seen.seen _
-    (whole_asked g.L.Link.talk g.L.Link.since g.L.Link.fault g.L.Link.downs g.met.L.Link.since_more handle c.count.new.self.handle c.in_ok-count.count
-    c.args.db.now.linked.now c.count.new.self.linked.now c.read_all.new.db.linked.now (Ok c.in_ok-seen.seen) c.in_ok-count.ensures.same_handle
+    asks_other
+    _
+    (whole_asked g.met.L.Link.since_more
+    c.in_ok-count.ensures.same_handle
     c.in_ok-count.ensures.answer c.in_ok-count.ensures.asked c.in_ok-seen.ensures.asks)
 
 pub returns-clause-view : goal.returns-clause-view
@@ -53,8 +49,8 @@ returns-clause-view g c =
     let handle = c.args.db.now.handle in
     let old = c.args.db.now.linked.now in
     let counted = c.count.new.self.linked.now in
-    let from = count_from (g.L.Link.fault counted.link) (reply_at 0x2B counted.reply) c.in_ok-count.count c.in_ok-count.ensures.answer in
-    shown_from (g.L.Link.talk old.link) (g.L.Link.talk counted.link) handle c.count.new.self.handle c.in_ok-count.count c.in_ok-seen.seen.items
-    c.in_ok-in_order.field-0.seen.items c.in_ok-count.ensures.same_handle (c.in_ok-count.ensures.asked.does from.0).said
-    (count_told (g.L.Link.talk old.link) handle c.in_ok-count.count counted.reply (c.in_ok-count.ensures.asked.told from.0) from.1)
+    let from = count_from (g.L.Link.fault counted.link) (reply_at 0x2B counted.reply) c.in_ok-count.ensures.answer in
+    shown_from (g.L.Link.talk old.link) c.in_ok-count.count c.in_ok-seen.seen.items
+    c.in_ok-count.ensures.same_handle (c.in_ok-count.ensures.asked.does from.0).said
+    (count_told (g.L.Link.talk old.link) handle counted.reply (c.in_ok-count.ensures.asked.told from.0) from.1)
     c.in_ok-seen.ensures.seen c.in_ok-in_order.ensures.ordered

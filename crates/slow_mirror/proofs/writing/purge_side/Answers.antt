@@ -11,22 +11,21 @@ pub returns-in_err-remove_all-clause-asks : goal.returns-in_err-remove_all-claus
 returns-in_err-remove_all-clause-asks g c =
     let p = err_from_is_err_and c.from_residual.result c.from_residual.ensures.1 in
     rw (p.1, p.2)
-    (purged_stop g.L.Link.talk g.L.Link.since g.L.Link.fault g.L.Link.downs c.args.db.now.handle c.args.plan.now.purge.items c.deref.result.now
-    c.args.db.now.linked.now c.remove_all.new.db.linked.now _ c.deref.ensures.value c.in_err-remove_all.ensures.asks)
+    (purged_stop c.args.db.now.handle
+    c.deref.ensures.value c.in_err-remove_all.ensures.asks)
 
 pub returns-in_err-clean_up-clause-asks : goal.returns-in_err-clean_up-clause-asks
 returns-in_err-clean_up-clause-asks g c =
     let p = err_from_is_err_and c.from_residual-in_err-clean_up.result c.from_residual-in_err-clean_up.ensures.1 in
     rw (p.1, p.2)
-    (cleaned_stop g.L.Link.talk g.L.Link.since g.L.Link.fault g.L.Link.downs g.met.L.Link.since_more c.args.db.now.handle c.remove_all.new.db.handle
-    c.args.plan.now.purge.items c.deref.result.now _ c.args.db.now.linked.now c.remove_all.new.db.linked.now c.clean_up.new.self.linked.now _
+    (cleaned_stop g.met.L.Link.since_more
+    _
     c.in_ok-remove_all.ensures.same_handle c.deref.ensures.value c.in_ok-remove_all.ensures.asks c.in_err-clean_up.ensures.asked)
 
 pub returns-clause-asks : goal.returns-clause-asks
 returns-clause-asks g c =
-    purged g.L.Link.talk g.L.Link.since g.L.Link.fault g.L.Link.downs g.met.L.Link.since_more c.args.db.now.handle c.remove_all.new.db.handle
-    c.clean_up.new.self.handle c.args.plan.now.purge.items c.deref.result.now _ c.args.db.now.linked.now c.remove_all.new.db.linked.now
-    c.clean_up.new.self.linked.now c.reset_flags.new.self.linked.now _ c.reset_flags.result c.in_ok-remove_all.ensures.same_handle
+    purged g.met.L.Link.since_more
+    _ c.in_ok-remove_all.ensures.same_handle
     c.in_ok-clean_up.ensures.same_handle c.deref.ensures.value c.in_ok-remove_all.ensures.asks
     (answered_none _ _ _ c.in_ok-clean_up.ensures.answer) c.in_ok-clean_up.ensures.asked c.reset_flags.ensures.answer c.reset_flags.ensures.asked
 

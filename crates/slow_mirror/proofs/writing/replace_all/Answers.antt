@@ -1,5 +1,5 @@
 -- Puts grow by one.
-use Rattle.std.proofs.Common.{◌∙◌, refl, sym, arith}
+use Rattle.std.proofs.Common.{refl, sym, arith}
 use Rattle.std.proofs.lemmas.Result.{err_from_is_err_and}
 use Rattle.desktop_session.specs.Answers.{id_of}
 use Rattle.slow_mirror.proofs.EntryLaws.{cause_by}
@@ -11,18 +11,16 @@ pub loop-entry-init : goal.loop-entry-init
 loop-entry-init g c = record {
   reference = refl;
   handle = refl;
-  puts = some_none g.L.Link.talk g.L.Link.since g.L.Link.fault g.L.Link.downs g.met.L.Link.since_itself c.args.db.now.handle c.args.entries.now
-      c.args.db.now.linked.now;
+  puts = some_none g.met.L.Link.since_itself c.args.entries.now;
 }
 
 pub loop-entry-preserved : goal.loop-entry-preserved
 loop-entry-preserved g c =
     let before = c.loop-entry.invariant in
     record {
-      reference = c.in_ok-put.ensures.same_reference ∙ before.reference;
-      handle = c.in_ok-put.ensures.same_handle ∙ before.handle;
-      puts = some_on g.L.Link.talk g.L.Link.since g.L.Link.fault g.L.Link.downs g.met.L.Link.since_more c.args.db.now.handle c.loop-entry.db.handle
-          c.loop-entry.entry-index c.entry-item.result c.args.entries.now c.args.db.now.linked.now c.loop-entry.db.linked.now c.put.new.self.linked.now _
+      reference = cc;
+      handle = cc;
+      puts = some_on g.met.L.Link.since_more
           before.handle (split_at c.args.entries.now c.loop-entry.entry-index c.entry-item.result c.loop-entry-test.true c.entry-item.is)
           (answered_none _ _ _ c.in_ok-put.ensures.answer) before.puts c.in_ok-put.ensures.puts;
     }
@@ -32,13 +30,13 @@ returns-in_err-put-clause-puts g c =
     let p = err_from_is_err_and c.from_residual.result c.from_residual.ensures.1 in
     let before = c.loop-entry.invariant in
     rw (p.1, p.2)
-    (some_stop g.L.Link.talk g.L.Link.since g.L.Link.fault g.L.Link.downs g.met.L.Link.since_more c.args.db.now.handle c.loop-entry.db.handle
-    c.loop-entry.entry-index c.entry-item.result c.args.entries.now (λ given done. Unit {0}) c.args.db.now.linked.now c.loop-entry.db.linked.now
-    c.put.new.self.linked.now _ _ before.handle
+    (some_stop g.met.L.Link.since_more
+    (λ given done. Unit {0})
+    _ before.handle
     (split_at c.args.entries.now c.loop-entry.entry-index c.entry-item.result c.loop-entry-test.true c.entry-item.is) before.puts
-    c.in_err-put.ensures.puts (cause_by id_of _ _ _ (sym c.in_err-put.ensures.answer)))
+    c.in_err-put.ensures.puts (cause_by id_of _ _ (sym c.in_err-put.ensures.answer)))
 
 pub returns-clause-puts : goal.returns-clause-puts
 returns-clause-puts g c =
-    some_done g.L.Link.talk g.L.Link.since g.L.Link.fault g.L.Link.downs c.args.db.now.handle c.loop-entry.entry-index c.args.entries.now
-    (λ given done. Unit {0}) _ c.args.db.now.linked.now c.loop-entry.db.linked.now (omega arith) (λ given. tt) c.loop-entry.invariant.puts
+    some_done c.loop-entry.entry-index
+    (omega arith) (λ given. tt) c.loop-entry.invariant.puts

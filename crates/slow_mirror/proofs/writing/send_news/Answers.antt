@@ -8,14 +8,13 @@ pub returns-in_err-replace_all-clause-puts : goal.returns-in_err-replace_all-cla
 returns-in_err-replace_all-clause-puts g c =
     let p = err_from_is_err_and c.from_residual.result c.from_residual.ensures.1 in
     rw (p.1, p.2)
-    (news_stop g.L.Link.talk g.L.Link.since g.L.Link.fault g.L.Link.downs c.args.db.now.handle c.args.plan.now.replace.items c.deref.result.now
-    (as_new c.args.plan.now.adds.items) _ _ c.args.db.now.linked.now c.replace_all.new.db.linked.now _ c.deref.ensures.value
+    (news_stop
+    (as_new c.args.plan.now.adds.items) _ c.deref.ensures.value
     c.in_err-replace_all.ensures.puts)
 
 pub returns-clause-puts : goal.returns-clause-puts
 returns-clause-puts g c =
-    news_then g.L.Link.talk g.L.Link.since g.L.Link.fault g.L.Link.downs g.met.L.Link.since_more c.args.db.now.handle c.replace_all.new.db.handle
-    c.args.plan.now.replace.items c.deref.result.now c.args.plan.now.adds.items c.deref-2.result.now _ _ _ _ c.args.db.now.linked.now
-    c.replace_all.new.db.linked.now c.add_all.new.db.linked.now c.add_all.result c.in_ok-replace_all.ensures.same_handle c.deref.ensures.value
-    c.deref-2.ensures.value (λ gs hs x ids is. new_ids c.args.plan.now.replace.items gs hs x.items ids is) c.in_ok-replace_all.ensures.puts
+    news_then g.met.L.Link.since_more
+    c.in_ok-replace_all.ensures.same_handle c.deref.ensures.value
+    c.deref-2.ensures.value (λ gs hs x ids is. new_ids c.args.plan.now.replace.items gs ids is) c.in_ok-replace_all.ensures.puts
     c.add_all.ensures.puts

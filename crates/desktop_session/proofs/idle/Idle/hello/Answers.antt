@@ -12,43 +12,41 @@ pub returns-in-Err-clause-stops : goal.returns-in-Err-clause-stops
 returns-in-Err-clause-stops g c =
     stops_none g.L.Link.talk g.L.Link.since g.L.Link.fault g.L.Link.downs (text reading_user ∷ text beginning ∷ []) c.args.self.link c.hello.new.self
     c.in-Err.ensures.talk c.in-Err.ensures.since
-    (fell_now (g.L.Link.fault c.args.self.link) (g.L.Link.fault c.hello.new.self) (g.L.Link.downs c.args.self.link) (g.L.Link.downs c.hello.new.self)
+    (fell_now
     (Err c.in-Err.fault) c.in-Err.ensures.fault c.in-Err.ensures.cause)
 
 pub returns-in-Ok-clause-stops : goal.returns-in-Ok-clause-stops
 returns-in-Ok-clause-stops g c =
     let begins : c.begin-linked.result.link ≡ c.hello.new.self = search rules in
     let ends : c.greet.new.self.link ≡ c.set_user.new.self.link = search rules in
-    stops_after_none g.L.Link.talk g.L.Link.since g.L.Link.fault g.L.Link.downs g.met.L.Link.since_more (text reading_user ∷ text beginning ∷ [])
-    c.args.self.link c.hello.new.self c.set_user.new.self.link c.in_default.ensures.talk c.in_default.ensures.since
-    (fell_now (g.L.Link.fault c.args.self.link) (g.L.Link.fault c.hello.new.self) (g.L.Link.downs c.args.self.link) (g.L.Link.downs c.hello.new.self)
+    stops_after_none g.met.L.Link.since_more
+    c.in_default.ensures.talk c.in_default.ensures.since
+    (fell_now
     (Ok c.in_default.field-0) c.in_default.ensures.fault c.in_default.ensures.cause)
     (stops_between g.L.Link.talk g.L.Link.since g.L.Link.fault g.L.Link.downs (text reading_user ∷ text beginning ∷ []) c.begin-linked.result.link
     c.greet.new.self.link c.hello.new.self c.set_user.new.self.link begins ends c.in-Ok.ensures.stops)
 
 pub returns-in-Err-clause-unseated : goal.returns-in-Err-clause-unseated
 returns-in-Err-clause-unseated g c =
-    asks_none g.L.Link.talk g.L.Link.since g.L.Link.fault g.L.Link.downs c.args.users.now c.args.add c.args.self.link c.hello.new.self c.in-Err.fault
+    asks_none c.args.users.now c.args.add c.in-Err.fault
     c.in-Err.ensures.talk c.in-Err.ensures.since c.in-Err.ensures.fault
-    (fell_now (g.L.Link.fault c.args.self.link) (g.L.Link.fault c.hello.new.self) (g.L.Link.downs c.args.self.link) (g.L.Link.downs c.hello.new.self)
+    (fell_now
     (Err c.in-Err.fault) c.in-Err.ensures.fault c.in-Err.ensures.cause)
 
 pub returns-in-Ok-clause-unseated : goal.returns-in-Ok-clause-unseated
 returns-in-Ok-clause-unseated g c =
     let begins : c.begin-linked.result.link ≡ c.hello.new.self = search rules in
     let ends : c.greet.new.self.link ≡ c.set_user.new.self.link = search rules in
-    asks_after g.L.Link.talk g.L.Link.since g.L.Link.fault g.L.Link.downs g.met.L.Link.since_more c.args.users.now c.args.add
-    c.args.self.link c.hello.new.self c.set_user.new.self.link c.begin-linked.result.link c.greet.new.self.link
+    asks_after g.met.L.Link.since_more c.args.users.now c.args.add
     c.in_default.ensures.talk c.in_default.ensures.since
-    (fell_now (g.L.Link.fault c.args.self.link) (g.L.Link.fault c.hello.new.self) (g.L.Link.downs c.args.self.link) (g.L.Link.downs c.hello.new.self)
+    (fell_now
     (Ok c.in_default.field-0) c.in_default.ensures.fault c.in_default.ensures.cause) begins ends c.in-Ok.ensures.unseated
 
 pub returns-in-Err-greet-clause-unseated : goal.returns-in-Err-greet-clause-unseated
 returns-in-Err-greet-clause-unseated g c =
     let begins : c.begin-linked.result.link ≡ c.hello.new.self = search rules in
     let ends : c.greet.new.self.link ≡ c.halt.result.link = search rules in
-    asks_after g.L.Link.talk g.L.Link.since g.L.Link.fault g.L.Link.downs g.met.L.Link.since_more c.args.users.now c.args.add
-    c.args.self.link c.hello.new.self c.halt.result.link c.begin-linked.result.link c.greet.new.self.link
+    asks_after g.met.L.Link.since_more c.args.users.now c.args.add
     c.in_default.ensures.talk c.in_default.ensures.since
-    (fell_now (g.L.Link.fault c.args.self.link) (g.L.Link.fault c.hello.new.self) (g.L.Link.downs c.args.self.link) (g.L.Link.downs c.hello.new.self)
+    (fell_now
     (Ok c.in_default.field-0) c.in_default.ensures.fault c.in_default.ensures.cause) begins ends c.in-Err-greet.ensures.unseated

@@ -1,6 +1,5 @@
 -- The one request that may give an id.
-use Rattle.std.proofs.Common.{◌∙◌, ◌≤◌, ap, sym, subst, ℕ, List, length, arith}
-use Rattle.dlp_requests.specs.RequestTexts.{IsRequest}
+use Rattle.std.proofs.Common.{◌∙◌, ap, ℕ, List, arith}
 use Rattle.desktop_session.proofs.RequestFits.{putting_fits}
 use Rattle.dlp_replies.specs.ReplyReading.{reply_at}
 use Rattle.desktop_session.specs.Answers.{id_of, said_in}
@@ -10,15 +9,15 @@ use Rattle.desktop_session.proofs.linked.Linked.ask_to_put.Goals as goal
 
 pub returns-clause-puts : goal.returns-clause-puts
 returns-clause-puts g c =
-    let value = put_value c.args.handle c.args.id c.number.result c.bits_of.result c.number-2.result c.args.content.now c.bytes.result.now
+    let value = put_value c.args.handle c.args.content.now
     c.number.ensures.number (c.bits_of.ensures ∙ ap secret_bit c.secret.ensures) (c.number-2.ensures.number ∙ c.category.ensures) c.bytes.ensures.bytes in
-    puts_at g.L.Link.talk g.L.Link.since g.L.Link.fault g.L.Link.downs c.args.handle c.args.id c.args.content.now c.args.self.now c.ask.new.self
-    c.id_in.result _ value
+    puts_at
+    value
     (record {
-      fits = subst IsRequest (sym value) (putting_fits c.args.handle c.args.id c.args.content.now (omega arith) (omega
+      fits = rw value (putting_fits c.args.handle c.args.id c.args.content.now (omega arith) (omega
           (arith, c.number.ensures.number, c.number.ensures.bound))
           (omega (arith, c.number-2.ensures.number, c.number-2.ensures.bound, c.category.ensures))
-          (subst (λ (b : List ℕ). length b ≤ 65500) c.bytes.ensures.bytes c.bytes.ensures.bound));
+          (rw (← c.bytes.ensures.bytes) c.bytes.ensures.bound));
       asked = c.in_ok-ask.ensures.asked;
       stops = c.in_ok-ask.ensures.stops;
       answered = c.in_ok-ask.ensures.answered;

@@ -1,7 +1,6 @@
 -- A greeting is two requests.
 use Rattle.std.proofs.Common.{inl, inr, [], ◌∷◌}
 use Rattle.std.proofs.lemmas.Result.{err_from_is_err_and}
-use Rattle.std.specs.Prelude.{Ok, Err}
 use Rattle.desktop_session.specs.Acts.{text}
 use Rattle.desktop_session.specs.Answers.{no_more, said_in, user_of}
 use Rattle.desktop_session.specs.Greetings.{user_by}
@@ -20,7 +19,7 @@ pub returns-in_err-user-clause-greeted : goal.returns-in_err-user-clause-greeted
 returns-in_err-user-clause-greeted g c =
     let p = err_from_is_err_and c.from_residual.result c.from_residual.ensures.1 in
     rw (p.1, p.2) (greet_first c.args.users.now c.args.add (g.L.Link.talk c.args.self.now.link)
-    (g.L.Link.fault c.ask_user.new.self.link) c.ask_user.new.self.reply _
+    c.ask_user.new.self.reply
     c.in_err-user.ensures.answer c.in_err-user.ensures.asked.told)
 
 pub returns-in_err-user-clause-unseated : goal.returns-in_err-user-clause-unseated
@@ -28,13 +27,13 @@ returns-in_err-user-clause-unseated g c = inl (record { stops = c.in_err-user.en
 
 pub returns-in_err-ask_conduits-clause-unseated : goal.returns-in_err-ask_conduits-clause-unseated
 returns-in_err-ask_conduits-clause-unseated g c =
-    inr (slot_read c.args.users.now c.args.add (g.L.Link.talk c.args.self.now.link) (g.L.Link.fault c.ask_user.new.self.link)
-    c.ask_user.new.self.reply c.in_ok-user.user c.in_ok-user.ensures.answer c.in_ok-user.ensures.asked.told)
+    inr (slot_read c.args.users.now c.args.add (g.L.Link.talk c.args.self.now.link)
+    c.ask_user.new.self.reply c.in_ok-user.ensures.answer c.in_ok-user.ensures.asked.told)
 
 pub returns-clause-unseated : goal.returns-clause-unseated
 returns-clause-unseated g c =
-    inr (slot_read c.args.users.now c.args.add (g.L.Link.talk c.args.self.now.link) (g.L.Link.fault c.ask_user.new.self.link)
-    c.ask_user.new.self.reply c.in_ok-user.user c.in_ok-user.ensures.answer c.in_ok-user.ensures.asked.told)
+    inr (slot_read c.args.users.now c.args.add (g.L.Link.talk c.args.self.now.link)
+    c.ask_user.new.self.reply c.in_ok-user.ensures.answer c.in_ok-user.ensures.asked.told)
 
 pub returns-in_err-ask_conduits-clause-stops : goal.returns-in_err-ask_conduits-clause-stops
 returns-in_err-ask_conduits-clause-stops g c =
@@ -48,8 +47,8 @@ pub returns-in_err-ask_conduits-clause-greeted : goal.returns-in_err-ask_conduit
 returns-in_err-ask_conduits-clause-greeted g c =
     let p = err_from_is_err_and c.from_residual-in_err-ask_conduits.result c.from_residual-in_err-ask_conduits.ensures.1 in
     rw (p.1, p.2) (greet_second c.args.users.now c.args.add (g.L.Link.talk c.args.self.now.link) (g.L.Link.talk c.ask_user.new.self.link)
-    (g.L.Link.fault c.ask_user.new.self.link) (g.L.Link.fault c.ask_conduits.new.self.link) c.ask_user.new.self.reply c.ask_conduits.new.self.reply
-    c.in_ok-user.user (Err _) c.in_ok-user.ensures.answer c.in_ok-user.ensures.asked.told (λ none. (c.in_ok-user.ensures.asked.does none).said)
+    c.ask_user.new.self.reply c.ask_conduits.new.self.reply
+    c.in_ok-user.ensures.answer c.in_ok-user.ensures.asked.told (λ none. (c.in_ok-user.ensures.asked.does none).said)
     c.in_err-ask_conduits.ensures.answer c.in_err-ask_conduits.ensures.asked.told)
 
 pub returns-clause-stops : goal.returns-clause-stops
@@ -72,6 +71,6 @@ returns-clause-does g c =
 pub returns-clause-greeted : goal.returns-clause-greeted
 returns-clause-greeted g c =
     greet_second c.args.users.now c.args.add (g.L.Link.talk c.args.self.now.link) (g.L.Link.talk c.ask_user.new.self.link)
-    (g.L.Link.fault c.ask_user.new.self.link) (g.L.Link.fault c.ask_conduits.new.self.link) c.ask_user.new.self.reply c.ask_conduits.new.self.reply
-    c.in_ok-user.user (Ok tt) c.in_ok-user.ensures.answer c.in_ok-user.ensures.asked.told (λ none. (c.in_ok-user.ensures.asked.does none).said)
+    c.ask_user.new.self.reply c.ask_conduits.new.self.reply
+    c.in_ok-user.ensures.answer c.in_ok-user.ensures.asked.told (λ none. (c.in_ok-user.ensures.asked.does none).said)
     c.in_ok-ask_conduits.ensures.answer c.in_ok-ask_conduits.ensures.asked.told

@@ -8,22 +8,22 @@ use Rattle.desktop_session.proofs.linked.Linked.ids_of.Goals as goal
 
 pub loop-part-init : goal.loop-part-init
 loop-part-init g c =
-    ids_none g.L.Link.talk g.L.Link.since g.L.Link.fault g.L.Link.downs g.met.L.Link.since_itself c.args.handle c.new-ids.result.items c.args.self.now
+    ids_none g.met.L.Link.since_itself
     c.new-ids.ensures.items
 
 pub loop-part-preserved : goal.loop-part-preserved
 loop-part-preserved g c =
-    ids_on g.L.Link.talk g.L.Link.since g.L.Link.fault g.L.Link.downs g.met.L.Link.since_more c.args.handle c.loop-part.part (8000 * c.loop-part.part)
-    c.loop-part.ids.items c.ids_from.new.ids.items c.args.self.now c.loop-part.self c.ids_from.new.self refl c.loop-part.invariant
+    ids_on g.met.L.Link.since_more (8000 * c.loop-part.part)
+    refl c.loop-part.invariant
     c.in_ok-ids_from.ensures.asked c.in_ok-ids_from.ensures.none c.in_ok-ids_from.ensures.ids
 
 pub returns-in_err-ids_from-clause-stops : goal.returns-in_err-ids_from-clause-stops
 returns-in_err-ids_from-clause-stops g c =
     let within : c.loop-part.part + 1 ≤ id_parts c.args.count = omega (arith, c.div_ceil-part-end.ensures, c.loop-part-test.true) in
-    ids_begin g.L.Link.talk g.L.Link.since g.L.Link.fault g.L.Link.downs c.args.handle (c.loop-part.part + 1) (id_parts c.args.count)
-    c.args.self.now.link c.ids_from.new.self.link within
-    (ids_stop g.L.Link.talk g.L.Link.since g.L.Link.fault g.L.Link.downs g.met.L.Link.since_more c.args.handle c.loop-part.part
-    (8000 * c.loop-part.part) c.loop-part.ids.items c.args.self.now c.loop-part.self c.ids_from.new.self refl c.loop-part.invariant
+    ids_begin c.args.handle (c.loop-part.part + 1) (id_parts c.args.count)
+    within
+    (ids_stop g.met.L.Link.since_more
+    (8000 * c.loop-part.part) refl c.loop-part.invariant
     c.in_err-ids_from.ensures.asked)
 
 pub returns-in_err-ids_from-clause-replied : goal.returns-in_err-ids_from-clause-replied
@@ -31,5 +31,5 @@ returns-in_err-ids_from-clause-replied g c =
     let p = err_from_is_err_and c.from_residual.result c.from_residual.ensures.1 in
     let within : c.loop-part.part < id_parts c.args.count = omega (arith, c.div_ceil-part-end.ensures, c.loop-part-test.true) in
     rw p.1
-    (ids_replied g.L.Link.talk g.L.Link.since g.L.Link.fault g.L.Link.downs c.args.handle c.loop-part.part (id_parts c.args.count)
-    c.loop-part.ids.items c.args.self.now c.loop-part.self c.ids_from.new.self c.loop-part.invariant c.in_err-ids_from.ensures.asked within)
+    (ids_replied (id_parts c.args.count)
+    c.loop-part.invariant c.in_err-ids_from.ensures.asked within)
