@@ -1,5 +1,5 @@
 -- Slots within bounds: one item of a list after the other, a database more in a slot, and a slot behind the last.
-use Rattle.std.proofs.Common.{◌≡◌, ◌+◌, ◌++◌, ◌<◌, ◌≤◌, ◌^◌, ℕ, List, [], ◌∷◌, length, map, take, get_or, Result, Ok, Err, refl, sym, subst, arith}
+use Rattle.std.proofs.Common.{◌≡◌, ◌+◌, ◌++◌, ◌<◌, ◌≤◌, ◌^◌, ℕ, List, [], ◌∷◌, length, map, take, get_or, Result, subst, arith, rules}
 use Rattle.std.specs.Prelude.{OnOk}
 use Rattle.std.specs.List.{AllByRecursion}
 use Rattle.std.proofs.lemmas.List.{take_all, take_more}
@@ -9,7 +9,7 @@ use Rattle.pdb_values.proofs.NamedLaws.{AllByRecursion-with_put}
 use Rattle.palm_device.specs.Bounds.{IsBoundedDatabase}
 use Rattle.desk_store.specs.Bounds.{AreBounded, AreBoundedMarks, AreBoundedShelves, IsBoundedSlot, KeepsBounds}
 use Rattle.desk_store.specs.Finds.{with_database_at}
-use Rattle.desk_store.specs.Shelves.{ShelvesValue, SlotValue, empty_slot, new_slot, number_of, slot_at, with_database}
+use Rattle.desk_store.specs.Shelves.{ShelvesValue, SlotValue, empty_slot, number_of, slot_at, with_database}
 use Rattle.desk_store.specs.declared.role.Role.{Role}
 use Rattle.desk_store.specs.declared.role.Role.TheVariants.{Rows, Base, Archive}
 use Rattle.desk_store.proofs.SlotListLaws.{each-at, each-set}
@@ -19,10 +19,9 @@ push_each P [] x each here = (here, tt)
 push_each P (y ∷ ys) x each here = (each.0, push_each P ys x each.1 here)
 
 -- one more of a list
-pub each_more : {X : Type 0} (P : X → Type 0) (xs : List X) (place : ℕ) (x : X) → place < length xs → x ≡ get_or xs place x → AllByRecursion P (take place xs) → P x
-    → AllByRecursion P (take (place + 1) xs)
-each_more {X = X} P xs place x less is each here =
-    subst (AllByRecursion P) (sym (take_more xs place x less)) (push_each P (take place xs) _ each (subst P is here))
+pub each_more : {X : Type 0} (P : X → Type 0) (xs : List X) (place : ℕ) {x : X} → place < length xs → x ≡ get_or xs place x → AllByRecursion P (take place xs)
+    → P x → AllByRecursion P (take (place + 1) xs)
+each_more P xs place less is each here = search (rules, take_more, push_each)
 
 -- all of it
 pub each_taken : {X : Type 0} (P : X → Type 0) (xs : List X) (place : ℕ) → length xs ≤ place → AllByRecursion P (take place xs) → AllByRecursion P xs
@@ -32,7 +31,7 @@ each_taken P xs place past each = subst (AllByRecursion P) (take_all place xs pa
 
 -- a slot without databases
 pub bounded_empty : (marks : Marks) → AreBoundedMarks marks → IsBoundedSlot (empty_slot marks)
-bounded_empty marks is = record { marks = is; shelves = record { rows = tt; bases = tt; archives = tt } }
+bounded_empty marks is = search (rules)
 
 pub bounded_empties : (marks : List Marks) → AllByRecursion AreBoundedMarks marks → AreBounded (map empty_slot marks)
 bounded_empties [] each = tt
@@ -45,31 +44,22 @@ number_below (slot ∷ slots) each = each.0.marks.pc
 
 -- the slot at a place, or a new one behind the last
 pub bounded_at : (slots : List SlotValue) (place : ℕ) → AreBounded slots → IsBoundedSlot (slot_at slots place)
-bounded_at slots place each = each-at IsBoundedSlot slots place (new_slot (number_of slots)) each (bounded_empty _ (record {
-  number = omega arith;
-  pc = number_below slots each;
-  last = omega arith;
-  short = omega arith;
-  no_zero = refl;
-}))
+bounded_at slots place each = search (rules, each-at, bounded_empty, number_below)
 
 -- a database more
-bounded_with : (role : Role) (new : DatabaseValue) (shelves : ShelvesValue) → IsBoundedDatabase new → AreBoundedShelves shelves
+bounded_with : (role : Role) {new : DatabaseValue} {shelves : ShelvesValue} → IsBoundedDatabase new → AreBoundedShelves shelves
     → AreBoundedShelves (with_database role new shelves)
-bounded_with Rows new shelves here is =
+bounded_with Rows {new} {shelves} here is =
     record { rows = AllByRecursion-with_put IsBoundedDatabase new shelves.rows here is.rows; bases = is.bases; archives = is.archives }
-bounded_with Base new shelves here is =
+bounded_with Base {new} {shelves} here is =
     record { rows = is.rows; bases = AllByRecursion-with_put IsBoundedDatabase new shelves.bases here is.bases; archives = is.archives }
-bounded_with Archive new shelves here is =
+bounded_with Archive {new} {shelves} here is =
     record { rows = is.rows; bases = is.bases; archives = AllByRecursion-with_put IsBoundedDatabase new shelves.archives here is.archives }
 
-bounded_with_at : (slot : ℕ) (role : Role) (database : DatabaseValue) (slots : List SlotValue) → IsBoundedDatabase database
+bounded_with_at : (slot : ℕ) (role : Role) {database : DatabaseValue} (slots : List SlotValue) → IsBoundedDatabase database
     → KeepsBounds slots (with_database_at slot role database slots)
-bounded_with_at slot role database slots here each =
-    let was = bounded_at slots slot each in
-    each-set IsBoundedSlot slots slot _ each (record { marks = was.marks; shelves = bounded_with role database (slot_at slots slot).shelves here was.shelves })
+bounded_with_at slot role slots here each = search (rules, bounded_at, each-set, bounded_with)
 
-pub bounded_then : {A E : Type 0} (answer : Result A E) (slot : ℕ) (role : Role) (database : DatabaseValue) (old new : List SlotValue)
+pub bounded_then : {A E : Type 0} (answer : Result A E) (slot : ℕ) (role : Role) {database : DatabaseValue} (old new : List SlotValue)
     → OnOk answer (new ≡ with_database_at slot role database old) → IsBoundedDatabase database → OnOk answer (KeepsBounds old new)
-bounded_then (Ok x) slot role database old new is here = subst (KeepsBounds old) (sym is) (bounded_with_at slot role database old here)
-bounded_then (Err e) slot role database old new is here = tt
+bounded_then answer slot role old new is here = search (rules, bounded_with_at)

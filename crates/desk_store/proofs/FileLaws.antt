@@ -1,7 +1,7 @@
 -- The files of a change: their names, and that what is written is read.
-use Rattle.std.proofs.Common.{◌≡◌, ◌<◌, ℕ, Bool, true, false, List, ◌++◌, ◌-◌, cond, length, take, Option, None, Some, Ok, refl, sym, ap, ◌∙◌, arith}
-use Rattle.std.specs.Prelude.{◌||◌, bytes_eq, codes}
-use Rattle.std.proofs.lemmas.Bool.Decides.{Decides-eqb}
+use Rattle.std.proofs.Common.{◌≡◌, ◌<◌, ℕ, true, false, List, ◌++◌, ◌-◌, length, take, Option, Some, Ok, refl, sym, ap, ◌∙◌, arith}
+use Rattle.std.specs.Prelude.{codes}
+use Rattle.std.proofs.lemmas.Bool.Decides.{Decides-eqb, nat_tests}
 use Rattle.std.proofs.lemmas.Slice.Eq.{ends_is}
 use Rattle.pdb_values.specs.Databases.{DatabaseValue}
 use Rattle.pdb_values.specs.Heads.{holds_resources}
@@ -18,43 +18,43 @@ use Rattle.desk_store.specs.declared.role.Role.{Role}
 use Rattle.desk_store.specs.declared.role.Role.TheVariants.{Rows, Base, Archive}
 use Rattle.desk_store.proofs.OwnLaws.{ending_of, last_byte, last_byte-append, own_file, own_slot-some, slot_file-ends, slot_stem}
 use Rattle.pdb_values.proofs.NamedLaws.{bytes_eq-own}
+use Rattle.std.proofs.lemmas.Bool.{false_from_ne_true}
+use Rattle.std.proofs.lemmas.Grind.{common_steps}
 
 -- ---- endings
-
-false_unless : (b : Bool) → (b ≡ true → ⊥) → b ≡ false
-false_unless true never = absurd (never refl)
-false_unless false _ = refl
 
 pub ends : (front ending : List ℕ) → has_ending ending (front ++ ending) ≡ true
 ends front ending = (ends_is Decides-eqb (front ++ ending) ending _ refl).1 front refl
 
 -- a text that ends otherwise
-other_ending : (ending text : List ℕ) (last : ℕ) → last_byte text ≡ last → ((front : List ℕ) → last_byte (front ++ ending) ≡ last → ⊥) → has_ending ending text ≡ false
-other_ending ending text last is other = false_unless _ (λ e. other (take (length text - length ending) text) (ap last_byte (sym ((ends_is Decides-eqb text ending _ refl).0 e)) ∙ is))
+other_ending : (ending text : List ℕ) {last : ℕ} → last_byte text ≡ last → ((front : List ℕ) → last_byte (front ++ ending) ≡ last → ⊥)
+    → has_ending ending text ≡ false
+other_ending ending text is other = false_from_ne_true _
+    (λ e. other (take (length text - length ending) text) (ap last_byte (sym ((ends_is Decides-eqb text ending _ refl).0 e)) ∙ is))
 
-other_role : (role : Role) (text : List ℕ) (last : ℕ) → last_byte text ≡ last → (last_byte (ending_of role) ≡ last → ⊥) → has_ending (ending_of role) text ≡ false
-other_role role text last is other = other_ending (ending_of role) text last is (λ front e. other (sym (last_byte-append front role) ∙ e))
+other_role : (role : Role) (text : List ℕ) {last : ℕ} → last_byte text ≡ last → (last_byte (ending_of role) ≡ last → ⊥)
+    → has_ending (ending_of role) text ≡ false
+other_role role text is other = other_ending (ending_of role) text is (λ front e. other (sym (last_byte-append front role) ∙ e))
 
 role_of-stem : (role : Role) (front : List ℕ) → role_of (front ++ ending_of role) ≡ Some role
 role_of-stem Rows front = rw (ends front (codes ".pdb")) refl
-role_of-stem Base front = rw (other_role Rows (front ++ codes ".base") 101 (last_byte-append front Base) (λ e. omega (arith, e)), ends front (codes ".base")) refl
+role_of-stem Base front = rw (other_role Rows (front ++ codes ".base") (last_byte-append front Base) (λ e. omega (arith, e)), ends front (codes ".base")) refl
 role_of-stem Archive front =
-    rw (other_role Rows (front ++ codes ".arc") 99 (last_byte-append front Archive) (λ e. omega (arith, e)), other_role Base (front ++ codes ".arc") 99 (last_byte-append front Archive) (λ e. omega (arith, e)), ends front (codes ".arc")) refl
+    rw (
+      other_role Rows (front ++ codes ".arc") (last_byte-append front Archive) (λ e. omega (arith, e)),
+      other_role Base (front ++ codes ".arc")
+          (last_byte-append front Archive) (λ e. omega (arith, e)),
+      ends front (codes ".arc"),
+    ) refl
 
 pub role_of_file : (slot : ℕ) (role : Role) (name : List ℕ) → role_of (slot_file slot role name) ≡ Some role
 role_of_file slot role name = ap role_of (slot_file-ends slot role name) ∙ role_of-stem role (slot_stem slot name)
 
-kept_by : (name : List ℕ) (role : Role) → role_of name ≡ Some role → is_kept_file name ≡ true
-kept_by name role is = by (has_ending (codes ".pdb") name) (has_ending (codes ".base") name) (has_ending (codes ".arc") name) (bytes_eq name desktop_info_file) is
-  where
-    by : (pdb base arc info : Bool) → cond pdb (Some Rows) (cond base (Some Base) (cond arc (Some Archive) None)) ≡ Some role → (pdb || (base || (arc || info))) ≡ true
-    by true base arc info is = refl
-    by false true arc info is = refl
-    by false false true info is = refl
-    by false false false info is = absurd cc
+kept_by : (name : List ℕ) {role : Role} → role_of name ≡ Some role → is_kept_file name ≡ true
+kept_by name is = grind (arith, common_steps, nat_tests)
 
 pub file_kept : (slot : ℕ) (role : Role) (name : List ℕ) → is_kept_file (slot_file slot role name) ≡ true
-file_kept slot role name = kept_by (slot_file slot role name) role (role_of_file slot role name)
+file_kept slot role name = kept_by (slot_file slot role name) (role_of_file slot role name)
 
 -- the file of a database is not the information file
 pub not_info : (slot : ℕ) (role : Role) (name : List ℕ) → slot_file slot role name ≡ desktop_info_file → ⊥
@@ -62,7 +62,8 @@ not_info slot role name e = let is : role_of desktop_info_file ≡ Some role = a
 
 -- ---- what is read
 
-pub database_read : (slots slot : ℕ) (role : Role) (database : DatabaseValue) (bytes : List ℕ) → slot < slots → holds_resources database.head.attributes ≡ false → IsFileText database bytes
+pub database_read : (slots slot : ℕ) (role : Role) (database : DatabaseValue) (bytes : List ℕ) → slot < slots → holds_resources database.head.attributes ≡ false
+    → IsFileText database bytes
     → (found : ℕ) × (file_in slots (slot_file slot role database.head.name) bytes ≡ Ok (files.Database found role database))
 unfolding file_in
 database_read slots slot role database bytes less records text =
@@ -70,9 +71,12 @@ database_read slots slot role database bytes less records text =
     let own : is_own_file slot role name database ≡ true = rw (records, bytes_eq-own name) refl in
     let reads = (file-written database bytes text).reads in
     let found = own_slot-some slots slot role name database less own in
-    let here : own_slot slots role name (database_in bytes) ≡ Some found.0 = ap (own_slot slots role name) reads ∙ found.1 in
-    (found.0, ap (λ (o : Option Role). by_role slots o name bytes) (role_of_file slot role database.head.name) ∙ (own_file (own_slot slots role name (database_in bytes)) role bytes database text ∙ ap (if_slot role database) here))
+    let here : own_slot slots role name (database_in bytes) ≡ Some found.0 = ap (own_slot slots role name) reads ∙ found.1 in (
+      found.0,
+      ap (λ (o : Option Role). by_role slots o name bytes) (role_of_file slot role database.head.name)
+          ∙ (own_file (own_slot slots role name (database_in bytes)) role text ∙ ap (if_slot role database) here),
+    )
 
-pub slots_read : (slots : ℕ) (marks : List Marks) (bytes : List ℕ) → IsDesktopFile marks bytes → file_in slots desktop_info_file bytes ≡ Ok files.Other
+pub slots_read : (slots : ℕ) {marks : List Marks} {bytes : List ℕ} → IsDesktopFile marks bytes → file_in slots desktop_info_file bytes ≡ Ok files.Other
 unfolding file_in
-slots_read slots marks bytes is = ap if_slots (desktop_only bytes marks is)
+slots_read slots {marks} {bytes} is = ap if_slots (desktop_only bytes marks is)

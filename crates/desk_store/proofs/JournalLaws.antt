@@ -1,6 +1,7 @@
 -- The files of a change: they form a journal, and the last of each name is what the change makes of it.
-use Rattle.std.proofs.Common.{◌≡◌, ℕ, ◌*◌, ◌^◌, ◌<◌, ◌≤◌, Bool, true, false, cond, List, [], ◌∷◌, ◌++◌, length, Option, None, Some, refl, sym, ap, subst, ◌∙◌, arith}
-use Rattle.std.specs.Prelude.{◌||◌, bytes_eq, string_bytes}
+use Rattle.std.proofs.Common.{◌≡◌, ℕ, ◌*◌, ◌^◌, ◌<◌, ◌≤◌, Bool, true, false, cond, List, [], ◌∷◌, ◌++◌, length, Option, None, Some, refl, sym, ap, subst, ◌∙◌}
+use Rattle.std.proofs.Common.{arith, rules}
+use Rattle.std.specs.Prelude.{bytes_eq, string_bytes}
 use Rattle.std.specs.List.{AllByRecursion, flat_map, list_all}
 use Rattle.std.specs.Option.{option_map, option_or}
 use Rattle.std.specs.Str.{is_utf8}
@@ -19,7 +20,8 @@ use Rattle.desk_store.specs.DeskFiles.{file_in, slot_file}
 use Rattle.desk_store.specs.declared.role.Role.{Role}
 use Rattle.desk_store.specs.declared.role.Role.TheVariants.{Rows, Base, Archive}
 use Rattle.desk_store.proofs.OwnLaws.{each-append, same_file}
-use Rattle.desk_store.specs.Changes.{IsDbChange, IsDbWritten, IsDeskChange, archive_entries, changed, changed_to, database_entry, db_entries, slot_entries, slots_entry}
+use Rattle.desk_store.specs.Changes.{IsDbChange, IsDbWritten, IsDeskChange, archive_entries, changed, changed_to, database_entry, db_entries, slot_entries}
+use Rattle.desk_store.specs.Changes.{slots_entry}
 use Rattle.desk_store.specs.Shelves.{if_bad}
 use Rattle.desk_store.specs.declared.change.DbChange.{DbChange}
 use Rattle.desk_store.specs.declared.change.DeskChange.{DeskChange}
@@ -27,7 +29,9 @@ use Rattle.desk_store.proofs.ChangedLaws.{IsChanged, changed_none, changed_to_is
 use Rattle.desk_store.proofs.FileLaws.{database_read, file_kept, not_info, slots_read}
 use Rattle.desk_store.proofs.SizeLaws.{canonical-short, file-short, slots-short}
 use Rattle.pdb_values.specs.NamedDatabases.{NamesRise, comes_before}
-use Rattle.pdb_values.proofs.NamedLaws.{bytes_eq-is, bytes_eq-other, bytes_eq-own}
+use Rattle.pdb_values.proofs.NamedLaws.{bytes_eq-is, bytes_eq-own}
+use Rattle.std.proofs.lemmas.Grind.{common_steps}
+use Rattle.std.proofs.lemmas.Bool.Decides.{nat_tests}
 
 -- ---- each file
 
@@ -43,34 +47,44 @@ pub record IsSlot (slots slot : ℕ) : Type 0 where
   pub there : slot < slots
   pub few : slots ≤ 16
 
-database_file : (slots slot : ℕ) (role : Role) (name : List ℕ) (database : DatabaseValue) → IsSlot slots slot → IsChanged name database → IsFile slots (database_entry slot role database)
-database_file slots slot role name database at is = record {
-  short_name = file-short slot role database.head.name (omega (arith, at.there, at.few)) is.text.head.name;
+database_file : {slots slot : ℕ} (role : Role) {name : List ℕ} {database : DatabaseValue} → IsSlot slots slot → IsChanged name database
+    → IsFile slots (database_entry slot role database)
+database_file {slots} {slot} role {database} at is = record {
+  short_name = file-short slot role (omega (arith, at.there, at.few)) is.text.head.name;
   kept = file_kept slot role database.head.name;
-  short_bytes = canonical-short database is.records is.text;
+  short_bytes = canonical-short is.records is.text;
   good = ap if_bad (database_read slots slot role database (canonical database) at.there is.records is.text).1;
 }
 
-archive_file : (slots slot : ℕ) (name : List ℕ) (archive : Option DatabaseValue) → IsSlot slots slot → ((database : DatabaseValue) → archive ≡ Some database → IsChanged name database) → AllByRecursion (IsFile slots) (archive_entries slot archive)
-archive_file slots slot name None at is = tt
-archive_file slots slot name (Some archive) at is = (database_file slots slot Archive name archive at (is archive refl), tt)
+archive_file : {slots slot : ℕ} (name : List ℕ) (archive : Option DatabaseValue) → IsSlot slots slot
+    → ((database : DatabaseValue) → archive ≡ Some database → IsChanged name database) → AllByRecursion (IsFile slots) (archive_entries slot archive)
+archive_file name None at is = tt
+archive_file name (Some archive) at is = (database_file Archive at (is archive refl), tt)
 
-db_files : (slots slot : ℕ) (change : DbChange) → IsSlot slots slot → IsDbChange change → IsDbWritten change → AllByRecursion (IsFile slots) (db_entries slot change)
-db_files slots slot change at is written =
+db_files : {slots slot : ℕ} {change : DbChange} → IsSlot slots slot → IsDbChange change → IsDbWritten change
+    → AllByRecursion (IsFile slots) (db_entries slot change)
+db_files {change} at is written =
     let name = change.rows.head.name in (
-      database_file slots slot Rows name change.rows at (changed_to_is Rows change change.rows is written refl),
-      (database_file slots slot Base name change.base at (changed_to_is Base change change.base is written refl), archive_file slots slot name change.archive at (λ database here. changed_to_is Archive change database is written here)),
+      database_file Rows at (changed_to_is Rows {database = change.rows} is written refl),
+      (
+        database_file Base at (changed_to_is Base {database = change.base} is written refl),
+        archive_file name change.archive at
+            (λ database here. changed_to_is Archive is written here),
+      ),
     )
 
-databases_files : (slots slot : ℕ) (changes : List DbChange) → IsSlot slots slot → AllByRecursion IsDbChange changes → AllByRecursion IsDbWritten changes → AllByRecursion (IsFile slots) (flat_map (db_entries slot) changes)
-databases_files slots slot [] at each written = tt
-databases_files slots slot (change ∷ changes) at each written =
-    each-append (IsFile slots) (db_entries slot change) (flat_map (db_entries slot) changes) (db_files slots slot change at each.0 written.0) (databases_files slots slot changes at each.1 written.1)
+databases_files : {slots slot : ℕ} (changes : List DbChange) → IsSlot slots slot → AllByRecursion IsDbChange changes → AllByRecursion IsDbWritten changes
+    → AllByRecursion (IsFile slots) (flat_map (db_entries slot) changes)
+databases_files [] at each written = tt
+databases_files {slots} {slot} (change ∷ changes) at each written =
+    each-append (IsFile slots) (db_entries slot change) (flat_map (db_entries slot) changes) (db_files at each.0 written.0)
+    (databases_files changes at each.1 written.1)
 
-pub change_files : (slots slot : ℕ) (changes : List DbChange) (marks : List Marks) → IsSlot slots slot → AllByRecursion IsDbChange changes → AllByRecursion IsDbWritten changes → IsDesktopFile marks (desktop_text marks) → AllByRecursion (IsFile slots) (slot_entries slot changes marks)
-change_files slots slot changes marks at each written text =
-    each-append (IsFile slots) (flat_map (db_entries slot) changes) _ (databases_files slots slot changes at each written)
-    (record { short_name = omega arith; kept = refl; short_bytes = slots-short marks _ text; good = ap if_bad (slots_read slots marks _ text) }, tt)
+pub change_files : {slots slot : ℕ} (changes : List DbChange) {marks : List Marks} → IsSlot slots slot → AllByRecursion IsDbChange changes
+    → AllByRecursion IsDbWritten changes → IsDesktopFile marks (desktop_text marks) → AllByRecursion (IsFile slots) (slot_entries slot changes marks)
+change_files {slots} {slot} changes at each written text =
+    each-append (IsFile slots) (flat_map (db_entries slot) changes) _ (databases_files changes at each written)
+    (record { short_name = omega arith; kept = refl; short_bytes = slots-short text; good = ap if_bad (slots_read slots text) }, tt)
 
 -- ---- the last file of a name
 
@@ -80,144 +94,143 @@ none_behind None = refl
 
 pub last_of-append : (q : List ℕ) (xs ys : List EntryValue) → last_of q (xs ++ ys) ≡ option_or (last_of q ys) (last_of q xs)
 last_of-append q [] ys = sym (none_behind (last_of q ys))
-last_of-append q (x ∷ xs) ys = ap (λ (o : Option (List ℕ)). option_or o (cond (same_name q x.name) (Some x.bytes) None)) (last_of-append q xs ys) ∙ regroup (last_of q ys) (last_of q xs) (cond (same_name q x.name) (Some x.bytes) None)
-  where
-    regroup : (a b c : Option (List ℕ)) → option_or (option_or a b) c ≡ option_or a (option_or b c)
-    regroup (Some y) b c = refl
-    regroup None b c = refl
+last_of-append q (x ∷ xs) ys = grind (arith, common_steps, nat_tests, same_name, last_of-append q xs ys, last_of)
 
 -- the file of a database, by its slot, its role and its name
 same_role : (slot : ℕ) (role : Role) (name named : List ℕ) → slot < 16 → same_name (slot_file slot role name) (slot_file slot role named) ≡ bytes_eq named name
-same_role slot role name named few = by (bytes_eq named name) refl
-  where
-    by : (b : Bool) → bytes_eq named name ≡ b → same_name (slot_file slot role name) (slot_file slot role named) ≡ b
-    by true is = same_name-is (slot_file slot role name) (slot_file slot role named) ∙ (ap (λ (n : List ℕ). bytes_eq (slot_file slot role name) (slot_file slot role n)) (bytes_eq-is named name is) ∙ bytes_eq-own (slot_file slot role name))
-    by false is =
-        same_name-other (slot_file slot role name) (slot_file slot role named)
-        (λ e. let same : named ≡ name = sym (same_file slot slot role role name named few few e).2 in let yes : bytes_eq named name ≡ true = ap (λ (n : List ℕ). bytes_eq n name) same ∙ bytes_eq-own name in cc (sym is ∙ yes))
+same_role slot role name named few = search (rules, same_name, same_name-is, bytes_eq-is, bytes_eq-own, same_name-other, same_file)
 
-other_role : (slot : ℕ) (role other : Role) (name named : List ℕ) → slot < 16 → (role ≡ other → ⊥) → same_name (slot_file slot role name) (slot_file slot other named) ≡ false
-other_role slot role other name named few apart = same_name-other _ _ (λ e. apart (same_file slot slot role other name named few few e).1)
+other_role : (slot : ℕ) (role other : Role) (name named : List ℕ) → slot < 16 → (role ≡ other → ⊥)
+    → same_name (slot_file slot role name) (slot_file slot other named) ≡ false
+other_role slot role other name named few apart = search (rules, same_name-other, same_file)
 
 -- the file of an archive that is given, by its name
-last_archive : (slot : ℕ) (name named : List ℕ) (archive : Option DatabaseValue) → slot < 16 → ((database : DatabaseValue) → archive ≡ Some database → database.head.name ≡ named)
+last_archive : (slot : ℕ) (name named : List ℕ) (archive : Option DatabaseValue) → slot < 16
+    → ((database : DatabaseValue) → archive ≡ Some database → database.head.name ≡ named)
     → last_of (slot_file slot Archive name) (archive_entries slot archive) ≡ cond (bytes_eq named name) (option_map canonical archive) None
 last_archive slot name named None few is = same (bytes_eq named name)
   where
     same : (b : Bool) → (let o : Option (List ℕ) = None in o) ≡ cond b None None
     same true = refl
     same false = refl
-last_archive slot name named (Some archive) few is = ap (λ (b : Bool). cond b (Some (canonical archive)) None) (same_role slot Archive name archive.head.name few ∙ ap (λ (n : List ℕ). bytes_eq n name) (is archive refl))
+last_archive slot name named (Some archive) few is = ap (λ (b : Bool). cond b (Some (canonical archive)) None)
+    (same_role slot Archive name archive.head.name few ∙ ap (λ (n : List ℕ). bytes_eq n name) (is archive refl))
 
-no_archive : (slot : ℕ) (role : Role) (name : List ℕ) (archive : Option DatabaseValue) → slot < 16 → (role ≡ Archive → ⊥) → last_of (slot_file slot role name) (archive_entries slot archive) ≡ None
+no_archive : (slot : ℕ) (role : Role) (name : List ℕ) (archive : Option DatabaseValue) → slot < 16 → (role ≡ Archive → ⊥)
+    → last_of (slot_file slot role name) (archive_entries slot archive) ≡ None
 no_archive slot role name None few other = refl
-no_archive slot role name (Some archive) few other = ap (λ (b : Bool). cond b (Some (canonical archive)) None) (other_role slot role Archive name archive.head.name few other)
+no_archive slot role name (Some archive) few other = ap (λ (b : Bool). cond b (Some (canonical archive)) None)
+    (other_role slot role Archive name archive.head.name few other)
 
 -- what a change of a database writes
-last_here : (slot : ℕ) (role : Role) (name : List ℕ) (change : DbChange) → slot < 16 → IsDbChange change → IsDbWritten change
-    → last_of (slot_file slot role name) (db_entries slot change) ≡ cond (bytes_eq change.rows.head.name name) (option_map canonical (changed_to role change)) None
-last_here slot Rows name change few is written =
+last_here : (slot : ℕ) (role : Role) (name : List ℕ) {change : DbChange} → slot < 16 → IsDbChange change → IsDbWritten change
+    → last_of (slot_file slot role name) (db_entries slot change) ≡ cond (bytes_eq change.rows.head.name name)
+    (option_map canonical (changed_to role change)) None
+last_here slot Rows name {change} few is written =
     let base = other_role slot Rows Base name change.base.head.name few (λ e. cc) in
     let rows = same_role slot Rows name change.rows.head.name few in
     rw (no_archive slot Rows name change.archive few (λ e. cc), base, rows) refl
-last_here slot Base name change few is written =
+last_here slot Base name {change} few is written =
     let base = same_role slot Base name change.base.head.name few ∙ ap (λ (n : List ℕ). bytes_eq n name) is.base.named in
     let rows = other_role slot Base Rows name change.rows.head.name few (λ e. cc) in
-    rw (no_archive slot Base name change.archive few (λ e. cc), base, rows) (none_behind (cond (bytes_eq change.rows.head.name name) (Some (canonical change.base)) None))
-last_here slot Archive name change few is written =
-    let archive = last_archive slot name change.rows.head.name change.archive few (λ database here. (changed_to_is Archive change database is written here).named) in
+    rw (no_archive slot Base name change.archive few (λ e. cc), base, rows)
+    (none_behind (cond (bytes_eq change.rows.head.name name) (Some (canonical change.base)) None))
+last_here slot Archive name {change} few is written =
+    let archive = last_archive slot name change.rows.head.name change.archive few (λ database here. (changed_to_is Archive is written here).named) in
     let base = other_role slot Archive Base name change.base.head.name few (λ e. cc) in
     let rows = other_role slot Archive Rows name change.rows.head.name few (λ e. cc) in
-    rw (archive, base, rows) (let here = cond (bytes_eq change.rows.head.name name) (option_map canonical change.archive) None in none_behind (option_or here None) ∙ none_behind here)
+    rw (archive, base, rows) (let here = cond (bytes_eq change.rows.head.name name) (option_map canonical change.archive) None in
+    none_behind (option_or here None) ∙ none_behind here)
 
 -- what a change writes of the database of a role and a name
-last_databases : (slot : ℕ) (role : Role) (name : List ℕ) (changes : List DbChange) → slot < 16 → NamesRise (rows_of changes) → AllByRecursion IsDbChange changes → AllByRecursion IsDbWritten changes
+last_databases : (slot : ℕ) (role : Role) (name : List ℕ) (changes : List DbChange) → slot < 16 → NamesRise (rows_of changes)
+    → AllByRecursion IsDbChange changes → AllByRecursion IsDbWritten changes
     → last_of (slot_file slot role name) (flat_map (db_entries slot) changes) ≡ option_map canonical (changed role name changes)
 last_databases slot role name [] few rise each written = refl
 last_databases slot role name (change ∷ changes) few rise each written =
     last_of-append (slot_file slot role name) (db_entries slot change) (flat_map (db_entries slot) changes)
-    ∙ (ap (λ (o : Option (List ℕ)). option_or o (last_of (slot_file slot role name) (db_entries slot change))) (last_databases slot role name changes few rise.1 each.1 written.1)
-    ∙ (ap (option_or (option_map canonical (changed role name changes))) (last_here slot role name change few each.0 written.0)
+    ∙ (ap (λ (o : Option (List ℕ)). option_or o (last_of (slot_file slot role name) (db_entries slot change)))
+    (last_databases slot role name changes few rise.1 each.1 written.1)
+    ∙ (ap (option_or (option_map canonical (changed role name changes))) (last_here slot role name few each.0 written.0)
     ∙ by (bytes_eq change.rows.head.name name) refl))
   where
     by : (here : Bool) → bytes_eq change.rows.head.name name ≡ here
-        → option_or (option_map canonical (changed role name changes)) (cond here (option_map canonical (changed_to role change)) None) ≡ option_map canonical (cond here (changed_to role change) (changed role name changes))
+        → option_or (option_map canonical (changed role name changes)) (cond here (option_map canonical (changed_to role change)) None) ≡ option_map canonical
+        (cond here (changed_to role change) (changed role name changes))
     by true is =
-        let none : changed role name changes ≡ None = changed_none role name changes (subst (λ (n : List ℕ). list_all (λ later. comes_before n later.head.name) (rows_of changes) ≡ true) (bytes_eq-is _ _ is) rise.0) in
+        let none : changed role name changes ≡ None = changed_none role name changes
+        (subst (λ (n : List ℕ). list_all (λ later. comes_before n later.head.name) (rows_of changes) ≡ true) (bytes_eq-is _ _ is) rise.0) in
         ap (λ (o : Option DatabaseValue). option_or (option_map canonical o) (option_map canonical (changed_to role change))) none
     by false is = none_behind (option_map canonical (changed role name changes))
 
 -- the information file comes behind them and is none of theirs
-last_behind_all : (slot slot' : ℕ) (role : Role) (name : List ℕ) (changes : List DbChange) (marks : List Marks) → last_of (slot_file slot role name) (slot_entries slot' changes marks) ≡ last_of (slot_file slot role name) (flat_map (db_entries slot') changes)
-last_behind_all slot slot' role name changes marks =
-    last_of-append (slot_file slot role name) (flat_map (db_entries slot') changes) (slots_entry marks ∷ [])
-    ∙ ap (λ (b : Bool). option_or (cond b (Some (desktop_text marks)) None) (last_of (slot_file slot role name) (flat_map (db_entries slot') changes))) (same_name-other (slot_file slot role name) desktop_info_file (not_info slot role name))
+last_behind_all : (slot slot' : ℕ) (role : Role) (name : List ℕ) (changes : List DbChange) (marks : List Marks)
+    → last_of (slot_file slot role name) (slot_entries slot' changes marks) ≡ last_of (slot_file slot role name) (flat_map (db_entries slot') changes)
+last_behind_all slot slot' role name changes marks = grind (arith, common_steps, nat_tests, last_of-append, last_of, same_name-other, not_info)
 
-pub last_database : (slot : ℕ) (role : Role) (name : List ℕ) (changes : List DbChange) (marks : List Marks) → slot < 16 → NamesRise (rows_of changes) → AllByRecursion IsDbChange changes → AllByRecursion IsDbWritten changes
+pub last_database : (slot : ℕ) (role : Role) (name : List ℕ) (changes : List DbChange) (marks : List Marks) → slot < 16 → NamesRise (rows_of changes)
+    → AllByRecursion IsDbChange changes → AllByRecursion IsDbWritten changes
     → last_of (slot_file slot role name) (slot_entries slot changes marks) ≡ option_map canonical (changed role name changes)
-last_database slot role name changes marks few rise each written = last_behind_all slot slot role name changes marks ∙ last_databases slot role name changes few rise each written
+last_database slot role name changes marks few rise each written = search (rules, last_behind_all, last_databases)
 
 -- no file of another slot is written
-other_slot : (slot other : ℕ) (role own : Role) (name named bytes : List ℕ) (rest : List EntryValue) → slot < 16 → other < 16 → (slot ≡ other → ⊥) → last_of (slot_file slot role name) rest ≡ None
+other_slot : {slot other : ℕ} (role own : Role) (name named bytes : List ℕ) (rest : List EntryValue) → slot < 16 → other < 16 → (slot ≡ other → ⊥)
+    → last_of (slot_file slot role name) rest ≡ None
     → last_of (slot_file slot role name) (record { name = slot_file other own named; bytes = bytes } ∷ rest) ≡ None
-other_slot slot other role own name named bytes rest few less apart none = rw (none, same_name-other (slot_file slot role name) (slot_file other own named) (λ e. apart (same_file slot other role own name named few less e).0)) refl
+other_slot role own name named bytes rest few less apart none = grind (arith, common_steps, nat_tests, same_name-other, same_file)
 
-other_databases : (slot other : ℕ) (role : Role) (name : List ℕ) (changes : List DbChange) → slot < 16 → other < 16 → (slot ≡ other → ⊥) → last_of (slot_file slot role name) (flat_map (db_entries other) changes) ≡ None
-other_databases slot other role name [] few less apart = refl
-other_databases slot other role name (change ∷ changes) few less apart =
+other_databases : {slot other : ℕ} (role : Role) (name : List ℕ) (changes : List DbChange) → slot < 16 → other < 16 → (slot ≡ other → ⊥)
+    → last_of (slot_file slot role name) (flat_map (db_entries other) changes) ≡ None
+other_databases role name [] few less apart = refl
+other_databases {slot} {other} role name (change ∷ changes) few less apart =
     let rest = flat_map (db_entries other) changes in
-    let later = other_databases slot other role name changes few less apart in
-    other_slot slot other role Rows name change.rows.head.name (canonical change.rows) (database_entry other Base change.base ∷ archive_entries other change.archive ++ rest) few less apart
-    (other_slot slot other role Base name change.base.head.name (canonical change.base) (archive_entries other change.archive ++ rest) few less apart (by change.archive later))
+    let later = other_databases role name changes few less apart in
+    other_slot role Rows name change.rows.head.name (canonical change.rows)
+    (database_entry other Base change.base ∷ archive_entries other change.archive ++ rest) few less apart
+    (other_slot role Base name change.base.head.name (canonical change.base) (archive_entries other change.archive ++ rest) few less apart
+    (by change.archive later))
   where
-    by : (archive : Option DatabaseValue) → last_of (slot_file slot role name) (flat_map (db_entries other) changes) ≡ None → last_of (slot_file slot role name) (archive_entries other archive ++ flat_map (db_entries other) changes) ≡ None
+    by : (archive : Option DatabaseValue) → last_of (slot_file slot role name) (flat_map (db_entries other) changes) ≡ None
+        → last_of (slot_file slot role name) (archive_entries other archive ++ flat_map (db_entries other) changes) ≡ None
     by None later = later
-    by (Some archive) later = other_slot slot other role Archive name archive.head.name (canonical archive) (flat_map (db_entries other) changes) few less apart later
+    by (Some archive) later = other_slot role Archive name archive.head.name (canonical archive) (flat_map (db_entries other) changes) few less apart later
 
-pub last_other : (slot other : ℕ) (role : Role) (name : List ℕ) (changes : List DbChange) (marks : List Marks) → slot < 16 → other < 16 → (slot ≡ other → ⊥) → last_of (slot_file slot role name) (slot_entries other changes marks) ≡ None
-last_other slot other role name changes marks few less apart = last_behind_all slot other role name changes marks ∙ other_databases slot other role name changes few less apart
+pub last_other : {slot other : ℕ} (role : Role) (name : List ℕ) (changes : List DbChange) (marks : List Marks) → slot < 16 → other < 16 → (slot ≡ other → ⊥)
+    → last_of (slot_file slot role name) (slot_entries other changes marks) ≡ None
+last_other role name changes marks few less apart = search (rules, last_behind_all, other_databases)
 
-pub last_info : (slot : ℕ) (changes : List DbChange) (marks : List Marks) → last_of desktop_info_file (slot_entries slot changes marks) ≡ Some (desktop_text marks)
-last_info slot changes marks =
-    last_of-append desktop_info_file (flat_map (db_entries slot) changes) (slots_entry marks ∷ [])
-    ∙ ap (λ (b : Bool). option_or (cond b (Some (desktop_text marks)) None) (last_of desktop_info_file (flat_map (db_entries slot) changes))) (same_name-is desktop_info_file desktop_info_file ∙ bytes_eq-own desktop_info_file)
+pub last_info : (slot : ℕ) (changes : List DbChange) (marks : List Marks)
+    → last_of desktop_info_file (slot_entries slot changes marks) ≡ Some (desktop_text marks)
+last_info slot changes marks = grind (arith, common_steps, nat_tests, last_of-append, last_of, same_name-is, bytes_eq-own)
 
 -- ---- no name twice
-
-named_is : (q : List ℕ) (entries : List EntryValue) → last_of q entries ≡ None → is_named entries q ≡ false
-named_is q [] none = refl
-named_is q (entry ∷ entries) none = by (last_of q entries) (same_name q entry.name) refl none (named_is q entries)
-  where
-    by : (later : Option (List ℕ)) (this : Bool) → same_name q entry.name ≡ this → option_or later (cond this (Some entry.bytes) None) ≡ None → (later ≡ None → is_named entries q ≡ false) → (bytes_eq entry.name q || is_named entries q) ≡ false
-    by (Some x) this is none rest = absurd cc
-    by None true is none rest = absurd cc
-    by None false is none rest = rw (bytes_eq-other entry.name q (λ e. let yes : same_name q entry.name ≡ true = same_name-is q entry.name ∙ (ap (bytes_eq q) e ∙ bytes_eq-own q) in cc (sym is ∙ yes))) (rest refl)
 
 -- no name stands among those behind it
 abbrev pub AreApart : List EntryValue → Type 0
 AreApart [] = Unit {0}
 AreApart (entry ∷ entries) = (last_of entry.name entries ≡ None) × AreApart entries
 
-named-append : (before : List EntryValue) (entry : EntryValue) (q : List ℕ) → is_named before q ≡ false → bytes_eq entry.name q ≡ false → is_named (before ++ entry ∷ []) q ≡ false
+named-append : (before : List EntryValue) (entry : EntryValue) (q : List ℕ) → is_named before q ≡ false → bytes_eq entry.name q ≡ false
+    → is_named (before ++ entry ∷ []) q ≡ false
 named-append [] entry q none other = rw other refl
-named-append (first ∷ before) entry q none other = by (bytes_eq first.name q) none (named-append before entry q)
-  where
-    by : (b : Bool) → (b || is_named before q) ≡ false → (is_named before q ≡ false → bytes_eq entry.name q ≡ false → is_named (before ++ entry ∷ []) q ≡ false) → (b || is_named (before ++ entry ∷ []) q) ≡ false
-    by true none later = absurd cc
-    by false none later = later none other
+named-append (first ∷ before) entry q none other = grind (arith, common_steps, nat_tests, named-append before entry q)
 
 -- each name is new behind one more
-new_behind : (before : List EntryValue) (entry : EntryValue) (entries : List EntryValue) → last_of entry.name entries ≡ None → AllByRecursion (λ e. is_named before e.name ≡ false) entries → AllByRecursion (λ e. is_named (before ++ entry ∷ []) e.name ≡ false) entries
+new_behind : (before : List EntryValue) (entry : EntryValue) (entries : List EntryValue) → last_of entry.name entries ≡ None
+    → AllByRecursion (λ e. is_named before e.name ≡ false) entries → AllByRecursion (λ e. is_named (before ++ entry ∷ []) e.name ≡ false) entries
 new_behind before entry [] none new = tt
-new_behind before entry (first ∷ entries) none new = by (last_of entry.name entries) (same_name entry.name first.name) refl none (λ later. new_behind before entry entries later new.1)
+new_behind before entry (first ∷ entries) none new = by (last_of entry.name entries) (same_name entry.name first.name) refl none
+    (λ later. new_behind before entry entries later new.1)
   where
-    by : (later : Option (List ℕ)) (this : Bool) → same_name entry.name first.name ≡ this → option_or later (cond this (Some first.bytes) None) ≡ None → (later ≡ None → AllByRecursion (λ e. is_named (before ++ entry ∷ []) e.name ≡ false) entries)
+    by : (later : Option (List ℕ)) (this : Bool) → same_name entry.name first.name ≡ this → option_or later (cond this (Some first.bytes) None) ≡ None
+        → (later ≡ None → AllByRecursion (λ e. is_named (before ++ entry ∷ []) e.name ≡ false) entries)
         → (is_named (before ++ entry ∷ []) first.name ≡ false) × AllByRecursion (λ e. is_named (before ++ entry ∷ []) e.name ≡ false) entries
     by (Some x) this is none rest = absurd cc
     by None true is none rest = absurd cc
     by None false is none rest = (named-append before entry first.name new.0 (sym (same_name-is entry.name first.name) ∙ is), rest refl)
 
-are_entries : (slots : ℕ) (before entries : List EntryValue) → AllByRecursion (IsFile slots) entries → AllByRecursion (λ e. is_utf8 e.name ≡ true) entries → AllByRecursion (λ e. is_named before e.name ≡ false) entries → AreApart entries → AreEntries before entries
+are_entries : (slots : ℕ) (before entries : List EntryValue) → AllByRecursion (IsFile slots) entries → AllByRecursion (λ e. is_utf8 e.name ≡ true) entries
+    → AllByRecursion (λ e. is_named before e.name ≡ false) entries → AreApart entries → AreEntries before entries
 are_entries slots before [] files texts new apart = tt
 are_entries slots before (entry ∷ entries) files texts new apart = (
   record { short_name = files.0.short_name; utf8 = texts.0; kept = files.0.kept; short_bytes = files.0.short_bytes },
@@ -229,33 +242,44 @@ new_in_none : (entries : List EntryValue) → AllByRecursion (λ e. is_named [] 
 new_in_none [] = tt
 new_in_none (entry ∷ entries) = (refl, new_in_none entries)
 
-over_one : (slot : ℕ) (role other : Role) (name named bytes : List ℕ) (rest : List EntryValue) → slot < 16 → (role ≡ other → ⊥) → last_of (slot_file slot role name) rest ≡ None → last_of (slot_file slot role name) (record { name = slot_file slot other named; bytes = bytes } ∷ rest) ≡ None
+over_one : (slot : ℕ) (role other : Role) (name named bytes : List ℕ) (rest : List EntryValue) → slot < 16 → (role ≡ other → ⊥)
+    → last_of (slot_file slot role name) rest ≡ None
+    → last_of (slot_file slot role name) (record { name = slot_file slot other named; bytes = bytes } ∷ rest) ≡ None
 over_one slot role other name named bytes rest few apart none = rw (none, other_role slot role other name named few apart) refl
 
-apart_db : (slot : ℕ) (rows base : DatabaseValue) (archive : Option DatabaseValue) (rest : List EntryValue) → slot < 16 → base.head.name ≡ rows.head.name → ((database : DatabaseValue) → archive ≡ Some database → database.head.name ≡ rows.head.name)
-    → ((role : Role) → last_of (slot_file slot role rows.head.name) rest ≡ None) → AreApart rest → AreApart (database_entry slot Rows rows ∷ database_entry slot Base base ∷ archive_entries slot archive ++ rest)
+apart_db : (slot : ℕ) (rows base : DatabaseValue) (archive : Option DatabaseValue) (rest : List EntryValue) → slot < 16 → base.head.name ≡ rows.head.name
+    → ((database : DatabaseValue) → archive ≡ Some database → database.head.name ≡ rows.head.name)
+    → ((role : Role) → last_of (slot_file slot role rows.head.name) rest ≡ None) → AreApart rest
+    → AreApart (database_entry slot Rows rows ∷ database_entry slot Base base ∷ archive_entries slot archive ++ rest)
 apart_db slot rows base None rest few named given none apart = (
   over_one slot Rows Base rows.head.name base.head.name (canonical base) rest few (λ e. cc) (none Rows),
   (ap (λ (n : List ℕ). last_of (slot_file slot Base n) rest) named ∙ none Base, apart),
 )
 apart_db slot rows base (Some archive) rest few named given none apart = (
-  over_one slot Rows Base rows.head.name base.head.name (canonical base) (database_entry slot Archive archive ∷ rest) few (λ e. cc) (over_one slot Rows Archive rows.head.name archive.head.name (canonical archive) rest few (λ e. cc) (none Rows)),
+  over_one slot Rows Base rows.head.name base.head.name (canonical base) (database_entry slot Archive archive ∷ rest) few (λ e. cc)
+      (over_one slot Rows Archive rows.head.name archive.head.name (canonical archive) rest few (λ e. cc) (none Rows)),
   (
-    over_one slot Base Archive base.head.name archive.head.name (canonical archive) rest few (λ e. cc) (ap (λ (n : List ℕ). last_of (slot_file slot Base n) rest) named ∙ none Base),
+    over_one slot Base Archive base.head.name archive.head.name (canonical archive) rest few (λ e. cc)
+        (ap (λ (n : List ℕ). last_of (slot_file slot Base n) rest) named ∙ none Base),
     (ap (λ (n : List ℕ). last_of (slot_file slot Archive n) rest) (given archive refl) ∙ none Archive, apart),
   ),
 )
 
-last_behind : (slot : ℕ) (role : Role) (name : List ℕ) (changes : List DbChange) (marks : List Marks) → slot < 16 → list_all (λ later. comes_before name later.head.name) (rows_of changes) ≡ true → NamesRise (rows_of changes) → AllByRecursion IsDbChange changes → AllByRecursion IsDbWritten changes
+last_behind : (slot : ℕ) (role : Role) (name : List ℕ) (changes : List DbChange) (marks : List Marks) → slot < 16
+    → list_all (λ later. comes_before name later.head.name) (rows_of changes) ≡ true → NamesRise (rows_of changes) → AllByRecursion IsDbChange changes
+    → AllByRecursion IsDbWritten changes
     → last_of (slot_file slot role name) (slot_entries slot changes marks) ≡ None
-last_behind slot role name changes marks few behind rise each written = last_database slot role name changes marks few rise each written ∙ ap (option_map canonical) (changed_none role name changes behind)
+last_behind slot role name changes marks few behind rise each written = search (rules, last_database, changed_none)
 
-apart_databases : (slot : ℕ) (changes : List DbChange) (marks : List Marks) → slot < 16 → NamesRise (rows_of changes) → AllByRecursion IsDbChange changes → AllByRecursion IsDbWritten changes → AreApart (slot_entries slot changes marks)
+apart_databases : (slot : ℕ) (changes : List DbChange) (marks : List Marks) → slot < 16 → NamesRise (rows_of changes) → AllByRecursion IsDbChange changes
+    → AllByRecursion IsDbWritten changes → AreApart (slot_entries slot changes marks)
 apart_databases slot [] marks few rise each written = (refl, tt)
 apart_databases slot (change ∷ changes) marks few rise each written =
     subst AreApart (sym (append_assoc (db_entries slot change) (flat_map (db_entries slot) changes) (slots_entry marks ∷ [])))
-    (apart_db slot change.rows change.base change.archive (slot_entries slot changes marks) few each.0.base.named (λ database here. (changed_to_is Archive change database each.0 written.0 here).named)
-    (λ role. last_behind slot role change.rows.head.name changes marks few rise.0 rise.1 each.1 written.1) (apart_databases slot changes marks few rise.1 each.1 written.1))
+    (apart_db slot change.rows change.base change.archive (slot_entries slot changes marks) few each.0.base.named
+    (λ database here. (changed_to_is Archive each.0 written.0 here).named)
+    (λ role. last_behind slot role change.rows.head.name changes marks few rise.0 rise.1 each.1 written.1)
+    (apart_databases slot changes marks few rise.1 each.1 written.1))
 
 -- ---- texts
 
@@ -264,23 +288,23 @@ texts_of [] = tt
 texts_of (entry ∷ entries) = (is_utf8-from_IsUtf8 (string_bytes entry.name) (IsUtf8-had (string_bytes entry.name) entry.name.ok), texts_of entries)
 
 db-length : (slot : ℕ) (change : DbChange) → length (db_entries slot change) ≤ 3
-db-length slot change = by change.archive
-  where
-    by : (archive : Option DatabaseValue) → length (database_entry slot Rows change.rows ∷ database_entry slot Base change.base ∷ archive_entries slot archive) ≤ 3
-    by None = omega arith
-    by (Some archive) = omega arith
+db-length slot change = grind (arith, common_steps, nat_tests)
 
 databases-length : (slot : ℕ) (changes : List DbChange) → length (flat_map (db_entries slot) changes) ≤ 3 * length changes
 databases-length slot [] = omega arith
-databases-length slot (change ∷ changes) = omega (arith, length-append (db_entries slot change) (flat_map (db_entries slot) changes), db-length slot change, databases-length slot changes, mul-suc 3 (length changes))
+databases-length slot (change ∷ changes) = grind (arith, common_steps, nat_tests, length-append, db-length, databases-length slot changes, mul-suc)
 
 -- ---- the change
 
-pub change_is_journal : (slots slot : ℕ) (change : DeskChange) (marks : List Marks) (entries : List Entry) → IsSlot slots slot → IsDeskChange change → AllByRecursion IsDbWritten change.databases.items → IsDesktopFile marks (desktop_text marks) → entry_values entries ≡ slot_entries slot change.databases.items marks → IsJournal (entry_values entries)
-change_is_journal slots slot change marks entries at is written text are =
+pub change_is_journal : {slots slot : ℕ} {change : DeskChange} {marks : List Marks} (entries : List Entry) → IsSlot slots slot → IsDeskChange change
+    → AllByRecursion IsDbWritten change.databases.items → IsDesktopFile marks (desktop_text marks)
+    → entry_values entries ≡ slot_entries slot change.databases.items marks → IsJournal (entry_values entries)
+change_is_journal {slots} {slot} {change} {marks} entries at is written text are =
     let changes = change.databases.items in
     let few : slot < 16 = omega (arith, at.there, at.few) in
     subst IsJournal (sym are) (
       omega (arith, is.few, databases-length slot changes, length-append (flat_map (db_entries slot) changes) (slots_entry marks ∷ [])),
-      are_entries slots [] (slot_entries slot changes marks) (change_files slots slot changes marks at is.each written text) (subst (AllByRecursion (λ e. is_utf8 e.name ≡ true)) are (texts_of entries)) (new_in_none (slot_entries slot changes marks)) (apart_databases slot changes marks few is.rise is.each written),
+      are_entries slots [] (slot_entries slot changes marks) (change_files changes at is.each written text)
+          (subst (AllByRecursion (λ e. is_utf8 e.name ≡ true)) are (texts_of entries)) (new_in_none (slot_entries slot changes marks))
+          (apart_databases slot changes marks few is.rise is.each written),
     )

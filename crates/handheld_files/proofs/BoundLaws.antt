@@ -1,12 +1,12 @@
 -- What files of a handheld say keeps the bounds of its types.
-use Rattle.std.proofs.Common.{◌≡◌, ◌∙◌, ◌≤◌, ◌<◌, ◌^◌, ◌==◌, ◌||◌, ◌&&◌, not, refl, ap, sym, subst, ℕ, suc, Bool, true, false, List, [], ◌∷◌, ◌++◌, length, map, nat_lt, if◌then◌else◌, arith, inl, inr, lit<}
+use Rattle.std.proofs.Common.{◌≡◌, ◌∙◌, ◌≤◌, ◌<◌, ◌^◌, ◌==◌, ◌&&◌, not, refl, ap, sym, subst, ℕ, suc, Bool, true, false, List, [], ◌∷◌, ◌++◌, length, map}
+use Rattle.std.proofs.Common.{nat_lt, arith, inl, inr, lit<, rules}
 use Rattle.std.specs.Prelude.{Option, Some, None, IfSome, MatchBool}
 use Rattle.std.specs.List.{AllByRecursion, list_all, list_any}
 use Rattle.std.proofs.lemmas.Bool.Decides.{nat_tests}
 use Rattle.pdb_values.specs.Blocks.{block_length}
-use Rattle.pdb_values.specs.CivilTimes.{is_civil, seconds_of}
 use Rattle.pdb_values.specs.Databases.{DatabaseValue, IsShortResource}
-use Rattle.pdb_values.specs.PalmDates.{counted, is_no_date, on_wire}
+use Rattle.pdb_values.specs.PalmDates.{counted}
 use Rattle.pdb_values.specs.Users.{password_of, user_name_of}
 use Rattle.pdb_values.specs.declared.civil.CivilTime.{CivilTime}
 use Rattle.pdb_values.specs.declared.record.Record.{Record}
@@ -15,7 +15,7 @@ use Rattle.pdb_values.specs.declared.user.UserInfo.{UserInfo}
 use Rattle.pdb_values.proofs.NamedLaws.{All-AllByRecursion, AllByRecursion-with_new}
 use Rattle.pdb_files.specs.Blocks.{AreShort, block_list}
 use Rattle.pdb_files.specs.Entries.{record_data, resource_data}
-use Rattle.pdb_files.specs.Files.{FitsRecord, FitsResource, IsFileText, data_of, has_resources}
+use Rattle.pdb_files.specs.Files.{FitsRecord, FitsResource, IsFileText, data_of}
 use Rattle.hs_folders.specs.FileMaps.{FileMap}
 use Rattle.palm_device.specs.Bounds.{IsBounded, IsBoundedDatabase, IsBoundedOpened, IsBoundedRecord, IsBoundedResource, IsBoundedUser}
 use Rattle.palm_device.specs.FreshIds.{fresh_ids, is_among, with_fresh_ids, with_ids}
@@ -29,6 +29,8 @@ use Rattle.handheld_files.specs.Openings.{AreKept, opened_device}
 use Rattle.handheld_files.specs.Reading.{ReadsOn}
 use Rattle.handheld_files.specs.Settled.{are_ids, are_settled, as_opened, idle}
 use Rattle.handheld_files.proofs.GivenLaws.{fresh-have, with-each, with-length, with-none}
+use Rattle.std.proofs.lemmas.Bool.{and_parts, not-true}
+use Rattle.std.proofs.lemmas.Grind.{common_steps}
 
 -- ---- lists
 
@@ -95,36 +97,7 @@ record HasEntries (stored : DatabaseValue) : Type 0 where
   few_resources : length stored.resources ≤ 65535
 
 entries_of : (stored : DatabaseValue) (bytes : List ℕ) → IsFileText stored bytes → HasEntries stored
-entries_of stored bytes text =
-    by (has_resources stored) refl
-    (subst (λ n. n < 2 ^ 16) refl text.count)
-    (all-back (λ (block : List ℕ). length block ≤ 65500) (block_list stored.sort) (data_of stored)
-    (all-back (λ (block : List ℕ). length block ≤ 65500) (block_list stored.app) (block_list stored.sort ++ data_of stored) text.short))
-  where
-    by : (b : Bool) → has_resources stored ≡ b → (if has_resources stored then length stored.resources else length stored.records) < 2 ^ 16
-        → AreShort (if has_resources stored then resource_data stored.resources else record_data stored.records) → HasEntries stored
-    by true is count short =
-        let none : stored.records ≡ [] = text.no_records is in
-        let few : length stored.resources < 2 ^ 16 = subst (λ b. (if b then length stored.resources else length stored.records) < 2 ^ 16) is count in
-        let of_resources : AreShort (resource_data stored.resources) =
-        subst (λ b. AreShort (if b then resource_data stored.resources else record_data stored.records)) is short in
-        record {
-          records = subst (AllByRecursion FitsAll) (sym none) tt;
-          resources = resources_bounded stored.resources text.resources of_resources;
-          few_records = (let zero_length = ap length none in omega (arith, zero_length));
-          few_resources = omega (arith, few);
-        }
-    by false is count short =
-        let none : stored.resources ≡ [] = text.no_resources is in
-        let few : length stored.records < 2 ^ 16 = subst (λ b. (if b then length stored.resources else length stored.records) < 2 ^ 16) is count in
-        let of_records : AreShort (record_data stored.records) =
-        subst (λ b. AreShort (if b then resource_data stored.resources else record_data stored.records)) is short in
-        record {
-          records = records_fit stored.records text.records of_records;
-          resources = subst (AllByRecursion IsBoundedResource) (sym none) tt;
-          few_records = omega (arith, few);
-          few_resources = (let zero_length = ap length none in omega (arith, zero_length));
-        }
+entries_of stored bytes text = search (rules, all-back, resources_bounded, records_fit)
 
 pub opened_database : (stored : DatabaseValue) (bytes : List ℕ) → IsFileText stored bytes → IsBoundedDatabase (as_opened stored)
 unfolding as_opened
@@ -169,35 +142,16 @@ opened_database stored bytes text =
 
 counted_few : (time : CivilTime) (seconds : ℕ) → counted time ≡ Some seconds → seconds < 2 ^ 32
 unfolding counted
-counted_few time seconds is = by (is_civil time) (nat_lt (seconds_of time) (2 ^ 32)) refl is
-  where
-    by : (a b : Bool) → nat_lt (seconds_of time) (2 ^ 32) ≡ b → (if a && b then Some (seconds_of time) else None) ≡ Some seconds → seconds < 2 ^ 32
-    by true true less same = let own : seconds_of time ≡ seconds = cc in subst (λ n. n < 2 ^ 32) own (grind (arith, nat_tests, less))
-    by true false less same = absurd (cc)
-    by false b less same = absurd (cc)
+counted_few time seconds is = grind (arith, common_steps, nat_tests, nat_lt)
 
 date_few : (seconds : ℕ) (text : List ℕ) → SaysDate seconds text → seconds < 2 ^ 32
-date_few seconds text says = by (is_no_date (on_wire says.0)) says.2.read
-  where
-    by : (none : Bool) → (if none then Some 0 else counted (on_wire says.0)) ≡ Some seconds → seconds < 2 ^ 32
-    by true same = let own : 0 ≡ seconds = cc in subst (λ n. n < 2 ^ 32) own (lit< tt)
-    by false same = counted_few (on_wire says.0) seconds same
+date_few seconds text says = grind (arith, common_steps, nat_tests, lit<, counted_few)
 
 name_fits : (name : List ℕ) → user_name_of name ≡ Some name → (length name ≤ 40) × (list_any (λ byte. byte == 0) name ≡ false)
-name_fits name is = by (nat_lt 40 (length name)) (list_any (λ byte. byte == 0) name) refl refl is
-  where
-    by : (a b : Bool) → nat_lt 40 (length name) ≡ a → list_any (λ byte. byte == 0) name ≡ b → (if a || b then None else Some name) ≡ Some name
-        → (length name ≤ 40) × (list_any (λ byte. byte == 0) name ≡ false)
-    by true b long zero_byte same = absurd (cc)
-    by false true long zero_byte same = absurd (cc)
-    by false false long zero_byte same = (grind (arith, nat_tests, long), zero_byte)
+name_fits name is = grind (arith, common_steps, nat_tests, nat_lt)
 
 password_fits : (password : List ℕ) → password_of password ≡ Some password → length password ≤ 40
-password_fits password is = by (nat_lt 40 (length password)) refl is
-  where
-    by : (a : Bool) → nat_lt 40 (length password) ≡ a → (if a then None else Some password) ≡ Some password → length password ≤ 40
-    by true long same = absurd (cc)
-    by false long same = grind (arith, nat_tests, long)
+password_fits password is = grind (arith, common_steps, nat_tests, nat_lt)
 
 file_user : (user : UserInfo) (bytes : List ℕ) → IsDeviceFile user bytes → IsBoundedUser user
 file_user user bytes (
@@ -255,16 +209,7 @@ file_user user bytes (
     }
 
 none_bounded : IsBoundedUser no_user
-none_bounded = record {
-  number = lit< tt;
-  viewer = lit< tt;
-  pc = lit< tt;
-  good = lit< tt;
-  last = lit< tt;
-  short = omega arith;
-  no_zero = refl;
-  password = omega arith;
-}
+none_bounded = search (rules, lit<)
 
 -- ---- one file after the other
 
@@ -273,14 +218,11 @@ closed = (tt, (tt, (tt, (tt, (tt, (tt, (tt, (tt, tt))))))))
 
 -- behind no file
 pub bounded_begin : (databases : List DatabaseValue) (user : UserInfo) → databases ≡ [] → user ≡ no_user → IsBounded (opened_device databases user)
-bounded_begin databases user none nobody = record {
-  databases = subst (AllByRecursion IsBoundedDatabase) (sym none) tt;
-  user = subst IsBoundedUser (sym nobody) none_bounded;
-  handles = closed;
-}
+bounded_begin databases user none nobody = search (rules, none_bounded, closed)
 
 -- behind one more
-pub bounded_on : (told : Option FileMap) (name : List ℕ) (old new : List DatabaseValue) (user user' : UserInfo) → IsBounded (opened_device old user) → ReadsOn told name old user new user'
+pub bounded_on : (told : Option FileMap) (name : List ℕ) (old new : List DatabaseValue) (user user' : UserInfo) → IsBounded (opened_device old user)
+    → ReadsOn told name old user new user'
     → IsBounded (opened_device new user')
 bounded_on told name old new user user' bounded (inl past) = record {
   databases = subst (AllByRecursion IsBoundedDatabase) (sym past.1.databases) bounded.databases;
@@ -289,7 +231,8 @@ bounded_on told name old new user user' bounded (inl past) = record {
 }
 bounded_on told name old new user user' bounded (inr did) = by (is_database_file name) did.2
   where
-    by : (b : Bool) → MatchBool b (AddsDatabase old name did.0 new × (user' ≡ user)) (IsDeviceFile user' did.0 × (new ≡ old)) → IsBounded (opened_device new user')
+    by : (b : Bool) → MatchBool b (AddsDatabase old name did.0 new × (user' ≡ user)) (IsDeviceFile user' did.0 × (new ≡ old))
+        → IsBounded (opened_device new user')
     by true adds = record {
       databases = subst (AllByRecursion IsBoundedDatabase) (sym adds.0.made)
           (AllByRecursion-with_new IsBoundedDatabase (as_opened adds.0.stored) old (opened_database adds.0.stored did.0 adds.0.file.text) bounded.databases);
@@ -304,30 +247,22 @@ bounded_on told name old new user user' bounded (inr did) = by (is_database_file
 
 -- ---- a store's databases
 
-both_parts : (a b : Bool) → (a && b) ≡ true → (a ≡ true) × (b ≡ true)
-both_parts true b is = (refl, is)
-both_parts false b is = absurd (cc)
-
-turned_false : (a : Bool) → not a ≡ true → a ≡ false
-turned_false true is = absurd (cc)
-turned_false false is = refl
-
 ids_are : (ids : List ℕ) → are_ids ids ≡ true → AreIds ids
 ids_are [] is = tt
 ids_are (id ∷ ids) is =
-    let first = both_parts (not (id == 0)) (not (is_among id ids) && are_ids ids) is in
-    let second = both_parts (not (is_among id ids)) (are_ids ids) first.1 in
-    let other : (id == 0) ≡ false = turned_false (id == 0) first.0 in
-    (grind (arith, nat_tests, other), turned_false (is_among id ids) second.0, ids_are ids second.1)
+    let first = and_parts (not (id == 0)) (not (is_among id ids) && are_ids ids) is in
+    let second = and_parts (not (is_among id ids)) (are_ids ids) first.1 in
+    let other : (id == 0) ≡ false = not-true (id == 0) first.0 in
+    (grind (arith, nat_tests, other), not-true (is_among id ids) second.0, ids_are ids second.1)
 
 settled_ids : (databases : List DatabaseValue) → AllByRecursion (λ (database : DatabaseValue). are_settled database.records ≡ true) databases
     → AllByRecursion (λ (database : DatabaseValue). AreIds (ids_of database.records)) databases
 settled_ids [] all = tt
 settled_ids (database ∷ databases) all = (
-  ids_are (ids_of database.records) (both_parts (list_all (λ item. not item.busy) database.records) (are_ids (ids_of database.records)) all.0).1,
+  ids_are (ids_of database.records) (and_parts (list_all (λ item. not item.busy) database.records) (are_ids (ids_of database.records)) all.0).1,
   settled_ids databases all.1,
 )
 
 -- databases as a store keeps them are those of a device
 pub opened-device : (databases : List DatabaseValue) (user : UserInfo) → AreKept databases → IsDevice (opened_device databases user)
-opened-device databases user kept = record { names = kept.order; few = kept.few; ids = settled_ids databases kept.settled; handles = refl }
+opened-device databases user kept = search (rules, settled_ids)

@@ -1,17 +1,18 @@
 -- Fresh ids as a loop finds them, one record after the other.
-use Rattle.std.proofs.Common.{◌≡◌, ℕ, zero, suc, ◌+◌, ◌<◌, ◌≤◌, Bool, true, false, cond, not, ◌&&◌, ◌||◌, ◌==◌, List, [], ◌∷◌, ◌++◌, map, take, drop, length, refl, ap, sym, subst, ◌∙◌, arith, add-one, append_assoc, length-append, Some, None, slice_get, get_or}
+use Rattle.std.proofs.Common.{◌≡◌, ℕ, zero, suc, ◌+◌, ◌<◌, ◌≤◌, Bool, true, false, cond, not, ◌&&◌, ◌||◌, ◌==◌, List, [], ◌∷◌, ◌++◌, map, take, drop, length}
+use Rattle.std.proofs.Common.{refl, ap, sym, ◌∙◌, arith, add-one, append_assoc, length-append, Some, slice_get, get_or}
 use Rattle.std.specs.Prelude.{nat_le, nat_lt}
 use Rattle.std.specs.BTreeSet.{BTreeSet, contains}
-use Rattle.std.specs.Option.{option_map}
 use Rattle.std.specs.Ordering.{nat_cmp}
-use Rattle.std.proofs.lemmas.Bool.{eqb-true}
+use Rattle.std.proofs.lemmas.Bool.{eqb-true, or_right}
 use Rattle.std.proofs.lemmas.Bool.Decides.{nat_tests}
 use Rattle.std.proofs.lemmas.List.{append-nil}
-use Rattle.palm_device.specs.Entries.{change_at, set_some}
+use Rattle.palm_device.specs.Entries.{change_at}
 use Rattle.palm_device.specs.FreshIds.{is_among, is_kept, kept_behind, least_from, least_id, given_behind, fresh_ids, with_ids}
 use Rattle.pdb_values.specs.declared.record.Record.{Record}
-use Rattle.handheld_files.proofs.SettledLaws.{least_free}
+use Rattle.handheld_files.proofs.SettledLaws.{least_free, clash, least_low}
 use Rattle.handheld_files.specs.Settled.{idle, settled}
+use Rattle.std.proofs.lemmas.Grind.{common_steps}
 
 -- what follows the next entry of a list
 pub drop_next : {X : Type 0} (xs : List X) (k : ℕ) (x : X) → slice_get xs k ≡ Some x → drop k xs ≡ x ∷ drop (suc k) xs
@@ -36,48 +37,27 @@ drop_all (y ∷ ys) (suc k) past = drop_all ys k (omega arith)
 apart : (a b : ℕ) → a < b → (a == b) ≡ false
 apart a b below = grind (arith, nat_tests)
 
-or_right : (a b : Bool) → b ≡ true → (a || b) ≡ true
-or_right true b h = refl
-or_right false b h = h
-
-clash : (b : Bool) → b ≡ true → b ≡ false → ⊥
-clash true h k = absurd cc
-clash false h k = absurd cc
-
-among_own : (id : ℕ) (ids : List ℕ) → is_among id (id ∷ ids) ≡ true
-among_own id ids = let own : (id == id) ≡ true = grind (arith, nat_tests) in ap (λ b. b || is_among id ids) own
-
 kept_here : (id : ℕ) (earlier : List ℕ) → 1 ≤ id → is_among id earlier ≡ false → is_kept earlier id ≡ true
-kept_here id earlier some none = let some_id : (id == 0) ≡ false = grind (arith, nat_tests) in rw (some_id, none) refl
+kept_here id earlier some none = grind (arith, common_steps, nat_tests)
 
-kept_by : (id x : ℕ) (ids earlier later : List ℕ) (b : Bool) → (id == x) ≡ b → 1 ≤ x → is_among x earlier ≡ false → ((id == x) ≡ false → is_among x later ≡ is_among x ids)
+kept_by : (id x : ℕ) (ids earlier later : List ℕ) (b : Bool) → (id == x) ≡ b → 1 ≤ x → is_among x earlier ≡ false
+    → ((id == x) ≡ false → is_among x later ≡ is_among x ids)
     → is_among x (cond (is_kept earlier id) (id ∷ later) later) ≡ ((id == x) || is_among x ids)
-kept_by id x ids earlier later true e some none rest =
-    let kept : is_kept earlier x ≡ true = kept_here x earlier some none in
-    let same : id ≡ x = eqb-true id x e in
-    subst (λ n. is_among x (cond (is_kept earlier n) (n ∷ later) later) ≡ ((n == x) || is_among x ids)) (sym same) (rw kept (ap (λ b. b || is_among x later) (own x) ∙ sym (ap (λ b. b || is_among x ids) (own x))))
-  where
-    own : (n : ℕ) → (n == n) ≡ true
-    own n = grind (arith, nat_tests)
-kept_by id x ids earlier later false e some none rest =
-    elim (is_kept earlier id) as (λ b. is_among x (cond b (id ∷ later) later) ≡ ((id == x) || is_among x ids)) [ true ↦ ap (λ b. (id == x) || b) (rest e) | false ↦ rest e ∙ sym (ap (λ b. b || is_among x ids) e) ]
+kept_by id x ids earlier later b e some none rest = grind (arith, common_steps, nat_tests, kept_here, eqb-true)
 
 -- an id but 0 is kept somewhere, unless it came before
 pub among-kept_behind : (ids earlier : List ℕ) (x : ℕ) → 1 ≤ x → is_among x earlier ≡ false → is_among x (kept_behind earlier ids) ≡ is_among x ids
 unfolding kept_behind
 among-kept_behind [] earlier x some none = refl
 among-kept_behind (id ∷ ids) earlier x some none =
-    kept_by id x ids earlier (kept_behind (id ∷ earlier) ids) (id == x) refl some none (λ differ. among-kept_behind ids (id ∷ earlier) x some (ap (λ b. b || is_among x earlier) differ ∙ none))
+    kept_by id x ids earlier (kept_behind (id ∷ earlier) ids) (id == x) refl some none
+    (λ differ. among-kept_behind ids (id ∷ earlier) x some (ap (λ b. b || is_among x earlier) differ ∙ none))
 
 -- ---- the least id
 
-below_by : (taken : List ℕ) (first k later : ℕ) (b : Bool) → is_among first taken ≡ b → first ≤ k → k < cond b later first → ((first == k) ≡ false → k < later → is_among k taken ≡ true) → is_among k taken ≡ true
-below_by taken first k later true here low below rest = at (first == k) refl
-  where
-    at : (c : Bool) → (first == k) ≡ c → is_among k taken ≡ true
-    at true same = subst (λ n. is_among n taken ≡ true) (eqb-true first k same) here
-    at false differ = rest differ below
-below_by taken first k later false here low below rest = absurd (omega arith)
+below_by : (taken : List ℕ) (first k later : ℕ) (b : Bool) → is_among first taken ≡ b → first ≤ k → k < cond b later first
+    → ((first == k) ≡ false → k < later → is_among k taken ≡ true) → is_among k taken ≡ true
+below_by taken first k later b here low below rest = grind (arith, common_steps, nat_tests, eqb-true)
 
 above_it : (first k : ℕ) → first ≤ k → (first == k) ≡ false → suc first ≤ k
 above_it first k low differ = grind (arith, nat_tests)
@@ -87,17 +67,13 @@ among_below : (taken : List ℕ) (more first k : ℕ) → first ≤ k → k < le
 unfolding least_from
 among_below taken zero first k low high = absurd (omega arith)
 among_below taken (suc more) first k low high =
-    below_by taken first k (least_from more (suc first) taken) (is_among first taken) refl low high (λ differ below. among_below taken more (suc first) k (above_it first k low differ) below)
+    below_by taken first k (least_from more (suc first) taken) (is_among first taken) refl low high
+    (λ differ below. among_below taken more (suc first) k (above_it first k low differ) below)
 
 least_high : (taken : List ℕ) (more first : ℕ) → least_from more first taken ≤ first + more
 unfolding least_from
 least_high taken zero first = omega arith
-least_high taken (suc more) first = let later = least_high taken more (suc first) in elim (is_among first taken) as (λ b. cond b (least_from more (suc first) taken) first ≤ first + suc more) [ true ↦ omega arith | false ↦ omega arith ]
-
-least_low : (taken : List ℕ) (more first : ℕ) → first ≤ least_from more first taken
-unfolding least_from
-least_low taken zero first = omega arith
-least_low taken (suc more) first = let later = least_low taken more (suc first) in elim (is_among first taken) as (λ b. first ≤ cond b (least_from more (suc first) taken) first) [ true ↦ omega arith | false ↦ omega arith ]
+least_high taken (suc more) first = grind (arith, common_steps, nat_tests, least_high taken more (suc first))
 
 -- where all from 1 to a number are taken, the least id is not below it
 least_from_here : (taken : List ℕ) (next : ℕ) → ((x : ℕ) → 1 ≤ x → x < next → is_among x taken ≡ true) → next ≤ least_id taken
@@ -111,15 +87,7 @@ least_from_here taken next below = by (nat_le next (least_id taken)) refl
 
 -- the least id is the one that is free while all before it are taken
 least_is : (taken : List ℕ) (n : ℕ) → 1 ≤ n → ((x : ℕ) → 1 ≤ x → x < n → is_among x taken ≡ true) → is_among n taken ≡ false → n ≡ least_id taken
-least_is taken n some below free =
-    let low : n ≤ least_id taken = least_from_here taken n below in
-    by (nat_lt n (least_id taken)) refl low
-  where
-    by : (b : Bool) → nat_lt n (least_id taken) ≡ b → n ≤ least_id taken → n ≡ least_id taken
-    by true e low =
-        let before : n < least_id taken = grind (arith, nat_tests) in
-        absurd (clash (is_among n taken) (among_below taken (length taken) 1 n some before) free)
-    by false e low = grind (arith, nat_tests)
+least_is taken n some below free = grind (arith, common_steps, nat_tests, least_from_here, clash, among_below)
 
 -- ---- the ids that are given
 
@@ -138,9 +106,10 @@ pub record GivesOn (ids fresh : List ℕ) (numbers seen : BTreeSet ℕ) (next pl
 length-kept_behind : (ids earlier : List ℕ) → length (kept_behind earlier ids) ≤ length ids
 unfolding kept_behind
 length-kept_behind [] earlier = omega arith
-length-kept_behind (id ∷ ids) earlier = let rest = length-kept_behind ids (id ∷ earlier) in elim (is_kept earlier id) as (λ b. length (cond b (id ∷ kept_behind (id ∷ earlier) ids) (kept_behind (id ∷ earlier) ids)) ≤ length (id ∷ ids)) [ true ↦ omega arith | false ↦ omega arith ]
+length-kept_behind (id ∷ ids) earlier = grind (arith, common_steps, nat_tests, length-kept_behind ids (id ∷ earlier))
 
-pub gives_none : (ids : List ℕ) (numbers seen : BTreeSet ℕ) → ((x : ℕ) → contains nat_cmp numbers x ≡ is_among x ids) → ((x : ℕ) → contains nat_cmp seen x ≡ false) → GivesOn ids [] numbers seen 1 0
+pub gives_none : (ids : List ℕ) (numbers seen : BTreeSet ℕ) → ((x : ℕ) → contains nat_cmp numbers x ≡ is_among x ids)
+    → ((x : ℕ) → contains nat_cmp seen x ≡ false) → GivesOn ids [] numbers seen 1 0
 gives_none ids numbers seen are none = record {
   earlier = [];
   held = kept_behind [] ids;
@@ -153,7 +122,9 @@ gives_none ids numbers seen are none = record {
   given = refl;
 }
 
-given_cons : (earlier held ids : List ℕ) (id : ℕ) → given_behind earlier held (id ∷ ids) ≡ cond (is_kept earlier id) (id ∷ given_behind (id ∷ earlier) held ids) (least_id held ∷ given_behind (id ∷ earlier) (least_id held ∷ held) ids)
+given_cons : (earlier held ids : List ℕ) (id : ℕ)
+    → given_behind earlier held (id ∷ ids) ≡ cond (is_kept earlier id) (id ∷ given_behind (id ∷ earlier) held ids)
+    (least_id held ∷ given_behind (id ∷ earlier) (least_id held ∷ held) ids)
 unfolding given_behind
 given_cons earlier held ids id = refl
 
@@ -161,8 +132,10 @@ kept_so : (earlier : List ℕ) (id : ℕ) (found : Bool) → found ≡ is_among 
 kept_so earlier id found is = ap (λ b. not (id == 0) && not b) is
 
 -- an id that is kept
-pub gives_own : (ids fresh : List ℕ) (numbers seen seen' : BTreeSet ℕ) (next place id : ℕ) → GivesOn ids fresh numbers seen next place → slice_get ids place ≡ Some id
-    → (not (id == 0) && not (contains nat_cmp seen id)) ≡ true → ((x : ℕ) → contains nat_cmp seen' x ≡ ((id == x) || contains nat_cmp seen x)) → GivesOn ids (fresh ++ id ∷ []) numbers seen' next (place + 1)
+pub gives_own : (ids fresh : List ℕ) (numbers seen seen' : BTreeSet ℕ) (next place id : ℕ) → GivesOn ids fresh numbers seen next place
+    → slice_get ids place ≡ Some id
+    → (not (id == 0) && not (contains nat_cmp seen id)) ≡ true → ((x : ℕ) → contains nat_cmp seen' x ≡ ((id == x) || contains nat_cmp seen x))
+    → GivesOn ids (fresh ++ id ∷ []) numbers seen' next (place + 1)
 gives_own ids fresh numbers seen seen' next place id on here own more =
     let kept : is_kept on.earlier id ≡ true = sym (kept_so on.earlier id (contains nat_cmp seen id) (on.seen_so id)) ∙ own in
     record {
@@ -178,20 +151,14 @@ gives_own ids fresh numbers seen seen' next place id on here own more =
     }
 
 -- the first number that is free is the least id
-first_is_least : (ids fresh : List ℕ) (numbers seen : BTreeSet ℕ) (next place free : ℕ) → (on : GivesOn ids fresh numbers seen next place) → next ≤ free → contains nat_cmp numbers free ≡ false
+first_is_least : (ids fresh : List ℕ) (numbers seen : BTreeSet ℕ) (next place free : ℕ) → (on : GivesOn ids fresh numbers seen next place) → next ≤ free
+    → contains nat_cmp numbers free ≡ false
     → ((k : ℕ) → next ≤ k → k < free → contains nat_cmp numbers k ≡ true) → free ≡ least_id on.held
-first_is_least ids fresh numbers seen next place free on from none all =
-    least_is on.held free (let some = on.some in omega arith) below (on.above free from ∙ none)
-  where
-    below : (x : ℕ) → 1 ≤ x → x < free → is_among x on.held ≡ true
-    below x some less = by (nat_lt x next) refl
-      where
-        by : (b : Bool) → nat_lt x next ≡ b → is_among x on.held ≡ true
-        by true e = on.below x some (grind (arith, nat_tests))
-        by false e = let past : next ≤ x = grind (arith, nat_tests) in on.above x past ∙ all x past less
+first_is_least ids fresh numbers seen next place free on from none all = grind (arith, common_steps, nat_tests, least_is)
 
 -- some number is free
-pub some_is_free : (ids fresh : List ℕ) (numbers seen : BTreeSet ℕ) (next place : ℕ) → GivesOn ids fresh numbers seen next place → length ids ≤ 65535 → place ≤ length ids
+pub some_is_free : (ids fresh : List ℕ) (numbers seen : BTreeSet ℕ) (next place : ℕ) → GivesOn ids fresh numbers seen next place → length ids ≤ 65535
+    → place ≤ length ids
     → (k : ℕ) × ((next ≤ k) × (k ≤ 16777215) × (contains nat_cmp numbers k ≡ false))
 some_is_free ids fresh numbers seen next place on few within =
     let from : next ≤ least_id on.held = least_from_here on.held next on.below in
@@ -200,9 +167,11 @@ some_is_free ids fresh numbers seen next place on few within =
     (least_id on.held, (from, omega arith, sym (on.above (least_id on.held) from) ∙ least_free on.held))
 
 -- an id that gives way to the least one
-pub gives_least : (ids fresh : List ℕ) (numbers seen seen' : BTreeSet ℕ) (next place id free : ℕ) → GivesOn ids fresh numbers seen next place → slice_get ids place ≡ Some id
+pub gives_least : (ids fresh : List ℕ) (numbers seen seen' : BTreeSet ℕ) (next place id free : ℕ) → GivesOn ids fresh numbers seen next place
+    → slice_get ids place ≡ Some id
     → (not (id == 0) && not (contains nat_cmp seen id)) ≡ false → ((x : ℕ) → contains nat_cmp seen' x ≡ ((id == x) || contains nat_cmp seen x))
-    → next ≤ free → contains nat_cmp numbers free ≡ false → ((k : ℕ) → next ≤ k → k < free → contains nat_cmp numbers k ≡ true) → GivesOn ids (fresh ++ free ∷ []) numbers seen' (free + 1) (place + 1)
+    → next ≤ free → contains nat_cmp numbers free ≡ false → ((k : ℕ) → next ≤ k → k < free → contains nat_cmp numbers k ≡ true)
+    → GivesOn ids (fresh ++ free ∷ []) numbers seen' (free + 1) (place + 1)
 gives_least ids fresh numbers seen seen' next place id free on here other more from none all =
     let kept : is_kept on.earlier id ≡ false = sym (kept_so on.earlier id (contains nat_cmp seen id) (on.seen_so id)) ∙ other in
     let least : free ≡ least_id on.held = first_is_least ids fresh numbers seen next place free on from none all in
@@ -233,40 +202,39 @@ given_nil : (earlier held : List ℕ) → given_behind earlier held [] ≡ []
 unfolding given_behind
 given_nil earlier held = refl
 
-pub gives_all : (ids fresh : List ℕ) (numbers seen : BTreeSet ℕ) (next place : ℕ) → GivesOn ids fresh numbers seen next place → length ids ≤ place → fresh ≡ fresh_ids ids
+pub gives_all : (ids fresh : List ℕ) (numbers seen : BTreeSet ℕ) (next place : ℕ) → GivesOn ids fresh numbers seen next place → length ids ≤ place
+    → fresh ≡ fresh_ids ids
 gives_all ids fresh numbers seen next place on past = sym (on.rest ∙ rw (drop_all ids place past, given_nil, append-nil) refl)
 
 -- ---- the records
 
-change_later : (change : Record → Record) (item : Record) (items : List Record) (k : ℕ) → change_at change (suc k) (item ∷ items) ≡ item ∷ change_at change k items
-change_later change item items k = elim (slice_get items k) as (λ o. set_some (suc k) (item ∷ items) (option_map change o) ≡ item ∷ set_some k items (option_map change o)) [ None ↦ refl | Some x ↦ refl ]
+change_later : (change : Record → Record) (item : Record) (items : List Record) (k : ℕ)
+    → change_at change (suc k) (item ∷ items) ≡ item ∷ change_at change k items
+change_later change item items k = grind (arith, common_steps, nat_tests, slice_get)
 
-with_ids_cons : (id : ℕ) (ids : List ℕ) (item : Record) (items : List Record) → with_ids (id ∷ ids) (item ∷ items) ≡ record item { id = id } ∷ with_ids ids items
+with_ids_cons : (id : ℕ) (ids : List ℕ) (item : Record) (items : List Record)
+    → with_ids (id ∷ ids) (item ∷ items) ≡ record item { id = id } ∷ with_ids ids items
 unfolding with_ids
 with_ids_cons id ids item items = refl
 
-with_ids_nil : (items : List Record) → with_ids [] items ≡ items
-unfolding with_ids
-with_ids_nil items = refl
-
-settle_first : (id : ℕ) (item : Record) (items : List Record) → change_at (settled id) 0 (map idle (with_ids [] []) ++ item ∷ items) ≡ map idle (with_ids (id ∷ []) (item ∷ [])) ++ items
+settle_first : (id : ℕ) (item : Record) (items : List Record)
+    → change_at (settled id) 0 (map idle (with_ids [] []) ++ item ∷ items) ≡ map idle (with_ids (id ∷ []) (item ∷ [])) ++ items
 unfolding with_ids
 settle_first id item items = refl
 
 -- the record at a place is settled like those before it
 settle_next_suc : (ids : List ℕ) (items : List Record) (k id : ℕ) → slice_get ids k ≡ Some id → length ids ≡ length items
-    → change_at (settled id) k (map idle (with_ids (take k ids) (take k items)) ++ drop k items) ≡ map idle (with_ids (take (suc k) ids) (take (suc k) items)) ++ drop (suc k) items
+    → change_at (settled id) k (map idle (with_ids (take k ids) (take k items)) ++ drop k items) ≡ map idle
+    (with_ids (take (suc k) ids) (take (suc k) items)) ++ drop (suc k) items
 settle_next_suc [] items k id here many = absurd cc
 settle_next_suc (other ∷ ids) [] k id here many = absurd (omega arith)
-settle_next_suc (other ∷ ids) (item ∷ items) zero id here many =
-    let same : other ≡ id = cc in
-    rw same (settle_first id item items)
+settle_next_suc (other ∷ ids) (item ∷ items) zero id here many = grind (arith, common_steps, nat_tests, settle_first)
 settle_next_suc (other ∷ ids) (item ∷ items) (suc k) id here many =
-    rw (with_ids_cons, with_ids_cons) (change_later (settled id) (settled other item) (map idle (with_ids (take k ids) (take k items)) ++ drop k items) k
-    ∙ ap (λ rest. settled other item ∷ rest) (settle_next_suc ids items k id here (omega arith)))
+    grind (arith, common_steps, nat_tests, with_ids_cons, change_later, settle_next_suc ids items k id here (omega arith))
 
 pub settle_next : (ids : List ℕ) (items : List Record) (k id : ℕ) → slice_get ids k ≡ Some id → length ids ≡ length items
-    → change_at (settled id) k (map idle (with_ids (take k ids) (take k items)) ++ drop k items) ≡ map idle (with_ids (take (k + 1) ids) (take (k + 1) items)) ++ drop (k + 1) items
+    → change_at (settled id) k (map idle (with_ids (take k ids) (take k items)) ++ drop k items) ≡ map idle
+    (with_ids (take (k + 1) ids) (take (k + 1) items)) ++ drop (k + 1) items
 settle_next ids items k id here many = rw add-one (settle_next_suc ids items k id here many)
 
 -- an entry that was looked up
@@ -282,7 +250,6 @@ take_all (y ∷ ys) zero past = absurd (omega arith)
 take_all (y ∷ ys) (suc k) past = ap (λ zs. y ∷ zs) (take_all ys k (omega arith))
 
 -- all records are settled
-pub settle_all : (ids : List ℕ) (items : List Record) (k : ℕ) → length ids ≤ k → length ids ≡ length items → map idle (with_ids (take k ids) (take k items)) ++ drop k items ≡ map idle (with_ids ids items)
-settle_all ids items k past many =
-    let past_items : length items ≤ k = omega arith in
-    rw (take_all ids k past, take_all items k past_items, drop_all items k past_items) (append-nil (map idle (with_ids ids items)))
+pub settle_all : (ids : List ℕ) (items : List Record) (k : ℕ) → length ids ≤ k → length ids ≡ length items
+    → map idle (with_ids (take k ids) (take k items)) ++ drop k items ≡ map idle (with_ids ids items)
+settle_all ids items k past many = grind (arith, common_steps, nat_tests, take_all, drop_all, append-nil)

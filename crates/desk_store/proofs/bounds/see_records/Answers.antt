@@ -5,7 +5,7 @@ use Rattle.desk_store.proofs.bounds.see_records.Goals as goal
 
 pub loop-item-preserved : goal.loop-item-preserved
 loop-item-preserved c =
-    each_more IsBoundedRecord c.args.records.now c.loop-item.item-index c.item-item.result c.loop-item-test.true c.item-item.is c.loop-item.invariant c.see_record.ensures
+    each_more IsBoundedRecord c.args.records.now c.loop-item.item-index c.loop-item-test.true c.item-item.is c.loop-item.invariant c.see_record.ensures
 
 pub returns : goal.returns
 returns c = each_taken IsBoundedRecord c.args.records.now c.loop-item.item-index c.loop-item-test.false c.loop-item.invariant

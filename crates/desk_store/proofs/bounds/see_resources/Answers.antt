@@ -5,7 +5,7 @@ use Rattle.desk_store.proofs.bounds.see_resources.Goals as goal
 
 pub loop-resource-preserved : goal.loop-resource-preserved
 loop-resource-preserved c =
-    each_more IsBoundedResource c.args.resources.now c.loop-resource.resource-index c.resource-item.result c.loop-resource-test.true c.resource-item.is c.loop-resource.invariant
+    each_more IsBoundedResource c.args.resources.now c.loop-resource.resource-index c.loop-resource-test.true c.resource-item.is c.loop-resource.invariant
     c.see_resource.ensures
 
 pub returns : goal.returns

@@ -1,91 +1,98 @@
 -- The files of a change form a journal, and the folder then stands for the slots.
-use Rattle.std.proofs.Common.{◌⊎◌, ◌∙◌, List, length, sym, subst, ap, refl, inr}
+use Rattle.std.proofs.Common.{◌⊎◌, ◌∙◌, List, sym, subst, ap, refl, inr}
 use Rattle.std.specs.Option.{option_map}
 use Rattle.hs_folders.specs.Moments.{EachMomentSince}
 use Rattle.folder_files.specs.Slots.{AreSlots}
 use Rattle.desk_journal.specs.Entries.{EntryValue, entry_values}
 use Rattle.desk_journal.specs.Overlays.{StandsAs, put_all}
 use Rattle.desk_journal.proofs.OverlayLaws.{on_err_of}
-use Rattle.desk_store.specs.Changes.{change_entries, with_commit}
+use Rattle.desk_store.specs.Changes.{change_entries}
 use Rattle.desk_store.specs.Desks.{IsDesk}
-use Rattle.desk_store.specs.Shelves.{SlotValue, marks_of, with_place}
+use Rattle.desk_store.specs.Shelves.{SlotValue, marks_of}
 use Rattle.desk_store.proofs.CommitLaws.{desk_after, done_when, entries_are, formed_after, slot_of}
 use Rattle.desk_store.proofs.JournalLaws.{change_is_journal}
 use Rattle.desk_store.proofs.commit.write_change.Goals as goal
 
 pub push_slots-requires : goal.push_slots-requires
 push_slots-requires g c =
-    subst (λ (slots : List SlotValue). AreSlots (marks_of slots)) (sym (c.deref-2.ensures.value ∙ c.in_ok-after.ensures)) (formed_after c.args.change c.args.place c.args.slots.items c.requires.desk.formed c.requires.place c.requires.marks)
+    subst (λ (slots : List SlotValue). AreSlots (marks_of slots)) (sym (c.deref-2.ensures.value ∙ c.in_ok-after.ensures))
+    (formed_after c.args.change c.requires.desk.formed c.requires.place c.requires.marks)
 
 pub commit_files-requires-clause-form : goal.commit_files-requires-clause-form
 commit_files-requires-clause-form g c =
     let slots = c.args.slots.items in
-    let are = entries_are c.args.change c.args.place slots c.in_ok-after.after.items c.deref-2.result.now c.deref.result.now (entry_values c.in_ok-entries.entries.items) (entry_values c.deref-3.result.now) c.deref.ensures.value c.in_ok-entries.ensures.entries
+    let are = entries_are c.args.change c.args.place slots c.deref.ensures.value c.in_ok-entries.ensures.entries
     (ap entry_values c.deref-3.ensures.value ∙ c.in_ok-push_slots.ensures.entries) c.deref-2.ensures.value c.in_ok-after.ensures in
-    let done = done_when c.args.change c.args.place slots c.in_ok-after.after.items c.deref-2.result.now c.deref.result.now c.requires.place c.requires.change c.requires.marks c.deref.ensures.value c.in_ok-entries.ensures.written c.deref-2.ensures.value c.in_ok-after.ensures
+    let done = done_when c.requires.place c.requires.change c.requires.marks c.deref.ensures.value c.in_ok-entries.ensures.written c.deref-2.ensures.value
+    c.in_ok-after.ensures
     c.in_ok-push_slots.ensures.written in
-    change_is_journal (length (with_place slots c.args.place)) c.args.place c.args.change (marks_of (with_commit c.args.change c.args.place slots)) c.deref-3.result.now (slot_of slots c.args.place c.requires.desk.formed c.requires.place) c.requires.change done.written done.text are
+    change_is_journal c.deref-3.result.now (slot_of c.requires.desk.formed c.requires.place) c.requires.change done.written done.text are
 
 pub returns-in_err-commit_files-clause-refused : goal.returns-in_err-commit_files-clause-refused
 returns-in_err-commit_files-clause-refused g c =
     let slots = c.args.slots.items in
-    let are = entries_are c.args.change c.args.place slots c.in_ok-after.after.items c.deref-2.result.now c.deref.result.now (entry_values c.in_ok-entries.entries.items) (entry_values c.deref-3.result.now) c.deref.ensures.value c.in_ok-entries.ensures.entries
+    let are = entries_are c.args.change c.args.place slots c.deref.ensures.value c.in_ok-entries.ensures.entries
     (ap entry_values c.deref-3.ensures.value ∙ c.in_ok-push_slots.ensures.entries) c.deref-2.ensures.value c.in_ok-after.ensures in
     let before = g.F.Folder.contents c.args.folder.now in
     let after = g.F.Folder.contents c.commit_files.new.folder in
-    on_err_of c.from_residual-in_err-commit_files.result (subst (λ (entries : List EntryValue). StandsAs before after ⊎ StandsAs (option_map (put_all entries) before) after) are c.in_err-commit_files.ensures.refused)
+    on_err_of c.from_residual-in_err-commit_files.result
+    (subst (λ (entries : List EntryValue). StandsAs before after ⊎ StandsAs (option_map (put_all entries) before) after) are
+    c.in_err-commit_files.ensures.refused)
 
 pub returns-in_err-commit_files-clause-each_moment : goal.returns-in_err-commit_files-clause-each_moment
 returns-in_err-commit_files-clause-each_moment g c =
     let slots = c.args.slots.items in
-    let are = entries_are c.args.change c.args.place slots c.in_ok-after.after.items c.deref-2.result.now c.deref.result.now (entry_values c.in_ok-entries.entries.items) (entry_values c.deref-3.result.now) c.deref.ensures.value c.in_ok-entries.ensures.entries
+    let are = entries_are c.args.change c.args.place slots c.deref.ensures.value c.in_ok-entries.ensures.entries
     (ap entry_values c.deref-3.ensures.value ∙ c.in_ok-push_slots.ensures.entries) c.deref-2.ensures.value c.in_ok-after.ensures in
-    subst (λ (entries : List EntryValue). EachMomentSince (StandsAs (option_map (put_all entries) (g.F.Folder.contents c.args.folder.now))) (g.F.Folder.moments c.args.folder.now) (g.F.Folder.moments c.commit_files.new.folder)) are c.in_err-commit_files.ensures.each_moment
+    subst (λ (entries : List EntryValue). EachMomentSince (StandsAs (option_map (put_all entries) (g.F.Folder.contents c.args.folder.now)))
+    (g.F.Folder.moments c.args.folder.now) (g.F.Folder.moments c.commit_files.new.folder)) are c.in_err-commit_files.ensures.each_moment
 
 pub returns-clause-written : goal.returns-clause-written
 returns-clause-written g c =
     let slots = c.args.slots.items in
-    let are = entries_are c.args.change c.args.place slots c.in_ok-after.after.items c.deref-2.result.now c.deref.result.now (entry_values c.in_ok-entries.entries.items) (entry_values c.deref-3.result.now) c.deref.ensures.value c.in_ok-entries.ensures.entries
+    let are = entries_are c.args.change c.args.place slots c.deref.ensures.value c.in_ok-entries.ensures.entries
     (ap entry_values c.deref-3.ensures.value ∙ c.in_ok-push_slots.ensures.entries) c.deref-2.ensures.value c.in_ok-after.ensures in
     c.in_ok-commit_files.ensures.done ∙ ap (λ (entries : List EntryValue). option_map (put_all entries) (g.F.Folder.contents c.args.folder.now)) are
 
 pub returns-clause-desk : goal.returns-clause-desk
 returns-clause-desk g c =
     let slots = c.args.slots.items in
-    let are = entries_are c.args.change c.args.place slots c.in_ok-after.after.items c.deref-2.result.now c.deref.result.now (entry_values c.in_ok-entries.entries.items) (entry_values c.deref-3.result.now) c.deref.ensures.value c.in_ok-entries.ensures.entries
+    let are = entries_are c.args.change c.args.place slots c.deref.ensures.value c.in_ok-entries.ensures.entries
     (ap entry_values c.deref-3.ensures.value ∙ c.in_ok-push_slots.ensures.entries) c.deref-2.ensures.value c.in_ok-after.ensures in
-    let done = done_when c.args.change c.args.place slots c.in_ok-after.after.items c.deref-2.result.now c.deref.result.now c.requires.place c.requires.change c.requires.marks c.deref.ensures.value c.in_ok-entries.ensures.written c.deref-2.ensures.value c.in_ok-after.ensures
+    let done = done_when c.requires.place c.requires.change c.requires.marks c.deref.ensures.value c.in_ok-entries.ensures.written c.deref-2.ensures.value
+    c.in_ok-after.ensures
     c.in_ok-push_slots.ensures.written in
     let before = g.F.Folder.contents c.args.folder.now in
     let after = g.F.Folder.contents c.commit_files.new.folder in
     let written = c.in_ok-commit_files.ensures.done ∙ ap (λ (entries : List EntryValue). option_map (put_all entries) before) are in
-    desk_after before after slots c.in_ok-after.after.items c.args.change c.args.place c.requires.desk done written c.in_ok-after.ensures
+    desk_after after c.requires.desk done written c.in_ok-after.ensures
 
 pub returns-clause-each_moment : goal.returns-clause-each_moment
 returns-clause-each_moment g c =
     let slots = c.args.slots.items in
-    let are = entries_are c.args.change c.args.place slots c.in_ok-after.after.items c.deref-2.result.now c.deref.result.now (entry_values c.in_ok-entries.entries.items) (entry_values c.deref-3.result.now) c.deref.ensures.value c.in_ok-entries.ensures.entries
+    let are = entries_are c.args.change c.args.place slots c.deref.ensures.value c.in_ok-entries.ensures.entries
     (ap entry_values c.deref-3.ensures.value ∙ c.in_ok-push_slots.ensures.entries) c.deref-2.ensures.value c.in_ok-after.ensures in
-    subst (λ (entries : List EntryValue). EachMomentSince (StandsAs (option_map (put_all entries) (g.F.Folder.contents c.args.folder.now))) (g.F.Folder.moments c.args.folder.now) (g.F.Folder.moments c.commit_files.new.folder)) are c.in_ok-commit_files.ensures.each_moment
+    subst (λ (entries : List EntryValue). EachMomentSince (StandsAs (option_map (put_all entries) (g.F.Folder.contents c.args.folder.now)))
+    (g.F.Folder.moments c.args.folder.now) (g.F.Folder.moments c.commit_files.new.folder)) are c.in_ok-commit_files.ensures.each_moment
 
 pub returns-in_err-commit_files-clause-made : goal.returns-in_err-commit_files-clause-made
 returns-in_err-commit_files-clause-made g c =
     let slots = c.args.slots.items in
-    let done = done_when c.args.change c.args.place slots c.in_ok-after.after.items c.deref-2.result.now c.deref.result.now c.requires.place c.requires.change
+    let done = done_when c.requires.place c.requires.change
     c.requires.marks c.deref.ensures.value c.in_ok-entries.ensures.written c.deref-2.ensures.value c.in_ok-after.ensures
     c.in_ok-push_slots.ensures.written in
     let before = g.F.Folder.contents c.args.folder.now in
     let made = option_map (put_all (change_entries c.args.change c.args.place slots)) before in
     inr (subst (IsDesk made) c.in_ok-after.ensures
-    (desk_after before made slots c.in_ok-after.after.items c.args.change c.args.place c.requires.desk done refl c.in_ok-after.ensures))
+    (desk_after made c.requires.desk done refl c.in_ok-after.ensures))
 
 pub returns-clause-made : goal.returns-clause-made
 returns-clause-made g c =
     let slots = c.args.slots.items in
-    let done = done_when c.args.change c.args.place slots c.in_ok-after.after.items c.deref-2.result.now c.deref.result.now c.requires.place c.requires.change
+    let done = done_when c.requires.place c.requires.change
     c.requires.marks c.deref.ensures.value c.in_ok-entries.ensures.written c.deref-2.ensures.value c.in_ok-after.ensures
     c.in_ok-push_slots.ensures.written in
     let before = g.F.Folder.contents c.args.folder.now in
     let made = option_map (put_all (change_entries c.args.change c.args.place slots)) before in
     inr (subst (IsDesk made) c.in_ok-after.ensures
-    (desk_after before made slots c.in_ok-after.after.items c.args.change c.args.place c.requires.desk done refl c.in_ok-after.ensures))
+    (desk_after made c.requires.desk done refl c.in_ok-after.ensures))

@@ -9,7 +9,7 @@ use Rattle.desk_store.proofs.opening.count_rows.Goals as goal
 pub loop-name-preserved : goal.loop-name-preserved
 loop-name-preserved c =
     let item = c.name-item.result in
-    let more = rows_more c.args.names.now c.loop-name.name-index item c.loop-name-test.true c.name-item.is in
+    let more = rows_more c.args.names.now c.loop-name.name-index c.loop-name-test.true c.name-item.is in
     let here = rw c.as_str.ensures.value at c.count_more-count.ensures.count in
     record {
       counted = here ∙ (ap (λ (n : ℕ). n + cond (has_ending (codes ".pdb") (string_bytes item)) 1 0) c.loop-name.invariant.counted ∙ sym more);

@@ -12,8 +12,12 @@ returns-clause-desk g c =
     let told = g.F.Folder.contents c.args.folder.now in
     let now = g.F.Folder.contents c.read_files.new.folder in
     let slots = c.in_ok-found.found.items in
-    let here : now ≡ g.F.Folder.contents c.finish_journal.new.folder = c.read_files.ensures.read.same_contents ∙ (c.read_slots.ensures.read.same_contents ∙ c.list.ensures.contents) in
+    let here : now ≡ g.F.Folder.contents c.finish_journal.new.folder = c.read_files.ensures.read.same_contents
+    ∙ (c.read_slots.ensures.read.same_contents ∙ c.list.ensures.contents) in
     let holds : IfSome now (λ held. HoldsAll held slots) = search rules in
     let none =
-    told_clear told now c.in_ok-finish_journal.field-0 (here ∙ c.in_ok-finish_journal.ensures.done) c.in_ok-finish_journal.ensures.bad (λ none. subst (λ (o : Option FileMap). IfSome o HasNoJournal) (sym here) (c.in_ok-finish_journal.ensures.no_journal (ap Ok none))) (told_good now slots holds) in
-    told_desk now slots (subst AreSlots (sym c.in_ok-found.ensures.form.marked) c.in_ok-slots.ensures.formed) (c.in_ok-found.ensures.form.ordered c.in_ok-slots.ensures.ordered) holds none
+    told_clear told c.in_ok-finish_journal.field-0 (here ∙ c.in_ok-finish_journal.ensures.done) c.in_ok-finish_journal.ensures.bad
+    (λ none. subst (λ (o : Option FileMap). IfSome o HasNoJournal) (sym here) (c.in_ok-finish_journal.ensures.no_journal (ap Ok none)))
+    (told_good now slots holds) in
+    told_desk now (subst AreSlots (sym c.in_ok-found.ensures.form.marked) c.in_ok-slots.ensures.formed)
+    (c.in_ok-found.ensures.form.ordered c.in_ok-slots.ensures.ordered) holds none

@@ -9,8 +9,11 @@ use Rattle.desk_store.proofs.opening.read_marks.Goals as goal
 
 pub returns-in_ok-slots-in-Ok-clause-slots : goal.returns-in_ok-slots-in-Ok-clause-slots
 returns-in_ok-slots-in-Ok-clause-slots g c =
-    told_info (g.F.Folder.contents c.args.folder.now) c.in-Ok.bytes.items c.in_ok-slots-in-Ok.slots.items c.in-Ok.ensures.bytes (c.in_ok-slots-in-Ok.ensures.slots ∙ ap (λ (bytes : List ℕ). slots_or_first (Some (desktop_in bytes))) c.deref.ensures.value)
+    told_info (g.F.Folder.contents c.args.folder.now) c.in-Ok.bytes.items c.in-Ok.ensures.bytes
+    (c.in_ok-slots-in-Ok.ensures.slots ∙ ap (λ (bytes : List ℕ). slots_or_first (Some (desktop_in bytes))) c.deref.ensures.value)
 
 pub returns-in_ok-slots-in-Err-Missing-clause-slots : goal.returns-in_ok-slots-in-Err-Missing-clause-slots
 returns-in_ok-slots-in-Err-Missing-clause-slots g c =
-    told_missing (g.F.Folder.contents c.args.folder.now) c.in_ok-slots-in-Err-Missing.slots.items (c.in-Err-Missing.ensures.missing (ap (λ (fault : FolderFault). let r : Result (Vec ℕ) FolderFault = Err fault in r) c.in-Err-Missing.field-0-is)) c.in_ok-slots-in-Err-Missing.ensures.slots
+    told_missing (g.F.Folder.contents c.args.folder.now)
+    (c.in-Err-Missing.ensures.missing (ap (λ (fault : FolderFault). let r : Result (Vec ℕ) FolderFault = Err fault in r) c.in-Err-Missing.field-0-is))
+    c.in_ok-slots-in-Err-Missing.ensures.slots

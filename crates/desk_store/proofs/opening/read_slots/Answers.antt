@@ -10,7 +10,7 @@ use Rattle.desk_store.proofs.SlotListLaws.{empty_in_order}
 use Rattle.desk_store.proofs.opening.read_slots.Goals as goal
 
 pub returns-clause-found : goal.returns-clause-found
-returns-clause-found g c = told_empty (g.F.Folder.contents c.args.folder.now) c.in_ok-marks.marks.items c.in_ok-slots.slots.items c.in_ok-marks.ensures.slots c.in_ok-slots.ensures
+returns-clause-found g c = told_empty (g.F.Folder.contents c.args.folder.now) c.in_ok-marks.marks.items c.in_ok-marks.ensures.slots c.in_ok-slots.ensures
 
 pub returns-clause-formed : goal.returns-clause-formed
 returns-clause-formed g c = subst AreSlots (sym (ap marks_of c.in_ok-slots.ensures ∙ marks_of-empty c.in_ok-marks.marks.items)) c.in_ok-marks.ensures.formed

@@ -6,7 +6,8 @@ use Rattle.desk_store.proofs.reader.own_slot.Goals as goal
 
 pub returns-then-own : goal.returns-then-own
 returns-then-own c =
-    sym (own_slot-first c.args.slots c.loop-slot.slot c.args.role c.args.name.now c.args.database.now c.loop-slot-test.true c.loop-slot.invariant (sym c.in_ok-own.ensures ∙ c.if-own.true))
+    sym (own_slot-first c.args.slots c.loop-slot.slot c.args.role c.args.name.now c.args.database.now c.loop-slot-test.true c.loop-slot.invariant
+    (sym c.in_ok-own.ensures ∙ c.if-own.true))
 
 pub loop-slot-preserved : goal.loop-slot-preserved
 loop-slot-preserved c =

@@ -25,11 +25,12 @@ loop-name-preserved g c =
     let item = c.name-item.result in
     let was = c.loop-name.invariant in
     let adds = rw (c.as_str.ensures.value, was.read.same_contents) at c.in-Ok.ensures.added in
-    let few : length c.loop-name.found.items ≤ 16 = omega (arith, same_count c.args.slots.items c.loop-name.found.items was.form, marks-length c.args.slots.items, c.requires.formed.few) in
+    let few : length c.loop-name.found.items ≤ 16 = omega (arith, same_count was.form, marks-length c.args.slots.items, c.requires.formed.few) in
     record {
-      found = subst (λ (files : List (List ℕ)). FindsTold before files c.read_file.new.slots.items) (sym (map_more string_bytes c.args.names.now place item c.loop-name-test.true c.name-item.is))
+      found = subst (λ (files : List (List ℕ)). FindsTold before files c.read_file.new.slots.items)
+          (sym (map_more string_bytes c.args.names.now place c.loop-name-test.true c.name-item.is))
           (told_more before (take place names) (string_bytes item) c.loop-name.found.items c.read_file.new.slots.items few was.found adds);
-      form = form_on c.args.slots.items c.loop-name.found.items c.read_file.new.slots.items was.form c.in-Ok.ensures.form;
+      form = form_on was.form c.in-Ok.ensures.form;
       bounded = λ each. c.in-Ok.ensures.bounded (was.bounded each);
       read = record {
         same_contents = c.read_file.ensures.read.same_contents ∙ was.read.same_contents;
@@ -48,7 +49,8 @@ returns-in-Err-clause-refused g c =
     let refused = rw (c.as_str.ensures.value, c.loop-name.invariant.read.same_contents) at c.in-Err.ensures.refused in
     let count : length names ≡ length c.args.names.now = simp length-map in
     let less : place < length names = omega (arith, count, c.loop-name-test.true) in
-    told_refused (g.F.Folder.contents c.args.folder.now) names place (string_bytes item) c.loop-name.found.items c.in-Err.fault less (mapped_at string_bytes c.args.names.now place item c.loop-name-test.true c.name-item.is) c.loop-name.invariant.found refused
+    told_refused (g.F.Folder.contents c.args.folder.now) names place c.loop-name.found.items c.in-Err.fault less
+    (mapped_at string_bytes c.args.names.now place c.loop-name-test.true c.name-item.is) c.loop-name.invariant.found refused
 
 pub returns-in-Err-clause-cause : goal.returns-in-Err-clause-cause
 returns-in-Err-clause-cause g c =
@@ -66,8 +68,14 @@ returns-in-Err-clause-read g c =
     }
 
 pub returns-clause-cause : goal.returns-clause-cause
-returns-clause-cause g c = record { later = omega (arith, c.loop-name.invariant.count); rose = λ is. absurd (ok_is_no_fault c.loop-name.found DeskFault is); still = λ _. c.loop-name.invariant.count }
+returns-clause-cause g c = record {
+  later = omega (arith, c.loop-name.invariant.count);
+  rose =
+      λ is. absurd (ok_is_no_fault c.loop-name.found DeskFault is);
+  still = λ _. c.loop-name.invariant.count;
+}
 
 pub returns-clause-found : goal.returns-clause-found
 returns-clause-found g c =
-    subst (λ (files : List (List ℕ)). FindsTold (g.F.Folder.contents c.args.folder.now) files c.loop-name.found.items) (all_taken string_bytes c.args.names.now c.loop-name.name-index c.loop-name-test.false) c.loop-name.invariant.found
+    subst (λ (files : List (List ℕ)). FindsTold (g.F.Folder.contents c.args.folder.now) files c.loop-name.found.items)
+    (all_taken string_bytes c.args.names.now c.loop-name.name-index c.loop-name-test.false) c.loop-name.invariant.found

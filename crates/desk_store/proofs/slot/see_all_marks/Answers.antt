@@ -5,7 +5,7 @@ use Rattle.desk_store.proofs.slot.see_all_marks.Goals as goal
 
 pub loop-marks-preserved : goal.loop-marks-preserved
 loop-marks-preserved c =
-    each_more AreBoundedMarks c.args.slots.now c.loop-marks.marks-index c.marks-item.result c.loop-marks-test.true c.marks-item.is c.loop-marks.invariant c.see_marks.ensures
+    each_more AreBoundedMarks c.args.slots.now c.loop-marks.marks-index c.loop-marks-test.true c.marks-item.is c.loop-marks.invariant c.see_marks.ensures
 
 pub returns : goal.returns
 returns c = each_taken AreBoundedMarks c.args.slots.now c.loop-marks.marks-index c.loop-marks-test.false c.loop-marks.invariant

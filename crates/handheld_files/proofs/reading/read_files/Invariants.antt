@@ -11,7 +11,8 @@ abbrev pub invariant-loop-name : goal.invariant-loop-name
 invariant-loop-name g l = record {
   bounded : IsBounded (opened_device l.handheld.databases.items l.handheld.user);
   kept : KeptSoFar (map string_bytes (take l.name-index l.names)) l.handheld.databases.items;
-  stands : IfSome (g.F.Folder.contents l.fn.folder) (λ held. StandFor (among (map string_bytes (take l.name-index l.names)) held) l.handheld.databases.items l.handheld.user);
+  stands : IfSome (g.F.Folder.contents l.fn.folder)
+      (λ held. StandFor (among (map string_bytes (take l.name-index l.names)) held) l.handheld.databases.items l.handheld.user);
   only_read : OnlyRead g.F.Folder.contents g.F.Folder.moments g.F.Folder.paths g.F.Folder.faults l.fn.folder l.folder;
   faults : g.F.Folder.faults l.folder ≡ g.F.Folder.faults l.fn.folder;
 }

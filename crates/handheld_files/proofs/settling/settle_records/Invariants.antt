@@ -5,4 +5,5 @@ use Rattle.handheld_files.specs.Settled.{idle}
 use Rattle.handheld_files.proofs.settling.settle_records.Given as goal
 
 abbrev pub invariant-loop-place : goal.invariant-loop-place
-invariant-loop-place l = l.database ≡ with_records (map idle (with_ids (take l.place l.ids) (take l.place l.fn.database.records)) ++ drop l.place l.fn.database.records) l.fn.database
+invariant-loop-place l = l.database ≡ with_records
+    (map idle (with_ids (take l.place l.ids) (take l.place l.fn.database.records)) ++ drop l.place l.fn.database.records) l.fn.database

@@ -16,26 +16,34 @@ pub returns-in-Ok-clause-databases : goal.returns-in-Ok-clause-databases
 returns-in-Ok-clause-databases g c =
     let picked = c.self.inside.picked in
     let changes = c.args.change.databases.items in
-    seen (λ d. (role : Role) (name : List ℕ) → database_of name (shelf_at c.in-Ok.slots.items picked role) ≡ option_or (changed role name changes) (database_of name (shelf_of (shelves_in d) role))) _ _ c.self.view_is
-    (databases_after c.args.change picked c.self.inside.slots.items c.in-Ok.slots.items c.self.invariant.0.formed c.self.invariant.1 c.requires.change c.in-Ok.ensures.slots)
+    seen (λ d. (role : Role) (name : List ℕ) → database_of name (shelf_at c.in-Ok.slots.items picked role) ≡ option_or (changed role name changes)
+    (database_of name (shelf_of (shelves_in d) role))) c.self.view_is
+    (databases_after c.self.invariant.0.formed c.self.invariant.1 c.requires.change c.in-Ok.ensures.slots)
 
 pub returns-in-Ok-clause-each_moment : goal.returns-in-Ok-clause-each_moment
-returns-in-Ok-clause-each_moment g c = seen (λ d. EachMomentSince (StandsAs (option_map (put_all (change_entries c.args.change d.picked d.slots)) (g.F.Folder.contents d.folder))) (g.F.Folder.moments d.folder) (g.F.Folder.moments c.write_change.new.folder)) _ _ c.self.view_is c.in-Ok.ensures.each_moment
+returns-in-Ok-clause-each_moment g c = seen
+    (λ d. EachMomentSince (StandsAs (option_map (put_all (change_entries c.args.change d.picked d.slots)) (g.F.Folder.contents d.folder)))
+    (g.F.Folder.moments d.folder) (g.F.Folder.moments c.write_change.new.folder)) c.self.view_is c.in-Ok.ensures.each_moment
 
 pub returns-in-Err-clause-refused : goal.returns-in-Err-clause-refused
 returns-in-Err-clause-refused g c =
     let now = g.F.Folder.contents c.write_change.new.folder in
-    seen (λ d. StandsAs (g.F.Folder.contents d.folder) now ⊎ StandsAs (option_map (put_all (change_entries c.args.change d.picked d.slots)) (g.F.Folder.contents d.folder)) now) _ _ c.self.view_is c.in-Err.ensures.refused
+    seen (λ d. StandsAs (g.F.Folder.contents d.folder) now ⊎ StandsAs
+    (option_map (put_all (change_entries c.args.change d.picked d.slots)) (g.F.Folder.contents d.folder)) now) c.self.view_is c.in-Err.ensures.refused
 
 pub returns-in-Err-clause-each_moment : goal.returns-in-Err-clause-each_moment
-returns-in-Err-clause-each_moment g c = seen (λ d. EachMomentSince (StandsAs (option_map (put_all (change_entries c.args.change d.picked d.slots)) (g.F.Folder.contents d.folder))) (g.F.Folder.moments d.folder) (g.F.Folder.moments c.write_change.new.folder)) _ _ c.self.view_is c.in-Err.ensures.each_moment
+returns-in-Err-clause-each_moment g c = seen
+    (λ d. EachMomentSince (StandsAs (option_map (put_all (change_entries c.args.change d.picked d.slots)) (g.F.Folder.contents d.folder)))
+    (g.F.Folder.moments d.folder) (g.F.Folder.moments c.write_change.new.folder)) c.self.view_is c.in-Err.ensures.each_moment
 
 pub returns-in-Ok-clause-made : goal.returns-in-Ok-clause-made
 returns-in-Ok-clause-made g c =
-    seen (λ d. (c.write_change.new.folder ≡ d.folder) ⊎ IsDesk (option_map (put_all (change_entries c.args.change d.picked d.slots)) (g.F.Folder.contents d.folder))
-    (with_commit c.args.change d.picked d.slots)) _ _ c.self.view_is c.in-Ok.ensures.made
+    seen (λ d. (c.write_change.new.folder ≡ d.folder) ⊎ IsDesk
+    (option_map (put_all (change_entries c.args.change d.picked d.slots)) (g.F.Folder.contents d.folder))
+    (with_commit c.args.change d.picked d.slots)) c.self.view_is c.in-Ok.ensures.made
 
 pub returns-in-Err-clause-made : goal.returns-in-Err-clause-made
 returns-in-Err-clause-made g c =
-    seen (λ d. (c.write_change.new.folder ≡ d.folder) ⊎ IsDesk (option_map (put_all (change_entries c.args.change d.picked d.slots)) (g.F.Folder.contents d.folder))
-    (with_commit c.args.change d.picked d.slots)) _ _ c.self.view_is c.in-Err.ensures.made
+    seen (λ d. (c.write_change.new.folder ≡ d.folder) ⊎ IsDesk
+    (option_map (put_all (change_entries c.args.change d.picked d.slots)) (g.F.Folder.contents d.folder))
+    (with_commit c.args.change d.picked d.slots)) c.self.view_is c.in-Err.ensures.made
