@@ -1,5 +1,6 @@
 -- Which ids the adds got doesn't matter to counts of the merged rows, and the merged records are live, clean and honest.
-use Rattle.std.proofs.Common.{◌≡◌, ℕ, ◌+◌, ◌<◌, ◌==◌, List, [], ◌∷◌, ◌++◌, ap, ◌∙◌, sym, subst, arith, true, false, Bool, Option, Some, None, if◌then◌else◌, nat_lt, option_to_list, sum_by}
+use Rattle.std.proofs.Common.{◌≡◌, ℕ, ◌+◌, ◌<◌, ◌==◌, List, [], ◌∷◌, ◌++◌, ap, ◌∙◌, sym, subst, arith, true, false, Bool, Option, Some, None, if◌then◌else◌}
+use Rattle.std.proofs.Common.{nat_lt, option_to_list, sum_by}
 use Rattle.std.specs.Option.{option_or}
 use Rattle.std.proofs.lemmas.Grind.{common_steps}
 use Rattle.std.proofs.lemmas.Bool.Decides.{nat_tests}

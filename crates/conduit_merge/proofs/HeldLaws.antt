@@ -1,5 +1,6 @@
 -- Once a plan is carried out, the handheld's live records are the desktop's rows.
-use Rattle.std.proofs.Common.{◌≡◌, ℕ, ◌<◌, ◌≤◌, ◌^◌, ◌&&◌, List, [], ◌∷◌, ◌++◌, refl, ap, ◌∙◌, sym, subst, arith, true, false, Bool, Option, Some, None, map, filter, not, ◌==◌, if◌then◌else◌, is_none, nat_lt}
+use Rattle.std.proofs.Common.{◌≡◌, ℕ, ◌<◌, ◌≤◌, ◌^◌, ◌&&◌, List, [], ◌∷◌, ◌++◌, refl, ap, ◌∙◌, sym, subst, arith, true, false, Bool, Option, Some, None, map}
+use Rattle.std.proofs.Common.{filter, not, ◌==◌, if◌then◌else◌, is_none, nat_lt}
 use Rattle.std.specs.Option.{option_or}
 use Rattle.std.proofs.lemmas.Bool.Decides.{nat_tests}
 use Rattle.pdb_values.specs.Contents.{ContentValue}
@@ -18,7 +19,8 @@ use Rattle.conduit_rules.proofs.AgreedLaws.{RowsDiffer}
 use Rattle.conduit_merge.specs.Writes.{after, numbered, replaces, adding, giving, clearing, AreFree}
 use Rattle.conduit_merge.specs.Merging.{row_at, row_under, settled_record, merged_rows, AreBounded}
 use Rattle.conduit_merge.proofs.PutLaws.{Apart, put_all, first-put, held-put}
-use Rattle.conduit_merge.proofs.AfterLaws.{first-filter_none, differ-filter, finished, after-append, after-replaces, after-adding_all, after-clearing, differ-put_all, place-first, free_before, free_before_all, apart-rising}
+use Rattle.conduit_merge.proofs.AfterLaws.{first-filter_none, differ-filter, finished, after-append, after-replaces, after-adding_all, after-clearing}
+use Rattle.conduit_merge.proofs.AfterLaws.{differ-put_all, place-first, free_before, free_before_all, apart-rising}
 use Rattle.conduit_merge.proofs.ShownLaws.{bounded-none}
 
 abbrev pub only_live : Held → Held

@@ -1,5 +1,6 @@
 -- What each write does to what an id holds, and many replacements at once.
-use Rattle.std.proofs.Common.{◌≡◌, ℕ, List, [], ◌∷◌, ◌++◌, refl, ap, ◌∙◌, sym, subst, arith, true, false, Bool, Option, Some, None, map, ◌==◌, if◌then◌else◌, append-nil, is_none}
+use Rattle.std.proofs.Common.{◌≡◌, ℕ, List, [], ◌∷◌, ◌++◌, refl, ap, ◌∙◌, sym, subst, arith, true, false, Bool, Option, Some, None, map, ◌==◌, if◌then◌else◌}
+use Rattle.std.proofs.Common.{append-nil, is_none}
 use Rattle.std.proofs.lemmas.Grind.{common_steps}
 use Rattle.std.proofs.lemmas.Bool.Decides.{nat_tests}
 use Rattle.pdb_values.specs.Contents.{ContentValue}

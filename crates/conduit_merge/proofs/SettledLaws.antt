@@ -1,5 +1,6 @@
 -- A database that was merged is settled: the next session chooses the same rows, and archives and adds nothing.
-use Rattle.std.proofs.Common.{◌≡◌, ⊎_elim, ℕ, ◌==◌, List, [], ◌∷◌, refl, ap, ◌∙◌, sym, arith, true, false, Bool, Option, Some, None, is_some, map, if◌then◌else◌}
+use Rattle.std.proofs.Common.{◌≡◌, ⊎_elim, ℕ, ◌==◌, List, [], ◌∷◌, refl, ap, ◌∙◌, sym, arith, true, false, Bool, Option, Some, None, is_some, map}
+use Rattle.std.proofs.Common.{if◌then◌else◌}
 use Rattle.std.specs.Option.{option_or, option_map}
 use Rattle.std.proofs.lemmas.Bool.Decides.{nat_tests}
 use Rattle.std.proofs.lemmas.List.Folds.{find-append}

@@ -1,5 +1,6 @@
 -- What a slow and a fast reading show of the records, and the merged records after either.
-use Rattle.std.proofs.Common.{◌≡◌, ℕ, ◌&&◌, List, [], ◌∷◌, ◌++◌, refl, ap, ◌∙◌, sym, arith, Option, Some, None, Bool, true, false, not, if◌then◌else◌, nat_lt, option_to_list}
+use Rattle.std.proofs.Common.{◌≡◌, ℕ, ◌&&◌, List, [], ◌∷◌, ◌++◌, refl, ap, ◌∙◌, sym, arith, Option, Some, None, Bool, true, false, not, if◌then◌else◌, nat_lt}
+use Rattle.std.proofs.Common.{option_to_list}
 use Rattle.std.specs.Option.{option_map}
 use Rattle.std.proofs.lemmas.Bool.Decides.{nat_tests}
 use Rattle.pdb_values.specs.Records.{is_live}

@@ -1,7 +1,8 @@
 -- Journals: what is read has the bytes as its text, and each journal is read.
 use Rattle.std.proofs.lemmas.Bool.Decides.{nat_tests}
 use Rattle.std.proofs.lemmas.Grind.{common_steps}
-use Rattle.std.proofs.Common.{◌≡◌, ℕ, zero, suc, ◌+◌, ◌^◌, ◌<◌, ◌≤◌, Bool, true, false, cond, eqb, ltb, List, [], ◌∷◌, ◌++◌, length, take, drop, get_or, Option, Some, None, Result, Ok, Err, refl, sym, ap, subst, ◌∙◌, arith}
+use Rattle.std.proofs.Common.{◌≡◌, ℕ, zero, suc, ◌+◌, ◌^◌, ◌<◌, ◌≤◌, Bool, true, false, cond, eqb, ltb, List, [], ◌∷◌, ◌++◌, length, take, drop, get_or, Option}
+use Rattle.std.proofs.Common.{Some, None, Result, Ok, Err, refl, sym, ap, subst, ◌∙◌, arith}
 use Rattle.std.specs.Prelude.{◌&&◌, ◌||◌, not, bytes_eq, option_and_then, IfOk}
 use Rattle.std.specs.Global.{Vec}
 use Rattle.std.specs.Int.{w16, w32, from_be_bytes, to_be_bytes}
@@ -124,7 +125,8 @@ entry_found before bytes fits e =
     let holds = data_found name.0.1 back held.1 in
     let other = guard_some (is_named before name.0.0) _ held.2 in
     let entry : EntryValue = record { name = name.0.0; bytes = held.0.0 } in
-    subst (λ (f : EntryValue × List ℕ). (bytes ≡ entry_text f.0 ++ f.1) × IsEntry f.0 × (is_named before f.0.name ≡ false)) (some_is (entry, held.0.1) other.1) (
+    subst (λ (f : EntryValue × List ℕ). (bytes ≡ entry_text f.0 ++ f.1) × IsEntry f.0 × (is_named before f.0.name ≡ false))
+    (some_is (entry, held.0.1) other.1) (
       named.0 ∙ (ap (λ (xs : List ℕ). length name.0.0 ∷ name.0.0 ++ xs) holds.0 ∙ regroup entry held.0.1),
       record { short_name = named.1; utf8 = named.2; kept = named.3; short_bytes = holds.1 },
       other.0,

@@ -122,7 +122,13 @@ stand_put held old new database bytes user text settled rise look_up head stands
                 (let names : was.stored.head.name ≡ database.head.name = database_file_name was.stored.head database.head
                 (bytes_eq-is (database_file was.stored.head) file same) in
                 clash (bytes_eq database.head.name q) (ap (λ n. bytes_eq database.head.name n) (sym name ∙ names) ∙ bytes_eq-own database.head.name) e)) in
-                record { stored = was.stored; bytes = was.bytes; text = was.text; there = other (database_file was.stored.head) apart ∙ was.there; is = was.is })
+                record {
+                  stored = was.stored;
+                  bytes = was.bytes;
+                  text = was.text;
+                  there = other (database_file was.stored.head) apart ∙ was.there;
+                  is = was.is;
+                })
           ] refl (sym (look_up q) ∙ is);
       owner = subst (λ found. IsUserOf found user) (sym (other device_info_file (no_info database.head))) stands.owner;
     }
@@ -163,7 +169,13 @@ stand_gone held databases name database user here stands =
                 (let names : was.stored.head.name ≡ database.head.name = database_file_name was.stored.head database.head
                 (bytes_eq-is (database_file was.stored.head) file same) in
                 clash (bytes_eq name q) (ap (λ n. bytes_eq name n) (sym named ∙ names ∙ own) ∙ bytes_eq-own name) e)) in
-                record { stored = was.stored; bytes = was.bytes; text = was.text; there = other (database_file was.stored.head) apart ∙ was.there; is = was.is })
+                record {
+                  stored = was.stored;
+                  bytes = was.bytes;
+                  text = was.text;
+                  there = other (database_file was.stored.head) apart ∙ was.there;
+                  is = was.is;
+                })
           ] refl (sym (look_up q) ∙ is);
       owner = subst (λ found. IsUserOf found user) (sym (other device_info_file (no_info database.head))) stands.owner;
     }

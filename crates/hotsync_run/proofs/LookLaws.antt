@@ -13,7 +13,9 @@ use Rattle.hotsync_run.specs.Told.{SinkTold, SourceTold}
 use Rattle.run_words.specs.declared.command.Look.{Look}
 use Rattle.hotsync_run.specs.declared.status.FileSide.TheVariants.{Source}
 use Rattle.hotsync_run.specs.declared.status.Status.{Status}
-use Rattle.hotsync_run.specs.declared.status.Status.TheVariants.{Done, Usage, BadScript, TooLong, BadFile, TooMany, HandheldFolder, DesktopFolder, SourceRead, TraceWrite, OutWrite, NoMemory, LineDown, Unplugged, Aborted, Undetected, OtherUser, TooManyUsers, Limit}
+use Rattle.hotsync_run.specs.declared.status.Status.TheVariants.{Done, Usage, BadScript, TooLong, BadFile, TooMany, HandheldFolder, DesktopFolder, SourceRead}
+use Rattle.hotsync_run.specs.declared.status.Status.TheVariants.{TraceWrite, OutWrite, NoMemory, LineDown, Unplugged, Aborted, Undetected, OtherUser}
+use Rattle.hotsync_run.specs.declared.status.Status.TheVariants.{TooManyUsers, Limit}
 
 -- a database's file breaks no rule
 readable_not_broken : {bytes : List ℕ} {kind : BadKind} {place : ℕ} → IsReadable bytes → IsBroken bytes kind place → ⊥

@@ -1,5 +1,6 @@
 -- The script of a session between made folders.
-use Rattle.std.proofs.Common.{◌≡◌, ◌∙◌, ◌+◌, ◌-◌, ◌*◌, ◌^◌, ◌<◌, ◌≤◌, ℕ, zero, suc, refl, sym, ap, subst, arith, append_assoc, ne_eqb, false, List, [], ◌∷◌, ◌++◌, length, map, Ok}
+use Rattle.std.proofs.Common.{◌≡◌, ◌∙◌, ◌+◌, ◌-◌, ◌*◌, ◌^◌, ◌<◌, ◌≤◌, ℕ, zero, suc, refl, sym, ap, subst, arith, append_assoc, ne_eqb, false, List, [], ◌∷◌}
+use Rattle.std.proofs.Common.{◌++◌, length, map, Ok}
 use Rattle.std.specs.Prelude.{codes, eqb}
 use Rattle.std.specs.Fmt.{decimal}
 use Rattle.std.specs.Int.Digits.{digits_of}

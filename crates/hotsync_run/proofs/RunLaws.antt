@@ -31,7 +31,8 @@ use Rattle.hotsync_run.specs.Ends.{SessionLeft, StandsAtFront}
 use Rattle.hotsync_run.specs.LineRuns.{LineRan, exchanges_in}
 use Rattle.hotsync_run.specs.Opening.{Opens, OpensAtMost, OpensGiven, OpensGivenAtMost}
 use Rattle.hotsync_run.specs.Printed.{IsPrintedStatus}
-use Rattle.hotsync_run.specs.Refusals.{BlamesHandheld, BlamesScript, DesktopRefuses, HandheldRefuses, HasDesktop, HasHandheld, IsRefused, IsTraceRefusal, TraceRefuses, desktop_status, handheld_status}
+use Rattle.hotsync_run.specs.Refusals.{BlamesHandheld, BlamesScript, DesktopRefuses, HandheldRefuses, HasDesktop, HasHandheld, IsRefused, IsTraceRefusal}
+use Rattle.hotsync_run.specs.Refusals.{TraceRefuses, desktop_status, handheld_status}
 use Rattle.hotsync_run.specs.Reports.{IsNotStarted}
 use Rattle.hotsync_run.specs.Runs.{DesktopRan, HasRun, OpensNamed, SentNothing, SessionRan, StandsAsItDid, StaysAsItWas}
 use Rattle.hotsync_run.specs.Scripts.{HasScript, IsScriptRefusal, IsScripted, ScriptRefuses}
@@ -42,7 +43,8 @@ use Rattle.hotsync_run.proofs.TraceLaws.{by_end_then, talk_not_script, talked_me
 use Rattle.hotsync_run.specs.declared.report.Report.{Report}
 use Rattle.hotsync_run.specs.declared.report.SessionEnd.{SessionEnd}
 use Rattle.hotsync_run.specs.declared.status.Status.{Status}
-use Rattle.hotsync_run.specs.declared.status.Status.TheVariants.{Done, BadScript, TooLong, HandheldFolder, DesktopFolder, SourceRead, TraceWrite, OutWrite, NoMemory}
+use Rattle.hotsync_run.specs.declared.status.Status.TheVariants.{Done, BadScript, TooLong, HandheldFolder, DesktopFolder, SourceRead, TraceWrite, OutWrite}
+use Rattle.hotsync_run.specs.declared.status.Status.TheVariants.{NoMemory}
 
 -- a refusal of a script is no other one
 pub record IsScriptAlone (refusal : Status) : Type 0 where

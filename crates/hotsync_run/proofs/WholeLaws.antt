@@ -1,6 +1,7 @@
 -- How far what went over a line was dealt with, by how the session over it ended.
 use Rattle.std.proofs.lemmas.Grind.{common_steps}
-use Rattle.std.proofs.Common.{◌≡◌, ◌⊎◌, ◌∙◌, ◌+◌, ◌<◌, ◌≤◌, ap, append_assoc, arith, drop, inl, inr, length, refl, sym, subst, take, ℕ, zero, suc, Bool, true, false, List, [], ◌∷◌, ◌++◌}
+use Rattle.std.proofs.Common.{◌≡◌, ◌⊎◌, ◌∙◌, ◌+◌, ◌<◌, ◌≤◌, ap, append_assoc, arith, drop, inl, inr, length, refl, sym, subst, take, ℕ, zero, suc, Bool, true}
+use Rattle.std.proofs.Common.{false, List, [], ◌∷◌, ◌++◌}
 use Rattle.std.specs.Prelude.{IsSome, Option, None, Some, Result, Ok, Err, map, IfErr, IfOk}
 use Rattle.std.specs.Global.{Vec}
 use Rattle.std.specs.List.{flat_map}
@@ -49,7 +50,9 @@ use Rattle.hotsync_run.specs.declared.left.Left.{Left}
 use Rattle.hotsync_run.specs.declared.report.Report.{Report}
 use Rattle.hotsync_run.specs.declared.report.SessionEnd.TheVariants.{Ended}
 use Rattle.hotsync_run.specs.declared.status.Status.{Status}
-use Rattle.hotsync_run.specs.declared.status.Status.TheVariants.{Done, Usage, BadScript, TooLong, BadFile, TooMany, HandheldFolder, DesktopFolder, SourceRead, TraceWrite, OutWrite, NoMemory, LineDown, Unplugged, Aborted, Undetected, OtherUser, TooManyUsers, Limit}
+use Rattle.hotsync_run.specs.declared.status.Status.TheVariants.{Done, Usage, BadScript, TooLong, BadFile, TooMany, HandheldFolder, DesktopFolder, SourceRead}
+use Rattle.hotsync_run.specs.declared.status.Status.TheVariants.{TraceWrite, OutWrite, NoMemory, LineDown, Unplugged, Aborted, Undetected, OtherUser}
+use Rattle.hotsync_run.specs.declared.status.Status.TheVariants.{TooManyUsers, Limit}
 
 -- ---- the frames tell one story
 

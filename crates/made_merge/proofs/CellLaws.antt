@@ -1,7 +1,8 @@
 -- What becomes of an item, by its kind.
 use Rattle.std.proofs.lemmas.Grind.{common_steps}
 use Rattle.std.proofs.lemmas.Bool.Decides.{nat_tests}
-use Rattle.std.proofs.Common.{◌≡◌, ◌<◌, ◌+◌, ℕ, zero, suc, ◌==◌, ◌&&◌, ◌||◌, true, false, not, refl, sym, ap, arith, [], length, Option, Some, None, option_to_list}
+use Rattle.std.proofs.Common.{◌≡◌, ◌<◌, ◌+◌, ℕ, zero, suc, ◌==◌, ◌&&◌, ◌||◌, true, false, not, refl, sym, ap, arith, [], length, Option, Some, None}
+use Rattle.std.proofs.Common.{option_to_list}
 use Rattle.std.specs.Prelude.{cond, nat_lt, filter, if◌then◌else◌}
 use Rattle.std.specs.Option.{option_map, option_and_then}
 use Rattle.pdb_values.specs.Contents.{ContentValue}

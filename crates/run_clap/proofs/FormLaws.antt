@@ -1,6 +1,7 @@
 -- Words that ask for a run are taken by `clap`, which gives the same run.
 use Rattle.std.proofs.lemmas.Grind.{common_steps}
-use Rattle.std.proofs.Common.{◌≡◌, ℕ, ◌==◌, Bool, true, false, List, [], ◌∷◌, ◌++◌, ◌||◌, length, subst, cond, refl, sym, ap, ◌∙◌, codes, Option, Some, None, option_map, arith}
+use Rattle.std.proofs.Common.{◌≡◌, ℕ, ◌==◌, Bool, true, false, List, [], ◌∷◌, ◌++◌, ◌||◌, length, subst, cond, refl, sym, ap, ◌∙◌, codes, Option, Some, None}
+use Rattle.std.proofs.Common.{option_map, arith}
 use Rattle.clap.specs.Walk.{row_text, rows_of}
 use Rattle.clap.specs.Simple.{matches_of, is_simple}
 use Rattle.clap.specs.Matches.{first_value, one_text}
@@ -18,9 +19,12 @@ use Rattle.pdb_values.specs.PalmDates.{date_text, read_text}
 use Rattle.pdb_values.proofs.DateLaws.{text_is_date_text}
 use Rattle.run_words.specs.Actions.{is_actions_text}
 use Rattle.run_words.specs.Runs.{Given, Run, whole, whole_of, run_of, nothing, once, actions_once, date_once, with_plain, with_word, with_words}
-use Rattle.run_words.specs.Words.{after, Kind, plain_word, date_value, script_value, trace_value, actions_value, slow_word, add_user_word, unknown_word, or_kind, is_plain, kind_of}
+use Rattle.run_words.specs.Words.{after, Kind, plain_word, date_value, script_value, trace_value, actions_value, slow_word, add_user_word, unknown_word}
+use Rattle.run_words.specs.Words.{or_kind, is_plain, kind_of}
 use Rattle.run_clap.specs.Apps.{run_app}
-use Rattle.run_clap.proofs.WalkLaws.{find_row, row_for, flag_row, find-append, or_none, at_row-none, Argument, of_handheld, of_desktop, of_date, of_script, of_trace, of_actions, of_slow, of_add_user, id_of, row_in, Fits, Turns, at, shape, rules, named_turns, date_turns, handheld_turns, desktop_turns}
+use Rattle.run_clap.proofs.WalkLaws.{find_row, row_for, flag_row, find-append, or_none, at_row-none, Argument, of_handheld, of_desktop, of_date, of_script}
+use Rattle.run_clap.proofs.WalkLaws.{of_trace, of_actions, of_slow, of_add_user, id_of, row_in, Fits, Turns, at, shape, rules, named_turns, date_turns}
+use Rattle.run_clap.proofs.WalkLaws.{handheld_turns, desktop_turns}
 
 kept : (b : Bool) (o : Option Text) {rest : Text} → cond b o None ≡ Some rest → (b ≡ true) × (o ≡ Some rest)
 kept b o e = grind arith

@@ -1,7 +1,8 @@
 -- What `clap` makes of the words of a run.
 use Rattle.std.proofs.lemmas.Grind.{common_steps}
 use Rattle.std.proofs.lemmas.Bool.Decides.{nat_tests}
-use Rattle.std.proofs.Common.{arith, ◌≡◌, ℕ, ◌==◌, Bool, true, false, List, [], ◌∷◌, ◌++◌, ◌||◌, ◌&&◌, subst, cond, append-nil, refl, sym, ap, ◌∙◌, codes, Option, Some, None, option_map}
+use Rattle.std.proofs.Common.{arith, ◌≡◌, ℕ, ◌==◌, Bool, true, false, List, [], ◌∷◌, ◌++◌, ◌||◌, ◌&&◌, subst, cond, append-nil, refl, sym, ap, ◌∙◌, codes}
+use Rattle.std.proofs.Common.{Option, Some, None, option_map}
 use Rattle.std.specs.Prelude.{find}
 use Rattle.std.specs.Option.{option_or}
 use Rattle.clap.specs.declared.parser.matches.ValueSource.TheVariants.{CommandLine}

@@ -1,6 +1,7 @@
 -- The text of actions, and the test of it.
 use Rattle.std.proofs.lemmas.Grind.{common_steps}
-use Rattle.std.proofs.Common.{◌≡◌, ℕ, suc, ◌+◌, ◌*◌, ◌/◌, ◌%◌, ◌<◌, ◌==◌, ◌&&◌, Bool, true, false, cond, List, [], ◌∷◌, ◌++◌, length, map, refl, sym, ap, ◌∙◌, arith, Option, Some, None, option_map, codes, bytes_eq, take, drop}
+use Rattle.std.proofs.Common.{◌≡◌, ℕ, suc, ◌+◌, ◌*◌, ◌/◌, ◌%◌, ◌<◌, ◌==◌, ◌&&◌, Bool, true, false, cond, List, [], ◌∷◌, ◌++◌, length, map, refl, sym, ap, ◌∙◌}
+use Rattle.std.proofs.Common.{arith, Option, Some, None, option_map, codes, bytes_eq, take, drop}
 use Rattle.std.specs.Prelude.{is_none, is_some, option_and_then, nat_lt, not, ◌↔◌}
 use Rattle.std.specs.List.{AllByRecursion, before_first, after_first, position_or_len, filter_map, slice_split}
 use Rattle.std.proofs.lemmas.Bool.{and_parts, or_parts, not-true}
@@ -11,7 +12,8 @@ use Rattle.std.proofs.lemmas.Slice.Eq.{bytes_eq-Decides}
 use Rattle.pdb_values.specs.Names.{name_fault}
 use Rattle.pdb_values.specs.Stems.{hex_digit, is_plain, stem_byte, stem_of}
 use Rattle.pdb_values.proofs.StemLaws.{stem_of_injective}
-use Rattle.run_words.specs.Actions.{AreActions, AreApart, IsActionsText, IsNameOfBytes, action_of_word, action_text, actions_in, actions_text, are_items, has_stem, is_actions_text, is_colon, is_comma, item_of, item_text, named, stem_in}
+use Rattle.run_words.specs.Actions.{AreActions, AreApart, IsActionsText, IsNameOfBytes, action_of_word, action_text, actions_in, actions_text, are_items}
+use Rattle.run_words.specs.Actions.{has_stem, is_actions_text, is_colon, is_comma, item_of, item_text, named, stem_in}
 use Rattle.run_words.specs.StemNames.{as_name, bytes_of_stem, digit_number, escaped, first_of, name_of, onto}
 use Rattle.run_words.specs.declared.action.ActionWord.{ActionWord}
 use Rattle.run_words.specs.declared.action.ActionWord.TheVariants.{Sync, Handheld, Desktop, Nothing}

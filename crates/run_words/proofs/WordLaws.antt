@@ -1,5 +1,6 @@
 -- What follows a first part of a text.
-use Rattle.std.proofs.Common.{get_or, string_bytes, String, Global, ◌<◌, ◌≤◌, ◌≡◌, ◌≢◌, ◌⊎◌, inl, inr, ℕ, zero, suc, ◌+◌, ◌==◌, true, false, List, [], ◌∷◌, ◌++◌, drop, length, map, refl, sym, arith, Option, Some, None}
+use Rattle.std.proofs.Common.{get_or, string_bytes, String, Global, ◌<◌, ◌≤◌, ◌≡◌, ◌≢◌, ◌⊎◌, inl, inr, ℕ, zero, suc, ◌+◌, ◌==◌, true, false, List, [], ◌∷◌}
+use Rattle.std.proofs.Common.{◌++◌, drop, length, map, refl, sym, arith, Option, Some, None}
 use Rattle.std.proofs.lemmas.Bool.Decides.{nat_tests}
 use Rattle.std.specs.Prelude.{option_copied, option_and_then, MatchOption}
 use Rattle.std.specs.Borrow.{Bor}

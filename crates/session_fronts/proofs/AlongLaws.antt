@@ -1,6 +1,7 @@
 -- What holds of a handheld after any beginning of acts whose new records get free ids.
 use Rattle.std.proofs.lemmas.Grind.{common_steps}
-use Rattle.std.proofs.Common.{arith, ◌≡◌, ◌∙◌, refl, ap, sym, subst, ℕ, zero, suc, Bool, true, false, List, [], ◌∷◌, ◌++◌, append_assoc, append-nil, take, map, if◌then◌else◌, filter}
+use Rattle.std.proofs.Common.{arith, ◌≡◌, ◌∙◌, refl, ap, sym, subst, ℕ, zero, suc, Bool, true, false, List, [], ◌∷◌, ◌++◌, append_assoc, append-nil, take, map}
+use Rattle.std.proofs.Common.{if◌then◌else◌, filter}
 use Rattle.dlp_args.specs.Fields.{Fields}
 use Rattle.dlp_requests.specs.Forms.{Form, kinds_of}
 use Rattle.dlp_requests.specs.Forms.{number_of as number_of_form}

@@ -1,6 +1,7 @@
 -- A beginning of a session's acts ends up to the desktop's commit or behind it; how many of them write says which.
 use Rattle.std.proofs.lemmas.Grind.{common_steps}
-use Rattle.std.proofs.Common.{◌≡◌, ◌⊎◌, inl, inr, ◌∙◌, ◌≤◌, ◌+◌, refl, ap, sym, subst, ℕ, zero, suc, List, [], ◌∷◌, ◌++◌, length, map, filter, take, drop, arith, append_assoc}
+use Rattle.std.proofs.Common.{◌≡◌, ◌⊎◌, inl, inr, ◌∙◌, ◌≤◌, ◌+◌, refl, ap, sym, subst, ℕ, zero, suc, List, [], ◌∷◌, ◌++◌, length, map, filter, take, drop}
+use Rattle.std.proofs.Common.{arith, append_assoc}
 use Rattle.std.specs.Prelude.{None, replicate}
 use Rattle.std.proofs.lemmas.List.{length-append, map-append}
 use Rattle.std.proofs.lemmas.List.Elements.{filter-append}
@@ -17,7 +18,8 @@ use Rattle.sync_session.specs.Users.{begun_user}
 use Rattle.sync_session.proofs.IdsLaws.{text-session}
 use Rattle.session_fronts.specs.Given.{GetFreeIds, id_in, ids_in}
 use Rattle.session_fronts.specs.Sound.{IsSoundMeeting}
-use Rattle.session_fronts.proofs.AlongLaws.{Holds, Quiet, TellIds, along-first, along-last, along-take, along-tells, along-told, quiet-after, quiet-all, told-append}
+use Rattle.session_fronts.proofs.AlongLaws.{Holds, Quiet, TellIds, along-first, along-last, along-take, along-tells, along-told, quiet-after, quiet-all}
+use Rattle.session_fronts.proofs.AlongLaws.{told-append}
 use Rattle.session_fronts.proofs.AmongActs.{AmongPart, among-along, respects-among}
 use Rattle.session_fronts.proofs.BehindActs.{BehindPart, behind-along, respects-behind}
 use Rattle.session_fronts.proofs.EachLaws.{put_each}

@@ -1,5 +1,6 @@
 -- What a session says fits into messages.
-use Rattle.std.proofs.Common.{◌≡◌, ◌≤◌, ◌<◌, ◌+◌, ◌*◌, ◌^◌, ap, sym, ℕ, zero, suc, Bool, true, false, List, [], ◌∷◌, ◌++◌, length, map, take, drop, if◌then◌else◌, arith, lit<}
+use Rattle.std.proofs.Common.{◌≡◌, ◌≤◌, ◌<◌, ◌+◌, ◌*◌, ◌^◌, ap, sym, ℕ, zero, suc, Bool, true, false, List, [], ◌∷◌, ◌++◌, length, map, take, drop}
+use Rattle.std.proofs.Common.{if◌then◌else◌, arith, lit<}
 use Rattle.std.specs.Prelude.{Option, Some, None, IfSome, is_none, flat_map, replicate, max, filter}
 use Rattle.std.specs.List.{AllByRecursion}
 use Rattle.std.proofs.lemmas.Nat.{and_le_l}
@@ -18,7 +19,8 @@ use Rattle.conduit_rules.specs.States.{Held, first, has_row}
 use Rattle.desktop_session.specs.Acts.{Act}
 use Rattle.desktop_session.specs.Lists.{id_listings, id_parts, listings}
 use Rattle.desktop_session.specs.Requests.{cleaning, closing, ending, listing, listing_ids, reading_at, reading_next, reading_of, removing, resetting}
-use Rattle.desktop_session.proofs.RequestFits.{at_fits, begin_fits, clean_fits, close_fits, count_fits, end_fits, ids_fit, list_fits, make_fits, mark_fits, next_fits, of_fits, open_fits, putting_fits, remove_fits, reset_fits, user_fits}
+use Rattle.desktop_session.proofs.RequestFits.{at_fits, begin_fits, clean_fits, close_fits, count_fits, end_fits, ids_fit, list_fits, make_fits, mark_fits}
+use Rattle.desktop_session.proofs.RequestFits.{next_fits, of_fits, open_fits, putting_fits, remove_fits, reset_fits, user_fits}
 use Rattle.slow_mirror.specs.News.{as_new, purge_writes, puts}
 use Rattle.slow_mirror.specs.Reads as slow
 use Rattle.sync_session.specs.Choosing.{base_rows, choice, is_fast, seen_held}

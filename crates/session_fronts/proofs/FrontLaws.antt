@@ -1,5 +1,6 @@
 -- A front is where acts of the session lead to, and what it is.
-use Rattle.std.proofs.Common.{arith, ◌≡◌, ◌∙◌, ◌≤◌, refl, ap, sym, subst, ℕ, zero, suc, Bool, true, false, List, [], ◌∷◌, ◌++◌, length, map, filter, take, if◌then◌else◌, append-nil}
+use Rattle.std.proofs.Common.{arith, ◌≡◌, ◌∙◌, ◌≤◌, refl, ap, sym, subst, ℕ, zero, suc, Bool, true, false, List, [], ◌∷◌, ◌++◌, length, map, filter, take}
+use Rattle.std.proofs.Common.{if◌then◌else◌, append-nil}
 use Rattle.std.specs.Prelude.{None}
 use Rattle.std.specs.List.{AllByRecursion, flat_map}
 use Rattle.palm_device.specs.Devices.{Device}
@@ -25,7 +26,8 @@ use Rattle.session_fronts.proofs.NameLaws.{stands-among, stands-behind}
 use Rattle.session_fronts.proofs.PartActs.{take-all}
 use Rattle.session_fronts.proofs.ReadyLaws.{ready-all}
 use Rattle.session_fronts.proofs.RelabelLaws.{NoAsk, before-count, before-labelled, none-after, session-labelled}
-use Rattle.session_fronts.proofs.RunLaws.{answers, answers-count, asks, asks_in, count_one, exchanges-are, given-all, given_to, ids_left, none-all-given, relabel, relabel-take, runs-by, sayable-all}
+use Rattle.session_fronts.proofs.RunLaws.{answers, answers-count, asks, asks_in, count_one, exchanges-are, given-all, given_to, ids_left, none-all-given}
+use Rattle.session_fronts.proofs.RunLaws.{relabel, relabel-take, runs-by, sayable-all}
 
 -- ---- the requests of a beginning
 

@@ -20,7 +20,8 @@ use Rattle.sync_session.specs.Limits.{first_over}
 use Rattle.sync_session.specs.Tasks.{Meeting, task_of}
 use Rattle.session_laws.specs.Meetings.{AllFollow, Follows, IsActive, action_at, found_of, holding_after, ids_at, last_of, places_of}
 use Rattle.session_laws.specs.Renaming.{AreUnknown, SameEnds}
-use Rattle.session_laws.specs.Repeats.{AreStops, Found, GotAllIds, GotIds, IsRead, MayStop, NoneUnderGone, Place, all_ids, among_news, at_end, before_mark, behind_commit, chosen, ended, given_by, ids_with, left, news_done, shown, sides}
+use Rattle.session_laws.specs.Repeats.{AreStops, Found, GotAllIds, GotIds, IsRead, MayStop, NoneUnderGone, Place, all_ids, among_news, at_end, before_mark}
+use Rattle.session_laws.specs.Repeats.{behind_commit, chosen, ended, given_by, ids_with, left, news_done, shown, sides}
 use Rattle.session_laws.proofs.CommitLaws.{end-adds, no_contents}
 use Rattle.session_laws.proofs.DesktopLaws.{chosen-again}
 use Rattle.session_laws.proofs.MeetingLaws.{reading-shows}

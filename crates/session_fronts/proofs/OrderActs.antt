@@ -1,5 +1,6 @@
 -- A session keeps its order up to its first write: what may be asked of a handheld, at each turn.
-use Rattle.std.proofs.Common.{◌≡◌, ◌∙◌, ◌≤◌, ◌<◌, ◌+◌, ◌*◌, refl, ap, sym, subst, ℕ, zero, suc, Bool, true, false, List, [], ◌∷◌, ◌++◌, length, take, if◌then◌else◌, arith}
+use Rattle.std.proofs.Common.{◌≡◌, ◌∙◌, ◌≤◌, ◌<◌, ◌+◌, ◌*◌, refl, ap, sym, subst, ℕ, zero, suc, Bool, true, false, List, [], ◌∷◌, ◌++◌, length, take}
+use Rattle.std.proofs.Common.{if◌then◌else◌, arith}
 use Rattle.std.specs.Prelude.{Option, Some, None, IsSomeAnd, filter, flat_map, is_none, is_some, max, replicate}
 use Rattle.std.specs.Option.{option_map}
 use Rattle.pdb_values.specs.Databases.{DatabaseValue}
@@ -34,7 +35,8 @@ use Rattle.session_fronts.specs.Sound.{IsSoundMeeting}
 use Rattle.session_fronts.proofs.AlongLaws.{MayAct, quiet-after, quiet-all}
 use Rattle.session_fronts.proofs.EachLaws.{AreReady}
 use Rattle.session_fronts.proofs.MergeActs.{closed_device}
-use Rattle.session_fronts.proofs.OpenActs.{KeepsOpen, all_closed, at_same, begin_same, count_same, ids_same, keeps-append, keeps-next, keeps-nil, keeps-same, lists_same, of_same, one_open, open_does, user_same}
+use Rattle.session_fronts.proofs.OpenActs.{KeepsOpen, all_closed, at_same, begin_same, count_same, ids_same, keeps-append, keeps-next, keeps-nil, keeps-same}
+use Rattle.session_fronts.proofs.OpenActs.{lists_same, of_same, one_open, open_does, user_same}
 use Rattle.session_fronts.proofs.PhaseActs.{Stand, read_one}
 use Rattle.session_fronts.proofs.ReadyLaws.{ready-all, stand-all}
 use Rattle.session_fronts.proofs.TaskActs.{IsReady}

@@ -1,6 +1,7 @@
 -- A session keeps its order while it writes, as long as its new records get free ids.
 use Rattle.std.proofs.lemmas.Grind.{common_steps}
-use Rattle.std.proofs.Common.{◌≡◌, inl, inr, ◌∙◌, ◌≤◌, ◌<◌, ◌+◌, refl, ap, sym, subst, ℕ, Bool, true, List, [], ◌∷◌, ◌++◌, length, map, take, drop, arith, append_assoc}
+use Rattle.std.proofs.Common.{◌≡◌, inl, inr, ◌∙◌, ◌≤◌, ◌<◌, ◌+◌, refl, ap, sym, subst, ℕ, Bool, true, List, [], ◌∷◌, ◌++◌, length, map, take, drop, arith}
+use Rattle.std.proofs.Common.{append_assoc}
 use Rattle.std.specs.Prelude.{◌&&◌, ◌||◌, not, nat_lt, Option, Some, None, flat_map, replicate}
 use Rattle.std.specs.List.{AllByRecursion}
 use Rattle.std.proofs.lemmas.List.{length-append}
@@ -47,7 +48,8 @@ use Rattle.session_fronts.proofs.PhaseActs.{AreAhead, ahead_does, ahead_few, ahe
 use Rattle.session_fronts.proofs.PutActs.{IsReplacement, add_room, free-front, is_free, own_id, puts-append, replaces_do, replaces-length, room_now, room_then}
 use Rattle.session_fronts.proofs.ReadyLaws.{have-names, ready-all}
 use Rattle.session_fronts.proofs.TaskActs.{Before, HasRoom, IsReady, before_is, made_opens, may_new, may_old, with_news, writes_do}
-use Rattle.session_fronts.proofs.WriteActs.{CanPut, IsSorted, MayWrite, clean_does, holding, holding_base, holding_own, purges_do, put_does, remove_does, removes_do}
+use Rattle.session_fronts.proofs.WriteActs.{CanPut, IsSorted, MayWrite, clean_does, holding, holding_base, holding_own, purges_do, put_does, remove_does}
+use Rattle.session_fronts.proofs.WriteActs.{removes_do}
 
 -- ---- one write
 

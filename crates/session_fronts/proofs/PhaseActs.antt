@@ -29,7 +29,8 @@ use Rattle.sync_session.specs.declared.sizes.Sizes.{Sizes}
 use Rattle.session_laws.proofs.MergedLaws.{NotNamed}
 use Rattle.session_fronts.specs.Given.{GetFreeIds}
 use Rattle.session_fronts.proofs.CountLaws.{appended-count}
-use Rattle.session_fronts.proofs.EachLaws.{AreChanged, AreReady, Change, HaveNames, KeepsName, changed-other, look-other, put_at_task, put_each, put-is, rise-put, turned}
+use Rattle.session_fronts.proofs.EachLaws.{AreChanged, AreReady, Change, HaveNames, KeepsName, changed-other, look-other, put_at_task, put_each, put-is}
+use Rattle.session_fronts.proofs.EachLaws.{rise-put, turned}
 use Rattle.session_fronts.proofs.OpenActs.{all_closed}
 use Rattle.session_fronts.proofs.ReadActs.{reads_same}
 use Rattle.session_fronts.proofs.PutActs.{free-append, free-front}

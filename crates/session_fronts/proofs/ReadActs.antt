@@ -19,7 +19,8 @@ use Rattle.slow_mirror.specs.Reads as slow
 use Rattle.sync_session.specs.Choosing.{base_rows, is_fast}
 use Rattle.sync_session.specs.Reads.{fast_reads, opened, read_by_id, reads}
 use Rattle.sync_session.specs.Tasks.{Meeting, Task, records_of}
-use Rattle.session_fronts.proofs.OpenActs.{KeepsOpen, all_closed, around, count_same, keeps-append, keeps-flat_map, keeps-id_listings, keeps-next, keeps-nil, keeps-replicate, keeps-same, keeps-slow, of_same, open_does}
+use Rattle.session_fronts.proofs.OpenActs.{KeepsOpen, all_closed, around, count_same, keeps-append, keeps-flat_map, keeps-id_listings, keeps-next, keeps-nil}
+use Rattle.session_fronts.proofs.OpenActs.{keeps-replicate, keeps-same, keeps-slow, of_same, open_does}
 
 keeps-read_by_id : (base : List Record) (r : Option Record) → KeepsOpen (read_by_id base r)
 keeps-read_by_id base None = keeps-nil

@@ -1,6 +1,7 @@
 -- The databases of a session that aren't skipped can be read and written.
 use Rattle.std.proofs.lemmas.Grind.{common_steps}
-use Rattle.std.proofs.Common.{◌≡◌, ◌≤◌, ◌∙◌, ◌||◌, not, refl, ap, sym, subst, ℕ, Bool, true, false, List, [], ◌∷◌, length, map, filter, if◌then◌else◌, arith, is_none, is_some}
+use Rattle.std.proofs.Common.{◌≡◌, ◌≤◌, ◌∙◌, ◌||◌, not, refl, ap, sym, subst, ℕ, Bool, true, false, List, [], ◌∷◌, length, map, filter, if◌then◌else◌, arith}
+use Rattle.std.proofs.Common.{is_none, is_some}
 use Rattle.std.specs.Prelude.{Option, Some, None}
 use Rattle.std.specs.List.{AllByRecursion, list_any}
 use Rattle.std.specs.Str.{bytes_eq}

@@ -1,6 +1,7 @@
 -- A front is a stop, and the session that is run again ends as the one that stopped would have ended.
 use Rattle.std.proofs.lemmas.Grind.{common_steps}
-use Rattle.std.proofs.Common.{◌≡◌, ◌⊎◌, inl, inr, ◌∙◌, ◌<◌, ◌||◌, not, refl, ap, sym, subst, ℕ, Bool, true, List, [], ◌∷◌, ◌++◌, length, take, if◌then◌else◌, arith, is_none, is_some}
+use Rattle.std.proofs.Common.{◌≡◌, ◌⊎◌, inl, inr, ◌∙◌, ◌<◌, ◌||◌, not, refl, ap, sym, subst, ℕ, Bool, true, List, [], ◌∷◌, ◌++◌, length, take, if◌then◌else◌}
+use Rattle.std.proofs.Common.{arith, is_none, is_some}
 use Rattle.std.specs.Prelude.{Option, Some, None}
 use Rattle.std.specs.List.{AllByRecursion}
 use Rattle.pdb_values.specs.Databases.{DatabaseValue}
@@ -30,9 +31,11 @@ use Rattle.sync_session.specs.Merges.{handheld_before, merged_databases, merged_
 use Rattle.sync_session.specs.Skips.{active, head_of, reason_by, skip_of}
 use Rattle.sync_session.specs.Tasks.{Meeting, Task, action_of_word, records_of, slot_of, task_of}
 use Rattle.sync_session.specs.Users.{begun_user}
-use Rattle.session_laws.specs.Meetings.{AsksTheSame, Follows, IsActive, IsLikeFirst, LeftAmongNews, LeftAtEnd, LeftBehindCommit, LeftMerged, StandsLike, action_at, found_of, holding_after, ids_at}
+use Rattle.session_laws.specs.Meetings.{AsksTheSame, Follows, IsActive, IsLikeFirst, LeftAmongNews, LeftAtEnd, LeftBehindCommit, LeftMerged, StandsLike}
+use Rattle.session_laws.specs.Meetings.{action_at, found_of, holding_after, ids_at}
 use Rattle.session_laws.specs.Renaming.{AreUnknown, SameEnds}
-use Rattle.session_laws.specs.Repeats.{Found, GotAllIds, GotIds, IsRead, MayStop, NoneUnderGone, Place, among_news, at_end, before_mark, behind_commit, chosen, given_by, ids_with, left_behind_commit, news_done, shown, sides}
+use Rattle.session_laws.specs.Repeats.{Found, GotAllIds, GotIds, IsRead, MayStop, NoneUnderGone, Place, among_news, at_end, before_mark, behind_commit, chosen}
+use Rattle.session_laws.specs.Repeats.{given_by, ids_with, left_behind_commit, news_done, shown, sides}
 use Rattle.session_laws.proofs.CommitLaws.{commit-adds, end-adds}
 use Rattle.session_laws.proofs.MeetingLaws.{among-news, at-the_end, behind-the_commit, reading-shows}
 use Rattle.session_laws.proofs.MergedLaws.{handheld-merged}

@@ -9,7 +9,8 @@ use Rattle.pdb_values.specs.NamedDatabases.{NamesRise, database_of, replaced, wi
 use Rattle.pdb_values.specs.Names.{IsName}
 use Rattle.pdb_values.specs.declared.record.Record.{Record}
 use Rattle.pdb_values.specs.declared.user.UserInfo.{UserInfo}
-use Rattle.pdb_values.proofs.NamedLaws.{NamesRise-replaced, NamesRise-with_new, NamesRise-with_put, bytes_eq-own, database_of-replaced, database_of-same, database_of-with_new, database_of-with_put, place_of-some}
+use Rattle.pdb_values.proofs.NamedLaws.{NamesRise-replaced, NamesRise-with_new, NamesRise-with_put, bytes_eq-own, database_of-replaced, database_of-same}
+use Rattle.pdb_values.proofs.NamedLaws.{database_of-with_new, database_of-with_put, place_of-some}
 use Rattle.palm_device.specs.Devices.{Device, most_databases}
 use Rattle.palm_device.specs.Handles.{just_opened}
 use Rattle.palm_device.specs.Heads.{is_read_only}

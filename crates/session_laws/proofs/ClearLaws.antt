@@ -1,5 +1,6 @@
 -- Purges, the clean up and the reset, some or all of them: what each id holds after them, and that the rest of them leaves the same.
-use Rattle.std.proofs.Common.{◌≡◌, ◌⊎◌, ℕ, zero, suc, ◌==◌, ◌&&◌, List, [], ◌∷◌, refl, ap, ◌∙◌, sym, subst, arith, Bool, Option, Some, None, is_some, map, filter, not, if◌then◌else◌, take}
+use Rattle.std.proofs.Common.{◌≡◌, ◌⊎◌, ℕ, zero, suc, ◌==◌, ◌&&◌, List, [], ◌∷◌, refl, ap, ◌∙◌, sym, subst, arith, Bool, Option, Some, None, is_some, map}
+use Rattle.std.proofs.Common.{filter, not, if◌then◌else◌, take}
 use Rattle.std.proofs.lemmas.Grind.{common_steps}
 use Rattle.pdb_values.specs.Contents.{ContentValue}
 use Rattle.pdb_values.specs.Records.{is_live}

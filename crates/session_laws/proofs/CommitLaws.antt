@@ -1,6 +1,7 @@
 -- The session after one that stopped behind the desktop's commit ends as that one would have.
 use Rattle.std.proofs.lemmas.Grind.{common_steps}
-use Rattle.std.proofs.Common.{◌≡◌, ℕ, ◌==◌, List, [], ◌∷◌, ◌++◌, refl, ap, ◌∙◌, sym, subst, arith, true, false, Bool, Option, Some, None, map, if◌then◌else◌, nat_lt}
+use Rattle.std.proofs.Common.{◌≡◌, ℕ, ◌==◌, List, [], ◌∷◌, ◌++◌, refl, ap, ◌∙◌, sym, subst, arith, true, false, Bool, Option, Some, None, map, if◌then◌else◌}
+use Rattle.std.proofs.Common.{nat_lt}
 use Rattle.std.specs.Option.{option_or}
 use Rattle.std.proofs.lemmas.Bool.Decides.{nat_tests}
 use Rattle.pdb_values.specs.Contents.{ContentValue}
@@ -21,7 +22,8 @@ use Rattle.conduit_rules.proofs.ByIdLaws.{each_below-none, each_below-same}
 use Rattle.conduit_rules.proofs.ContentLaws.{same_content-same}
 use Rattle.conduit_rules.proofs.PlanLaws.{at-each_below}
 use Rattle.conduit_rules.proofs.SettledLaws.{IsSettled, choice-settled}
-use Rattle.conduit_merge.specs.Merging.{row_at, row_under, settled_record, merged_rows, merged_base, merged_records, merged_archive, one_copy_behind, is_held_live, AreBounded}
+use Rattle.conduit_merge.specs.Merging.{row_at, row_under, settled_record, merged_rows, merged_base, merged_records, merged_archive, one_copy_behind}
+use Rattle.conduit_merge.specs.Merging.{is_held_live, AreBounded}
 use Rattle.conduit_merge.specs.Writes.{Write, after, numbered, replaces, adding, giving, clearing, whole, AreFree, GotFreeIds}
 use Rattle.conduit_merge.proofs.AfterLaws.{finished, after-append, after-clearing}
 use Rattle.conduit_merge.proofs.AgainLaws.{choice-merged_for}

@@ -1,5 +1,6 @@
 -- Sessions that go by the desktop: one that stopped before the commit is begun anew by the next one, which purges what was added.
-use Rattle.std.proofs.Common.{◌≡◌, ℕ, ◌==◌, List, [], ◌∷◌, ◌++◌, refl, ap, ◌∙◌, sym, subst, arith, true, false, Bool, Option, Some, None, map, if◌then◌else◌, nat_lt, flat_map, drop, take-append-drop}
+use Rattle.std.proofs.Common.{◌≡◌, ℕ, ◌==◌, List, [], ◌∷◌, ◌++◌, refl, ap, ◌∙◌, sym, subst, arith, true, false, Bool, Option, Some, None, map, if◌then◌else◌}
+use Rattle.std.proofs.Common.{nat_lt, flat_map, drop, take-append-drop}
 use Rattle.std.proofs.lemmas.Bool.Decides.{nat_tests}
 use Rattle.pdb_values.specs.Contents.{ContentValue}
 use Rattle.pdb_values.specs.declared.record.Record.{Record}
@@ -15,7 +16,8 @@ use Rattle.conduit_rules.proofs.AgreedLaws.{RowsDiffer}
 use Rattle.conduit_rules.proofs.ByIdLaws.{each_below-same}
 use Rattle.conduit_rules.proofs.PlanLaws.{at-each_below}
 use Rattle.conduit_merge.specs.Merging.{kept_record, new_under, settled_record, merged_records, AreBounded, AreNew}
-use Rattle.conduit_merge.specs.Writes.{Write, replace, add, purge, clean_up, reset, after, numbered, replaces, adding, purges, giving, clearing, AreFree, GotFreeIds}
+use Rattle.conduit_merge.specs.Writes.{Write, replace, add, purge, clean_up, reset, after, numbered, replaces, adding, purges, giving, clearing, AreFree}
+use Rattle.conduit_merge.specs.Writes.{GotFreeIds}
 use Rattle.conduit_merge.proofs.AfterLaws.{place-first}
 use Rattle.conduit_merge.proofs.CountLaws.{new-free}
 use Rattle.conduit_merge.proofs.PutLaws.{held-put, first-put, put_over, differ-put, differ-ids}

@@ -1,5 +1,6 @@
 -- Sessions that go by the handheld: one that stopped is ended by the next one as it would have ended.
-use Rattle.std.proofs.Common.{◌≡◌, ℕ, zero, suc, ◌<◌, ◌==◌, ◌||◌, ◌&&◌, List, [], ◌∷◌, ◌++◌, refl, ap, ◌∙◌, sym, subst, arith, true, false, Bool, Option, Some, None, if◌then◌else◌, nat_lt, take}
+use Rattle.std.proofs.Common.{◌≡◌, ℕ, zero, suc, ◌<◌, ◌==◌, ◌||◌, ◌&&◌, List, [], ◌∷◌, ◌++◌, refl, ap, ◌∙◌, sym, subst, arith, true, false, Bool, Option, Some}
+use Rattle.std.proofs.Common.{None, if◌then◌else◌, nat_lt, take}
 use Rattle.std.specs.Option.{option_or}
 use Rattle.std.proofs.lemmas.Bool.Decides.{nat_tests}
 use Rattle.std.proofs.lemmas.List.Folds.{list_any-append}
@@ -18,7 +19,8 @@ use Rattle.conduit_merge.specs.Writes.{Write, after, clearing}
 use Rattle.conduit_merge.proofs.ArchiveLaws.{copies-stand}
 use Rattle.conduit_merge.proofs.PutLaws.{differ-ids}
 use Rattle.conduit_merge.proofs.StopLaws.{handheld-given}
-use Rattle.session_laws.specs.Repeats.{Found, IsRead, EndAlike, ended, sides, chosen, shown, GotIds, news_done, clearing_done, left_among_news, left_behind_commit}
+use Rattle.session_laws.specs.Repeats.{Found, IsRead, EndAlike, ended, sides, chosen, shown, GotIds, news_done, clearing_done, left_among_news}
+use Rattle.session_laws.specs.Repeats.{left_behind_commit}
 use Rattle.session_laws.proofs.ClearLaws.{clearing-take, Fits}
 use Rattle.session_laws.proofs.CommitLaws.{copies-again, rows-again, base-again, records-again, fits-behind, no_contents, over_bound}
 use Rattle.session_laws.proofs.FirstLaws.{with_ids, with_ids-suc}

@@ -12,7 +12,8 @@ use Rattle.run_words.specs.Actions.{action_for}
 use Rattle.sync_session.specs.Archives.{entries_of}
 use Rattle.sync_session.specs.Choosing.{action_or_sync, agrees, base_rows, is_fast, view}
 use Rattle.sync_session.specs.Tasks.{Meeting, Task, action_of_word, task_of, slot_of, records_of}
-use Rattle.session_laws.specs.Meetings.{found, found_of, action_at, AsksTheSame, IsUnderWay, LeftAmongNews, LeftBehindCommit, LeftAtEnd, Follows, AllFollow, last_of, places_of}
+use Rattle.session_laws.specs.Meetings.{found, found_of, action_at, AsksTheSame, IsUnderWay, LeftAmongNews, LeftBehindCommit, LeftAtEnd, Follows, AllFollow}
+use Rattle.session_laws.specs.Meetings.{last_of, places_of}
 use Rattle.session_laws.specs.Renaming.{AreUnknown, SameEnds}
 use Rattle.session_laws.specs.Repeats.{IsRead, Found, ended, GotAllIds, Place, among_news, behind_commit, at_end, left_by, all_ids, AreStops}
 use Rattle.session_laws.proofs.RepeatLaws.{repeat_anew}

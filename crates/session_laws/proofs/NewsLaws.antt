@@ -1,5 +1,6 @@
 -- The session after one that stopped among its replacements and adds ends at the merge under the ids of both.
-use Rattle.std.proofs.Common.{◌≡◌, ℕ, ◌+◌, length, ◌==◌, List, [], ◌∷◌, ◌++◌, refl, ap, ◌∙◌, sym, subst, arith, true, false, Bool, Option, Some, if◌then◌else◌, drop, take-append-drop}
+use Rattle.std.proofs.Common.{◌≡◌, ℕ, ◌+◌, length, ◌==◌, List, [], ◌∷◌, ◌++◌, refl, ap, ◌∙◌, sym, subst, arith, true, false, Bool, Option, Some, if◌then◌else◌}
+use Rattle.std.proofs.Common.{drop, take-append-drop}
 use Rattle.pdb_values.specs.Contents.{ContentValue}
 use Rattle.pdb_values.specs.Records.{is_live}
 use Rattle.pdb_values.specs.declared.record.Record.{Record}
@@ -17,7 +18,8 @@ use Rattle.conduit_merge.specs.Writes.{Write, replace, add, purge, clean_up, res
 use Rattle.conduit_merge.proofs.AfterLaws.{after-all, after-append}
 use Rattle.conduit_merge.proofs.PutLaws.{differ-ids}
 use Rattle.conduit_merge.proofs.StopLaws.{sides-again, choice-after, of-take, writes-of, giving-of}
-use Rattle.session_laws.specs.Repeats.{Found, IsRead, Ended, ended, chosen, shown, GotIds, news_done, given_by, left_among_news, NothingIfGone, NoneUnderGone, StopsAmongNews}
+use Rattle.session_laws.specs.Repeats.{Found, IsRead, Ended, ended, chosen, shown, GotIds, news_done, given_by, left_among_news, NothingIfGone, NoneUnderGone}
+use Rattle.session_laws.specs.Repeats.{StopsAmongNews}
 use Rattle.session_laws.proofs.ResumeLaws.{Resumed, resume}
 
 -- ---- gone rows that no record stands under

@@ -15,7 +15,8 @@ use Rattle.conduit_rules.specs.declared.action.Action.TheVariants.{Sync, Handhel
 use Rattle.conduit_rules.proofs.ActionLaws.{handheld-is}
 use Rattle.conduit_merge.specs.Merging.{settled_record, gone_record, kept_record, new_under, merged_archive}
 use Rattle.conduit_merge.specs.Writes.{numbered}
-use Rattle.session_laws.specs.Repeats.{StopsAmongNews, Found, IsRead, Ended, EndAlike, ended, sides, chosen, shown, GotIds, GotAllIds, Place, before_mark, among_news, behind_commit, at_end}
+use Rattle.session_laws.specs.Repeats.{StopsAmongNews, Found, IsRead, Ended, EndAlike, ended, sides, chosen, shown, GotIds, GotAllIds, Place, before_mark}
+use Rattle.session_laws.specs.Repeats.{among_news, behind_commit, at_end}
 use Rattle.session_laws.specs.Repeats.{left, MayStop, left_by, left_among_news, left_behind_commit, left_at_end, ids_with, all_ids, AreStops}
 use Rattle.session_laws.specs.Renaming.{AreUnknown, SameEnds}
 use Rattle.session_laws.proofs.CommitLaws.{behind-commit, commit-adds, at-end, end-adds, no_contents}

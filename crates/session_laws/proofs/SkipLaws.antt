@@ -1,7 +1,8 @@
 -- A database that a meeting doesn't skip isn't skipped by the next one.
 use Rattle.std.proofs.lemmas.Grind.{common_steps}
 use Rattle.std.proofs.lemmas.Bool.Decides.{nat_tests}
-use Rattle.std.proofs.Common.{◌≡◌, ℕ, List, ◌<◌, ◌%◌, bit_and, ◌||◌, ◌&&◌, refl, ap, ◌∙◌, arith, Bool, true, false, not, Option, Some, None, is_none, is_some, if◌then◌else◌}
+use Rattle.std.proofs.Common.{◌≡◌, ℕ, List, ◌<◌, ◌%◌, bit_and, ◌||◌, ◌&&◌, refl, ap, ◌∙◌, arith, Bool, true, false, not, Option, Some, None, is_none, is_some}
+use Rattle.std.proofs.Common.{if◌then◌else◌}
 use Rattle.std.specs.Str.{bytes_eq}
 use Rattle.std.proofs.lemmas.Nat.{and_assoc, and_mod}
 use Rattle.pdb_values.specs.Databases.{DatabaseValue}

@@ -1,7 +1,8 @@
 -- The databases of a session have names of their own.
 use Rattle.std.proofs.lemmas.Grind.{common_steps}
 use Rattle.std.proofs.lemmas.Bool.Decides.{nat_tests}
-use Rattle.std.proofs.Common.{◌≡◌, inl, inr, ℕ, ◌+◌, ◌≤◌, ◌||◌, List, [], ◌∷◌, refl, ap, ◌∙◌, sym, subst, arith, Bool, true, false, cond, if◌then◌else◌, Option, Some, None, is_none, is_some, map, filter, sum_by}
+use Rattle.std.proofs.Common.{◌≡◌, inl, inr, ℕ, ◌+◌, ◌≤◌, ◌||◌, List, [], ◌∷◌, refl, ap, ◌∙◌, sym, subst, arith, Bool, true, false, cond, if◌then◌else◌, Option}
+use Rattle.std.proofs.Common.{Some, None, is_none, is_some, map, filter, sum_by}
 use Rattle.std.specs.Prelude.{insert}
 use Rattle.std.specs.List.{list_any, position_or_len}
 use Rattle.std.specs.Str.{bytes_eq}

@@ -12,7 +12,8 @@ use Rattle.sync_session.specs.Merges.{handheld_before, rows_before, merged_devic
 use Rattle.run_words.specs.Actions.{action_for}
 use Rattle.sync_session.specs.Skips.{active, head_of}
 use Rattle.sync_session.specs.Tasks.{action_of_word, Meeting, Task, task_of, slot_of, records_of}
-use Rattle.session_laws.specs.Meetings.{IsLikeFirst, StandsLike, found, found_of, action_at, ids_dealt, ids_at, holding_after, IsActive, IsMergedAt, LeftAtEnd, LeftMerged, AllFollow, last_of, places_of}
+use Rattle.session_laws.specs.Meetings.{IsLikeFirst, StandsLike, found, found_of, action_at, ids_dealt, ids_at, holding_after, IsActive, IsMergedAt, LeftAtEnd}
+use Rattle.session_laws.specs.Meetings.{LeftMerged, AllFollow, last_of, places_of}
 use Rattle.session_laws.specs.Renaming.{AreUnknown, SameEnds}
 use Rattle.session_laws.specs.Repeats.{IsRead, ended, chosen, shown, GotAllIds, Place, AreStops, all_ids}
 use Rattle.session_laws.proofs.MeetingLaws.{meetings-same}

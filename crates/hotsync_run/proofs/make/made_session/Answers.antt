@@ -23,5 +23,6 @@ returns-in-Ok-clause-ends c =
     let told = c.in-Ok.ensures in
     let device : Device = record { databases = sides.store.databases; user = sides.store.user; handles = no_handles } in
     let answer = c.talk-answer.result in
-    made_ends _ _ answer.report (made_items c.args.seed c.args.count c.requires) (made_merge c.args.seed c.args.count c.requires) refl refl told.held refl told.slots
+    made_ends _ _ answer.report (made_items c.args.seed c.args.count c.requires) (made_merge c.args.seed c.args.count c.requires)
+    refl refl told.held refl told.slots
     (made_given items c.made_words-words.ensures told.script (told_alone told.palm) (told_alone told.desk) c.talk-answer.ensures)

@@ -10,17 +10,42 @@ use Rattle.hotsync_run.proofs.run.judged_run.Goals as goal
 pub returns-in-Err-open_desktop-clause-ran : goal.returns-in-Err-open_desktop-clause-ran
 returns-in-Err-open_desktop-clause-ran g c =
     let run = run_view c.args.words.now in
-    let before : CallTold = record { palm = folder_told g.H.Folder.contents g.H.Folder.moments g.H.Folder.paths g.H.Folder.faults c.args.device; desk = folder_told g.D.Folder.contents g.D.Folder.moments g.D.Folder.paths g.D.Folder.faults c.args.desk; source = source_told g.S.Source.left g.S.Source.paths g.S.Source.faults c.args.source.now; trace = sink_told g.T.Sink.taken g.T.Sink.paths g.T.Sink.faults c.args.trace.now } in
-    let after : CallTold = record { palm = folder_told g.H.Folder.contents g.H.Folder.moments g.H.Folder.paths g.H.Folder.faults c.in-Ok-open_handheld.store.folder; desk = folder_told g.D.Folder.contents g.D.Folder.moments g.D.Folder.paths g.D.Folder.faults c.in-Err-open_desktop.desk; source = source_told g.S.Source.left g.S.Source.paths g.S.Source.faults c.script_of.new.source; trace = sink_told g.T.Sink.taken g.T.Sink.paths g.T.Sink.faults c.args.trace.now } in
+    let before : CallTold = record {
+      palm = folder_told g.H.Folder.contents g.H.Folder.moments g.H.Folder.paths g.H.Folder.faults c.args.device;
+      desk = folder_told g.D.Folder.contents g.D.Folder.moments g.D.Folder.paths g.D.Folder.faults c.args.desk;
+      source = source_told g.S.Source.left g.S.Source.paths g.S.Source.faults c.args.source.now;
+      trace = sink_told g.T.Sink.taken g.T.Sink.paths g.T.Sink.faults c.args.trace.now;
+    } in
+    let after : CallTold = record {
+      palm = folder_told g.H.Folder.contents g.H.Folder.moments g.H.Folder.paths g.H.Folder.faults c.in-Ok-open_handheld.store.folder;
+      desk = folder_told g.D.Folder.contents g.D.Folder.moments g.D.Folder.paths g.D.Folder.faults c.in-Err-open_desktop.desk;
+      source = source_told g.S.Source.left g.S.Source.paths g.S.Source.faults c.script_of.new.source;
+      trace = sink_told g.T.Sink.taken g.T.Sink.paths g.T.Sink.faults c.args.trace.now;
+    } in
     let end = c.not_started-in-Err-open_desktop.ensures in
     rw (end.status, end.device, end.desk, c.into_folder.ensures)
-    (by_desktop run before after end.report (record { rules = c.in-Ok.script; scripted = c.in-Ok.ensures.script }) (record { databases = c.in-Ok-open_handheld.store.databases; user = c.in-Ok-open_handheld.store.user; holds = c.in-Ok-open_handheld.ensures.held }) c.in-Err-open_desktop.ensures.refused c.in-Err-open_desktop.ensures.failed c.in-Ok.ensures.path (record { contents = c.in-Ok-open_handheld.ensures.contents; moments = c.in-Ok-open_handheld.ensures.moments }) c.in-Ok-open_handheld.ensures.path (record { stands = c.in-Err-open_desktop.ensures.stands; each_moment = c.in-Err-open_desktop.ensures.each_moment }) c.in-Err-open_desktop.ensures.path refl)
+    (by_desktop run before after end.report (record { rules = c.in-Ok.script; scripted = c.in-Ok.ensures.script })
+    (record { databases = c.in-Ok-open_handheld.store.databases; user = c.in-Ok-open_handheld.store.user; holds = c.in-Ok-open_handheld.ensures.held })
+    c.in-Err-open_desktop.ensures.refused c.in-Err-open_desktop.ensures.failed c.in-Ok.ensures.path
+    (record { contents = c.in-Ok-open_handheld.ensures.contents; moments = c.in-Ok-open_handheld.ensures.moments }) c.in-Ok-open_handheld.ensures.path
+    (record { stands = c.in-Err-open_desktop.ensures.stands; each_moment = c.in-Err-open_desktop.ensures.each_moment })
+    c.in-Err-open_desktop.ensures.path refl)
 
 pub returns-in-Ok-open_trace-clause-ran : goal.returns-in-Ok-open_trace-clause-ran
 returns-in-Ok-open_trace-clause-ran g c =
     let run = run_view c.args.words.now in
-    let before : CallTold = record { palm = folder_told g.H.Folder.contents g.H.Folder.moments g.H.Folder.paths g.H.Folder.faults c.args.device; desk = folder_told g.D.Folder.contents g.D.Folder.moments g.D.Folder.paths g.D.Folder.faults c.args.desk; source = source_told g.S.Source.left g.S.Source.paths g.S.Source.faults c.args.source.now; trace = sink_told g.T.Sink.taken g.T.Sink.paths g.T.Sink.faults c.args.trace.now } in
-    let after : CallTold = record { palm = folder_told g.H.Folder.contents g.H.Folder.moments g.H.Folder.paths g.H.Folder.faults c.traced_talk.result.device; desk = folder_told g.D.Folder.contents g.D.Folder.moments g.D.Folder.paths g.D.Folder.faults c.traced_talk.result.desk; source = source_told g.S.Source.left g.S.Source.paths g.S.Source.faults c.script_of.new.source; trace = sink_told g.T.Sink.taken g.T.Sink.paths g.T.Sink.faults c.traced_talk.new.trace } in
+    let before : CallTold = record {
+      palm = folder_told g.H.Folder.contents g.H.Folder.moments g.H.Folder.paths g.H.Folder.faults c.args.device;
+      desk = folder_told g.D.Folder.contents g.D.Folder.moments g.D.Folder.paths g.D.Folder.faults c.args.desk;
+      source = source_told g.S.Source.left g.S.Source.paths g.S.Source.faults c.args.source.now;
+      trace = sink_told g.T.Sink.taken g.T.Sink.paths g.T.Sink.faults c.args.trace.now;
+    } in
+    let after : CallTold = record {
+      palm = folder_told g.H.Folder.contents g.H.Folder.moments g.H.Folder.paths g.H.Folder.faults c.traced_talk.result.device;
+      desk = folder_told g.D.Folder.contents g.D.Folder.moments g.D.Folder.paths g.D.Folder.faults c.traced_talk.result.desk;
+      source = source_told g.S.Source.left g.S.Source.paths g.S.Source.faults c.script_of.new.source;
+      trace = sink_told g.T.Sink.taken g.T.Sink.paths g.T.Sink.faults c.traced_talk.new.trace;
+    } in
     let palm = folder_told g.H.Folder.contents g.H.Folder.moments g.H.Folder.paths g.H.Folder.faults c.in-Ok-open_handheld.store.folder in
     let desk = folder_told g.D.Folder.contents g.D.Folder.moments g.D.Folder.paths g.D.Folder.faults c.in-Ok-open_desktop.desk.folder in
     let trace = sink_told g.T.Sink.taken g.T.Sink.paths g.T.Sink.faults c.open_trace.new.trace in
@@ -48,17 +73,42 @@ returns-in-Ok-open_trace-clause-ran g c =
 pub returns-in-Err-open_trace-clause-ran : goal.returns-in-Err-open_trace-clause-ran
 returns-in-Err-open_trace-clause-ran g c =
     let run = run_view c.args.words.now in
-    let before : CallTold = record { palm = folder_told g.H.Folder.contents g.H.Folder.moments g.H.Folder.paths g.H.Folder.faults c.args.device; desk = folder_told g.D.Folder.contents g.D.Folder.moments g.D.Folder.paths g.D.Folder.faults c.args.desk; source = source_told g.S.Source.left g.S.Source.paths g.S.Source.faults c.args.source.now; trace = sink_told g.T.Sink.taken g.T.Sink.paths g.T.Sink.faults c.args.trace.now } in
-    let after : CallTold = record { palm = folder_told g.H.Folder.contents g.H.Folder.moments g.H.Folder.paths g.H.Folder.faults c.in-Ok-open_handheld.store.folder; desk = folder_told g.D.Folder.contents g.D.Folder.moments g.D.Folder.paths g.D.Folder.faults c.in-Ok-open_desktop.desk.folder; source = source_told g.S.Source.left g.S.Source.paths g.S.Source.faults c.script_of.new.source; trace = sink_told g.T.Sink.taken g.T.Sink.paths g.T.Sink.faults c.open_trace.new.trace } in
+    let before : CallTold = record {
+      palm = folder_told g.H.Folder.contents g.H.Folder.moments g.H.Folder.paths g.H.Folder.faults c.args.device;
+      desk = folder_told g.D.Folder.contents g.D.Folder.moments g.D.Folder.paths g.D.Folder.faults c.args.desk;
+      source = source_told g.S.Source.left g.S.Source.paths g.S.Source.faults c.args.source.now;
+      trace = sink_told g.T.Sink.taken g.T.Sink.paths g.T.Sink.faults c.args.trace.now;
+    } in
+    let after : CallTold = record {
+      palm = folder_told g.H.Folder.contents g.H.Folder.moments g.H.Folder.paths g.H.Folder.faults c.in-Ok-open_handheld.store.folder;
+      desk = folder_told g.D.Folder.contents g.D.Folder.moments g.D.Folder.paths g.D.Folder.faults c.in-Ok-open_desktop.desk.folder;
+      source = source_told g.S.Source.left g.S.Source.paths g.S.Source.faults c.script_of.new.source;
+      trace = sink_told g.T.Sink.taken g.T.Sink.paths g.T.Sink.faults c.open_trace.new.trace;
+    } in
     let end = c.not_started-in-Err-open_trace.ensures in
     rw (end.status, end.device, end.desk, c.into_folder-in-Err-open_trace.ensures, c.into_folder-in-Err-open_trace-2.ensures)
-    (by_trace run before after end.report (record { rules = c.in-Ok.script; scripted = c.in-Ok.ensures.script }) (record { databases = c.in-Ok-open_handheld.store.databases; user = c.in-Ok-open_handheld.store.user; holds = c.in-Ok-open_handheld.ensures.held }) c.in-Ok-open_desktop.ensures.desktop c.in-Err-open_trace.ensures.refused (λ e. c.in-Err-open_trace.ensures.failed (ap Err e)) c.in-Ok.ensures.path (record { contents = c.in-Ok-open_handheld.ensures.contents; moments = c.in-Ok-open_handheld.ensures.moments }) c.in-Ok-open_handheld.ensures.path (record { stands = c.in-Ok-open_desktop.ensures.stands; each_moment = c.in-Ok-open_desktop.ensures.each_moment }) c.in-Ok-open_desktop.ensures.path c.in-Err-open_trace.ensures.path c.in-Err-open_trace.ensures.taken)
+    (by_trace run before after end.report (record { rules = c.in-Ok.script; scripted = c.in-Ok.ensures.script })
+    (record { databases = c.in-Ok-open_handheld.store.databases; user = c.in-Ok-open_handheld.store.user; holds = c.in-Ok-open_handheld.ensures.held })
+    c.in-Ok-open_desktop.ensures.desktop c.in-Err-open_trace.ensures.refused (λ e. c.in-Err-open_trace.ensures.failed (ap Err e)) c.in-Ok.ensures.path
+    (record { contents = c.in-Ok-open_handheld.ensures.contents; moments = c.in-Ok-open_handheld.ensures.moments }) c.in-Ok-open_handheld.ensures.path
+    (record { stands = c.in-Ok-open_desktop.ensures.stands; each_moment = c.in-Ok-open_desktop.ensures.each_moment }) c.in-Ok-open_desktop.ensures.path
+    c.in-Err-open_trace.ensures.path c.in-Err-open_trace.ensures.taken)
 
 pub returns-in-Err-clause-ran : goal.returns-in-Err-clause-ran
 returns-in-Err-clause-ran g c =
     let run = run_view c.args.words.now in
-    let before : CallTold = record { palm = folder_told g.H.Folder.contents g.H.Folder.moments g.H.Folder.paths g.H.Folder.faults c.args.device; desk = folder_told g.D.Folder.contents g.D.Folder.moments g.D.Folder.paths g.D.Folder.faults c.args.desk; source = source_told g.S.Source.left g.S.Source.paths g.S.Source.faults c.args.source.now; trace = sink_told g.T.Sink.taken g.T.Sink.paths g.T.Sink.faults c.args.trace.now } in
-    let after : CallTold = record { palm = folder_told g.H.Folder.contents g.H.Folder.moments g.H.Folder.paths g.H.Folder.faults c.args.device; desk = folder_told g.D.Folder.contents g.D.Folder.moments g.D.Folder.paths g.D.Folder.faults c.args.desk; source = source_told g.S.Source.left g.S.Source.paths g.S.Source.faults c.script_of.new.source; trace = sink_told g.T.Sink.taken g.T.Sink.paths g.T.Sink.faults c.args.trace.now } in
+    let before : CallTold = record {
+      palm = folder_told g.H.Folder.contents g.H.Folder.moments g.H.Folder.paths g.H.Folder.faults c.args.device;
+      desk = folder_told g.D.Folder.contents g.D.Folder.moments g.D.Folder.paths g.D.Folder.faults c.args.desk;
+      source = source_told g.S.Source.left g.S.Source.paths g.S.Source.faults c.args.source.now;
+      trace = sink_told g.T.Sink.taken g.T.Sink.paths g.T.Sink.faults c.args.trace.now;
+    } in
+    let after : CallTold = record {
+      palm = folder_told g.H.Folder.contents g.H.Folder.moments g.H.Folder.paths g.H.Folder.faults c.args.device;
+      desk = folder_told g.D.Folder.contents g.D.Folder.moments g.D.Folder.paths g.D.Folder.faults c.args.desk;
+      source = source_told g.S.Source.left g.S.Source.paths g.S.Source.faults c.script_of.new.source;
+      trace = sink_told g.T.Sink.taken g.T.Sink.paths g.T.Sink.faults c.args.trace.now;
+    } in
     let end = c.not_started.ensures in
     rw (end.status, end.device, end.desk)
     (by_script run before after end.report c.in-Err.ensures.refused (λ e. c.in-Err.ensures.failed (ap Err e)) c.in-Err.ensures.path refl refl refl)
@@ -66,12 +116,24 @@ returns-in-Err-clause-ran g c =
 pub returns-in-Err-open_handheld-clause-ran : goal.returns-in-Err-open_handheld-clause-ran
 returns-in-Err-open_handheld-clause-ran g c =
     let run = run_view c.args.words.now in
-    let before : CallTold = record { palm = folder_told g.H.Folder.contents g.H.Folder.moments g.H.Folder.paths g.H.Folder.faults c.args.device; desk = folder_told g.D.Folder.contents g.D.Folder.moments g.D.Folder.paths g.D.Folder.faults c.args.desk; source = source_told g.S.Source.left g.S.Source.paths g.S.Source.faults c.args.source.now; trace = sink_told g.T.Sink.taken g.T.Sink.paths g.T.Sink.faults c.args.trace.now } in
-    let after : CallTold = record { palm = folder_told g.H.Folder.contents g.H.Folder.moments g.H.Folder.paths g.H.Folder.faults c.in-Err-open_handheld.device; desk = folder_told g.D.Folder.contents g.D.Folder.moments g.D.Folder.paths g.D.Folder.faults c.args.desk; source = source_told g.S.Source.left g.S.Source.paths g.S.Source.faults c.script_of.new.source; trace = sink_told g.T.Sink.taken g.T.Sink.paths g.T.Sink.faults c.args.trace.now } in
+    let before : CallTold = record {
+      palm = folder_told g.H.Folder.contents g.H.Folder.moments g.H.Folder.paths g.H.Folder.faults c.args.device;
+      desk = folder_told g.D.Folder.contents g.D.Folder.moments g.D.Folder.paths g.D.Folder.faults c.args.desk;
+      source = source_told g.S.Source.left g.S.Source.paths g.S.Source.faults c.args.source.now;
+      trace = sink_told g.T.Sink.taken g.T.Sink.paths g.T.Sink.faults c.args.trace.now;
+    } in
+    let after : CallTold = record {
+      palm = folder_told g.H.Folder.contents g.H.Folder.moments g.H.Folder.paths g.H.Folder.faults c.in-Err-open_handheld.device;
+      desk = folder_told g.D.Folder.contents g.D.Folder.moments g.D.Folder.paths g.D.Folder.faults c.args.desk;
+      source = source_told g.S.Source.left g.S.Source.paths g.S.Source.faults c.script_of.new.source;
+      trace = sink_told g.T.Sink.taken g.T.Sink.paths g.T.Sink.faults c.args.trace.now;
+    } in
     let end = c.not_started-in-Err-open_handheld.ensures in
     rw (end.status, end.device, end.desk)
-    (by_handheld run before after end.report (record { rules = c.in-Ok.script; scripted = c.in-Ok.ensures.script }) c.in-Err-open_handheld.ensures.refused c.in-Err-open_handheld.ensures.failed c.in-Ok.ensures.path
-    (record { contents = c.in-Err-open_handheld.ensures.contents; moments = c.in-Err-open_handheld.ensures.moments }) c.in-Err-open_handheld.ensures.path refl refl)
+    (by_handheld run before after end.report (record { rules = c.in-Ok.script; scripted = c.in-Ok.ensures.script }) c.in-Err-open_handheld.ensures.refused
+    c.in-Err-open_handheld.ensures.failed c.in-Ok.ensures.path
+    (record { contents = c.in-Err-open_handheld.ensures.contents; moments = c.in-Err-open_handheld.ensures.moments })
+    c.in-Err-open_handheld.ensures.path refl refl)
 
 pub returns-in-Ok-open_trace-clause-script_first : goal.returns-in-Ok-open_trace-clause-script_first
 returns-in-Ok-open_trace-clause-script_first g c =
