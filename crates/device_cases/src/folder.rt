@@ -1,5 +1,5 @@
 // The files of a folder.
-use crate::{bytes_in, number_in, word};
+use case_words::{bytes_at, number_at, word};
 use hs_folders::{Folder, MemFolder};
 use std::alloc::{AllocError, Global};
 
@@ -11,11 +11,11 @@ pub fn obey(
 ) -> Result<Option<String>, AllocError> {
     let said = match word(words, 0) {
         "file" => {
-            folder.put(word(words, 1), &bytes_in(alloc, word(words, 2)))?;
+            folder.put(word(words, 1), &bytes_at(alloc, words, 2))?;
             String::new(alloc)
         }
         "many" => {
-            put_many(alloc, folder, number_in(word(words, 1)))?;
+            put_many(alloc, folder, number_at(words, 1))?;
             String::new(alloc)
         }
         "full" => {
@@ -31,7 +31,7 @@ pub fn obey(
             String::new(alloc)
         }
         "fail" => {
-            folder.fail_calls(vec![in alloc; number_in(word(words, 1))]?);
+            folder.fail_calls(vec![in alloc; number_at(words, 1)]?);
             String::new(alloc)
         }
         "files" => listed(alloc, folder)?,

@@ -3,7 +3,8 @@ ghost use Rattle.std.specs.Prelude.{◌≡◌, true};
 
 use crate::said::{answer, head_of, name_in, user_of};
 use crate::served::Served;
-use crate::{folder, loan, number_in, word};
+use crate::{folder, loan};
+use case_words::{number_at, short_in, word};
 use handheld_store::{OpenFault, Store};
 use hs_folders::MemFolder;
 use std::alloc::{AllocError, Global};
@@ -121,19 +122,19 @@ fn ask(alloc: Global, store: &mut Store<MemFolder>, words: &[&str]) -> Result<St
             Some(database) => loan::shown(alloc, database),
             None => String::from_str(alloc, "none"),
         },
-        ("user", _) => match user_of(number_in(word(words, 1))) {
+        ("user", _) => match user_of(number_at(words, 1)) {
             Some(user) => answer(alloc, store.set_user(user)),
             None => String::from_str(alloc, "no user"),
         },
         ("create", Some(name)) => {
             answer(
                 alloc,
-                store.create(head_of(name, number_in(word(words, 2)))),
+                store.create(head_of(name, number_at(words, 2))),
             )
         }
         ("delete", Some(name)) => answer(alloc, store.delete(&name)),
         ("lend", _) => loan::lend(alloc, store, words),
-        ("ids", Some(name)) => loan::ids(alloc, store, &name, number_in(word(words, 2))),
+        ("ids", Some(name)) => loan::ids(alloc, store, &name, number_at(words, 2)),
         _ => String::from_str(alloc, "what?"),
     }
 }

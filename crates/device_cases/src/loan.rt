@@ -2,7 +2,7 @@
 ghost use Rattle.std.specs.Prelude.{◌≡◌, true};
 
 use crate::said::{answer, category_in, content_in, id_in, name_in, no_id};
-use crate::{bytes_in, number_in, part, word};
+use case_words::{bytes_in, number_in, part, short_in, word};
 use handheld_store::{OpenBase, Store};
 use hs_folders::MemFolder;
 use pdb_values::{Bytes, Content, Database, DbName, FourCc, RecordId, Resource};
@@ -79,7 +79,7 @@ fn change(
         "code" => {
             let gone = base.purge_resource(
                 FourCc(*b"code"),
-                (number_in(part(asked, 1)) % 65_536) as u16,
+                short_in(part(asked, 1)),
             );
             said.push(format!(in alloc; "purged {gone}")?)?;
         }
@@ -114,7 +114,7 @@ fn change_more(
         }
         "add" => said.push(added(alloc, base, asked)?)?,
         "put" => {
-            let id = (number_in(part(asked, 1)) % 65_536) as u16;
+            let id = short_in(part(asked, 1));
             said.push(put(alloc, base, id, bytes)?)?;
         }
         _ => change_record(alloc, base, asked),

@@ -1,7 +1,7 @@
 // A database by itself, databases by name, and handles.
 use crate::loan::shown;
 use crate::said::{category_in, content_in, id_in, name_in};
-use crate::{bytes_in, number_in, part, word};
+use case_words::{bytes_at, bytes_in, number_in, part, short_in, word};
 use palm_device::{
     Handles, Kept, Opened, clear_records, clear_resources, entry_count, keep_records,
     move_category, new_head, next_changed, place_of_id, place_of_resource, purge_record,
@@ -30,7 +30,7 @@ impl Made {
         let alloc = self.alloc;
         match word(words, 0) {
             "make" => {
-                let attributes = (number_in(word(words, 2)) % 65_536) as u16;
+                let attributes = short_in(word(words, 2));
                 self.database = empty(alloc, word(words, 1), attributes);
                 Ok(Some(String::new(alloc)))
             }
@@ -138,7 +138,7 @@ fn put(alloc: Global, database: &mut Database, asked: &str) -> Result<bool, Allo
             if !codes || !short || database.resources().len() >= Database::GREATEST_COUNT {
                 return Ok(false);
             }
-            let id = (number_in(part(asked, 1)) % 65_536) as u16;
+            let id = short_in(part(asked, 1));
             put_resource(database, FourCc(*b"CODE"), id, Bytes::new(bytes))
         }
         "app" if short => put_app(alloc, database, &bytes),

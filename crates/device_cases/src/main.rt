@@ -49,23 +49,3 @@ fn main(rt: HostRuntime) -> io::Result<()> {
     }
     Ok(())
 }
-
-// A word.
-fn word<'w>(words: &[&'w str], place: usize) -> &'w str {
-    words.get(place).copied().unwrap_or("")
-}
-
-// A part of a word, between colons.
-fn part(text: &str, place: usize) -> &str {
-    text.split(':').nth(place).unwrap_or("")
-}
-
-// The bytes of a text.
-fn bytes_in(alloc: Global, text: &str) -> Vec<u8> {
-    hex::decode(alloc, text).unwrap_or(Vec::new(alloc))
-}
-
-// The number of a text.
-fn number_in(text: &str) -> u32 {
-    text.parse().unwrap_or(0)
-}

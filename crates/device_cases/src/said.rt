@@ -1,5 +1,5 @@
 // Values from texts, and texts of values.
-use crate::{bytes_in, number_in};
+use case_words::{bytes_in, number_in};
 use handheld_store::StoreFault;
 use pdb_values::{
     Category, Content, DbHead, DbName, FourCc, PalmDate, Password, RecordId, UserInfo, UserName,

@@ -1,6 +1,6 @@
 // Requests to a server.
 use crate::linked::talk;
-use crate::{bytes_in, word};
+use case_words::{bytes_in, word};
 use dlp_commands::Message;
 use handheld_server::{ServeFault, Server};
 use handheld_store::Store;

@@ -1,9 +1,10 @@
 // What an open database answers.
-use crate::said::{block, done, found, ids_text, record, refused, resource, yes_or_no};
-use crate::{bytes_in, number_in, part};
+use crate::plans::{content_in, plan_in, rows_in};
+use crate::said::{block, done, found, ids_text, record, refused, resource, view_text, yes_or_no};
+use case_words::{bytes_in, number_in, part, short_in};
 use desktop_session::OpenDb;
 use dlp_commands::Link;
-use pdb_values::{Bytes, Category, Content, FourCc, RecordId, Resource};
+use pdb_values::{Bytes, FourCc, RecordId, Resource};
 use std::alloc::{AllocError, Global};
 
 /// Asks what a word says of an open database.
@@ -12,7 +13,7 @@ pub fn answer<L: Link + Drop>(
     base: &mut OpenDb<'_, L>,
     call: &str,
 ) -> Result<String, AllocError> {
-    let place = (number_in(part(call, 1)) % 65_536) as u16;
+    let place = short_in(part(call, 1));
     match part(call, 0) {
         "count" => match base.count() {
             Ok(count) => format!(in alloc; "{count}"),
@@ -23,19 +24,16 @@ pub fn answer<L: Link + Drop>(
             Err(fault) => refused(alloc, fault),
         },
         "at" => record(alloc, base.at(place)),
-        "id" => match RecordId::new(number_in(part(call, 1))) {
-            Some(id) => found(alloc, base.by_id(id)),
-            None => String::from_str(alloc, "what?"),
-        },
         "next" => found(alloc, base.next_changed()),
         "code" => resource(alloc, base.resource_at(place)),
         "app" => block(alloc, base.read_app(alloc)),
         "sort" => block(alloc, base.read_sort(alloc)),
+        "slow" | "fast" | "news" | "purge" => mirrored(alloc, base, call),
         _ => written(alloc, base, call),
     }
 }
 
-// Asks for a change.
+// Asks for a record by its id, or for a change.
 fn written<L: Link + Drop>(
     alloc: Global,
     base: &mut OpenDb<'_, L>,
@@ -43,7 +41,8 @@ fn written<L: Link + Drop>(
 ) -> Result<String, AllocError> {
     let bytes = bytes_in(alloc, part(call, 1));
     match (part(call, 0), RecordId::new(number_in(part(call, 1)))) {
-        ("put", Some(id)) => match content_in(alloc, call) {
+        ("id", Some(id)) => found(alloc, base.by_id(id)),
+        ("put", Some(id)) => match content_in(alloc, part(call, 2), part(call, 3)) {
             Some(content) => match base.put(id, &content) {
                 Ok(id) => format!(in alloc; "id {}", id.number()),
                 Err(fault) => refused(alloc, fault),
@@ -73,15 +72,33 @@ fn put_code<L: Link + Drop>(
     }
     let resource = Resource {
         kind: FourCc(*b"CODE"),
-        id: (number_in(part(call, 1)) % 65_536) as u16,
+        id: short_in(part(call, 1)),
         bytes: Bytes::new(bytes),
     };
     done(alloc, base.put_resource(&resource))
 }
 
-// The content that a call names, which is secret where its category is above 15.
-fn content_in(alloc: Global, call: &str) -> Option<Content> {
-    let number = number_in(part(call, 2));
-    let category = Category::new((number % 16) as u8)?;
-    Content::new(category, number > 15, bytes_in(alloc, part(call, 3))).ok()
+// Does with it what a mirror does.
+fn mirrored<L: Link + Drop>(
+    alloc: Global,
+    base: &mut OpenDb<'_, L>,
+    call: &str,
+) -> Result<String, AllocError> {
+    let (word, rest) = call.split_once(':').unwrap_or((call, ""));
+    let view = match word {
+        "slow" => slow_mirror::read_side(alloc, base),
+        "fast" => fast_mirror::read_side(alloc, base, &rows_in(alloc, rest)?),
+        "news" => {
+            let plan = plan_in(alloc, rest)?;
+            return match slow_mirror::send_news(alloc, base, &plan) {
+                Ok(ids) => ids_text(alloc, &ids),
+                Err(fault) => refused(alloc, fault),
+            };
+        }
+        _ => return done(alloc, slow_mirror::purge_side(base, &plan_in(alloc, rest)?)),
+    };
+    match view {
+        Ok(view) => view_text(alloc, &view),
+        Err(fault) => refused(alloc, fault),
+    }
 }

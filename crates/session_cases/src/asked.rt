@@ -3,11 +3,12 @@ ghost use Rattle.std.specs.Prelude.{◌≡◌, false};
 
 use crate::answer::answer;
 use crate::said::{done, heads, refused, yes_or_no};
-use crate::{bytes_in, number_in, part, word};
+use case_words::{bytes_in, number_in, part, short_in, word};
 use desktop_session::{Linked, OpenDb};
 use dlp_commands::Link;
 use pdb_values::{DbHead, DbName, FourCc, PalmDate, Password, UserInfo, UserName};
 use std::alloc::{AllocError, Global};
+use std::fmt::Write;
 
 /// Asks what the first word says, and the others of the database that it opened. What was answered.
 pub fn asked<L: Link + Drop>(
@@ -40,7 +41,7 @@ pub fn asked<L: Link + Drop>(
             Ok(base) => with_base(alloc, base, calls),
             Err(fault) => refused(alloc, fault),
         },
-        ("create", Some(name)) => match linked.create(&head_of(name, number_in(part(call, 2)))) {
+        ("create", Some(name)) => match linked.create(&head_of(name, short_in(part(call, 2)))) {
             Ok(base) => with_base(alloc, base, calls),
             Err(fault) => refused(alloc, fault),
         },
@@ -48,7 +49,7 @@ pub fn asked<L: Link + Drop>(
     }
 }
 
-// What a database that is open answers, and the closing.
+// What a database that is open answers to the calls behind the first, and the closing.
 fn with_base<L: Link + Drop>(
     alloc: Global,
     base: OpenDb<'_, L>,
@@ -61,9 +62,10 @@ fn with_base<L: Link + Drop>(
         return said;
     }
     let closed = base.close();
-    let said = said?;
+    let mut said = said?;
     let text = done(alloc, closed)?;
-    format!(in alloc; "{said}; {text}")
+    write!(said, "; {text}")?;
+    Ok(said)
 }
 
 // What it answers to each call.
@@ -75,8 +77,7 @@ fn answers<L: Link + Drop>(
     let mut said = String::from_str(alloc, "open")?;
     for call in calls {
         let text = answer(alloc, base, call)?;
-        said.push_str("; ")?;
-        said.push_str(text.as_str())?;
+        write!(said, "; {text}")?;
     }
     Ok(said)
 }
@@ -95,10 +96,10 @@ fn mark_in(alloc: Global, call: &str) -> Option<UserInfo> {
 }
 
 // A head of this name and these attributes.
-fn head_of(name: DbName, attributes: u32) -> DbHead {
+fn head_of(name: DbName, attributes: u16) -> DbHead {
     DbHead {
         name,
-        attributes: (attributes % 65_536) as u16,
+        attributes,
         version: 1,
         created: PalmDate::of_seconds(0),
         modified: PalmDate::of_seconds(0),

@@ -1,17 +1,29 @@
-// A handheld's folder, and the sessions over it.
+// A handheld's folder, the script of a line, and what is said over them.
+ghost use Rattle.std.specs.Prelude.{◌≡◌, true};
+
 use crate::fake::{FakeLink, Then};
-use crate::session::{Greeting, session};
-use crate::{bytes_in, number_in, word};
+use crate::lines::{cause_text, frames_text, messages_text, numbers_of};
+use crate::said::records_text;
+use crate::session::session;
+use crate::talk::{requests_in, talk};
+use case_words::{bytes_at, bytes_in, number_at, number_in, word};
+use dlp_commands::LinkFault;
 use handheld_server::{Server, ServerLink};
 use handheld_store::Store;
 use hs_folders::{Folder, MemFolder};
+use line_script::{Script, read_script};
+use line_world::{LineLog, World};
 use std::alloc::{AllocError, Global};
+use std::fmt::Write;
+use std::mem;
 
-/// The handheld's folder.
+/// The handheld's folder, the text of the script, and what was said last over a line.
 #[derive(Drop)]
 pub struct Cases {
     alloc: Global,
     folder: MemFolder,
+    script: String,
+    log: Option<LineLog>,
 }
 
 impl Cases {
@@ -19,6 +31,8 @@ impl Cases {
         Cases {
             alloc,
             folder: MemFolder::new(alloc),
+            script: String::new(alloc),
+            log: None,
         }
     }
 
@@ -27,96 +41,128 @@ impl Cases {
         let alloc = self.alloc;
         match word(words, 0) {
             "case" => {
-                self.folder = MemFolder::new(alloc);
-                String::from_str(alloc, line)
+                *self = Cases::new(alloc);
+                return String::from_str(alloc, line);
             }
-            "file" => {
-                self.folder
-                    .put(word(words, 1), &bytes_in(alloc, word(words, 2)))?;
-                Ok(String::new(alloc))
+            "file" => self.folder.put(word(words, 1), &bytes_at(alloc, words, 2))?,
+            "fail" => self.folder.fail_calls(vec![in alloc; number_at(words, 1)]?),
+            "script" => {
+                let (_, rules) = line.split_once(' ').unwrap_or(("", ""));
+                self.script = rules.replace(alloc, ", ", "\n")?;
             }
-            "fail" => {
-                self.folder
-                    .fail_calls(vec![in alloc; number_in(word(words, 1))]?);
-                Ok(String::new(alloc))
+            _ => return self.answer(words),
+        }
+        Ok(String::new(alloc))
+    }
+
+    // What a line asks for that is answered.
+    fn answer(&mut self, words: &[&str]) -> Result<String, AllocError> {
+        let alloc = self.alloc;
+        let rest = words.get(1..).unwrap_or(&[]);
+        match (word(words, 0), &self.log) {
+            ("files", _) => self.listed(),
+            ("records", _) => {
+                let bytes = self.folder.read(alloc, word(words, 1));
+                records_text(alloc, &bytes.unwrap_or(Vec::new(alloc)))
             }
-            "files" => listed(alloc, &mut self.folder),
-            "session" => self.over_server(words),
-            "fake" => over_fake(alloc, words),
+            ("session", _) => self.over_server(rest),
+            ("fake", _) => over_fake(alloc, word(words, 1), rest.get(1..).unwrap_or(&[])),
+            ("talk", _) => self.over_line(rest),
+            ("frames", Some(log)) => frames_text(alloc, &log.frames, rest),
+            ("replies", Some(log)) => messages_text(alloc, &log.replies),
             _ => String::from_str(alloc, "what?"),
+        }
+    }
+
+    // The names of the files with their lengths.
+    fn listed(&mut self) -> Result<String, AllocError> {
+        let alloc = self.alloc;
+        let mut said = String::from_str(alloc, "files")?;
+        let names = self.folder.list(alloc).unwrap_or(Vec::new(alloc));
+        for name in &names {
+            let bytes = self.folder.read(alloc, name.as_str());
+            let length = bytes.map_or(0, |bytes| bytes.len());
+            write!(said, " {name} {length}")?;
+        }
+        Ok(said)
+    }
+
+    // A server over the folder. None: it can't be opened, and is as before.
+    fn server(&mut self) -> Option<Server<MemFolder>> {
+        let folder = mem::replace(&mut self.folder, MemFolder::new(self.alloc));
+        match Store::open_folder(self.alloc, folder) {
+            Ok(store) => Some(Server::new(store)),
+            Err((_, folder)) => {
+                self.folder = folder;
+                None
+            }
         }
     }
 
     // Says a session to a server over the folder, which comes back.
     fn over_server(&mut self, words: &[&str]) -> Result<String, AllocError> {
         let alloc = self.alloc;
-        let folder = std::mem::replace(&mut self.folder, MemFolder::new(alloc));
-        let store = match Store::open_folder(alloc, folder) {
-            Ok(store) => store,
-            Err((_, folder)) => {
-                self.folder = folder;
-                return String::from_str(alloc, "not opened");
-            }
+        let Some(server) = self.server() else {
+            return String::from_str(alloc, "not opened");
         };
-        let server = Server::new(store);
         if !server.is_sound() {
             return String::from_str(alloc, "not sound");
         }
-        let greeting = greeting_in(alloc, word(words, 1), word(words, 2))?;
-        let calls = words.get(3..).unwrap_or(&[]);
-        let (link, said) = session(alloc, ServerLink::new(alloc, server), &greeting, calls)?;
+        let (link, said) = session(alloc, ServerLink::new(alloc, server), words)?;
         self.folder = link.into_server().into_folder();
         Ok(said)
     }
+
+    // Talks over a line to a server over the folder, which comes back.
+    fn over_line(&mut self, words: &[&str]) -> Result<String, AllocError> {
+        let alloc = self.alloc;
+        let Ok(script) = read_script(alloc, self.script.as_bytes()) else {
+            return String::from_str(alloc, "bad script");
+        };
+        let Some(server) = self.server() else {
+            return String::from_str(alloc, "not opened");
+        };
+        if !server.is_sound() {
+            return String::from_str(alloc, "not sound");
+        }
+        self.talked(server, script, &requests_in(alloc, words)?)
+    }
+
+    fn talked(
+        &mut self,
+        server: Server<MemFolder>,
+        script: Script,
+        requests: &[Vec<u8>],
+    ) -> Result<String, AllocError>
+        requires { server.sound ≡ true }
+    {
+        let alloc = self.alloc;
+        let Ok(mut world) = World::new(alloc, server, script) else {
+            return Err(AllocError);
+        };
+        let answered = talk(alloc, &mut world, requests)?;
+        let cause = cause_text(alloc, world.cause())?;
+        let (log, folder) = world.into_log();
+        let numbers = numbers_of(alloc, &log, answered)?;
+        self.folder = folder;
+        self.log = Some(log);
+        format!(in alloc; "{cause} {numbers}")
+    }
 }
 
-// Says a session over a link that answers these replies, and how many were answered.
-fn over_fake(alloc: Global, words: &[&str]) -> Result<String, AllocError> {
-    let texts = word(words, 1);
+// Says a session over a link that answers these replies, and the functions that were asked for.
+fn over_fake(alloc: Global, texts: &str, words: &[&str]) -> Result<String, AllocError> {
     let mut replies = Vec::new(alloc);
+    let mut then = Then::Again;
     for text in texts.split(',') {
-        if text != "-" && text != "!" {
-            replies.push(bytes_in(alloc, text))?;
+        match text {
+            "-" => then = Then::Fault(LinkFault::Down),
+            "!" => then = Then::Fault(LinkFault::NoMemory),
+            _ => replies.push(bytes_in(alloc, text))?,
         }
     }
-    let greeting = greeting_in(alloc, word(words, 2), word(words, 3))?;
-    let calls = words.get(4..).unwrap_or(&[]);
-    let link = FakeLink::new(replies, then_in(texts));
-    let (link, said) = session(alloc, link, &greeting, calls)?;
-    format!(in alloc; "{said}; answered {}", link.answered)
-}
-
-// What comes behind the replies.
-fn then_in(texts: &str) -> Then {
-    if texts.ends_with("-") {
-        Then::Down
-    } else if texts.ends_with("!") {
-        Then::NoMemory
-    } else {
-        Then::Again
-    }
-}
-
-// The desktop's users, and whether one more may come.
-fn greeting_in(alloc: Global, users: &str, add: &str) -> Result<Greeting, AllocError> {
-    let mut numbers = Vec::new(alloc);
-    for user in users.split(',') {
-        numbers.push(number_in(user))?;
-    }
-    Ok(Greeting {
-        users: numbers,
-        add: add == "add",
-    })
-}
-
-// The names of the files with their lengths.
-fn listed(alloc: Global, folder: &mut MemFolder) -> Result<String, AllocError> {
-    let mut said = String::from_str(alloc, "files")?;
-    let names = folder.list(alloc).unwrap_or(Vec::new(alloc));
-    for name in &names {
-        let bytes = folder.read(alloc, name.as_str()).unwrap_or(Vec::new(alloc));
-        let text = format!(in alloc; " {name} {}", bytes.len())?;
-        said.push_str(text.as_str())?;
-    }
-    Ok(said)
+    let link = FakeLink::new(alloc, replies, then);
+    let (link, said) = session(alloc, link, words)?;
+    let asked = hex::encode(alloc, &link.asked)?;
+    format!(in alloc; "{said}; asked {asked}")
 }

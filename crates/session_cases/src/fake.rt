@@ -3,26 +3,15 @@ ghost use Rattle.std.specs.Prelude.{◌≡◌, None, false};
 ghost use Rattle.handheld_server.specs.SaidThings.{downs_of};
 
 use dlp_commands::{Link, LinkFault, Message};
+use std::alloc::Global;
 
 /// What comes behind the replies of a link.
 #[derive(Clone, Copy)]
 pub enum Then {
     /// The last one again and again.
     Again,
-    /// The link goes down.
-    Down,
-    /// The link has no room for a reply.
-    NoMemory,
-}
-
-impl Then {
-    // The fault of the link where no reply is left.
-    fn fault(self) -> LinkFault {
-        match self {
-            Then::NoMemory => LinkFault::NoMemory,
-            Then::Again | Then::Down => LinkFault::Down,
-        }
-    }
+    /// A fault of the link.
+    Fault(LinkFault),
 }
 
 /// A link that answers these replies in order, and tells no device.
@@ -33,13 +22,13 @@ pub struct FakeLink {
     place: usize,
     begun: bool,
     fault: Option<LinkFault>,
-    /// How many requests were answered.
-    pub answered: u32,
+    /// The function of each request that was answered.
+    pub asked: Vec<u8>,
 }
 
 impl FakeLink {
     /// A link over which nothing was said.
-    pub fn new(replies: Vec<Vec<u8>>, then: Then) -> FakeLink
+    pub fn new(alloc: Global, replies: Vec<Vec<u8>>, then: Then) -> FakeLink
         ensures begun { ⟦<FakeLink as Link>⟧.begun result ≡ false }
     {
         FakeLink {
@@ -48,7 +37,16 @@ impl FakeLink {
             place: 0,
             begun: false,
             fault: None,
-            answered: 0,
+            asked: Vec::new(alloc),
+        }
+    }
+
+    // The reply at the place, or the last one where that comes again.
+    fn reply(&self) -> Result<&[u8], LinkFault> {
+        match (self.replies.get(self.place), self.then) {
+            (Some(reply), _) => Ok(reply.as_slice()),
+            (None, Then::Again) => Ok(self.replies.last().map_or(&[], |last| last.as_slice())),
+            (None, Then::Fault(fault)) => Err(fault),
         }
     }
 }
@@ -75,22 +73,23 @@ impl Link for FakeLink {
         Ok(9_600)
     }
 
-    fn exchange(&mut self, _request: &Message, reply: &mut Message) -> Result<(), LinkFault> {
+    fn exchange(&mut self, request: &Message, reply: &mut Message) -> Result<(), LinkFault> {
         if let Some(fault) = self.fault {
             return Err(fault);
         }
-        let Some(bytes) = self.replies.get(self.place) else {
-            let fault = self.then.fault();
-            self.fault = Some(fault);
-            return Err(fault);
-        };
-        reply.clear();
-        let _whole = reply.push(bytes);
-        let again = matches!(&self.then, Then::Again);
-        if !again || self.place < self.replies.len().saturating_sub(1) {
-            self.place = self.place.saturating_add(1);
+        match self.reply() {
+            Ok(bytes) => {
+                reply.clear();
+                let _whole = reply.push(bytes);
+            }
+            Err(fault) => {
+                self.fault = Some(fault);
+                return Err(fault);
+            }
         }
-        self.answered = self.answered.saturating_add(1);
+        self.place = self.place.saturating_add(1);
+        let function = request.bytes().first().copied().unwrap_or(0);
+        let _noted = self.asked.push(function);
         Ok(())
     }
 

@@ -1,26 +1,38 @@
-//! A desktop's sessions, as the lines of standard input ask for them.
+//! Sessions of a desktop, what its mirrors read and send, and the line below them, as the lines of standard input ask for them.
 //!
-//! Bytes are hexadecimal. A line that says something prints one line. `case TEXT` is printed as it
-//! is, and begins with an empty folder.
+//! Bytes are hexadecimal. A line that says something prints one line. `case TEXT` is printed as it is, and begins with an empty
+//! folder and an empty script.
 //!
-//! - The handheld's folder: `file NAME H` puts a file into it, `fail N` makes its Nth call fail,
-//!   `files` lists its files with their lengths.
-//! - A session: `session USERS ADD CALL..` says it to a server over the folder, `fake REPLIES USERS
-//!   ADD CALL..` over a link that answers these replies, the last one again and again, or goes
-//!   down where REPLIES ends with `-`, or has no memory where it ends with `!`. USERS are the desktop's users, ADD is `add` or `known`.
-//! - The first call: `finish`, `list`, `mark:BITS:USER:NAME`, `delete:H`, or a database that is
-//!   opened by `open:H`, `read:H` or `create:H:ATTRIBUTES`.
-//! - What is asked of the database then: `count`, `ids:N`, `at:N`, `id:N`, `next`, `code:N`, `app`,
-//!   `sort`, `put:ID:CATEGORY:H`, `remove:ID`, `clean`, `reset`, `set-app:H`, `set-sort:H`,
-//!   `set-code:ID:H`. It is closed, or with `abandon` as the last call abandoned.
+//! - The handheld's folder: `file NAME H` puts a file into it, `fail N` makes its Nth call fail, `files` lists its files with
+//!   their lengths, `records NAME` prints the records of one.
+//! - A session: `session USERS ADD CALL..` says it to a server over the folder, `fake REPLIES USERS ADD CALL..` over a link that
+//!   answers these replies, and prints the functions that were asked for. The last reply comes again and again; where REPLIES
+//!   ends with `-` the link goes down, and where it ends with `!` it has no memory. USERS are the desktop's users, ADD is `add`
+//!   or `known`.
+//! - The first call: `finish`, `list`, `mark:BITS:USER:NAME`, `delete:H`, or a database that is opened by `open:H`, `read:H` or
+//!   `create:H:ATTRIBUTES`.
+//! - What is asked of the database then: `count`, `ids:N`, `at:N`, `id:N`, `next`, `code:N`, `app`, `sort`, `put:ID:CATEGORY:H`,
+//!   `remove:ID`, `clean`, `reset`, `set-app:H`, `set-sort:H`, `set-code:ID:H`. It is closed, or with `abandon` as the last call
+//!   abandoned.
+//! - What a mirror does with it: `slow` reads the whole database, `fast:BASE` what changed since these base rows, entries
+//!   ID.CATEGORY.H with a comma between them and `-` before a gone one; `news:PLAN` sends a plan's replacements and adds,
+//!   `purge:PLAN` purges. PLAN is REPLACE:ADDS:PURGE, lists with a comma between entries: of REPLACE ID.CATEGORY.H, of ADDS
+//!   CATEGORY.H, of PURGE an id. A category above 15 is a secret record's, less 16.
+//! - The line: `script N FATE, N FATE ..` is its script. `talk REQUEST..` greets a server over it and sends these requests, one
+//!   after the other. A request is bytes, or `read*COUNT`: ReadRecord by index of so many records of the open database. It
+//!   prints why the line is down, how many frames there are, how many bytes and packets each end's reader took, and how many
+//!   requests were issued, performed and answered. `frames N..`: the trace of these frames. `replies`: what the handheld replied.
 #![tactic(auto)]
 
 mod answer;
 mod asked;
 mod cases;
 mod fake;
+mod lines;
+mod plans;
 mod said;
 mod session;
+mod talk;
 
 use cases::Cases;
 use std::alloc::Global;
@@ -38,24 +50,4 @@ fn main(rt: HostRuntime) -> io::Result<()> {
         }
     }
     Ok(())
-}
-
-// A word.
-fn word<'w>(words: &[&'w str], place: usize) -> &'w str {
-    words.get(place).copied().unwrap_or("")
-}
-
-// A part of a word, between colons.
-fn part(text: &str, place: usize) -> &str {
-    text.split(':').nth(place).unwrap_or("")
-}
-
-// The bytes of a text.
-fn bytes_in(alloc: Global, text: &str) -> Vec<u8> {
-    hex::decode(alloc, text).unwrap_or(Vec::new(alloc))
-}
-
-// The number of a text.
-fn number_in(text: &str) -> u32 {
-    text.parse().unwrap_or(0)
 }

@@ -1,8 +1,11 @@
 // Texts of what a session answered.
+use conduit_rules::{SeenState, View};
 use desktop_session::{RecordLent, ResourceLent, SessionFault};
 use dlp_commands::{ErrorCode, ReplyFault};
-use pdb_values::{DbHead, Kind, RecordId, UserInfo};
+use pdb_files::read_database;
+use pdb_values::{Content, DbHead, Kind, RecordId, UserInfo};
 use std::alloc::{AllocError, Global};
+use std::fmt::Write;
 
 /// Why a call was not done.
 pub fn refused(alloc: Global, fault: SessionFault) -> Result<String, AllocError> {
@@ -12,19 +15,18 @@ pub fn refused(alloc: Global, fault: SessionFault) -> Result<String, AllocError>
         SessionFault::OtherUser { handheld, desktop } => {
             format!(in alloc; "other user {handheld} {desktop}")
         }
-        SessionFault::BadReply(fault) => bad_reply(alloc, fault),
+        SessionFault::BadReply(ReplyFault::Wrapper(place)) => {
+            format!(in alloc; "bad reply: wrapper {place}")
+        }
+        SessionFault::BadReply(ReplyFault::Function(byte)) => {
+            format!(in alloc; "bad reply: function {byte:x}")
+        }
+        SessionFault::BadReply(ReplyFault::Argument) => {
+            String::from_str(alloc, "bad reply: argument")
+        }
+        SessionFault::BadReply(_) => String::from_str(alloc, "bad reply"),
         SessionFault::TooManyUsers => String::from_str(alloc, "too many users"),
         SessionFault::NoMemory => String::from_str(alloc, "no memory"),
-    }
-}
-
-// Which rule a reply breaks.
-fn bad_reply(alloc: Global, fault: ReplyFault) -> Result<String, AllocError> {
-    match fault {
-        ReplyFault::Wrapper(place) => format!(in alloc; "bad reply: wrapper {place}"),
-        ReplyFault::Function(byte) => format!(in alloc; "bad reply: function {byte:x}"),
-        ReplyFault::Argument => String::from_str(alloc, "bad reply: argument"),
-        _ => String::from_str(alloc, "bad reply"),
     }
 }
 
@@ -65,8 +67,7 @@ pub fn heads(alloc: Global, heads: &[DbHead]) -> Result<String, AllocError> {
     for head in [heads.first(), heads.last()] {
         if let Some(head) = head {
             let name = hex::encode(alloc, head.name.as_bytes())?;
-            let text = format!(in alloc; " {name}.{:x}", head.attributes)?;
-            said.push_str(text.as_str())?;
+            write!(said, " {name}.{:x}", head.attributes)?;
         }
     }
     Ok(said)
@@ -76,8 +77,7 @@ pub fn heads(alloc: Global, heads: &[DbHead]) -> Result<String, AllocError> {
 pub fn ids_text(alloc: Global, ids: &[RecordId]) -> Result<String, AllocError> {
     let mut said = String::from_str(alloc, "ids")?;
     for id in ids {
-        let text = format!(in alloc; " {}", id.number())?;
-        said.push_str(text.as_str())?;
+        write!(said, " {}", id.number())?;
     }
     Ok(said)
 }
@@ -150,4 +150,43 @@ pub fn block(
         Ok(None) => String::from_str(alloc, "none"),
         Err(fault) => refused(alloc, fault),
     }
+}
+
+// A content: its category, whether it is secret, and its bytes.
+fn content_text(alloc: Global, content: &Content) -> Result<String, AllocError> {
+    let secret = if content.secret() { " secret" } else { "" };
+    let bytes = hex::encode(alloc, content.bytes())?;
+    format!(in alloc; "{}{secret} {bytes}.", content.category().number())
+}
+
+/// The entries of a view.
+pub fn view_text(alloc: Global, view: &View) -> Result<String, AllocError> {
+    let mut said = format!(in alloc; "view of {}", view.seen.len())?;
+    for seen in &view.seen {
+        let state = match seen.state {
+            SeenState::Live => "live",
+            SeenState::Archived => "archived",
+            SeenState::Deleted => "deleted",
+            SeenState::Unread => "unread",
+        };
+        let content = content_text(alloc, &seen.content)?;
+        write!(said, " | {} {state} {content}", seen.id.number())?;
+    }
+    Ok(said)
+}
+
+/// The records of a file.
+pub fn records_text(alloc: Global, bytes: &[u8]) -> Result<String, AllocError> {
+    let Ok(database) = read_database(alloc, bytes) else {
+        return String::from_str(alloc, "no database");
+    };
+    let records = database.records();
+    let mut said = format!(in alloc; "{} records", records.len())?;
+    for record in records {
+        let deleted = if record.deleted { " deleted" } else { "" };
+        let dirty = if record.dirty { " dirty" } else { "" };
+        let content = content_text(alloc, &record.content)?;
+        write!(said, " | {}{deleted}{dirty} {content}", record.id.number())?;
+    }
+    Ok(said)
 }

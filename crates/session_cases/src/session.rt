@@ -3,50 +3,68 @@ ghost use Rattle.std.specs.Prelude.{◌≡◌, false};
 
 use crate::asked::asked;
 use crate::said::{refused, user_text};
-use crate::word;
-use desktop_session::{Ended, Halted, Idle, SessionFault};
+use case_words::{number_in, word};
+use desktop_session::{Ended, Halted, Idle, Linked, SessionFault};
 use dlp_commands::Link;
 use std::alloc::{AllocError, Global};
 
-/// The desktop's users, and whether one more may come.
-#[derive(Drop)]
-pub struct Greeting {
-    pub users: Vec<u32>,
-    pub add: bool,
-}
-
-/// Says a session over a link, which comes back, and what its calls answered.
+/// Says a session over a link, which comes back, and what its calls answered. The words are the desktop's users, whether one
+/// more may come, and the calls.
 pub fn session<L: Link + Drop>(
     alloc: Global,
     link: L,
-    greeting: &Greeting,
-    calls: &[&str],
+    words: &[&str],
 ) -> Result<(L, String), AllocError>
     requires { L.begun link ≡ false }
 {
-    let users = greeting.users.as_slice();
+    let mut users = Vec::new(alloc);
+    for user in word(words, 0).split(',') {
+        users.push(number_in(user))?;
+    }
     if users.is_empty() || users.len() > 16 {
         return Ok((link, String::from_str(alloc, "what?")?));
     }
-    let idle = match Idle::new(alloc, link) {
-        Ok(idle) => idle,
-        Err(Halted { link, cause }) => return Ok((link, refused(alloc, cause)?)),
+    let linked = match Idle::new(alloc, link) {
+        Ok(idle) => idle.hello(&users, word(words, 1) == "add"),
+        Err(halted) => Err(halted),
     };
-    let mut linked = match idle.hello(users, greeting.add) {
-        Ok(linked) => linked,
-        Err(Halted { link, cause }) => return Ok((link, refused(alloc, cause)?)),
-    };
+    match linked {
+        Ok(linked) => greeted(alloc, linked, words.get(2..).unwrap_or(&[])),
+        Err(Halted { link, cause }) => Ok((link, refused(alloc, cause)?)),
+    }
+}
+
+// Says who was greeted, and what the calls answered.
+fn greeted<L: Link + Drop>(
+    alloc: Global,
+    linked: Linked<L>,
+    calls: &[&str],
+) -> Result<(L, String), AllocError>
+    requires { linked.abandoned ≡ false }
+{
+    let mut linked = linked;
     let said = user_text(alloc, linked.user())?;
     if word(calls, 0) == "finish" {
-        return match linked.finish() {
-            Ok(Ended { link }) => Ok((link, format!(in alloc; "{said}; ended")?)),
-            Err(Halted { link, cause }) => {
-                let text = refused(alloc, cause)?;
-                Ok((link, format!(in alloc; "{said}; {text}")?))
-            }
-        };
+        return finished(alloc, linked, said.as_str());
     }
     let answer = asked(alloc, &mut linked, calls)?;
     let Halted { link, cause: _ } = linked.halt(SessionFault::NoMemory);
     Ok((link, format!(in alloc; "{said}; {answer}")?))
+}
+
+// Ends the session, and says whether that was done.
+fn finished<L: Link + Drop>(
+    alloc: Global,
+    linked: Linked<L>,
+    said: &str,
+) -> Result<(L, String), AllocError>
+    requires { linked.abandoned ≡ false }
+{
+    match linked.finish() {
+        Ok(Ended { link }) => Ok((link, format!(in alloc; "{said}; ended")?)),
+        Err(Halted { link, cause }) => {
+            let text = refused(alloc, cause)?;
+            Ok((link, format!(in alloc; "{said}; {text}")?))
+        }
+    }
 }

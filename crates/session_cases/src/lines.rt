@@ -1,8 +1,10 @@
 // Texts of what was said over a line.
+use case_words::number_in;
 use dlp_commands::MessageText;
 use line_world::{Down, LineLog};
 use slp_frames::Tally;
 use std::alloc::{AllocError, Global};
+use std::fmt::Write;
 use trace_text::{End, Frame, write_trace};
 
 /// Why the line is down.
@@ -41,13 +43,29 @@ fn tally_text(alloc: Global, tally: Tally) -> Result<String, AllocError> {
     format!(in alloc; "{}/{}", tally.bytes(), tally.packets())
 }
 
-/// The trace of a frame, by its number, without the line feed.
-pub fn frame_text(alloc: Global, frames: &[Frame], number: u32) -> Result<String, AllocError> {
+/// The trace of the frames of these numbers.
+pub fn frames_text(
+    alloc: Global,
+    frames: &[Frame],
+    numbers: &[&str],
+) -> Result<String, AllocError> {
+    let mut said = String::new(alloc);
+    for number in numbers {
+        if !said.is_empty() {
+            said.push_str("; ")?;
+        }
+        let text = frame_text(alloc, frames, u64::from(number_in(number)))?;
+        said.push_str(text.trim_end())?;
+    }
+    Ok(said)
+}
+
+// The trace of a frame, by its number.
+fn frame_text(alloc: Global, frames: &[Frame], number: u64) -> Result<String, AllocError> {
     for frame in frames {
-        if frame.number == u64::from(number) {
+        if frame.number == number {
             let text = write_trace(alloc, std::slice::from_ref(frame))?;
-            let text = String::from_utf8_lossy(alloc, &text)?;
-            return String::from_str(alloc, text.trim_end());
+            return String::from_utf8_lossy(alloc, &text);
         }
     }
     String::from_str(alloc, "no such frame")
@@ -57,8 +75,8 @@ pub fn frame_text(alloc: Global, frames: &[Frame], number: u32) -> Result<String
 pub fn messages_text(alloc: Global, messages: &[MessageText]) -> Result<String, AllocError> {
     let mut said = String::from_str(alloc, "replies")?;
     for message in messages {
-        said.push(' ')?;
-        said.push_str(hex::encode(alloc, message.bytes())?.as_str())?;
+        let bytes = hex::encode(alloc, message.bytes())?;
+        write!(said, " {bytes}")?;
     }
     Ok(said)
 }

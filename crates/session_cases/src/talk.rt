@@ -2,7 +2,7 @@
 ghost use Rattle.std.specs.Prelude.{◌≡◌, true, false, OnOk};
 ghost use Rattle.dlp_commands.specs.Links.{MayExchange};
 
-use crate::bytes_in;
+use case_words::bytes_in;
 use dlp_commands::{Link, LinkFault, Message};
 use std::alloc::{AllocError, Global};
 
