@@ -1,48 +1,29 @@
 // The files of a folder.
-use case_words::{bytes_at, number_at, word};
+use case_words::{bytes_at, number_in, word};
 use hs_folders::{Folder, MemFolder};
 use std::alloc::{AllocError, Global};
+use std::fmt::Write;
 
-/// Does what a line on the folder asks for. None: it asks for something else.
-pub fn obey(
-    alloc: Global,
-    folder: &mut MemFolder,
-    words: &[&str],
-) -> Result<Option<String>, AllocError> {
-    let said = match word(words, 0) {
-        "file" => {
-            folder.put(word(words, 1), &bytes_at(alloc, words, 2))?;
-            String::new(alloc)
+/// Does what a line on the folder asks for.
+pub fn obey(alloc: Global, folder: &mut MemFolder, words: &[&str]) -> Result<String, AllocError> {
+    let name = word(words, 1);
+    match word(words, 0) {
+        "files" => return listed(alloc, folder),
+        "bytes" => {
+            return match folder.read(alloc, name) {
+                Ok(bytes) => hex::encode(alloc, &bytes),
+                Err(_) => String::from_str(alloc, "none"),
+            };
         }
-        "many" => {
-            put_many(alloc, folder, number_at(words, 1))?;
-            String::new(alloc)
-        }
-        "full" => {
-            put_full(alloc, folder, word(words, 1), word(words, 2))?;
-            String::new(alloc)
-        }
-        "large" => {
-            let mut bytes = header(alloc, word(words, 1), 0, 1)?;
-            bytes.extend_from_slice(&[0, 0, 0, 86, 0, 0, 0, 1])?;
-            bytes.resize(86 + 65_501, 0)?;
-            let file = format!(in alloc; "{}.pdb", word(words, 1))?;
-            folder.put(file.as_str(), &bytes)?;
-            String::new(alloc)
-        }
-        "fail" => {
-            folder.fail_calls(vec![in alloc; number_at(words, 1)]?);
-            String::new(alloc)
-        }
-        "files" => listed(alloc, folder)?,
-        "bytes" => match folder.read(alloc, word(words, 1)) {
-            Ok(bytes) => hex::encode(alloc, &bytes)?,
-            Err(_) => String::from_str(alloc, "none")?,
-        },
-        "changes" => format!(in alloc; "changes {}", folder.moments())?,
-        _ => return Ok(None),
-    };
-    Ok(Some(said))
+        "changes" => return format!(in alloc; "changes {}", folder.moments()),
+        "file" => folder.put(name, &bytes_at(alloc, words, 2))?,
+        "many" => put_many(alloc, folder, number_in(name))?,
+        "full" => put_full(alloc, folder, name, word(words, 2))?,
+        "large" => put_large(alloc, folder, name)?,
+        "fail" => folder.fail_calls(vec![in alloc; number_in(name)]?),
+        _ => {}
+    }
+    Ok(String::new(alloc))
 }
 
 // The names of the files with their lengths.
@@ -50,11 +31,20 @@ fn listed(alloc: Global, folder: &mut MemFolder) -> Result<String, AllocError> {
     let mut said = String::from_str(alloc, "files")?;
     let names = folder.list(alloc).unwrap_or(Vec::new(alloc));
     for name in &names {
-        let bytes = folder.read(alloc, name.as_str()).unwrap_or(Vec::new(alloc));
-        let text = format!(in alloc; " {name} {}", bytes.len())?;
-        said.push_str(text.as_str())?;
+        let bytes = folder.read(alloc, name.as_str());
+        let length = bytes.map_or(0, |bytes| bytes.len());
+        write!(said, " {name} {length}")?;
     }
     Ok(said)
+}
+
+// Puts a file of one record of 65,501 bytes.
+fn put_large(alloc: Global, folder: &mut MemFolder, name: &str) -> Result<(), AllocError> {
+    let mut bytes = header(alloc, name, 0, 1)?;
+    bytes.extend_from_slice(&[0, 0, 0, 86, 0, 0, 0, 1])?;
+    bytes.resize(86 + 65_501, 0)?;
+    let file = format!(in alloc; "{name}.pdb")?;
+    folder.put(file.as_str(), &bytes)
 }
 
 // Puts files of empty databases.

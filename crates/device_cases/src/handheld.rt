@@ -1,6 +1,7 @@
-// A handheld: its folder, and what stands over it.
+// A handheld: its folder, and what stands over it; and a database by itself.
 ghost use Rattle.std.specs.Prelude.{◌≡◌, true};
 
+use crate::made::Made;
 use crate::said::{answer, head_of, name_in, user_of};
 use crate::served::Served;
 use crate::{folder, loan};
@@ -9,10 +10,11 @@ use handheld_store::{OpenFault, Store};
 use hs_folders::MemFolder;
 use std::alloc::{AllocError, Global};
 
-/// A folder, a store over it, or a server over that.
+/// A folder, a store over it, or a server over that; and a database by itself.
 #[derive(Drop)]
 pub struct Handheld {
     alloc: Global,
+    made: Made,
     folder: MemFolder,
     store: Option<Store<MemFolder>>,
     served: Served,
@@ -22,6 +24,7 @@ impl Handheld {
     pub fn new(alloc: Global) -> Result<Handheld, AllocError> {
         Ok(Handheld {
             alloc,
+            made: Made::new(alloc),
             folder: MemFolder::new(alloc),
             store: None,
             served: Served::new(alloc)?,
@@ -47,15 +50,19 @@ impl Handheld {
                 self.close();
                 Ok(String::new(alloc))
             }
-            _ => match self.store.take() {
-                Some(store) => self.with_store(store, words),
-                None => match self.served.obey(alloc, words)? {
-                    Some(said) => Ok(said),
-                    None => Ok(folder::obey(alloc, &mut self.folder, words)?.unwrap_or(String::new(
-                        alloc,
-                    ))),
-                },
-            },
+            "make" | "do" | "insert" | "handles" => self.made.obey(words),
+            _ => self.ask(words),
+        }
+    }
+
+    // Does what a line asks of the store, of the server or of the folder.
+    fn ask(&mut self, words: &[&str]) -> Result<String, AllocError> {
+        if let Some(store) = self.store.take() {
+            return self.with_store(store, words);
+        }
+        match self.served.obey(self.alloc, words)? {
+            Some(said) => Ok(said),
+            None => folder::obey(self.alloc, &mut self.folder, words),
         }
     }
 
@@ -127,10 +134,7 @@ fn ask(alloc: Global, store: &mut Store<MemFolder>, words: &[&str]) -> Result<St
             None => String::from_str(alloc, "no user"),
         },
         ("create", Some(name)) => {
-            answer(
-                alloc,
-                store.create(head_of(name, number_at(words, 2))),
-            )
+            answer(alloc, store.create(head_of(name, number_at(words, 2))))
         }
         ("delete", Some(name)) => answer(alloc, store.delete(&name)),
         ("lend", _) => loan::lend(alloc, store, words),

@@ -7,6 +7,7 @@ use handheld_store::{OpenBase, Store};
 use hs_folders::MemFolder;
 use pdb_values::{Bytes, Content, Database, DbName, FourCc, RecordId, Resource};
 use std::alloc::{AllocError, Global};
+use std::fmt::Write;
 
 /// Lends a database, changes it as the words say, and keeps it.
 pub fn lend(
@@ -26,16 +27,12 @@ pub fn lend(
             return answer(alloc, refused);
         }
     };
-    let mut said = Vec::new(alloc);
+    let mut said = String::new(alloc);
     let done = changes(alloc, &mut base, words, &mut said);
     let kept = base.keep();
     done?;
-    let mut text = answer(alloc, kept)?;
-    for found in &said {
-        text.push_str(" ")?;
-        text.push_str(found.as_str())?;
-    }
-    Ok(text)
+    let text = answer(alloc, kept)?;
+    format!(in alloc; "{text}{said}")
 }
 
 // Does the changes of a line, seven at most.
@@ -43,83 +40,83 @@ fn changes(
     alloc: Global,
     base: &mut OpenBase<'_, MemFolder>,
     words: &[&str],
-    said: &mut Vec<String>,
+    said: &mut String,
 ) -> Result<(), AllocError>
     ensures reference { base.new.store.ghost_name ≡ base.old.store.ghost_name }
     ensures store { base.new.store.now ≡ base.old.store.now }
 {
-    change(alloc, base, word(words, 3), said)?;
-    change(alloc, base, word(words, 4), said)?;
-    change(alloc, base, word(words, 5), said)?;
-    change(alloc, base, word(words, 6), said)?;
-    change(alloc, base, word(words, 7), said)?;
-    change(alloc, base, word(words, 8), said)?;
-    change(alloc, base, word(words, 9), said)
+    tell(alloc, base, word(words, 3), said)?;
+    tell(alloc, base, word(words, 4), said)?;
+    tell(alloc, base, word(words, 5), said)?;
+    tell(alloc, base, word(words, 6), said)?;
+    tell(alloc, base, word(words, 7), said)?;
+    tell(alloc, base, word(words, 8), said)?;
+    tell(alloc, base, word(words, 9), said)
 }
 
-// Does one change, and says what it answers.
+// Does one change, and adds what it answers.
+fn tell(
+    alloc: Global,
+    base: &mut OpenBase<'_, MemFolder>,
+    asked: &str,
+    said: &mut String,
+) -> Result<(), AllocError>
+    ensures reference { base.new.store.ghost_name ≡ base.old.store.ghost_name }
+    ensures store { base.new.store.now ≡ base.old.store.now }
+{
+    let text = change(alloc, base, asked)?;
+    if !text.is_empty() {
+        said.push(' ')?;
+    }
+    said.push_str(text.as_str())
+}
+
+// Does one change. What it answers, or nothing.
 fn change(
     alloc: Global,
     base: &mut OpenBase<'_, MemFolder>,
     asked: &str,
-    said: &mut Vec<String>,
-) -> Result<(), AllocError>
+) -> Result<String, AllocError>
     ensures reference { base.new.store.ghost_name ≡ base.old.store.ghost_name }
     ensures store { base.new.store.now ≡ base.old.store.now }
 {
     let id = id_in(part(asked, 1));
+    let short = short_in(part(asked, 1));
     match part(asked, 0) {
         "place" => {
             let place = base.place_of(id).map_or(0, |place| place.saturating_add(1));
-            said.push(format!(in alloc; "place {place}")?)?;
+            format!(in alloc; "place {place}")
         }
-        "purge" => said.push(format!(in alloc; "purged {}", base.purge(id))?)?,
-        "clean" => base.clean_up(),
-        "reset" => base.reset_flags(),
+        "purge" => format!(in alloc; "purged {}", base.purge(id)),
         "code" => {
-            let gone = base.purge_resource(
-                FourCc(*b"code"),
-                short_in(part(asked, 1)),
-            );
-            said.push(format!(in alloc; "purged {gone}")?)?;
+            let gone = base.purge_resource(FourCc(*b"code"), short);
+            format!(in alloc; "purged {gone}")
         }
-        "shown" => said.push(shown(alloc, base.database())?)?,
-        _ => return change_more(alloc, base, asked, said),
+        "shown" => shown(alloc, base.database()),
+        "add" => added(alloc, base, asked),
+        "put" => put(alloc, base, short, bytes_in(alloc, part(asked, 2))),
+        _ => {
+            change_silently(alloc, base, asked);
+            Ok(String::new(alloc))
+        }
     }
-    Ok(())
 }
 
-// The same of changes that take something.
-fn change_more(
-    alloc: Global,
-    base: &mut OpenBase<'_, MemFolder>,
-    asked: &str,
-    said: &mut Vec<String>,
-) -> Result<(), AllocError>
+// A change that answers nothing.
+fn change_silently(alloc: Global, base: &mut OpenBase<'_, MemFolder>, asked: &str)
     ensures reference { base.new.store.ghost_name ≡ base.old.store.ghost_name }
     ensures store { base.new.store.now ≡ base.old.store.now }
 {
     let bytes = bytes_in(alloc, part(asked, 2));
+    let short = bytes.len() <= Database::LIMIT;
     match part(asked, 0) {
-        "app" => {
-            if bytes.len() <= Database::LIMIT {
-                base.set_app(Some(bytes));
-            }
-        }
+        "clean" => base.clean_up(),
+        "reset" => base.reset_flags(),
         "no-app" => base.set_app(None),
-        "sort" => {
-            if bytes.len() <= Database::LIMIT {
-                base.set_sort(Some(bytes));
-            }
-        }
-        "add" => said.push(added(alloc, base, asked)?)?,
-        "put" => {
-            let id = short_in(part(asked, 1));
-            said.push(put(alloc, base, id, bytes)?)?;
-        }
+        "app" if short => base.set_app(Some(bytes)),
+        "sort" if short => base.set_sort(Some(bytes)),
         _ => change_record(alloc, base, asked),
     }
-    Ok(())
 }
 
 // A change of one record.
@@ -190,7 +187,8 @@ fn put(
 pub fn shown(alloc: Global, database: &Database) -> Result<String, AllocError> {
     let mut said = String::from_str(alloc, "holds")?;
     for item in database.records() {
-        let text = format!(in alloc;
+        write!(
+            said,
             " {}:{}:{}:{}:{}:{}",
             item.id.number(),
             item.content.category().number(),
@@ -199,18 +197,14 @@ pub fn shown(alloc: Global, database: &Database) -> Result<String, AllocError> {
             u8::from(item.busy),
             item.content.bytes().len()
         )?;
-        said.push_str(text.as_str())?;
     }
     for resource in database.resources() {
-        let text = format!(in alloc; " {}:{}", resource.id, resource.bytes.as_slice().len())?;
-        said.push_str(text.as_str())?;
+        let length = resource.bytes.as_slice().len();
+        write!(said, " {}:{length}", resource.id)?;
     }
-    let blocks = format!(in alloc;
-        " app {} sort {}",
-        database.app().map_or(0, |block| block.len()),
-        database.sort().map_or(0, |block| block.len())
-    )?;
-    said.push_str(blocks.as_str())?;
+    let app = database.app().map_or(0, |block| block.len());
+    let sort = database.sort().map_or(0, |block| block.len());
+    write!(said, " app {app} sort {sort}")?;
     Ok(said)
 }
 

@@ -25,22 +25,18 @@ impl Made {
         }
     }
 
-    /// Does what a line asks for. None: it asks for something else.
-    pub fn obey(&mut self, words: &[&str]) -> Result<Option<String>, AllocError> {
+    /// Does what a line on databases by themselves asks for.
+    pub fn obey(&mut self, words: &[&str]) -> Result<String, AllocError> {
         let alloc = self.alloc;
-        match word(words, 0) {
-            "make" => {
-                let attributes = short_in(word(words, 2));
-                self.database = empty(alloc, word(words, 1), attributes);
-                Ok(Some(String::new(alloc)))
+        match (word(words, 0), &mut self.database) {
+            ("do", Some(database)) => change(alloc, database, word(words, 1)),
+            ("do", None) => String::from_str(alloc, "none"),
+            ("insert", _) => inserted(alloc, words),
+            ("handles", _) => handles(alloc),
+            _ => {
+                self.database = empty(alloc, word(words, 1), short_in(word(words, 2)));
+                Ok(String::new(alloc))
             }
-            "do" => match &mut self.database {
-                Some(database) => Ok(Some(change(alloc, database, word(words, 1))?)),
-                None => Ok(Some(String::from_str(alloc, "none")?)),
-            },
-            "insert" => Ok(Some(inserted(alloc, words)?)),
-            "handles" => Ok(Some(handles(alloc)?)),
-            _ => Ok(None),
         }
     }
 }

@@ -28,21 +28,16 @@ mod said;
 mod served;
 
 use handheld::Handheld;
-use made::Made;
 use std::alloc::Global;
 use std::io;
 
 fn main(rt: HostRuntime) -> io::Result<()> {
     let alloc = rt.alloc();
     let mut handheld = Handheld::new(alloc)?;
-    let mut made = Made::new(alloc);
     for line in rt.lines(alloc) {
         let line = line?;
         let words: Vec<&str> = line.split(' ').collect(alloc)?;
-        let said = match made.obey(&words)? {
-            Some(said) => said,
-            None => handheld.obey(line.as_str(), &words)?,
-        };
+        let said = handheld.obey(line.as_str(), &words)?;
         if !said.is_empty() {
             println!(rt; "{said}")?;
         }
