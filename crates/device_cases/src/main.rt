@@ -28,12 +28,16 @@ mod said;
 mod served;
 
 use handheld::Handheld;
-use std::alloc::Global;
 use std::io;
 
 fn main(rt: HostRuntime) -> io::Result<()> {
+    let mut handheld = Handheld::new(rt.alloc())?;
+    answer(&rt, &mut handheld)
+}
+
+// Prints what each line makes the handheld say.
+fn answer(rt: &HostRuntime, handheld: &mut Handheld) -> io::Result<()> {
     let alloc = rt.alloc();
-    let mut handheld = Handheld::new(alloc)?;
     for line in rt.lines(alloc) {
         let line = line?;
         let words: Vec<&str> = line.split(' ').collect(alloc)?;
