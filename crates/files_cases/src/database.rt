@@ -1,131 +1,129 @@
 // A database in memory, and a file that it is read from.
-use crate::{bytes_at, file, number_at, number32_at, word_at};
+use crate::file::{ask_file, zeros};
+use case_words::{bytes_at, number_at, short_in, word};
+use pdb_files::{entry_count, read_database};
 use pdb_values::{
     Bytes, Category, Content, Database, DbHead, DbName, FourCc, PalmDate, PushFault, Record,
-    RecordId, Resource,
+    RecordId, Resource, TooLarge,
 };
 use std::alloc::{AllocError, Global};
 
 /// One database at most, and the bytes of one file.
 #[derive(Drop)]
-pub struct Shelf {
+pub struct Loaded {
     alloc: Global,
     database: Option<Database>,
     file: Vec<u8>,
 }
 
-impl Shelf {
-    pub fn new(alloc: Global) -> Shelf {
-        Shelf {
+impl Loaded {
+    pub fn new(alloc: Global) -> Loaded {
+        Loaded {
             alloc,
             database: None,
             file: Vec::new(alloc),
         }
     }
 
-    /// Does what a line on a database or a file asks for. None: it asks for something else.
-    pub fn obey(&mut self, words: &[&str]) -> Result<Option<String>, AllocError> {
+    /// Does what a line on a database or a file asks for.
+    pub fn obey(&mut self, words: &[&str]) -> Result<String, AllocError> {
         let alloc = self.alloc;
-        match word_at(words, 0) {
-            "database" => {
-                self.database = head_of(number32_at(words, 1)).map(|head| Database::new(
-                    alloc, head,
-                ));
-                let head = self.database.as_ref().map(Database::head);
-                attributes(alloc, head).map(Some)
-            }
+        match word(words, 0) {
+            "new" => self.renew(short_in(word(words, 1))),
             "file" => {
                 self.file = bytes_at(alloc, words, 1);
-                format!(in alloc; "file of {}", self.file.len()).map(Some)
+                format!(in alloc; "file of {}", self.file.len())
             }
             "zeros" => {
-                self.file = file::zeros(alloc, words)?;
-                format!(in alloc; "file of {}", self.file.len()).map(Some)
+                self.file = zeros(alloc, words)?;
+                format!(in alloc; "file of {}", self.file.len())
             }
-            "parse" => {
-                let (said, database) = file::parse(alloc, &self.file)?;
-                self.database = database;
-                Ok(Some(said))
-            }
+            "parse" => self.parse(),
             _ => match &mut self.database {
-                Some(database) => call(alloc, database, words),
-                None => Ok(None),
+                Some(database) => ask_database(alloc, database, words),
+                None => String::from_str(alloc, "no database"),
+            },
+        }
+    }
+
+    // A database with no entries and these attributes, and what its head and a copy of it say of them.
+    fn renew(&mut self, attributes: u16) -> Result<String, AllocError> {
+        let alloc = self.alloc;
+        let Some(head) = head_of(b"MemoDB", attributes, 0) else {
+            return String::from_str(alloc, "no head");
+        };
+        let resources = head.holds_resources();
+        let read_only = head.copy().is_read_only();
+        let stream = head.is_stream();
+        self.database = Some(Database::new(alloc, head));
+        format!(in alloc; "resources {resources} read-only {read_only} stream {stream}")
+    }
+
+    // How many entries the file has, or the word and the place of its refusal.
+    fn parse(&mut self) -> Result<String, AllocError> {
+        let alloc = self.alloc;
+        match read_database(alloc, &self.file) {
+            Ok(database) => {
+                let count = entry_count(&database);
+                self.database = Some(database);
+                format!(in alloc; "ok {count}")
+            }
+            Err(fault) => match fault.bad_file() {
+                Some((kind, place)) => format!(in alloc; "{} {place}: {fault}", kind.word()),
+                None => String::from_str(alloc, "no memory"),
             },
         }
     }
 }
 
-// Calls on a database.
-fn call(
-    alloc: Global,
-    database: &mut Database,
-    words: &[&str],
-) -> Result<Option<String>, AllocError> {
-    match word_at(words, 0) {
-        "record" => record(alloc, database, words).map(Some),
-        "fill" => fill(alloc, database, number32_at(words, 1)).map(Some),
-        "lend" => lend(alloc, database, number_at(words, 1)).map(Some),
-        "take" => {
-            let item = database.remove_record(number_at(words, 1));
-            numbered(alloc, "id", item.map(|item| item.id.number() as usize)).map(Some)
-        }
-        "resource" => resource(alloc, database, words).map(Some),
-        "set-resource" => set_resource(alloc, database, words).map(Some),
-        "take-resource" => {
-            let item = database.remove_resource(number_at(words, 1));
-            let length = item.map(|item| item.bytes.as_slice().len());
-            numbered(alloc, "length", length).map(Some)
-        }
-        "app" | "sort" | "no-app" | "blocks" => blocks(alloc, database, words).map(Some),
-        "counts" => {
-            let records = database.records().len();
-            let resources = database.resources().len();
-            format!(in alloc; "records {records} resources {resources}").map(Some)
-        }
-        _ => file::call(alloc, database, words),
-    }
-}
-
-pub fn head_of(attributes: u32) -> Option<DbHead> {
+/// The head of a database, where its name may be one.
+pub fn head_of(name: &[u8], attributes: u16, seed: u32) -> Option<DbHead> {
     Some(DbHead {
-        name: DbName::new(b"MemoDB").ok()?,
-        attributes: u16::try_from(attributes).ok()?,
+        name: DbName::new(name).ok()?,
+        attributes,
         version: 0,
         created: PalmDate::of_seconds(3_082_844_800),
         modified: PalmDate::of_seconds(3_082_844_801),
         backup: PalmDate::of_seconds(0),
         modnum: 7,
-        seed: 0,
+        seed,
         kind: FourCc(*b"DATA"),
         creator: FourCc(*b"memo"),
     })
 }
 
-// What the attributes of a head say, and those of its copy.
-fn attributes(alloc: Global, head: Option<&DbHead>) -> Result<String, AllocError> {
-    match head {
-        Some(head) => {
-            let resources = head.holds_resources();
-            let read_only = head.copy().is_read_only();
-            let stream = head.is_stream();
-            format!(in alloc; "resources {resources} read-only {read_only} stream {stream}")
+// What a database answers to a call.
+fn ask_database(
+    alloc: Global,
+    database: &mut Database,
+    words: &[&str],
+) -> Result<String, AllocError> {
+    let number = number_at(words, 1) as usize;
+    match word(words, 0) {
+        "record" => record(alloc, database, words),
+        "fill" => fill(alloc, database, number),
+        "lend" => lend(alloc, database, number),
+        "take" => take(alloc, database, number),
+        "resource" => resource(alloc, database, words),
+        "set-resource" => set_resource(alloc, database, number, bytes_at(alloc, words, 2)),
+        "take-resource" => take_resource(alloc, database, number),
+        "app" | "sort" => set_block(alloc, database, words),
+        "no-app" => block_text(alloc, database.set_app(None)),
+        "blocks" => blocks(alloc, database),
+        "counts" => {
+            let records = database.records().len();
+            let resources = database.resources().len();
+            format!(in alloc; "records {records} resources {resources}")
         }
-        None => String::from_str(alloc, "no head"),
+        _ => ask_file(alloc, database, words),
     }
 }
 
-fn numbered(alloc: Global, word: &str, number: Option<usize>) -> Result<String, AllocError> {
-    match number {
-        Some(number) => format!(in alloc; "{word} {number}"),
-        None => String::from_str(alloc, "none"),
-    }
-}
-
-// A record in category 3 with this id and these bytes, where each is within its bound.
-fn record_of(number: u32, bytes: Vec<u8>) -> Option<Record> {
+/// A record in category 3 with this id and these bytes, where each is within its bound.
+pub fn record_of(number: u32, deleted: bool, bytes: Vec<u8>) -> Option<Record> {
     Some(Record {
         id: RecordId::new(number)?,
-        deleted: false,
+        deleted,
         dirty: false,
         busy: false,
         content: Content::new(Category::new(3)?, false, bytes).ok()?,
@@ -133,14 +131,13 @@ fn record_of(number: u32, bytes: Vec<u8>) -> Option<Record> {
 }
 
 fn record(alloc: Global, database: &mut Database, words: &[&str]) -> Result<String, AllocError> {
-    let bytes = bytes_at(alloc, words, 2);
-    match record_of(number32_at(words, 1), bytes) {
-        Some(item) => pushed(alloc, database, item),
+    match record_of(number_at(words, 1), false, bytes_at(alloc, words, 2)) {
+        Some(item) => push(alloc, database, item),
         None => String::from_str(alloc, "no record"),
     }
 }
 
-fn pushed(alloc: Global, database: &mut Database, item: Record) -> Result<String, AllocError> {
+fn push(alloc: Global, database: &mut Database, item: Record) -> Result<String, AllocError> {
     if database.head().holds_resources() {
         return String::from_str(alloc, "holds resources");
     }
@@ -154,17 +151,15 @@ fn pushed(alloc: Global, database: &mut Database, item: Record) -> Result<String
     }
 }
 
-// Puts so many empty records in.
-fn fill(alloc: Global, database: &mut Database, count: u32) -> Result<String, AllocError> {
+// Pushes so many empty records.
+fn fill(alloc: Global, database: &mut Database, count: usize) -> Result<String, AllocError> {
     for _ in 0..count {
-        match record_of(0, Vec::new(alloc)) {
-            Some(item) => {
-                let said = pushed(alloc, database, item)?;
-                if said.as_str() != "pushed" {
-                    return Ok(said);
-                }
-            }
-            None => return String::from_str(alloc, "no record"),
+        let Some(item) = record_of(0, false, Vec::new(alloc)) else {
+            return String::from_str(alloc, "no record");
+        };
+        let said = push(alloc, database, item)?;
+        if said.as_str() != "pushed" {
+            return Ok(said);
         }
     }
     String::from_str(alloc, "filled")
@@ -182,14 +177,21 @@ fn lend(alloc: Global, database: &mut Database, place: usize) -> Result<String, 
     String::from_str(alloc, said)
 }
 
+fn take(alloc: Global, database: &mut Database, place: usize) -> Result<String, AllocError> {
+    match database.remove_record(place) {
+        Some(item) => format!(in alloc; "id {}", item.id.number()),
+        None => String::from_str(alloc, "none"),
+    }
+}
+
 fn resource(alloc: Global, database: &mut Database, words: &[&str]) -> Result<String, AllocError> {
     if !database.head().holds_resources() {
         return String::from_str(alloc, "holds records");
     }
     let item = Resource {
         kind: FourCc(*b"code"),
-        id: word_at(words, 1).parse().unwrap_or(0),
-        bytes: Bytes::new(vec![in alloc; 7; number_at(words, 2)]?),
+        id: short_in(word(words, 1)),
+        bytes: Bytes::new(vec![in alloc; 7; number_at(words, 2) as usize]?),
     };
     let said = match database.push_resource(item) {
         Ok(()) => "pushed",
@@ -203,10 +205,9 @@ fn resource(alloc: Global, database: &mut Database, words: &[&str]) -> Result<St
 fn set_resource(
     alloc: Global,
     database: &mut Database,
-    words: &[&str],
+    place: usize,
+    bytes: Vec<u8>,
 ) -> Result<String, AllocError> {
-    let place = number_at(words, 1);
-    let bytes = bytes_at(alloc, words, 2);
     if place >= database.resources().len() || bytes.len() > 65_500 {
         return String::from_str(alloc, "none");
     }
@@ -214,21 +215,45 @@ fn set_resource(
     String::from_str(alloc, "set")
 }
 
-fn blocks(alloc: Global, database: &mut Database, words: &[&str]) -> Result<String, AllocError> {
-    let bytes = vec![in alloc; 1; number_at(words, 1)]?;
-    let result = match word_at(words, 0) {
-        "app" => database.set_app(Some(bytes)),
-        "sort" => database.set_sort(Some(bytes)),
-        "no-app" => database.set_app(None),
-        _ => {
-            let app = numbered(alloc, "app", database.app().map(|block| block.len()))?;
-            let sort = numbered(alloc, "sort", database.sort().map(|block| block.len()))?;
-            return format!(in alloc; "{app} {sort}");
-        }
-    };
-    let said = match result {
-        Ok(()) => "taken",
-        Err(_) => "too large",
-    };
-    String::from_str(alloc, said)
+fn take_resource(
+    alloc: Global,
+    database: &mut Database,
+    place: usize,
+) -> Result<String, AllocError> {
+    match database.remove_resource(place) {
+        Some(item) => format!(in alloc; "length {}", item.bytes.as_slice().len()),
+        None => String::from_str(alloc, "none"),
+    }
+}
+
+fn set_block(alloc: Global, database: &mut Database, words: &[&str]) -> Result<String, AllocError> {
+    let block = vec![in alloc; 1; number_at(words, 1) as usize]?;
+    match word(words, 0) {
+        "app" => block_text(alloc, database.set_app(Some(block))),
+        _ => block_text(alloc, database.set_sort(Some(block))),
+    }
+}
+
+fn block_text(alloc: Global, outcome: Result<(), TooLarge>) -> Result<String, AllocError> {
+    String::from_str(
+        alloc,
+        if outcome.is_ok() {
+            "taken"
+        } else {
+            "too large"
+        },
+    )
+}
+
+fn blocks(alloc: Global, database: &Database) -> Result<String, AllocError> {
+    let app = block_length(alloc, "app", database.app())?;
+    let sort = block_length(alloc, "sort", database.sort())?;
+    format!(in alloc; "{app} {sort}")
+}
+
+fn block_length(alloc: Global, word: &str, block: Option<&[u8]>) -> Result<String, AllocError> {
+    match block {
+        Some(block) => format!(in alloc; "{word} {}", block.len()),
+        None => String::from_str(alloc, "none"),
+    }
 }

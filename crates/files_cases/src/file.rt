@@ -1,16 +1,13 @@
 // Files of databases, and a database as bytes and as text.
-use crate::{number_at, word_at};
+use case_words::{number_at, number_in, word};
 use file_text::{check_text, show_text};
-use pdb_files::{
-    attributes_of, entry_count, one_database, read_database, round_trip, rules_are_the_grammar,
-    write_database,
-};
-use pdb_values::{Database, Record};
+use pdb_files::{attributes_of, one_database, round_trip, rules_are_the_grammar, write_database};
+use pdb_values::{Database, DbHead, Record, Resource};
 use std::alloc::{AllocError, Global};
 
 /// So many zeros, but for the name `A` and the bytes that are named with their places.
 pub fn zeros(alloc: Global, words: &[&str]) -> Result<Vec<u8>, AllocError> {
-    let mut file = vec![in alloc; 0; number_at(words, 1)]?;
+    let mut file = vec![in alloc; 0; number_at(words, 1) as usize]?;
     put(&mut file, "0=65");
     for word in words.iter().skip(2) {
         put(&mut file, word);
@@ -19,96 +16,96 @@ pub fn zeros(alloc: Global, words: &[&str]) -> Result<Vec<u8>, AllocError> {
 }
 
 // Puts a byte at its place, as `PLACE=BYTE` says.
-fn put(file: &mut Vec<u8>, word: &str) {
+fn put(file: &mut [u8], word: &str) {
     let (place, byte) = word.split_once('=').unwrap_or((word, ""));
-    let place: usize = place.parse().unwrap_or(0);
-    if let Some(cell) = file.get_mut(place) {
+    if let Some(cell) = file.get_mut(number_in(place) as usize) {
         *cell = byte.parse().unwrap_or(0);
     }
 }
 
-/// How many entries a file has, or the word and the place of its refusal. With it the database.
-pub fn parse(alloc: Global, bytes: &[u8]) -> Result<(String, Option<Database>), AllocError> {
-    match read_database(alloc, bytes) {
-        Ok(database) => {
-            let count = entry_count(&database);
-            Ok((format!(in alloc; "ok {count}")?, Some(database)))
-        }
-        Err(fault) => match fault.bad_file() {
-            Some((kind, place)) => Ok((
-                format!(in alloc; "{} {place}: {fault}", kind.word())?,
-                None,
-            )),
-            None => Ok((String::from_str(alloc, "no memory")?, None)),
-        },
-    }
-}
-
-/// Calls on a database that end in bytes or text. None: the line asks for something else.
-pub fn call(
-    alloc: Global,
-    database: &Database,
-    words: &[&str],
-) -> Result<Option<String>, AllocError> {
-    match word_at(words, 0) {
-        "head" => head(alloc, database).map(Some),
-        "entries" => entries(alloc, database).map(Some),
-        "write" => {
-            let bytes = write_database(alloc, database)?;
-            hex::encode(alloc, &bytes).map(Some)
-        }
-        "again" => match round_trip(alloc, database) {
-            Ok(copy) => entries(alloc, &copy).map(Some),
-            Err(_) => String::from_str(alloc, "no memory").map(Some),
-        },
-        "check" => check_text(alloc, database).map(Some),
-        "show" => show_text(alloc, database).map(Some),
+/// What a database is as bytes and as text.
+pub fn ask_file(alloc: Global, database: &Database, words: &[&str]) -> Result<String, AllocError> {
+    match word(words, 0) {
+        "head" => head(alloc, database),
+        "entries" => entries(alloc, database),
+        "write" => write(alloc, database),
+        "again" => again(alloc, database),
+        "check" => check_text(alloc, database),
+        "show" => show_text(alloc, database),
         "laws" => {
             one_database();
             rules_are_the_grammar();
-            String::from_str(alloc, "laws").map(Some)
+            String::from_str(alloc, "laws")
         }
-        _ => Ok(None),
+        _ => String::from_str(alloc, "no such line"),
+    }
+}
+
+fn write(alloc: Global, database: &Database) -> Result<String, AllocError> {
+    let bytes = write_database(alloc, database)?;
+    hex::encode(alloc, &bytes)
+}
+
+fn again(alloc: Global, database: &Database) -> Result<String, AllocError> {
+    match round_trip(alloc, database) {
+        Ok(copy) => entries(alloc, &copy),
+        Err(_) => String::from_str(alloc, "no memory"),
     }
 }
 
 fn head(alloc: Global, database: &Database) -> Result<String, AllocError> {
     let head = database.head();
+    let dates = dates(alloc, head)?;
+    let words = four_letters(alloc, head)?;
     let name = hex::encode(alloc, head.name.as_bytes())?;
-    let kind = hex::encode(alloc, head.kind.0)?;
-    let creator = hex::encode(alloc, head.creator.0)?;
-    let dates = format!(in alloc;
-        "created {} modified {} backup {}",
-        head.created.seconds(),
-        head.modified.seconds(),
-        head.backup.seconds()
-    )?;
     format!(in alloc;
-        "name {name} attributes {} version {} {dates} modnum {} seed {} kind {kind} creator {creator}",
+        "name {name} attributes {} version {} {dates} modnum {} seed {} {words}",
         head.attributes, head.version, head.modnum, head.seed
     )
 }
 
-// Each entry: of a record its id, the byte of its attributes, its category and its bytes; of a resource its type, its
-// number and its bytes.
+fn dates(alloc: Global, head: &DbHead) -> Result<String, AllocError> {
+    format!(in alloc;
+        "created {} modified {} backup {}",
+        head.created.seconds(),
+        head.modified.seconds(),
+        head.backup.seconds()
+    )
+}
+
+fn four_letters(alloc: Global, head: &DbHead) -> Result<String, AllocError> {
+    let kind = hex::encode(alloc, head.kind.0)?;
+    let creator = hex::encode(alloc, head.creator.0)?;
+    format!(in alloc; "kind {kind} creator {creator}")
+}
+
+// Each record, and then each resource.
 fn entries(alloc: Global, database: &Database) -> Result<String, AllocError> {
     let mut text = String::from_str(alloc, "entries")?;
     for item in database.records() {
-        let word = record_word(alloc, item)?;
-        text.push_str(word.as_str())?;
+        push_record(alloc, &mut text, item)?;
     }
     for item in database.resources() {
-        let kind = hex::encode(alloc, item.kind.0)?;
-        let bytes = hex::encode(alloc, item.bytes.as_slice())?;
-        let word = format!(in alloc; " / {kind} {} {bytes}", item.id)?;
-        text.push_str(word.as_str())?;
+        push_resource(alloc, &mut text, item)?;
     }
     Ok(text)
 }
 
-fn record_word(alloc: Global, item: &Record) -> Result<String, AllocError> {
+// Its id, the byte of its attributes, its category and its bytes.
+fn push_record(alloc: Global, text: &mut String, item: &Record) -> Result<(), AllocError> {
     let bytes = hex::encode(alloc, item.content.bytes())?;
     let category = item.content.category().number();
     let bits = attributes_of(item);
-    format!(in alloc; " / {} {bits:02x} {category} {bytes}", item.id.number())
+    write!(
+        text,
+        " / {} {bits:02x} {category} {bytes}",
+        item.id.number()
+    )
+}
+
+// Its type, its number and its bytes.
+fn push_resource(alloc: Global, text: &mut String, item: &Resource) -> Result<(), AllocError> {
+    let kind = hex::encode(alloc, item.kind.0)?;
+    let bytes = hex::encode(alloc, item.bytes.as_slice())?;
+    write!(text, " / {kind} {} {bytes}", item.id)
 }

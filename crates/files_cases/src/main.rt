@@ -1,77 +1,99 @@
-//! Calls on objects in memory, values of Palm databases, whole databases and their files, as the lines of standard input
-//! ask for them.
+//! Calls on folders, sources and sinks, in memory and of the system, values of Palm databases, whole databases and their
+//! files, and folders that are made, as the lines of standard input ask for them.
 //!
-//! Bytes are hexadecimal, `-` stands for none, and `~` in a name stands for a space. `case TEXT` is printed as it is.
+//! Bytes are hexadecimal, and `-` stands for none. In a name of a folder's file `~` stands for a space and `^` for a zero
+//! byte, and `-` alone is the empty name. `case TEXT` is printed as it is.
 //!
-//! - A folder: `folder` (a new one), `kept NAME H` (one that keeps its moments), `put NAME H`, `open PATH`, `list`,
-//!   `read NAME`, `replace NAME H`, `remove NAME`, `moments`, `copy MOMENT` (what it then held), `fail CALL`.
-//! - A source and a sink: `source H`, `source-fail CALL`, `source-open PATH`, `source-read ROOM`; `sink`, `sink-fail CALL`,
-//!   `sink-open PATH`, `sink-write H`, `sink-bytes`.
+//! - A folder: `open PATH`, `list`, `some` (whether it lists a name), `read NAME`, `replace NAME H`, `remove NAME`. A source:
+//!   `open PATH`, `read ROOM`. A sink: `open PATH`, `write H`.
+//! - In memory: `folder CALL`, and `folder new`, `folder put NAME H`, `folder keep NAME H` (a new one that keeps its moments),
+//!   `folder moments`, `folder copy MOMENT` (what it then held); `source CALL`, and `source new H`; `sink CALL`, and
+//!   `sink new`, `sink bytes`. Each has `fail CALL` too.
+//! - Of the system: `disk folder CALL`, `disk source CALL`, `disk sink CALL`, `disk stdout CALL`, and `disk new` (each of them).
+//!   What others do there: `disk make PATH` (an empty folder; what stood there goes), `disk write PATH H`,
+//!   `disk link TARGET PATH`, `disk pipe PATH PATH` (a pipe, and links to its ends), `disk clear PATH`, and `disk stands PATH`.
 //! - Values: `name H`, `stem H`, `id N`, `category N`, `user H`, `password H`, `content LENGTH`, `kind DELETED H`,
 //!   `date TEXT`, `wire H`, `seconds N`.
-//! - Databases by name: `shelf-new NAME VERSION`, `shelf-put NAME VERSION`, `shelf-find NAME`, `shelf-remove NAME`.
-//! - A database: `database ATTRIBUTES` (a new one), `record ID H`, `fill N`, `lend PLACE`, `take PLACE`,
-//!   `resource ID LENGTH`, `set-resource PLACE H`, `take-resource PLACE`, `app LENGTH`, `sort LENGTH`, `no-app`, `blocks`,
-//!   `counts`.
-//! - A file: `file H`, or `zeros LENGTH PLACE=BYTE..`, which has the name `A`; then `parse`, which makes it the database,
-//!   `head`, `entries`, `write`, `again`, `check`, `show`; `laws`.
+//! - Databases by name: `shelf new NAME VERSION`, `shelf put NAME VERSION`, `shelf find NAME`, `shelf remove NAME`.
+//! - A database: `db new ATTRIBUTES`, `db record ID H`, `db fill N`, `db lend PLACE`, `db take PLACE`,
+//!   `db resource ID LENGTH`, `db set-resource PLACE H`, `db take-resource PLACE`, `db app LENGTH`, `db sort LENGTH`,
+//!   `db no-app`, `db blocks`, `db counts`.
+//! - A file: `db file H`, or `db zeros LENGTH PLACE=BYTE..`, which has the name `A`; then `db parse`, which makes it the
+//!   database, `db head`, `db entries`, `db write`, `db again`, `db check`, `db show`; `db laws`.
+//! - Folders made of a seed and a count: `made files SEED COUNT` prints each file with its bytes, and `made sums SEED COUNT`
+//!   with its length and the number that its bytes are as digits to the base 31, modulo 2 to the 32.
 #![tactic(auto)]
 
+mod calls;
 mod database;
 mod file;
-mod folder;
-mod named;
-mod streams;
+mod made;
+mod memory;
+mod shelf;
+mod system;
 mod value;
 
-use database::Shelf;
-use folder::Held;
-use named::Named;
-use std::alloc::Global;
+use case_words::word;
+use database::Loaded;
+use memory::Memory;
+use pdb_values::Database;
+use std::alloc::{AllocError, Global};
 use std::io;
-use streams::Streams;
+use system::System;
 
 fn main(rt: HostRuntime) -> io::Result<()> {
     let alloc = rt.alloc();
-    let mut held = Held::new(alloc);
-    let mut streams = Streams::new(alloc);
-    let mut shelf = Shelf::new(alloc);
-    let mut named = Named::new(alloc);
+    let mut cases = Cases::new(&rt, alloc);
     for line in rt.lines(alloc) {
-        let line = line?;
-        let words: Vec<&str> = line.split(' ').collect(alloc)?;
-        let said = if let Some(said) = held.obey(&words)? {
-            said
-        } else if let Some(said) = streams.obey(&words)? {
-            said
-        } else if let Some(said) = named.obey(&words)? {
-            said
-        } else if let Some(said) = shelf.obey(&words)? {
-            said
-        } else {
-            value::obey(alloc, line.as_str(), &words)?
-        };
-        println!(rt; "{said}")?;
+        cases.answer(&line?)?;
     }
     Ok(())
 }
 
-// A word, or nothing.
-fn word_at<'w>(words: &[&'w str], place: usize) -> &'w str {
-    words.get(place).copied().unwrap_or("")
+// What the lines so far have made.
+#[derive(Drop)]
+struct Cases<'r> {
+    rt: &'r HostRuntime,
+    alloc: Global,
+    memory: Memory,
+    system: System<'r>,
+    shelf: Vec<Database>,
+    loaded: Loaded,
 }
 
-// The bytes of a word.
-fn bytes_at(alloc: Global, words: &[&str], place: usize) -> Vec<u8> {
-    hex::decode(alloc, word_at(words, place)).unwrap_or(Vec::new(alloc))
-}
+impl<'r> Cases<'r> {
+    fn new(rt: &'r HostRuntime, alloc: Global) -> Cases<'r> {
+        Cases {
+            rt,
+            alloc,
+            memory: Memory::new(alloc),
+            system: System::new(rt, alloc),
+            shelf: Vec::new(alloc),
+            loaded: Loaded::new(alloc),
+        }
+    }
 
-// The number of a word.
-fn number_at(words: &[&str], place: usize) -> usize {
-    word_at(words, place).parse().unwrap_or(0)
-}
+    fn answer(&mut self, line: &str) -> io::Result<()> {
+        let said = self.said(line)?;
+        println!(self.rt; "{said}")
+    }
 
-// The same, up to 32 bits.
-fn number32_at(words: &[&str], place: usize) -> u32 {
-    word_at(words, place).parse().unwrap_or(0)
+    fn said(&mut self, line: &str) -> Result<String, AllocError> {
+        let words: Vec<&str> = line.split(' ').collect(self.alloc)?;
+        self.obey(line, &words)
+    }
+
+    fn obey(&mut self, line: &str, words: &[&str]) -> Result<String, AllocError> {
+        let call = words.get(1..).unwrap_or(words);
+        match word(words, 0) {
+            "folder" => self.memory.ask_folder(call),
+            "source" => self.memory.ask_source(call),
+            "sink" => self.memory.ask_sink(call),
+            "disk" => self.system.obey(call),
+            "shelf" => shelf::obey(self.alloc, &mut self.shelf, call),
+            "db" => self.loaded.obey(call),
+            "made" => made::obey(self.alloc, call),
+            _ => value::obey(self.alloc, line, words),
+        }
+    }
 }

@@ -1,53 +1,71 @@
 // Values of Palm databases.
-use crate::{bytes_at, number_at, number32_at, word_at};
+use crate::calls::shown;
+use crate::database::record_of;
+use case_words::{bytes_at, number_at, word};
 use pdb_values::{
-    Category, Content, DbName, Kind, NameFault, PalmDate, Password, Record, RecordId, TooLarge,
-    UserName,
+    Category, Content, DbName, Kind, NameFault, PalmDate, Password, RecordId, TooLarge, UserName,
 };
 use std::alloc::{AllocError, Global};
 
 /// What a line on values asks for, the line itself where it names a case, or that there is no such line.
 pub fn obey(alloc: Global, line: &str, words: &[&str]) -> Result<String, AllocError> {
-    match word_at(words, 0) {
+    match word(words, 0) {
         "case" => String::from_str(alloc, line),
         "name" => named(alloc, &bytes_at(alloc, words, 1)),
         "stem" => stem(alloc, &bytes_at(alloc, words, 1)),
-        "id" => numbered(
-            alloc,
-            RecordId::new(number32_at(words, 1)).map(RecordId::number),
-        ),
-        "category" => {
-            let number = word_at(words, 1).parse().unwrap_or(0);
-            numbered(
-                alloc,
-                Category::new(number).map(|category| u32::from(category.number())),
-            )
-        }
         "user" => user(alloc, &bytes_at(alloc, words, 1)),
         "password" => password(alloc, &bytes_at(alloc, words, 1)),
-        "content" => content(alloc, number_at(words, 1)),
-        "kind" => kind(
+        "wire" => wire(alloc, &bytes_at(alloc, words, 1)),
+        "kind" => kind(alloc, word(words, 1), bytes_at(alloc, words, 2)),
+        _ => number(alloc, line, words),
+    }
+}
+
+// What a line on numbers and dates asks for.
+fn number(alloc: Global, line: &str, words: &[&str]) -> Result<String, AllocError> {
+    match word(words, 0) {
+        "id" => numbered(
             alloc,
-            word_at(words, 1) == "deleted",
-            bytes_at(alloc, words, 2),
+            RecordId::new(number_at(words, 1)).map(RecordId::number),
         ),
+        "category" => category(alloc, word(words, 1)),
+        "content" => content(alloc, number_at(words, 1) as usize),
+        "seconds" => seconds(alloc, number_at(words, 1)),
         "date" => {
             let text = line.strip_prefix("date ").unwrap_or("");
             dated(alloc, PalmDate::read_text(text).ok())
         }
-        "wire" => wire(alloc, &bytes_at(alloc, words, 1)),
-        "seconds" => seconds(alloc, number32_at(words, 1)),
         _ => format!(in alloc; "no such line: {line}"),
     }
 }
 
-fn named(alloc: Global, bytes: &[u8]) -> Result<String, AllocError> {
-    match DbName::new(bytes) {
-        Ok(_) => String::from_str(alloc, "ok"),
-        Err(NameFault::Empty) => String::from_str(alloc, "empty"),
-        Err(NameFault::TooLong) => String::from_str(alloc, "too long"),
-        Err(NameFault::BadByte(place)) => format!(in alloc; "bad byte {place}"),
+fn category(alloc: Global, text: &str) -> Result<String, AllocError> {
+    let category = Category::new(text.parse().unwrap_or(0));
+    numbered(alloc, category.map(|category| u32::from(category.number())))
+}
+
+fn user(alloc: Global, bytes: &[u8]) -> Result<String, AllocError> {
+    match UserName::new(bytes) {
+        Some(name) => shown(alloc, name.copy().as_bytes()),
+        None => String::from_str(alloc, "none"),
     }
+}
+
+fn password(alloc: Global, bytes: &[u8]) -> Result<String, AllocError> {
+    match Password::new(bytes) {
+        Some(password) => shown(alloc, password.copy().as_bytes()),
+        None => String::from_str(alloc, "none"),
+    }
+}
+
+fn named(alloc: Global, bytes: &[u8]) -> Result<String, AllocError> {
+    let said = match DbName::new(bytes) {
+        Ok(_) => "ok",
+        Err(NameFault::Empty) => "empty",
+        Err(NameFault::TooLong) => "too long",
+        Err(NameFault::BadByte(place)) => return format!(in alloc; "bad byte {place}"),
+    };
+    String::from_str(alloc, said)
 }
 
 // The bytes of a name's copy, and its stem.
@@ -69,69 +87,38 @@ fn numbered(alloc: Global, number: Option<u32>) -> Result<String, AllocError> {
     }
 }
 
-fn user(alloc: Global, bytes: &[u8]) -> Result<String, AllocError> {
-    match UserName::new(bytes) {
-        Some(name) => shown(alloc, name.copy().as_bytes()),
-        None => String::from_str(alloc, "none"),
-    }
-}
-
-fn password(alloc: Global, bytes: &[u8]) -> Result<String, AllocError> {
-    match Password::new(bytes) {
-        Some(password) => shown(alloc, password.copy().as_bytes()),
-        None => String::from_str(alloc, "none"),
-    }
-}
-
-fn shown(alloc: Global, bytes: &[u8]) -> Result<String, AllocError> {
-    let text = hex::encode(alloc, bytes)?;
-    format!(in alloc; "bytes {text}")
-}
-
 // A secret content of so many bytes in category 1, which goes to category 2, beside its copy.
 fn content(alloc: Global, length: usize) -> Result<String, AllocError> {
     let (Some(first), Some(second)) = (Category::new(1), Category::new(2)) else {
         return String::from_str(alloc, "no category");
     };
-    let bytes = vec![in alloc; 9; length]?;
-    match Content::new(first, true, bytes) {
-        Ok(mut content) => {
-            let copy = content.copy(alloc)?;
-            let before = copy.same(&content);
-            content.set_category(second);
-            let after = copy.same(&content);
-            let secret = content.secret();
-            let category = content.category().number();
-            let count = content.bytes().len();
-            format!(in alloc;
-                "length {count} same {before} then {after} category {category} secret {secret}"
-            )
-        }
-        Err(TooLarge(bytes)) => {
-            let count = bytes.len();
-            format!(in alloc; "too large {count}")
-        }
+    match Content::new(first, true, vec![in alloc; 9; length]?) {
+        Ok(mut content) => moved(alloc, &mut content, second),
+        Err(TooLarge(bytes)) => format!(in alloc; "too large {}", bytes.len()),
     }
 }
 
-fn kind(alloc: Global, deleted: bool, bytes: Vec<u8>) -> Result<String, AllocError> {
-    let (Some(id), Some(category)) = (RecordId::new(1), Category::new(3)) else {
-        return String::from_str(alloc, "no number");
-    };
-    let Ok(content) = Content::new(category, false, bytes) else {
-        return String::from_str(alloc, "too large");
-    };
-    let item = Record {
-        id,
-        deleted,
-        dirty: false,
-        busy: false,
-        content,
-    };
-    let said = match item.kind() {
-        Kind::Live => "live",
-        Kind::Archived => "archived",
-        Kind::Deleted => "deleted",
+fn moved(alloc: Global, content: &mut Content, to: Category) -> Result<String, AllocError> {
+    let copy = content.copy(alloc)?;
+    let before = copy.same(content);
+    content.set_category(to);
+    let after = copy.same(content);
+    let secret = content.secret();
+    let category = content.category().number();
+    let count = content.bytes().len();
+    format!(in alloc;
+        "length {count} same {before} then {after} category {category} secret {secret}"
+    )
+}
+
+fn kind(alloc: Global, word: &str, bytes: Vec<u8>) -> Result<String, AllocError> {
+    let said = match record_of(1, word == "deleted", bytes) {
+        Some(item) => match item.kind() {
+            Kind::Live => "live",
+            Kind::Archived => "archived",
+            Kind::Deleted => "deleted",
+        },
+        None => "no record",
     };
     String::from_str(alloc, said)
 }
