@@ -1,4 +1,5 @@
-//! Calls on packets, fragments, both ends of a fragment's way and greetings, as the lines of standard input ask for them.
+//! Calls on packets, fragments, both ends of a fragment's way, greetings, scripts and traces, as the lines of standard
+//! input ask for them.
 //!
 //! Bytes are hexadecimal, `-` stands for none.
 //!
@@ -7,55 +8,62 @@
 //!   `feed H`, `next`, `gap` and `tally` of one reader, `reader` a new one.
 //! - `shows H`, the packets in these bytes as text; `show ID H`, a packet with this body.
 //! - `fragment H`; `arrived DEST KIND ID H`, a packet with this body as an end judges it; `send ID LENGTH`, `current`,
-//!   `ack ID FLAGS SIZE`, `timer` and `answered ID LENGTH` of one sender; `expect ID`, `data ID H` and `whole` of one
-//!   receiver, `receiver` a new one.
+//!   `ack ID FLAGS SIZE`, `timer` and `answered ID` of one sender; `expect ID`, `data ID H` and `whole` of one receiver,
+//!   `receiver` a new one.
 //! - `hello H`.
+//! - `script H NUMBER..`: a script of these bytes, and the fates of the frames of these numbers; `many COUNT H NUMBER..`:
+//!   the same of a script of so many lines `N lost`, from 1 on, and these bytes behind them; `none NUMBER..`: the same of
+//!   the empty script.
+//! - `frame NUMBER END MARK H FATE..`: the trace of this frame alone. A fate is `ok`, or one that a script has.
 #![tactic(auto)]
 
-mod greetings;
+mod fragments;
 mod packets;
 mod pieces;
+mod scripts;
 
-use packets::Packets;
-use pieces::Pieces;
-use std::alloc::Global;
+use arrayvec::ArrayVec;
+use case_words::bytes_in;
+use padp_link::{Receiver, Sender};
+use slp_frames::SlpReader;
+use std::alloc::{AllocError, Global};
 use std::io;
+
+/// A reader of packets, a sender and a receiver.
+#[derive(Drop)]
+struct Ends {
+    reader: SlpReader,
+    sender: Sender,
+    receiver: Receiver,
+}
 
 fn main(rt: HostRuntime) -> io::Result<()> {
     let alloc = rt.alloc();
-    let mut packets = Packets::new(alloc);
-    let mut pieces = Pieces::new(alloc)?;
+    let mut ends = Ends {
+        reader: SlpReader::new(),
+        sender: Sender::new(),
+        receiver: Receiver::new(alloc)?,
+    };
     for line in rt.lines(alloc) {
-        let line = line?;
-        let words: Vec<&str> = line.split(' ').collect(alloc)?;
-        let said = match packets.obey(&words)? {
-            Some(said) => said,
-            None => match pieces.obey(&words)? {
-                Some(said) => said,
-                None => greetings::obey(alloc, &words)?,
-            },
-        };
+        let said = answer(alloc, &mut ends, &line?)?;
         println!(rt; "{said}")?;
     }
     Ok(())
 }
 
-// The bytes of a word.
-fn bytes_of(alloc: Global, words: &[&str], place: usize) -> Vec<u8> {
-    let word = words.get(place).copied().unwrap_or("");
-    hex::decode(alloc, word).unwrap_or(Vec::new(alloc))
+// What a line asks for.
+fn answer(alloc: Global, ends: &mut Ends, line: &str) -> Result<String, AllocError> {
+    let words: Vec<&str> = line.split(' ').collect(alloc)?;
+    let last = bytes_in(alloc, words.last().copied().unwrap_or(""));
+    packets::obey(alloc, ends, &words, &last)
 }
 
-// A number, with `0x` in front of hexadecimal digits.
-fn number_of(words: &[&str], place: usize) -> u16 {
-    let word = words.get(place).copied().unwrap_or("");
-    match word.strip_prefix("0x") {
-        Some(digits) => u16::from_str_radix(digits, 16).unwrap_or(0),
-        None => word.parse().unwrap_or(0),
-    }
+// The number of one byte that a text gives, or 0.
+fn byte_in(text: &str) -> u8 {
+    text.parse().unwrap_or(0)
 }
 
-// Such a number of one byte.
-fn byte_of(words: &[&str], place: usize) -> u8 {
-    (number_of(words, place) % 256) as u8
+// The bytes, or none where they are too many.
+fn kept<const N: usize>(bytes: &[u8]) -> ArrayVec<u8, N> {
+    ArrayVec::try_from(bytes).unwrap_or(ArrayVec::new())
 }

@@ -1,0 +1,101 @@
+// Scripts and the fates that they give, and the trace of a frame.
+use crate::kept;
+use case_words::{bytes_in, number_in, short_in};
+use line_script::{Script, ScriptFault, read_script};
+use std::alloc::{AllocError, Global};
+use std::fmt::Write;
+use trace_text::{End, Fate, Frame, write_trace};
+
+/// Does what a line asks for: what is about scripts and traces, or the name of a case.
+pub fn obey(alloc: Global, words: &[&str]) -> Result<String, AllocError> {
+    match words {
+        ["script", text, numbers @ ..] => fates(alloc, &bytes_in(alloc, text), numbers),
+        ["many", count, text, numbers @ ..] => many(alloc, count, text, numbers),
+        ["none", numbers @ ..] => fates_by(alloc, &Script::empty(alloc), numbers),
+        ["frame", number, end, mark, text, fate @ ..] => {
+            trace(alloc, number, (end, mark), text, fate)
+        }
+        ["case", ..] => words.join(alloc, " "),
+        _ => String::from_str(alloc, "no such line"),
+    }
+}
+
+// The fates of the frames of these numbers by the script in some bytes, or why it is none.
+fn fates(alloc: Global, text: &[u8], numbers: &[&str]) -> Result<String, AllocError> {
+    match read_script(alloc, text) {
+        Ok(script) => fates_by(alloc, &script, numbers),
+        Err(ScriptFault::TooLong) => String::from_str(alloc, "too long"),
+        Err(ScriptFault::BadLine(number)) => format!(in alloc; "bad line {number}"),
+        Err(ScriptFault::NoMemory) => String::from_str(alloc, "no memory"),
+    }
+}
+
+fn fates_by(alloc: Global, script: &Script, numbers: &[&str]) -> Result<String, AllocError> {
+    let mut said = String::from_str(alloc, "script")?;
+    for number in numbers {
+        write!(said, ", {number} ")?;
+        push_fate(&mut said, script.fate(number.parse().unwrap_or(0)))?;
+    }
+    Ok(said)
+}
+
+fn push_fate(said: &mut String, fate: &Fate) -> Result<(), AllocError> {
+    match fate {
+        Fate::Ok => said.push_str("ok"),
+        Fate::Lost => said.push_str("lost"),
+        Fate::Late => said.push_str("late"),
+        Fate::Cut(count) => write!(said, "cut {count}"),
+        Fate::Hit(place, bytes) => write!(said, "hit {place} of {} bytes", bytes.len()),
+        Fate::Noise(bytes) => write!(said, "noise of {} bytes", bytes.len()),
+        Fate::Unplug => said.push_str("unplug"),
+        Fate::Abort => said.push_str("abort"),
+    }
+}
+
+// The fates by a script of so many lines `N lost` and the bytes of a word behind them.
+fn many(alloc: Global, count: &str, rest: &str, numbers: &[&str]) -> Result<String, AllocError> {
+    let mut lines = String::new(alloc);
+    for number in 1..=number_in(count) {
+        write!(lines, "{number} lost\n")?;
+    }
+    let mut text = lines.into_bytes();
+    text.extend_from_slice(&bytes_in(alloc, rest))?;
+    fates(alloc, &text, numbers)
+}
+
+// The trace of a frame, between bars.
+fn trace(
+    alloc: Global,
+    number: &str,
+    (end, mark): (&str, &str),
+    text: &str,
+    fate: &[&str],
+) -> Result<String, AllocError> {
+    let frame = Frame {
+        number: number.parse().unwrap_or(0),
+        from: if end == "H" {
+            End::Handheld
+        } else {
+            End::Desktop
+        },
+        fate: fate_of(alloc, fate),
+        came: mark == "+",
+        bytes: kept(&bytes_in(alloc, text)),
+    };
+    let text = write_trace(alloc, &[frame])?;
+    let text = String::from_utf8_lossy(alloc, &text)?;
+    format!(in alloc; "|{text}|")
+}
+
+fn fate_of(alloc: Global, words: &[&str]) -> Fate {
+    match words {
+        ["lost"] => Fate::Lost,
+        ["late"] => Fate::Late,
+        ["unplug"] => Fate::Unplug,
+        ["abort"] => Fate::Abort,
+        ["cut", count] => Fate::Cut(short_in(count)),
+        ["hit", place, bytes] => Fate::Hit(short_in(place), kept(&bytes_in(alloc, bytes))),
+        ["noise", bytes] => Fate::Noise(kept(&bytes_in(alloc, bytes))),
+        _ => Fate::Ok,
+    }
+}
