@@ -19,8 +19,9 @@ mod requests;
 mod shown;
 mod written;
 
+use case_words::bytes_in;
 use dlp_args::Message;
-use shown::{bytes_of, shown};
+use shown::{number_in, shown};
 use std::alloc::{AllocError, Global};
 use std::io;
 
@@ -28,39 +29,37 @@ fn main(rt: HostRuntime) -> io::Result<()> {
     let alloc = rt.alloc();
     let mut out = Message::new(alloc)?;
     for line in rt.lines(alloc) {
-        let line = line?;
-        let words: Vec<&str> = line.split(' ').collect(alloc)?;
-        let said = answer(alloc, &mut out, &line, &words)?;
+        let said = answer(alloc, &mut out, &line?)?;
         println!(rt; "{said}")?;
     }
     Ok(())
 }
 
-// What a line asks for, the name of a case, or that there is no such line.
-fn answer(
+// What a line asks for.
+fn answer(alloc: Global, out: &mut Message, line: &str) -> Result<String, AllocError> {
+    let words: Vec<&str> = line.split(' ').collect(alloc)?;
+    let last = bytes_in(alloc, words.last().copied().unwrap_or(""));
+    obey(alloc, out, &words, &last)
+}
+
+// What a line asks for, whose last word gives these bytes: the name of a case, what is about requests and replies, or the
+// rest.
+fn obey(
     alloc: Global,
     out: &mut Message,
-    line: &str,
     words: &[&str],
+    bytes: &[u8],
 ) -> Result<String, AllocError> {
-    let word = words.first().copied().unwrap_or("");
-    let last = bytes_of(alloc, words.last().copied().unwrap_or(""))?;
-    match word {
-        "case" => String::from_str(alloc, line),
-        "args" => arguments::args(alloc, words, &last),
-        "arg" => arguments::arg(alloc, out, words, &last),
-        "kept" => arguments::kept(alloc, out, &last),
-        "put" => arguments::put_open(alloc, out),
-        "begin" => arguments::begin_close(alloc, out),
-        "functions" => cells::functions(alloc),
-        "request" => requests::request(alloc, out, &last),
-        "reply" => replies::reply(alloc, words, &last),
-        "list" => replies::list(alloc, &last),
-        "ids" => replies::ids(alloc, &last),
-        "write" => {
-            written::write(out, words.last().copied().unwrap_or(""));
+    match words {
+        ["case", ..] => words.join(alloc, " "),
+        ["request", _] => requests::request(alloc, out, bytes),
+        ["reply", function, _] => replies::reply(alloc, number_in(function), bytes),
+        ["list", _] => replies::list(alloc, bytes),
+        ["ids", _] => replies::ids(alloc, bytes),
+        ["write", name] => {
+            written::write(out, name);
             shown(alloc, out.bytes())
         }
-        _ => cells::cell(alloc, words, &last),
+        _ => arguments::obey(alloc, out, words, bytes),
     }
 }

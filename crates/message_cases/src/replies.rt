@@ -1,26 +1,28 @@
 // Replies, read.
-use crate::shown::{number_of, say, say_numbers, shown};
-use dlp_replies::{Reply, ReplyFault, read_reply};
+use crate::shown::{say, say_numbers, shown};
+use dlp_replies::{Entries, Reply, ReplyFault, read_reply};
 use std::alloc::{AllocError, Global};
+use std::fmt::Write;
 
 /// What bytes reply to a function, or why it is nothing.
-pub fn reply(alloc: Global, words: &[&str], bytes: &[u8]) -> Result<String, AllocError> {
-    match read_reply(number_of(words, 1), bytes) {
+pub fn reply(alloc: Global, function: u8, bytes: &[u8]) -> Result<String, AllocError> {
+    match read_reply(function, bytes) {
         Ok(reply) => said(alloc, &reply),
         Err(fault) => refused(alloc, fault),
     }
 }
 
 fn refused(alloc: Global, fault: ReplyFault) -> Result<String, AllocError> {
-    match fault {
-        ReplyFault::Wrapper(place) => format!(in alloc; "Wrapper {place}"),
-        ReplyFault::Function(byte) => format!(in alloc; "Function {byte:x}"),
-        ReplyFault::BadId(place) => format!(in alloc; "BadId {place}"),
-        ReplyFault::BadSize(place) => format!(in alloc; "BadSize {place}"),
-        ReplyFault::Argument => String::from_str(alloc, "Argument"),
-        ReplyFault::Size => String::from_str(alloc, "Size"),
-        ReplyFault::Value(place) => format!(in alloc; "Value {place}"),
-    }
+    let (name, place) = match fault {
+        ReplyFault::Wrapper(place) => ("Wrapper", place),
+        ReplyFault::BadId(place) => ("BadId", place),
+        ReplyFault::BadSize(place) => ("BadSize", place),
+        ReplyFault::Value(place) => ("Value", place),
+        ReplyFault::Function(byte) => return format!(in alloc; "Function {byte:x}"),
+        ReplyFault::Argument => return String::from_str(alloc, "Argument"),
+        ReplyFault::Size => return String::from_str(alloc, "Size"),
+    };
+    format!(in alloc; "{name} {place}")
 }
 
 // What a reply says.
@@ -57,9 +59,7 @@ fn said(alloc: Global, reply: &Reply<'_>) -> Result<String, AllocError> {
         Reply::ReadRecordIdList { ids } => {
             say_numbers(alloc, "ReadRecordIdList", &[ids.len() as u64])
         }
-        Reply::ReadUserInfo { .. } | Reply::ReadNextModifiedRec { .. } | Reply::ReadRecord { .. } =>
-            said_at_length(alloc, reply),
-        _ => String::from_str(alloc, function_name(reply)),
+        _ => said_at_length(alloc, reply),
     }
 }
 
@@ -119,7 +119,7 @@ fn said_at_length(alloc: Global, reply: &Reply<'_>) -> Result<String, AllocError
             ];
             say(alloc, "ReadRecord", &numbers, bytes)
         }
-        _ => String::from_str(alloc, "another reply"),
+        _ => String::from_str(alloc, function_name(reply)),
     }
 }
 
@@ -153,17 +153,25 @@ pub fn list(alloc: Global, bytes: &[u8]) -> Result<String, AllocError> {
     };
     let mut text = String::from_str(alloc, "list")?;
     for place in 0..=entries.len() {
-        if let Some((index, head)) = entries.get(place) {
-            let name = shown(alloc, head.name.as_bytes())?;
-            let numbers = [index as u64, head.version as u64, head.modnum as u64];
-            let said = say_numbers(alloc, &name, &numbers)?;
-            text.push_str(" ")?;
-            text.push_str(&said)?;
-        } else {
-            text.push_str(" none")?;
-        }
+        text.push_str(" ")?;
+        text.push_str(&entry(alloc, entries, place)?)?;
     }
     Ok(text)
+}
+
+fn entry(alloc: Global, entries: &Entries<'_>, place: usize) -> Result<String, AllocError> {
+    match entries.get(place) {
+        Some((index, head)) => {
+            let name = shown(alloc, head.name.as_bytes())?;
+            let numbers = [
+                u64::from(index),
+                u64::from(head.version),
+                u64::from(head.modnum),
+            ];
+            say_numbers(alloc, &name, &numbers)
+        }
+        None => String::from_str(alloc, "none"),
+    }
 }
 
 /// The ids in a reply, one by one, and whether there is a further one.
@@ -174,11 +182,10 @@ pub fn ids(alloc: Global, bytes: &[u8]) -> Result<String, AllocError> {
     };
     let mut text = String::from_str(alloc, "ids")?;
     for place in 0..=ids.len() {
-        let word = match ids.get(place) {
-            Some(id) => say_numbers(alloc, "", &[id.number() as u64])?,
-            None => String::from_str(alloc, " none")?,
-        };
-        text.push_str(&word)?;
+        match ids.get(place) {
+            Some(id) => write!(text, " {:x}", id.number())?,
+            None => text.push_str(" none")?,
+        }
     }
     Ok(text)
 }

@@ -29,15 +29,17 @@ fn written(alloc: Global, out: &mut Message, request: &Request<'_>) -> Result<St
     format!(in alloc; "{said} = {text}")
 }
 
-fn refused(alloc: Global, fault: RequestFault) -> Result<String, AllocError> {
-    match fault {
-        RequestFault::Illegal(byte) => format!(in alloc; "Illegal {byte:x}"),
-        RequestFault::Wrapper(place) => format!(in alloc; "Wrapper {place}"),
-        RequestFault::BadId(place) => format!(in alloc; "BadId {place}"),
-        RequestFault::BadSize(place) => format!(in alloc; "BadSize {place}"),
-        RequestFault::Argument => String::from_str(alloc, "Argument"),
-        RequestFault::Size => String::from_str(alloc, "Size"),
-    }
+/// Why bytes are no request.
+pub fn refused(alloc: Global, fault: RequestFault) -> Result<String, AllocError> {
+    let (name, place) = match fault {
+        RequestFault::Wrapper(place) => ("Wrapper", place),
+        RequestFault::BadId(place) => ("BadId", place),
+        RequestFault::BadSize(place) => ("BadSize", place),
+        RequestFault::Illegal(byte) => return format!(in alloc; "Illegal {byte:x}"),
+        RequestFault::Argument => return String::from_str(alloc, "Argument"),
+        RequestFault::Size => return String::from_str(alloc, "Size"),
+    };
+    format!(in alloc; "{name} {place}")
 }
 
 fn code(code: FourCc) -> u64 {
@@ -142,12 +144,12 @@ fn about_handles(alloc: Global, request: &Request<'_>) -> Result<String, AllocEr
             let numbers = [handle as u64, from as u64, to as u64];
             say_numbers(alloc, "MoveCategory", &numbers)
         }
-        _ => about_entries(alloc, request),
+        _ => about_records(alloc, request),
     }
 }
 
-// What a request about records or resources asks.
-fn about_entries(alloc: Global, request: &Request<'_>) -> Result<String, AllocError> {
+// What a request about records asks.
+fn about_records(alloc: Global, request: &Request<'_>) -> Result<String, AllocError> {
     match *request {
         Request::ReadNextModifiedRec { handle } => {
             say_numbers(alloc, "ReadNextModifiedRec", &[handle as u64])
@@ -191,6 +193,22 @@ fn about_entries(alloc: Global, request: &Request<'_>) -> Result<String, AllocEr
             let numbers = [handle as u64, flags as u64, id as u64];
             say_numbers(alloc, "DeleteRecord", &numbers)
         }
+        Request::ReadRecordIdList {
+            handle,
+            flags,
+            start,
+            maximum,
+        } => {
+            let numbers = [handle as u64, flags as u64, start as u64, maximum as u64];
+            say_numbers(alloc, "ReadRecordIdList", &numbers)
+        }
+        _ => about_resources(alloc, request),
+    }
+}
+
+// What a request about resources asks.
+fn about_resources(alloc: Global, request: &Request<'_>) -> Result<String, AllocError> {
+    match *request {
         Request::ReadResourceByIndex {
             handle,
             index,
@@ -233,15 +251,6 @@ fn about_entries(alloc: Global, request: &Request<'_>) -> Result<String, AllocEr
         } => {
             let numbers = [handle as u64, flags as u64, code(kind), id as u64];
             say_numbers(alloc, "DeleteResource", &numbers)
-        }
-        Request::ReadRecordIdList {
-            handle,
-            flags,
-            start,
-            maximum,
-        } => {
-            let numbers = [handle as u64, flags as u64, start as u64, maximum as u64];
-            say_numbers(alloc, "ReadRecordIdList", &numbers)
         }
         _ => String::from_str(alloc, "no such request"),
     }

@@ -1,4 +1,7 @@
 // Replies, written.
+ghost use Rattle.std.specs.Prelude.{IfSome};
+ghost use Rattle.dlp_replies.specs.Views.{reply_value};
+ghost use Rattle.dlp_replies.specs.Writables.{IsWritable};
 
 use dlp_args::Message;
 use dlp_replies::{Entries, ErrorCode, Ids, Reply, write_reply};
@@ -10,87 +13,98 @@ pub fn write(out: &mut Message, name: &str) {
     match name {
         "ReadDbList" => list(out),
         "ReadRecordIdList" => ids(out),
-        "ReadNextModifiedRec" | "ReadRecord" | "WriteRecord" => record(out, name),
-        "ReadUserInfo" => user(out),
         _ => {
-            if !of_database(out, name) {
-                done(out, name);
+            if let Some(reply) = reply_of(name) {
+                write_reply(&reply, out);
             }
         }
     }
 }
 
-fn of_database(out: &mut Message, name: &str) -> bool {
+// The reply of a name, but for lists.
+fn reply_of(name: &str) -> Option<Reply<'static>>
+    ensures { IfSome result (λ reply. IsWritable (reply_value reply)) }
+{
     match name {
-        "Refused" => write_reply(
-            &Reply::Refused {
-                function: 0x1D,
-                code: ErrorCode(5),
-            },
-            out,
-        ),
-        "OpenDb" => write_reply(&Reply::OpenDb { handle: 1 }, out),
-        "CreateDb" => write_reply(&Reply::CreateDb { handle: 1 }, out),
-        "ReadAppBlock" => write_reply(&Reply::ReadAppBlock { bytes: b"hi" }, out),
-        "ReadSortBlock" => write_reply(&Reply::ReadSortBlock { bytes: b"z" }, out),
-        "ReadResource" => write_reply(
-            &Reply::ReadResource {
-                kind: FourCc(*b"CODE"),
-                id: 1,
-                index: 0,
-                size: 3,
-                bytes: b"abc",
-            },
-            out,
-        ),
-        "ReadOpenDbInfo" => write_reply(&Reply::ReadOpenDbInfo { count: 7 }, out),
-        _ => return false,
-    }
-    true
-}
-
-fn record(out: &mut Message, name: &str) {
-    let (Some(id), Some(category)) = (RecordId::new(7), Category::new(15)) else {
-        return;
-    };
-    match name {
-        "ReadNextModifiedRec" => write_reply(
-            &Reply::ReadNextModifiedRec {
-                id,
-                index: 0,
-                size: 1,
-                attributes: 0x40,
-                category,
-                bytes: b"a",
-            },
-            out,
-        ),
-        "ReadRecord" => write_reply(
-            &Reply::ReadRecord {
-                id,
-                index: 1,
-                size: 2,
-                attributes: 0,
-                category,
-                bytes: b"ab",
-            },
-            out,
-        ),
-        _ => write_reply(&Reply::WriteRecord { id }, out),
+        "Refused" => Some(Reply::Refused {
+            function: 0x1D,
+            code: ErrorCode(5),
+        }),
+        "ReadUserInfo" => Some(Reply::ReadUserInfo {
+            user: 1,
+            viewer: 2,
+            pc: 3,
+            good: PalmDate::of_seconds(3_082_844_800),
+            last: PalmDate::of_seconds(0),
+            name: b"A",
+            password: b"pw",
+        }),
+        "OpenDb" => Some(Reply::OpenDb { handle: 1 }),
+        "CreateDb" => Some(Reply::CreateDb { handle: 1 }),
+        "ReadAppBlock" => Some(Reply::ReadAppBlock { bytes: b"hi" }),
+        "ReadSortBlock" => Some(Reply::ReadSortBlock { bytes: b"z" }),
+        "ReadResource" => Some(Reply::ReadResource {
+            kind: FourCc(*b"CODE"),
+            id: 1,
+            index: 0,
+            size: 3,
+            bytes: b"abc",
+        }),
+        "ReadOpenDbInfo" => Some(Reply::ReadOpenDbInfo { count: 7 }),
+        _ => record_reply(name),
     }
 }
 
-fn user(out: &mut Message) {
-    let user = Reply::ReadUserInfo {
-        user: 1,
-        viewer: 2,
-        pc: 3,
-        good: PalmDate::of_seconds(3_082_844_800),
-        last: PalmDate::of_seconds(0),
-        name: b"A",
-        password: b"pw",
-    };
-    write_reply(&user, out);
+// The reply of a name, where it is about one record or bears no argument.
+fn record_reply(name: &str) -> Option<Reply<'static>>
+    ensures { IfSome result (λ reply. IsWritable (reply_value reply)) }
+{
+    match name {
+        "ReadNextModifiedRec" => Some(Reply::ReadNextModifiedRec {
+            id: RecordId::new(7)?,
+            index: 0,
+            size: 1,
+            attributes: 0x40,
+            category: Category::new(15)?,
+            bytes: b"a",
+        }),
+        "ReadRecord" => Some(Reply::ReadRecord {
+            id: RecordId::new(7)?,
+            index: 1,
+            size: 2,
+            attributes: 0,
+            category: Category::new(15)?,
+            bytes: b"ab",
+        }),
+        "WriteRecord" => Some(Reply::WriteRecord {
+            id: RecordId::new(7)?,
+        }),
+        _ => bare(name),
+    }
+}
+
+// The reply of a name, where it bears no argument.
+fn bare(name: &str) -> Option<Reply<'static>>
+    ensures { IfSome result (λ reply. IsWritable (reply_value reply)) }
+{
+    match name {
+        "WriteUserInfo" => Some(Reply::WriteUserInfo),
+        "CloseDb" => Some(Reply::CloseDb),
+        "DeleteDb" => Some(Reply::DeleteDb),
+        "WriteAppBlock" => Some(Reply::WriteAppBlock),
+        "WriteSortBlock" => Some(Reply::WriteSortBlock),
+        "DeleteRecord" => Some(Reply::DeleteRecord),
+        "WriteResource" => Some(Reply::WriteResource),
+        "DeleteResource" => Some(Reply::DeleteResource),
+        "CleanUpDatabase" => Some(Reply::CleanUpDatabase),
+        "ResetSyncFlags" => Some(Reply::ResetSyncFlags),
+        "ResetRecordIndex" => Some(Reply::ResetRecordIndex),
+        "AddSyncLogEntry" => Some(Reply::AddSyncLogEntry),
+        "MoveCategory" => Some(Reply::MoveCategory),
+        "OpenConduit" => Some(Reply::OpenConduit),
+        "EndOfSync" => Some(Reply::EndOfSync),
+        _ => None,
+    }
 }
 
 fn list(out: &mut Message) {
@@ -129,26 +143,4 @@ fn ids(out: &mut Message) {
         ids: Ids::of(&both),
     };
     write_reply(&ids, out);
-}
-
-// A reply without an argument.
-fn done(out: &mut Message, name: &str) {
-    match name {
-        "WriteUserInfo" => write_reply(&Reply::WriteUserInfo, out),
-        "CloseDb" => write_reply(&Reply::CloseDb, out),
-        "DeleteDb" => write_reply(&Reply::DeleteDb, out),
-        "WriteAppBlock" => write_reply(&Reply::WriteAppBlock, out),
-        "WriteSortBlock" => write_reply(&Reply::WriteSortBlock, out),
-        "DeleteRecord" => write_reply(&Reply::DeleteRecord, out),
-        "WriteResource" => write_reply(&Reply::WriteResource, out),
-        "DeleteResource" => write_reply(&Reply::DeleteResource, out),
-        "CleanUpDatabase" => write_reply(&Reply::CleanUpDatabase, out),
-        "ResetSyncFlags" => write_reply(&Reply::ResetSyncFlags, out),
-        "ResetRecordIndex" => write_reply(&Reply::ResetRecordIndex, out),
-        "AddSyncLogEntry" => write_reply(&Reply::AddSyncLogEntry, out),
-        "MoveCategory" => write_reply(&Reply::MoveCategory, out),
-        "OpenConduit" => write_reply(&Reply::OpenConduit, out),
-        "EndOfSync" => write_reply(&Reply::EndOfSync, out),
-        _ => {}
-    }
 }
