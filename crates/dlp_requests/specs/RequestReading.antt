@@ -70,6 +70,36 @@ request_of function.EndOfSync arguments = request_by form.EndOfSync arguments
 request_of function.ResetRecordIndex arguments = request_by form.ResetRecordIndex arguments
 request_of function.ReadRecordIdList arguments = request_by form.ReadRecordIdList arguments
 
+-- the request of a function whose one argument, 0x20, has these bytes; the other functions have none
+unfoldable pub request_with : Function → List ℕ → Option RequestValue
+request_with function.WriteUserInfo bytes = request_in form.WriteUserInfo bytes
+request_with function.ReadDbList bytes = request_in form.ReadDbList bytes
+request_with function.OpenDb bytes = request_in form.OpenDb bytes
+request_with function.CreateDb bytes = request_in form.CreateDb bytes
+request_with function.CloseDb bytes = request_in form.CloseDb bytes
+request_with function.DeleteDb bytes = request_in form.DeleteDb bytes
+request_with function.ReadAppBlock bytes = request_in form.ReadAppBlock bytes
+request_with function.ReadSortBlock bytes = request_in form.ReadSortBlock bytes
+request_with function.WriteAppBlock bytes = request_in form.WriteAppBlock bytes
+request_with function.WriteSortBlock bytes = request_in form.WriteSortBlock bytes
+request_with function.ReadNextModifiedRec bytes = request_in form.ReadNextModifiedRec bytes
+request_with function.WriteRecord bytes = request_in form.WriteRecord bytes
+request_with function.DeleteRecord bytes = request_in form.DeleteRecord bytes
+request_with function.WriteResource bytes = request_in form.WriteResource bytes
+request_with function.DeleteResource bytes = request_in form.DeleteResource bytes
+request_with function.CleanUpDatabase bytes = request_in form.CleanUpDatabase bytes
+request_with function.ResetSyncFlags bytes = request_in form.ResetSyncFlags bytes
+request_with function.ResetRecordIndex bytes = request_in form.ResetRecordIndex bytes
+request_with function.AddSyncLogEntry bytes = request_in form.AddSyncLogEntry bytes
+request_with function.ReadOpenDbInfo bytes = request_in form.ReadOpenDbInfo bytes
+request_with function.MoveCategory bytes = request_in form.MoveCategory bytes
+request_with function.EndOfSync bytes = request_in form.EndOfSync bytes
+request_with function.ReadRecordIdList bytes = request_in form.ReadRecordIdList bytes
+request_with function.ReadUserInfo bytes = None
+request_with function.OpenConduit bytes = None
+request_with function.ReadRecord bytes = None
+request_with function.ReadResource bytes = None
+
 -- the function that a byte names, or `Illegal`
 abbrev pub known : ℕ → Option Function → Result Function RequestFault
 known number None = Err (fault.Illegal number)

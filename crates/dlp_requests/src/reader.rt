@@ -49,7 +49,7 @@ fn take_request(bytes: &[u8]) -> Result<Request<'_>, RequestFault>
 }
 
 // The request of a function by its arguments.
-#[tactic(auto, unfolding(crate::specs::RequestReading::request_of))]
+#[tactic(auto, unfolding(crate::specs::RequestReading::request_of, crate::specs::RequestReading::request_with))]
 fn request_of<'a>(function: Function, args: &Args<'a>) -> Result<Request<'a>, RequestFault>
     ensures { Gives request_value result (reading.request_of function args.now) }
 {
@@ -58,35 +58,49 @@ fn request_of<'a>(function: Function, args: &Args<'a>) -> Result<Request<'a>, Re
             none(args)?;
             Ok(Request::ReadUserInfo)
         }
-        Function::WriteUserInfo => or_size(session::write_user_info(only(args, 0x20)?)),
-        Function::ReadDbList => or_size(database::read_db_list(only(args, 0x20)?)),
-        Function::OpenDb => or_size(database::open_db(only(args, 0x20)?)),
-        Function::CreateDb => or_size(database::create_db(only(args, 0x20)?)),
-        Function::CloseDb => or_size(database::close_db(only(args, 0x20)?)),
-        Function::DeleteDb => or_size(database::delete_db(only(args, 0x20)?)),
-        Function::ReadAppBlock => or_size(database::read_app_block(only(args, 0x20)?)),
-        Function::ReadSortBlock => or_size(database::read_sort_block(only(args, 0x20)?)),
-        Function::WriteAppBlock => or_size(database::write_app_block(only(args, 0x20)?)),
-        Function::WriteSortBlock => or_size(database::write_sort_block(only(args, 0x20)?)),
-        Function::ReadNextModifiedRec => or_size(record::read_next_modified_rec(only(args, 0x20)?)),
-        Function::ReadRecord => read_record(args),
-        Function::WriteRecord => or_size(record::write_record(only(args, 0x20)?)),
-        Function::DeleteRecord => or_size(record::delete_record(only(args, 0x20)?)),
-        Function::ReadResource => read_resource(args),
-        Function::WriteResource => or_size(resource::write_resource(only(args, 0x20)?)),
-        Function::DeleteResource => or_size(resource::delete_resource(only(args, 0x20)?)),
-        Function::CleanUpDatabase => or_size(record::clean_up_database(only(args, 0x20)?)),
-        Function::ResetSyncFlags => or_size(record::reset_sync_flags(only(args, 0x20)?)),
-        Function::ResetRecordIndex => or_size(record::reset_record_index(only(args, 0x20)?)),
-        Function::AddSyncLogEntry => or_size(session::add_sync_log_entry(only(args, 0x20)?)),
-        Function::ReadOpenDbInfo => or_size(database::read_open_db_info(only(args, 0x20)?)),
-        Function::MoveCategory => or_size(record::move_category(only(args, 0x20)?)),
         Function::OpenConduit => {
             none(args)?;
             Ok(Request::OpenConduit)
         }
-        Function::EndOfSync => or_size(session::end_of_sync(only(args, 0x20)?)),
-        Function::ReadRecordIdList => or_size(record::read_record_id_list(only(args, 0x20)?)),
+        Function::ReadRecord => read_record(args),
+        Function::ReadResource => read_resource(args),
+        _ => or_size(request_with(function, only(args, 0x20)?)),
+    }
+}
+
+// The request of a function whose one argument, 0x20, has this content. The other functions have none.
+#[tactic(auto, unfolding(crate::specs::RequestReading::request_with))]
+fn request_with(function: Function, content: &[u8]) -> Option<Request<'_>>
+    ensures { option_map request_value result ≡ reading.request_with function content.now }
+{
+    match function {
+        Function::WriteUserInfo => session::write_user_info(content),
+        Function::ReadDbList => database::read_db_list(content),
+        Function::OpenDb => database::open_db(content),
+        Function::CreateDb => database::create_db(content),
+        Function::CloseDb => database::close_db(content),
+        Function::DeleteDb => database::delete_db(content),
+        Function::ReadAppBlock => database::read_app_block(content),
+        Function::ReadSortBlock => database::read_sort_block(content),
+        Function::WriteAppBlock => database::write_app_block(content),
+        Function::WriteSortBlock => database::write_sort_block(content),
+        Function::ReadNextModifiedRec => record::read_next_modified_rec(content),
+        Function::WriteRecord => record::write_record(content),
+        Function::DeleteRecord => record::delete_record(content),
+        Function::WriteResource => resource::write_resource(content),
+        Function::DeleteResource => resource::delete_resource(content),
+        Function::CleanUpDatabase => record::clean_up_database(content),
+        Function::ResetSyncFlags => record::reset_sync_flags(content),
+        Function::ResetRecordIndex => record::reset_record_index(content),
+        Function::AddSyncLogEntry => session::add_sync_log_entry(content),
+        Function::ReadOpenDbInfo => database::read_open_db_info(content),
+        Function::MoveCategory => record::move_category(content),
+        Function::EndOfSync => session::end_of_sync(content),
+        Function::ReadRecordIdList => record::read_record_id_list(content),
+        Function::ReadUserInfo
+        | Function::OpenConduit
+        | Function::ReadRecord
+        | Function::ReadResource => None,
     }
 }
 
