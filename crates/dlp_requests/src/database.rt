@@ -1,5 +1,6 @@
-// What the argument of a request about databases, their blocks and their handles holds.
-#![tactic(auto, unfolding(crate::specs::RequestTexts::request_text, crate::specs::RequestTexts::IsRequest))]
+// What the argument of a request about databases, their blocks and their handles holds. The bytes of a number bear its first
+// letter, the lowest one with 0.
+#![tactic(auto, unfolding(crate::specs::RequestTexts::request_text, crate::specs::RequestTexts::IsRequest, dlp_args::specs::CellReading::number_at, dlp_args::specs::CellReading::some_at))]
 
 ghost use Rattle.std.specs.Prelude.{◌≡◌};
 ghost use Rattle.dlp_requests.specs.Forms as form;
@@ -7,19 +8,20 @@ ghost use Rattle.dlp_requests.specs.RequestTexts.{IsRequest, request_text};
 ghost use Rattle.dlp_requests.specs.Views.{Reads, request_value};
 
 use crate::request::Request;
-use dlp_args::{
-    Message, append, begin, counted_of, end_of, put, take_4, take_u8, take_u16, text_of,
-};
+use dlp_args::{Message, append, begin, counted_of, put, take_4, take_u8, take_u16, text_of};
 use pdb_values::FourCc;
 
 pub(crate) fn read_db_list(content: &[u8]) -> Option<Request<'_>>
     ensures { Reads form.ReadDbList content.now result }
 {
-    let (flags, rest) = take_u8(content)?;
-    let (card, rest) = take_u8(rest)?;
-    let (start, rest) = take_u16(rest)?;
-    end_of(rest)?;
-    Some(Request::ReadDbList { flags, card, start })
+    let [flags, card, s1, s0] = content else {
+        return None;
+    };
+    Some(Request::ReadDbList {
+        flags: *flags,
+        card: *card,
+        start: u16::from_be_bytes([*s1, *s0]),
+    })
 }
 
 pub(crate) fn put_read_db_list(out: &mut Message, flags: u8, card: u8, start: u16)
@@ -40,10 +42,15 @@ pub(crate) fn put_read_db_list(out: &mut Message, flags: u8, card: u8, start: u1
 pub(crate) fn open_db(content: &[u8]) -> Option<Request<'_>>
     ensures { Reads form.OpenDb content.now result }
 {
-    let (card, rest) = take_u8(content)?;
-    let (mode, rest) = take_u8(rest)?;
+    let [card, mode, rest @ ..] = content else {
+        return None;
+    };
     let name = text_of(rest)?;
-    Some(Request::OpenDb { card, mode, name })
+    Some(Request::OpenDb {
+        card: *card,
+        mode: *mode,
+        name,
+    })
 }
 
 pub(crate) fn put_open_db(out: &mut Message, card: u8, mode: u8, name: &[u8])
@@ -99,9 +106,10 @@ pub(crate) fn put_create_db(
 pub(crate) fn close_db(content: &[u8]) -> Option<Request<'_>>
     ensures { Reads form.CloseDb content.now result }
 {
-    let (handle, rest) = take_u8(content)?;
-    end_of(rest)?;
-    Some(Request::CloseDb { handle })
+    let [handle] = content else {
+        return None;
+    };
+    Some(Request::CloseDb { handle: *handle })
 }
 
 pub(crate) fn put_close_db(out: &mut Message, handle: u8)
@@ -114,10 +122,11 @@ pub(crate) fn put_close_db(out: &mut Message, handle: u8)
 pub(crate) fn delete_db(content: &[u8]) -> Option<Request<'_>>
     ensures { Reads form.DeleteDb content.now result }
 {
-    let (card, rest) = take_u8(content)?;
-    let (_, rest) = take_u8(rest)?;
+    let [card, _, rest @ ..] = content else {
+        return None;
+    };
     let name = text_of(rest)?;
-    Some(Request::DeleteDb { card, name })
+    Some(Request::DeleteDb { card: *card, name })
 }
 
 pub(crate) fn put_delete_db(out: &mut Message, card: u8, name: &[u8])
@@ -130,15 +139,13 @@ pub(crate) fn put_delete_db(out: &mut Message, card: u8, name: &[u8])
 pub(crate) fn read_app_block(content: &[u8]) -> Option<Request<'_>>
     ensures { Reads form.ReadAppBlock content.now result }
 {
-    let (handle, rest) = take_u8(content)?;
-    let (_, rest) = take_u8(rest)?;
-    let (offset, rest) = take_u16(rest)?;
-    let (length, rest) = take_u16(rest)?;
-    end_of(rest)?;
+    let [handle, _, o1, o0, l1, l0] = content else {
+        return None;
+    };
     Some(Request::ReadAppBlock {
-        handle,
-        offset,
-        length,
+        handle: *handle,
+        offset: u16::from_be_bytes([*o1, *o0]),
+        length: u16::from_be_bytes([*l1, *l0]),
     })
 }
 
@@ -161,15 +168,13 @@ pub(crate) fn put_read_app_block(out: &mut Message, handle: u8, offset: u16, len
 pub(crate) fn read_sort_block(content: &[u8]) -> Option<Request<'_>>
     ensures { Reads form.ReadSortBlock content.now result }
 {
-    let (handle, rest) = take_u8(content)?;
-    let (_, rest) = take_u8(rest)?;
-    let (offset, rest) = take_u16(rest)?;
-    let (length, rest) = take_u16(rest)?;
-    end_of(rest)?;
+    let [handle, _, o1, o0, l1, l0] = content else {
+        return None;
+    };
     Some(Request::ReadSortBlock {
-        handle,
-        offset,
-        length,
+        handle: *handle,
+        offset: u16::from_be_bytes([*o1, *o0]),
+        length: u16::from_be_bytes([*l1, *l0]),
     })
 }
 
@@ -192,10 +197,14 @@ pub(crate) fn put_read_sort_block(out: &mut Message, handle: u8, offset: u16, le
 pub(crate) fn write_app_block(content: &[u8]) -> Option<Request<'_>>
     ensures { Reads form.WriteAppBlock content.now result }
 {
-    let (handle, rest) = take_u8(content)?;
-    let (_, rest) = take_u8(rest)?;
+    let [handle, _, rest @ ..] = content else {
+        return None;
+    };
     let bytes = counted_of(rest)?;
-    Some(Request::WriteAppBlock { handle, bytes })
+    Some(Request::WriteAppBlock {
+        handle: *handle,
+        bytes,
+    })
 }
 
 pub(crate) fn put_write_app_block(out: &mut Message, handle: u8, bytes: &[u8])
@@ -209,10 +218,14 @@ pub(crate) fn put_write_app_block(out: &mut Message, handle: u8, bytes: &[u8])
 pub(crate) fn write_sort_block(content: &[u8]) -> Option<Request<'_>>
     ensures { Reads form.WriteSortBlock content.now result }
 {
-    let (handle, rest) = take_u8(content)?;
-    let (_, rest) = take_u8(rest)?;
+    let [handle, _, rest @ ..] = content else {
+        return None;
+    };
     let bytes = counted_of(rest)?;
-    Some(Request::WriteSortBlock { handle, bytes })
+    Some(Request::WriteSortBlock {
+        handle: *handle,
+        bytes,
+    })
 }
 
 pub(crate) fn put_write_sort_block(out: &mut Message, handle: u8, bytes: &[u8])
@@ -226,9 +239,10 @@ pub(crate) fn put_write_sort_block(out: &mut Message, handle: u8, bytes: &[u8])
 pub(crate) fn read_open_db_info(content: &[u8]) -> Option<Request<'_>>
     ensures { Reads form.ReadOpenDbInfo content.now result }
 {
-    let (handle, rest) = take_u8(content)?;
-    end_of(rest)?;
-    Some(Request::ReadOpenDbInfo { handle })
+    let [handle] = content else {
+        return None;
+    };
+    Some(Request::ReadOpenDbInfo { handle: *handle })
 }
 
 pub(crate) fn put_read_open_db_info(out: &mut Message, handle: u8)

@@ -1,5 +1,5 @@
-// What the argument of a request about records holds.
-#![tactic(auto, unfolding(crate::specs::RequestTexts::request_text, crate::specs::RequestTexts::IsRequest))]
+// What the argument of a request about records holds. The bytes of a number bear its first letter, the lowest one with 0.
+#![tactic(auto, unfolding(crate::specs::RequestTexts::request_text, crate::specs::RequestTexts::IsRequest, dlp_args::specs::CellReading::number_at, dlp_args::specs::CellReading::some_at))]
 
 ghost use Rattle.std.specs.Prelude.{◌≡◌};
 ghost use Rattle.dlp_requests.specs.Forms as form;
@@ -7,14 +7,15 @@ ghost use Rattle.dlp_requests.specs.RequestTexts.{IsRequest, request_text};
 ghost use Rattle.dlp_requests.specs.Views.{Reads, request_value};
 
 use crate::request::Request;
-use dlp_args::{Message, end_of, put, rest_of, take_u8, take_u16, take_u32};
+use dlp_args::{Message, put, rest_of};
 
 pub(crate) fn read_next_modified_rec(content: &[u8]) -> Option<Request<'_>>
     ensures { Reads form.ReadNextModifiedRec content.now result }
 {
-    let (handle, rest) = take_u8(content)?;
-    end_of(rest)?;
-    Some(Request::ReadNextModifiedRec { handle })
+    let [handle] = content else {
+        return None;
+    };
+    Some(Request::ReadNextModifiedRec { handle: *handle })
 }
 
 pub(crate) fn put_read_next_modified_rec(out: &mut Message, handle: u8)
@@ -27,17 +28,14 @@ pub(crate) fn put_read_next_modified_rec(out: &mut Message, handle: u8)
 pub(crate) fn read_record_by_id(content: &[u8]) -> Option<Request<'_>>
     ensures { Reads form.ReadRecordById content.now result }
 {
-    let (handle, rest) = take_u8(content)?;
-    let (_, rest) = take_u8(rest)?;
-    let (id, rest) = take_u32(rest)?;
-    let (offset, rest) = take_u16(rest)?;
-    let (length, rest) = take_u16(rest)?;
-    end_of(rest)?;
+    let [handle, _, i3, i2, i1, i0, o1, o0, l1, l0] = content else {
+        return None;
+    };
     Some(Request::ReadRecordById {
-        handle,
-        id,
-        offset,
-        length,
+        handle: *handle,
+        id: u32::from_be_bytes([*i3, *i2, *i1, *i0]),
+        offset: u16::from_be_bytes([*o1, *o0]),
+        length: u16::from_be_bytes([*l1, *l0]),
     })
 }
 
@@ -69,17 +67,14 @@ pub(crate) fn put_read_record_by_id(
 pub(crate) fn read_record_by_index(content: &[u8]) -> Option<Request<'_>>
     ensures { Reads form.ReadRecordByIndex content.now result }
 {
-    let (handle, rest) = take_u8(content)?;
-    let (_, rest) = take_u8(rest)?;
-    let (index, rest) = take_u16(rest)?;
-    let (offset, rest) = take_u16(rest)?;
-    let (length, rest) = take_u16(rest)?;
-    end_of(rest)?;
+    let [handle, _, i1, i0, o1, o0, l1, l0] = content else {
+        return None;
+    };
     Some(Request::ReadRecordByIndex {
-        handle,
-        index,
-        offset,
-        length,
+        handle: *handle,
+        index: u16::from_be_bytes([*i1, *i0]),
+        offset: u16::from_be_bytes([*o1, *o0]),
+        length: u16::from_be_bytes([*l1, *l0]),
     })
 }
 
@@ -111,18 +106,27 @@ pub(crate) fn put_read_record_by_index(
 pub(crate) fn write_record(content: &[u8]) -> Option<Request<'_>>
     ensures { Reads form.WriteRecord content.now result }
 {
-    let (handle, rest) = take_u8(content)?;
-    let (flags, rest) = take_u8(rest)?;
-    let (id, rest) = take_u32(rest)?;
-    let (attributes, rest) = take_u8(rest)?;
-    let (category, rest) = take_u8(rest)?;
-    let bytes = rest_of(rest)?;
-    Some(Request::WriteRecord {
+    let [
         handle,
         flags,
-        id,
+        i3,
+        i2,
+        i1,
+        i0,
         attributes,
         category,
+        rest @ ..,
+    ] = content
+    else {
+        return None;
+    };
+    let bytes = rest_of(rest)?;
+    Some(Request::WriteRecord {
+        handle: *handle,
+        flags: *flags,
+        id: u32::from_be_bytes([*i3, *i2, *i1, *i0]),
+        attributes: *attributes,
+        category: *category,
         bytes,
     })
 }
@@ -155,11 +159,14 @@ pub(crate) fn put_write_record(
 pub(crate) fn delete_record(content: &[u8]) -> Option<Request<'_>>
     ensures { Reads form.DeleteRecord content.now result }
 {
-    let (handle, rest) = take_u8(content)?;
-    let (flags, rest) = take_u8(rest)?;
-    let (id, rest) = take_u32(rest)?;
-    end_of(rest)?;
-    Some(Request::DeleteRecord { handle, flags, id })
+    let [handle, flags, i3, i2, i1, i0] = content else {
+        return None;
+    };
+    Some(Request::DeleteRecord {
+        handle: *handle,
+        flags: *flags,
+        id: u32::from_be_bytes([*i3, *i2, *i1, *i0]),
+    })
 }
 
 pub(crate) fn put_delete_record(out: &mut Message, handle: u8, flags: u8, id: u32)
@@ -180,9 +187,10 @@ pub(crate) fn put_delete_record(out: &mut Message, handle: u8, flags: u8, id: u3
 pub(crate) fn clean_up_database(content: &[u8]) -> Option<Request<'_>>
     ensures { Reads form.CleanUpDatabase content.now result }
 {
-    let (handle, rest) = take_u8(content)?;
-    end_of(rest)?;
-    Some(Request::CleanUpDatabase { handle })
+    let [handle] = content else {
+        return None;
+    };
+    Some(Request::CleanUpDatabase { handle: *handle })
 }
 
 pub(crate) fn put_clean_up_database(out: &mut Message, handle: u8)
@@ -195,9 +203,10 @@ pub(crate) fn put_clean_up_database(out: &mut Message, handle: u8)
 pub(crate) fn reset_sync_flags(content: &[u8]) -> Option<Request<'_>>
     ensures { Reads form.ResetSyncFlags content.now result }
 {
-    let (handle, rest) = take_u8(content)?;
-    end_of(rest)?;
-    Some(Request::ResetSyncFlags { handle })
+    let [handle] = content else {
+        return None;
+    };
+    Some(Request::ResetSyncFlags { handle: *handle })
 }
 
 pub(crate) fn put_reset_sync_flags(out: &mut Message, handle: u8)
@@ -210,9 +219,10 @@ pub(crate) fn put_reset_sync_flags(out: &mut Message, handle: u8)
 pub(crate) fn reset_record_index(content: &[u8]) -> Option<Request<'_>>
     ensures { Reads form.ResetRecordIndex content.now result }
 {
-    let (handle, rest) = take_u8(content)?;
-    end_of(rest)?;
-    Some(Request::ResetRecordIndex { handle })
+    let [handle] = content else {
+        return None;
+    };
+    Some(Request::ResetRecordIndex { handle: *handle })
 }
 
 pub(crate) fn put_reset_record_index(out: &mut Message, handle: u8)
@@ -225,12 +235,14 @@ pub(crate) fn put_reset_record_index(out: &mut Message, handle: u8)
 pub(crate) fn move_category(content: &[u8]) -> Option<Request<'_>>
     ensures { Reads form.MoveCategory content.now result }
 {
-    let (handle, rest) = take_u8(content)?;
-    let (from, rest) = take_u8(rest)?;
-    let (to, rest) = take_u8(rest)?;
-    let (_, rest) = take_u8(rest)?;
-    end_of(rest)?;
-    Some(Request::MoveCategory { handle, from, to })
+    let [handle, from, to, _] = content else {
+        return None;
+    };
+    Some(Request::MoveCategory {
+        handle: *handle,
+        from: *from,
+        to: *to,
+    })
 }
 
 pub(crate) fn put_move_category(out: &mut Message, handle: u8, from: u8, to: u8)
@@ -243,16 +255,14 @@ pub(crate) fn put_move_category(out: &mut Message, handle: u8, from: u8, to: u8)
 pub(crate) fn read_record_id_list(content: &[u8]) -> Option<Request<'_>>
     ensures { Reads form.ReadRecordIdList content.now result }
 {
-    let (handle, rest) = take_u8(content)?;
-    let (flags, rest) = take_u8(rest)?;
-    let (start, rest) = take_u16(rest)?;
-    let (maximum, rest) = take_u16(rest)?;
-    end_of(rest)?;
+    let [handle, flags, s1, s0, m1, m0] = content else {
+        return None;
+    };
     Some(Request::ReadRecordIdList {
-        handle,
-        flags,
-        start,
-        maximum,
+        handle: *handle,
+        flags: *flags,
+        start: u16::from_be_bytes([*s1, *s0]),
+        maximum: u16::from_be_bytes([*m1, *m0]),
     })
 }
 

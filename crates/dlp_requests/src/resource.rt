@@ -1,5 +1,5 @@
-// What the argument of a request about resources holds.
-#![tactic(auto, unfolding(crate::specs::RequestTexts::request_text, crate::specs::RequestTexts::IsRequest))]
+// What the argument of a request about resources holds. The bytes of a number bear its first letter, the lowest one with 0.
+#![tactic(auto, unfolding(crate::specs::RequestTexts::request_text, crate::specs::RequestTexts::IsRequest, dlp_args::specs::CellReading::number_at, dlp_args::specs::CellReading::some_at))]
 
 ghost use Rattle.std.specs.Prelude.{◌≡◌};
 ghost use Rattle.dlp_requests.specs.Forms as form;
@@ -7,23 +7,20 @@ ghost use Rattle.dlp_requests.specs.RequestTexts.{IsRequest, request_text};
 ghost use Rattle.dlp_requests.specs.Views.{Reads, request_value};
 
 use crate::request::Request;
-use dlp_args::{Message, append, begin, counted_of, end_of, put, take_4, take_u8, take_u16};
+use dlp_args::{Message, append, begin, counted_of, put};
 use pdb_values::FourCc;
 
 pub(crate) fn read_resource_by_index(content: &[u8]) -> Option<Request<'_>>
     ensures { Reads form.ReadResourceByIndex content.now result }
 {
-    let (handle, rest) = take_u8(content)?;
-    let (_, rest) = take_u8(rest)?;
-    let (index, rest) = take_u16(rest)?;
-    let (offset, rest) = take_u16(rest)?;
-    let (length, rest) = take_u16(rest)?;
-    end_of(rest)?;
+    let [handle, _, i1, i0, o1, o0, l1, l0] = content else {
+        return None;
+    };
     Some(Request::ReadResourceByIndex {
-        handle,
-        index,
-        offset,
-        length,
+        handle: *handle,
+        index: u16::from_be_bytes([*i1, *i0]),
+        offset: u16::from_be_bytes([*o1, *o0]),
+        length: u16::from_be_bytes([*l1, *l0]),
     })
 }
 
@@ -55,19 +52,15 @@ pub(crate) fn put_read_resource_by_index(
 pub(crate) fn read_resource_by_type(content: &[u8]) -> Option<Request<'_>>
     ensures { Reads form.ReadResourceByType content.now result }
 {
-    let (handle, rest) = take_u8(content)?;
-    let (_, rest) = take_u8(rest)?;
-    let (kind, rest) = take_4(rest)?;
-    let (id, rest) = take_u16(rest)?;
-    let (offset, rest) = take_u16(rest)?;
-    let (length, rest) = take_u16(rest)?;
-    end_of(rest)?;
+    let [handle, _, k3, k2, k1, k0, i1, i0, o1, o0, l1, l0] = content else {
+        return None;
+    };
     Some(Request::ReadResourceByType {
-        handle,
-        kind: FourCc(kind),
-        id,
-        offset,
-        length,
+        handle: *handle,
+        kind: FourCc([*k3, *k2, *k1, *k0]),
+        id: u16::from_be_bytes([*i1, *i0]),
+        offset: u16::from_be_bytes([*o1, *o0]),
+        length: u16::from_be_bytes([*l1, *l0]),
     })
 }
 
@@ -98,15 +91,14 @@ pub(crate) fn put_read_resource_by_type(
 pub(crate) fn write_resource(content: &[u8]) -> Option<Request<'_>>
     ensures { Reads form.WriteResource content.now result }
 {
-    let (handle, rest) = take_u8(content)?;
-    let (_, rest) = take_u8(rest)?;
-    let (kind, rest) = take_4(rest)?;
-    let (id, rest) = take_u16(rest)?;
+    let [handle, _, k3, k2, k1, k0, i1, i0, rest @ ..] = content else {
+        return None;
+    };
     let bytes = counted_of(rest)?;
     Some(Request::WriteResource {
-        handle,
-        kind: FourCc(kind),
-        id,
+        handle: *handle,
+        kind: FourCc([*k3, *k2, *k1, *k0]),
+        id: u16::from_be_bytes([*i1, *i0]),
         bytes,
     })
 }
@@ -128,16 +120,14 @@ pub(crate) fn put_write_resource(out: &mut Message, handle: u8, kind: FourCc, id
 pub(crate) fn delete_resource(content: &[u8]) -> Option<Request<'_>>
     ensures { Reads form.DeleteResource content.now result }
 {
-    let (handle, rest) = take_u8(content)?;
-    let (flags, rest) = take_u8(rest)?;
-    let (kind, rest) = take_4(rest)?;
-    let (id, rest) = take_u16(rest)?;
-    end_of(rest)?;
+    let [handle, flags, k3, k2, k1, k0, i1, i0] = content else {
+        return None;
+    };
     Some(Request::DeleteResource {
-        handle,
-        flags,
-        kind: FourCc(kind),
-        id,
+        handle: *handle,
+        flags: *flags,
+        kind: FourCc([*k3, *k2, *k1, *k0]),
+        id: u16::from_be_bytes([*i1, *i0]),
     })
 }
 

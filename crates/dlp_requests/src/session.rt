@@ -1,5 +1,5 @@
 // What the argument of a request about the user and the session holds.
-#![tactic(auto, unfolding(crate::specs::RequestTexts::request_text, crate::specs::RequestTexts::IsRequest))]
+#![tactic(auto, unfolding(crate::specs::RequestTexts::request_text, crate::specs::RequestTexts::IsRequest, dlp_args::specs::CellReading::number_at, dlp_args::specs::CellReading::some_at))]
 
 ghost use Rattle.std.specs.Prelude.{◌≡◌};
 ghost use Rattle.dlp_requests.specs.Forms as form;
@@ -7,10 +7,7 @@ ghost use Rattle.dlp_requests.specs.RequestTexts.{IsRequest, request_text};
 ghost use Rattle.dlp_requests.specs.Views.{Reads, request_value};
 
 use crate::request::Request;
-use dlp_args::{
-    Message, append, begin, end_of, maybe_text_of, put, take_8, take_u8, take_u16, take_u32,
-    text_of,
-};
+use dlp_args::{Message, append, begin, maybe_text_of, put, take_8, take_u8, take_u32, text_of};
 
 pub(crate) fn write_user_info(content: &[u8]) -> Option<Request<'_>>
     ensures { Reads form.WriteUserInfo content.now result }
@@ -80,9 +77,12 @@ pub(crate) fn put_add_sync_log_entry(out: &mut Message, text: &[u8])
 pub(crate) fn end_of_sync(content: &[u8]) -> Option<Request<'_>>
     ensures { Reads form.EndOfSync content.now result }
 {
-    let (status, rest) = take_u16(content)?;
-    end_of(rest)?;
-    Some(Request::EndOfSync { status })
+    let [s1, s0] = content else {
+        return None;
+    };
+    Some(Request::EndOfSync {
+        status: u16::from_be_bytes([*s1, *s0]),
+    })
 }
 
 pub(crate) fn put_end_of_sync(out: &mut Message, status: u16)
