@@ -11,29 +11,29 @@ use crate::entry_walk::{are_entries, first_bad_value};
 use crate::fault::ReplyFault;
 use crate::ids::{Ids, first_bad_id};
 use crate::reply::Reply;
-use dlp_args::{Args, Function, take_u8, take_u16};
+use dlp_args::{Args, Function, take_u16};
 
 // Databases.
-#[tactic(auto, unfolding(crate::specs::ReplyReading::reply_by, crate::specs::ReplyReading::valid_in))]
+#[tactic(auto, unfolding(crate::specs::ReplyReading::reply_by, crate::specs::ReplyReading::valid_in, dlp_args::specs::CellReading::number_at))]
 pub(crate) fn db_list<'a>(end: usize, args: &Args<'a>) -> Result<Reply<'a>, ReplyFault>
     requires { end < 2 ^ 63 }
     ensures { Gives reply_value result (reply_by (shape Function.ReadDbList) end args.now) }
 {
     let content = only_content(args)?;
     let place = end.saturating_sub(content.len());
-    let (last, rest) = take_u16(content).ok_or(ReplyFault::Size)?;
-    let (flags, rest) = take_u8(rest).ok_or(ReplyFault::Size)?;
-    let (count, bytes) = take_u8(rest).ok_or(ReplyFault::Size)?;
-    if !are_entries(count, bytes) {
+    let [l1, l0, flags, count, bytes @ ..] = content else {
+        return Err(ReplyFault::Size);
+    };
+    if !are_entries(*count, bytes) {
         return Err(ReplyFault::Size);
     }
-    if let Some(bad) = first_bad_value(count, bytes) {
+    if let Some(bad) = first_bad_value(*count, bytes) {
         return Err(ReplyFault::Value(place + bad));
     }
     Ok(Reply::ReadDbList {
-        last,
-        flags,
-        entries: Entries::of_bytes(count, bytes),
+        last: u16::from_be_bytes([*l1, *l0]),
+        flags: *flags,
+        entries: Entries::of_bytes(*count, bytes),
     })
 }
 

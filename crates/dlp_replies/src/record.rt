@@ -10,7 +10,7 @@ ghost use Rattle.dlp_replies.specs.Views.{record_fields, reply_value};
 use crate::argument::only_content;
 use crate::fault::ReplyFault;
 use crate::reply::Reply;
-use dlp_args::{Args, Function, end_of, take_u8, take_u16, take_u32};
+use dlp_args::{Args, Function, end_of, take_u32};
 use pdb_values::{Category, RecordId};
 
 // The cells of a record reply, with its bytes lent.
@@ -75,26 +75,38 @@ pub(crate) fn write_record<'a>(end: usize, args: &Args<'a>) -> Result<Reply<'a>,
     Ok(Reply::WriteRecord { id })
 }
 
-#[tactic(auto, unfolding(crate::specs::ReplyReading::valid_in))]
+#[tactic(auto, unfolding(crate::specs::ReplyReading::valid_in, dlp_args::specs::CellReading::number_at))]
 fn record_reply(place: usize, content: &[u8]) -> Result<RecordCells<'_>, ReplyFault>
     requires { place < 2 ^ 63 }
     ensures { Gives record_fields result (valid_in layouts.record_reply (λ v. true) record_checks place content.now) }
 {
-    let (id, rest) = take_u32(content).ok_or(ReplyFault::Size)?;
-    let (index, rest) = take_u16(rest).ok_or(ReplyFault::Size)?;
-    let (size, rest) = take_u16(rest).ok_or(ReplyFault::Size)?;
-    let (attributes, rest) = take_u8(rest).ok_or(ReplyFault::Size)?;
-    let (category, bytes) = take_u8(rest).ok_or(ReplyFault::Size)?;
+    let [
+        i3,
+        i2,
+        i1,
+        i0,
+        x1,
+        x0,
+        s1,
+        s0,
+        attributes,
+        category,
+        bytes @ ..,
+    ] = content
+    else {
+        return Err(ReplyFault::Size);
+    };
+    let id = u32::from_be_bytes([*i3, *i2, *i1, *i0]);
     let id = RecordId::new(id).ok_or(ReplyFault::Value(place))?;
-    let category = Category::new(category).ok_or(ReplyFault::Value(place + 9))?;
+    let category = Category::new(*category).ok_or(ReplyFault::Value(place + 9))?;
     if bytes.len() > 65_500 {
         return Err(ReplyFault::Value(place + 10));
     }
     Ok(RecordCells {
         id,
-        index,
-        size,
-        attributes,
+        index: u16::from_be_bytes([*x1, *x0]),
+        size: u16::from_be_bytes([*s1, *s0]),
+        attributes: *attributes,
         category,
         bytes,
     })

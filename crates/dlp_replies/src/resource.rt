@@ -10,7 +10,7 @@ ghost use Rattle.dlp_replies.specs.Views.{reply_value};
 use crate::argument::only_content;
 use crate::fault::ReplyFault;
 use crate::reply::Reply;
-use dlp_args::{Args, Function, rest_of, take_4, take_u16};
+use dlp_args::{Args, Function, rest_of};
 use pdb_values::FourCc;
 
 // A resource.
@@ -23,20 +23,19 @@ pub(crate) fn resource<'a>(end: usize, args: &Args<'a>) -> Result<Reply<'a>, Rep
     resource_reply(end.saturating_sub(content.len()), content)
 }
 
-#[tactic(auto, unfolding(crate::specs::ReplyReading::valid_in))]
+#[tactic(auto, unfolding(crate::specs::ReplyReading::valid_in, dlp_args::specs::CellReading::number_at, dlp_args::specs::CellReading::some_at))]
 fn resource_reply(place: usize, content: &[u8]) -> Result<Reply<'_>, ReplyFault>
     ensures { Gives reply_value result (made_in layouts.resource_reply (λ v. true) (λ v. []) resource_said place content.now) }
 {
-    let (kind, rest) = take_4(content).ok_or(ReplyFault::Size)?;
-    let (id, rest) = take_u16(rest).ok_or(ReplyFault::Size)?;
-    let (index, rest) = take_u16(rest).ok_or(ReplyFault::Size)?;
-    let (size, rest) = take_u16(rest).ok_or(ReplyFault::Size)?;
+    let [k3, k2, k1, k0, i1, i0, x1, x0, s1, s0, rest @ ..] = content else {
+        return Err(ReplyFault::Size);
+    };
     let bytes = rest_of(rest).ok_or(ReplyFault::Size)?;
     Ok(Reply::ReadResource {
-        kind: FourCc(kind),
-        id,
-        index,
-        size,
+        kind: FourCc([*k3, *k2, *k1, *k0]),
+        id: u16::from_be_bytes([*i1, *i0]),
+        index: u16::from_be_bytes([*x1, *x0]),
+        size: u16::from_be_bytes([*s1, *s0]),
         bytes,
     })
 }
