@@ -1,5 +1,8 @@
-// Names of files, information files, and what a file of a desktop holds.
-use crate::{bytes_of, number_of, word};
+// What a line itself says: cells and plans, names of files, information files, and what a file of a desktop holds.
+use crate::folder::journal;
+use crate::plans::{cell, plan_text};
+use crate::shown::{Hex, MarksLine};
+use case_words::{bytes_at, number_at, short_in, word};
 use desk_store::{DeskFile, DeskFileFault, Role, read_desk_file};
 use folder_files::{
     InfoFault, archive_file, base_file, database_file, is_handheld_file, is_kept_file,
@@ -8,24 +11,24 @@ use folder_files::{
 };
 use pdb_values::{DbHead, DbName, FourCc, Marks, PalmDate};
 use std::alloc::{AllocError, Global};
+use std::fmt;
 
-pub fn obey(alloc: Global, words: &[&str]) -> Result<String, AllocError> {
-    match words {
-        ["names", ..] => names(alloc, words),
-        ["reads", name] => format!(in alloc;
-            "handheld {} desktop {}",
-            is_handheld_file(name),
-            is_kept_file(name)
-        ),
-        ["device", ..] => device(alloc, words),
-        ["desktop", ..] => desktop(alloc, words),
-        ["holds", ..] => holds(alloc, words),
-        ["case", ..] => words.join(alloc, " "),
+/// What is to be printed of a line.
+pub fn said(alloc: Global, line: &str, words: &[&str]) -> Result<String, AllocError> {
+    match word(words, 0) {
+        "cell" => String::from_str(alloc, cell(words)),
+        "plan" => plan_text(alloc, line),
+        "names" => names(alloc, words),
+        "reads" => reads(alloc, word(words, 1)),
+        "device" => device(alloc, words),
+        "desktop" => desktop(alloc, words),
+        "holds" => holds(alloc, words),
+        "journal" => journal(alloc, words),
         _ => String::from_str(alloc, "no such line"),
     }
 }
 
-/// The head of a database of this name, or of `none` where it is no name.
+/// The head of a database of this name. None: it is no name.
 pub fn head_of(name: &[u8], attributes: u16) -> Option<DbHead> {
     Some(DbHead {
         name: DbName::new(name).ok()?,
@@ -42,22 +45,25 @@ pub fn head_of(name: &[u8], attributes: u16) -> Option<DbHead> {
 }
 
 fn names(alloc: Global, words: &[&str]) -> Result<String, AllocError> {
-    let Some(head) = head_of(
-        &bytes_of(alloc, words, 1),
-        u16::try_from(number_of(words, 2)).unwrap_or(0),
-    ) else {
+    let Some(head) = head_of(&bytes_at(alloc, words, 1), short_in(word(words, 2))) else {
         return String::from_str(alloc, "no name");
     };
     let database = database_file(alloc, &head)?;
     let rows = rows_file(alloc, &head.name)?;
     let base = base_file(alloc, &head.name)?;
     let archive = archive_file(alloc, &head.name)?;
-    let prefix = slot_prefix(alloc, number_of(words, 3) as usize)?;
+    let prefix = slot_prefix(alloc, number_at(words, 3) as usize)?;
     format!(in alloc; "{database} {rows} {base} {archive} -{prefix}")
 }
 
+fn reads(alloc: Global, name: &str) -> Result<String, AllocError> {
+    let handheld = is_handheld_file(name);
+    let desktop = is_kept_file(name);
+    format!(in alloc; "handheld {handheld} desktop {desktop}")
+}
+
 fn device(alloc: Global, words: &[&str]) -> Result<String, AllocError> {
-    match read_device_info(&bytes_of(alloc, words, 1)) {
+    match read_device_info(&bytes_at(alloc, words, 1)) {
         Ok(info) => {
             let text = write_device_info(alloc, &info)?;
             format!(in alloc;
@@ -75,45 +81,40 @@ fn device(alloc: Global, words: &[&str]) -> Result<String, AllocError> {
     }
 }
 
+// The marks of a desktop, a line each.
+#[derive(Clone, Copy)]
+struct MarksLines<'m>(&'m [Marks]);
+
+impl fmt::Display for MarksLines<'_> {
+    fn fmt<W: fmt::Write>(&self, f: &mut fmt::Formatter<W>) -> fmt::Result {
+        for marks in self.0 {
+            write!(f, "{}\n", MarksLine(marks))?;
+        }
+        Ok(())
+    }
+}
+
 fn desktop(alloc: Global, words: &[&str]) -> Result<String, AllocError> {
-    match read_desktop_info(alloc, &bytes_of(alloc, words, 1)) {
+    match read_desktop_info(alloc, &bytes_at(alloc, words, 1)) {
         Ok(slots) => {
             let text = write_desktop_info(alloc, &slots)?;
-            let mut said = String::new(alloc);
-            for marks in &slots {
-                let line = marks_line(alloc, marks)?;
-                said.push_str(line.as_str())?;
-                said.push_str("\n")?;
-            }
-            said.push_str(text.as_str())?;
-            Ok(said)
+            format!(in alloc; "{}{text}", MarksLines(&slots))
         }
         Err(InfoFault::Bad(bad)) => format!(in alloc; "bad {}", bad.place),
         Err(InfoFault::NoMemory) => Err(AllocError),
     }
 }
 
-/// The marks in one line.
-pub fn marks_line(alloc: Global, marks: &Marks) -> Result<String, AllocError> {
-    let name = hex::encode(alloc, marks.name.as_bytes())?;
-    format!(in alloc;
-        "pc {} user {} last {} name -{name}",
-        marks.pc,
-        marks.user,
-        marks.last.seconds()
-    )
-}
-
 fn holds(alloc: Global, words: &[&str]) -> Result<String, AllocError> {
-    let slots = number_of(words, 1) as usize;
-    match read_desk_file(alloc, slots, word(words, 2), &bytes_of(alloc, words, 3)) {
+    let slots = number_at(words, 1) as usize;
+    match read_desk_file(alloc, slots, word(words, 2), &bytes_at(alloc, words, 3)) {
         Ok(DeskFile::Database(slot, role, database)) => {
             let role = match role {
                 Role::Rows => "rows",
                 Role::Base => "base rows",
                 Role::Archive => "archive",
             };
-            let name = hex::encode(alloc, database.head().name.as_bytes())?;
+            let name = Hex(database.head().name.as_bytes());
             format!(in alloc; "{role} of {name} in slot {slot}")
         }
         Ok(DeskFile::Other) => String::from_str(alloc, "other"),

@@ -1,7 +1,12 @@
-//! Calls on the files of a desktop, its journal and its folder, as the lines of standard input ask for them.
+//! Calls on the conduit's table and plans and on a desktop's files, its journal and its folder, as the lines of standard input
+//! ask for them.
 //!
 //! Bytes are hexadecimal, `-` stands for none.
 //!
+//! - `cell HANDHELD DESKTOP EQUAL`, a cell of the table. `plan COUNTS ACTION|VIEW|ROWS|BASE`, the plan of a database: COUNTS is
+//!   `yes` where gone rows count, ACTION `sync`, which may be left out, `handheld` or `desktop`, and a record is written as its
+//!   id, a mark and its text: `:` for a live one, `!` for one with the delete bit, and in views `-` for a deleted one and `?`
+//!   for one that wasn't read.
 //! - `names H ATTRIBUTES SLOT`, the files of the database of this name and what stands in front of them in a slot; `reads
 //!   NAME`, whether a handheld reads this file and whether a desktop keeps it; `device H` and `desktop H`, an information
 //!   file, read and written again; `holds SLOTS NAME H`, what a file of a desktop with so many slots holds.
@@ -14,47 +19,36 @@
 //!   desktop of the folder at one moment, slot after slot.
 #![tactic(auto)]
 
+mod bench;
+mod change;
 mod desktop;
 mod files;
 mod folder;
+mod plans;
+mod shown;
 
-use desktop::Desktop;
-use folder::Folded;
-use std::alloc::Global;
+use bench::{empty_folder, obey};
+use desk_store::Desk;
+use hs_folders::MemFolder;
 use std::io;
 
 fn main(rt: HostRuntime) -> io::Result<()> {
     let alloc = rt.alloc();
-    let mut folded = Folded::new(alloc);
-    let mut desktop = Desktop::new(alloc);
+    answer(rt, &mut empty_folder(alloc), &mut None)
+}
+
+// Prints what each line gets.
+fn answer(
+    rt: HostRuntime,
+    folder: &mut MemFolder,
+    desk: &mut Option<Desk<MemFolder>>,
+) -> io::Result<()> {
+    let alloc = rt.alloc();
     for line in rt.lines(alloc) {
-        let line = line?;
-        let words: Vec<&str> = line.split(' ').collect(alloc)?;
-        let said = match desktop.obey(&words, &mut folded)? {
-            Some(said) => said,
-            None => match folded.obey(&words)? {
-                Some(said) => said,
-                None => files::obey(alloc, &words)?,
-            },
-        };
+        let said = obey(alloc, folder, desk, &line?)?;
         if !said.is_empty() {
             println!(rt; "{said}")?;
         }
     }
     Ok(())
-}
-
-// A word.
-fn word<'w>(words: &[&'w str], place: usize) -> &'w str {
-    words.get(place).copied().unwrap_or("")
-}
-
-// The bytes of a word.
-fn bytes_of(alloc: Global, words: &[&str], place: usize) -> Vec<u8> {
-    hex::decode(alloc, word(words, place)).unwrap_or(Vec::new(alloc))
-}
-
-// A number.
-fn number_of(words: &[&str], place: usize) -> u32 {
-    word(words, place).parse().unwrap_or(0)
 }
