@@ -1,6 +1,7 @@
 // The objects that a call is given, and what the lines do with them.
-use crate::number_of;
 use crate::shown::{files_text, report_text, trace_lines};
+use crate::words::words_text;
+use case_words::{bytes_in, number_in};
 use hotsync_run::{Answer, Ended, run_program};
 use hs_folders::{MemFolder, MemSink, MemSource};
 use std::alloc::{AllocError, Global};
@@ -47,6 +48,7 @@ impl Bench {
             "names" => return self.shown(false),
             "files" => return self.shown(true),
             "trace" => return Ok(trace_lines(self.alloc, &self.trace, rest)?),
+            "words" => return Ok(words_text(self.alloc, rest)?),
             "moments" => return Ok(self.moments()?),
             _ => self.prepare(word, rest)?,
         }
@@ -56,9 +58,9 @@ impl Bench {
     // Makes ready what a call is given.
     fn prepare(&mut self, word: &str, rest: &str) -> io::Result<()> {
         match word {
-            "zeros" => self.bytes = vec![in self.alloc; 0; number_of(rest)]?,
-            "feeds" => self.bytes = vec![in self.alloc; b'\n'; number_of(rest)]?,
-            "hex" => self.bytes = hex::decode(self.alloc, rest).unwrap_or(Vec::new(self.alloc)),
+            "zeros" => self.bytes = vec![in self.alloc; 0; number_in(rest) as usize]?,
+            "feeds" => self.bytes = vec![in self.alloc; b'\n'; number_in(rest) as usize]?,
+            "hex" => self.bytes = bytes_in(self.alloc, rest),
             "lines" => {
                 let text = rest.replace(self.alloc, ", ", "\n")?;
                 self.bytes = Vec::from_slice(self.alloc, text.as_bytes())?;
@@ -78,8 +80,8 @@ impl Bench {
 
     fn set(&mut self, rest: &str) {
         let (place, hex) = rest.split_once(' ').unwrap_or((rest, ""));
-        let place = number_of(place);
-        let bytes = hex::decode(self.alloc, hex).unwrap_or(Vec::new(self.alloc));
+        let bytes = bytes_in(self.alloc, hex);
+        let place = number_in(place) as usize;
         for (at, byte) in self.bytes.iter_mut().skip(place).zip(bytes.iter()) {
             *at = *byte;
         }
@@ -88,7 +90,7 @@ impl Bench {
     // So many files of databases, none of which has a byte.
     fn many(&mut self, rest: &str) -> Result<(), AllocError> {
         let (side, count) = rest.split_once(' ').unwrap_or((rest, ""));
-        for place in 0..number_of(count) {
+        for place in 0..number_in(count) {
             let number = 1000 + place % 1000;
             let name = format!(in self.alloc; "N{number}.pdb")?;
             if side == "palm" {
@@ -102,8 +104,7 @@ impl Bench {
 
     fn fail(&mut self, rest: &str) -> Result<(), AllocError> {
         let (object, call) = rest.split_once(' ').unwrap_or((rest, ""));
-        let call = u32::try_from(number_of(call)).unwrap_or(0);
-        let calls = vec![in self.alloc; call]?;
+        let calls = vec![in self.alloc; number_in(call)]?;
         match object {
             "palm" => self.palm.fail_calls(calls),
             "desk" => self.desk.fail_calls(calls),
@@ -117,7 +118,7 @@ impl Bench {
     // Takes a folder as it was after so many changes.
     fn at(&mut self, rest: &str) -> Result<(), AllocError> {
         let (side, moment) = rest.split_once(' ').unwrap_or((rest, ""));
-        let moment = number_of(moment) as u64;
+        let moment = u64::from(number_in(moment));
         if side == "palm" {
             self.palm = copy_at(self.alloc, &self.palm, moment)?;
         } else {

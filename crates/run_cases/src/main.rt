@@ -12,11 +12,15 @@
 //!   the ids that new records got, and the frames that were harmed where the line is down.
 //! - `print WORDS` calls likewise, and prints the exit status and what was printed alone.
 //! - `names` and `files` print what the folders then hold, `trace` the trace, or its lines of the numbers behind it.
+//! - `words WORDS` prints what these words are read as: `usage` where they are out of the form, and else each word, the date in
+//!   seconds and an option that isn't given as `-`; behind `actions` the names with their actions, and what is done with
+//!   `MemoDB`.
 //! - `moments` prints how often each folder changed, and `at palm N` takes it as it was after N changes.
 #![tactic(auto)]
 
 mod bench;
 mod shown;
+mod words;
 
 use bench::Bench;
 use std::io;
@@ -30,9 +34,4 @@ fn main(rt: HostRuntime) -> io::Result<()> {
         print!(rt; "{said}")?;
     }
     Ok(())
-}
-
-// The number of a word.
-fn number_of(word: &str) -> usize {
-    word.parse().unwrap_or(0)
 }

@@ -1,8 +1,9 @@
 // Texts of what a call did.
-use crate::number_of;
+use case_words::number_in;
 use hotsync_run::{Report, SessionEnd};
 use hs_folders::{Folder, FolderFault, MemFolder};
 use std::alloc::{AllocError, Global};
+use std::fmt::Write;
 use std::io;
 
 /// The files of a folder: their names, and their bytes where these are asked for.
@@ -14,14 +15,13 @@ pub fn files_text(
 ) -> io::Result<String> {
     let mut shown = String::new(alloc);
     for name in folder.list(alloc).map_err(failed)? {
-        let line = if whole {
-            let bytes = folder.read(alloc, name.as_str()).map_err(failed)?;
-            let hex = hex::encode(alloc, bytes.as_slice())?;
-            format!(in alloc; "{side} {name} {hex}\n")?
+        if whole {
+            let bytes = folder.read(alloc, &name).map_err(failed)?;
+            let hex = hex::encode(alloc, &bytes)?;
+            write!(shown, "{side} {name} {hex}\n")?;
         } else {
-            format!(in alloc; "{side} {name}\n")?
-        };
-        shown.push_str(line.as_str())?;
+            write!(shown, "{side} {name}\n")?;
+        }
     }
     Ok(shown)
 }
@@ -39,7 +39,7 @@ pub fn trace_lines(alloc: Global, trace: &[u8], numbers: &str) -> Result<String,
     let lines: Vec<&str> = text.lines().collect(alloc)?;
     let mut shown = String::new(alloc);
     for number in numbers.split(' ') {
-        let place = number_of(number).wrapping_sub(1);
+        let place = (number_in(number) as usize).wrapping_sub(1);
         shown.push_str(lines.get(place).copied().unwrap_or("no such frame"))?;
         shown.push('\n')?;
     }
@@ -48,58 +48,51 @@ pub fn trace_lines(alloc: Global, trace: &[u8], numbers: &str) -> Result<String,
 
 /// What a session did, in numbers. Nothing where none began.
 pub fn report_text(alloc: Global, report: &Report) -> Result<String, AllocError> {
-    let mut text = match report.end {
+    let end = match report.end {
         SessionEnd::NotStarted => return Ok(String::new(alloc)),
-        SessionEnd::Ended => String::from_str(alloc, "ended")?,
-        SessionEnd::Stopped => String::from_str(alloc, "stopped")?,
+        SessionEnd::Ended => "ended",
+        SessionEnd::Stopped => "stopped",
     };
-    let counts = format!(in alloc;
-        ", issued {}, performed {}, replies {}, writes {}, frames {}",
+    let mut text = format!(in alloc;
+        "{end}, issued {}, performed {}, replies {}, writes {}, frames {}",
         report.issued.len(),
         report.performed.len(),
         report.replies.len(),
         report.writes,
         report.frames.len()
     )?;
-    text.push_str(counts.as_str())?;
     if let Some(tally) = report.to_handheld {
-        let taken = format!(in alloc; ", to handheld {} {}", tally.bytes(), tally.packets())?;
-        text.push_str(taken.as_str())?;
+        write!(text, ", to handheld {} {}", tally.bytes(), tally.packets())?;
     }
     if let Some(tally) = report.to_desktop {
-        let taken = format!(in alloc; ", to desktop {} {}", tally.bytes(), tally.packets())?;
-        text.push_str(taken.as_str())?;
+        write!(text, ", to desktop {} {}", tally.bytes(), tally.packets())?;
     }
     text.push('\n')?;
-    push_ids(alloc, &mut text, report)?;
-    push_faulted(alloc, &mut text, report)?;
+    push_ids(&mut text, report)?;
+    push_faulted(&mut text, report)?;
     Ok(text)
 }
 
 // A line of the ids that new records got, where there are some.
-fn push_ids(alloc: Global, text: &mut String, report: &Report) -> Result<(), AllocError> {
+fn push_ids(text: &mut String, report: &Report) -> Result<(), AllocError> {
     if report.given.is_empty() {
         return Ok(());
     }
     text.push_str("given")?;
     for id in report.given.iter() {
-        let number = format!(in alloc; " {}", id.number())?;
-        text.push_str(number.as_str())?;
+        write!(text, " {}", id.number())?;
     }
-    text.push('\n')?;
-    Ok(())
+    text.push('\n')
 }
 
 // A line of the frames that were harmed, where there are some.
-fn push_faulted(alloc: Global, text: &mut String, report: &Report) -> Result<(), AllocError> {
+fn push_faulted(text: &mut String, report: &Report) -> Result<(), AllocError> {
     if report.faulted.is_empty() {
         return Ok(());
     }
     text.push_str("faulted")?;
     for frame in report.faulted.iter() {
-        let number = format!(in alloc; " {frame}")?;
-        text.push_str(number.as_str())?;
+        write!(text, " {frame}")?;
     }
-    text.push('\n')?;
-    Ok(())
+    text.push('\n')
 }

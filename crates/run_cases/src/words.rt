@@ -1,0 +1,73 @@
+// What words say.
+use pdb_values::DbName;
+use run_clap::{Command, Look, RunWords, WordsFault, read_command};
+use run_words::{ActionWord, action_of, command_of, read_actions};
+use std::alloc::{AllocError, Global};
+use std::fmt::Write;
+
+/// What the words of a line are read as.
+pub fn words_text(alloc: Global, line: &str) -> Result<String, AllocError> {
+    let mut words = Vec::new(alloc);
+    for word in line.split(' ') {
+        words.push(String::from_str(alloc, word)?)?;
+    }
+    let in_form = command_of(&words).is_some();
+    match read_command(alloc, &words) {
+        Ok(Command::Run(run)) => run_text(alloc, &run),
+        Ok(Command::Look(look)) => {
+            let word = match look.look {
+                Look::Check => "check",
+                Look::Show => "show",
+            };
+            format!(in alloc; "{word} file {}\n", look.file)
+        }
+        Ok(Command::Packet(packet)) => format!(in alloc; "packet hex {}\n", packet.hex),
+        Ok(Command::Make(make)) => {
+            format!(in alloc; "make seed {} count {}\n", make.seed, make.count)
+        }
+        Err(WordsFault::Usage) if !in_form => String::from_str(alloc, "usage\n"),
+        Err(_) => String::from_str(alloc, "no memory\n"),
+    }
+}
+
+fn run_text(alloc: Global, run: &RunWords<'_>) -> Result<String, AllocError> {
+    let actions = actions_text(alloc, run.actions)?;
+    format!(in alloc;
+        "run handheld {} desktop {} date {} script {} trace {} slow {} add-user {} actions{actions}\n",
+        run.handheld,
+        run.desktop,
+        run.date.seconds(),
+        run.script.unwrap_or("-"),
+        run.trace.unwrap_or("-"),
+        run.slow,
+        run.add_user
+    )
+}
+
+// The names with their actions, and what is done with `MemoDB`.
+fn actions_text(alloc: Global, text: Option<&str>) -> Result<String, AllocError> {
+    let mut said = String::new(alloc);
+    let Some(text) = text else {
+        said.push_str(" -")?;
+        return Ok(said);
+    };
+    let actions = read_actions(alloc, text)?;
+    for item in &actions {
+        let stem = item.name.file_stem(alloc)?;
+        write!(said, " {stem} {}", action_word(item.action))?;
+    }
+    if let Ok(name) = DbName::new(b"MemoDB") {
+        let memos = action_word(action_of(&actions, &name));
+        write!(said, "; MemoDB {memos}")?;
+    }
+    Ok(said)
+}
+
+fn action_word(action: ActionWord) -> &'static str {
+    match action {
+        ActionWord::Sync => "sync",
+        ActionWord::Handheld => "handheld",
+        ActionWord::Desktop => "desktop",
+        ActionWord::Nothing => "nothing",
+    }
+}
