@@ -1,5 +1,6 @@
 -- Headers: what is read of one that was written, and what is written of one that was read.
-use Rattle.std.proofs.Common.{◌≡◌, ℕ, suc, ◌+◌, ◌^◌, ◌<◌, ◌≤◌, List, ◌∷◌, ◌++◌, length, take, drop, Option, Some, refl, sym, ap, subst, ◌∙◌, append_assoc, arith}
+use Rattle.std.proofs.Common.{◌≡◌, ℕ, suc, ◌+◌, ◌^◌, ◌<◌, ◌≤◌, List, ◌∷◌, ◌++◌, length, take, drop, Some, refl, sym, ap, subst, ◌∙◌, append_assoc}
+use Rattle.std.proofs.Common.{arith}
 use Rattle.std.specs.Prelude.{position, unwrap_or}
 use Rattle.std.proofs.lemmas.List.{length-append, length-drop, length-take, take_at, take-append-drop, take-take}
 use Rattle.std.proofs.lemmas.List.Quantifiers.{position-Some}
@@ -15,11 +16,12 @@ use Rattle.pdb_files.proofs.Numbers.{IsBytes, behind, cut_number, cut_code, numb
 
 -- the fields of a header, one after the other
 regroup : (a b c d e f g h i j k l m n rest : List ℕ)
-    → (a ++ b ++ c ++ d ++ e ++ f ++ g ++ h ++ i ++ j ++ k ++ l ++ m ++ n) ++ rest ≡ a ++ (b ++ (c ++ (d ++ (e ++ (f ++ (g ++ (h ++ (i ++ (j ++ (k ++ (l ++ (m ++ (n ++ rest)))))))))))))
+    → (a ++ b ++ c ++ d ++ e ++ f ++ g ++ h ++ i ++ j ++ k ++ l ++ m ++ n)
+    ++ rest ≡ a ++ (b ++ (c ++ (d ++ (e ++ (f ++ (g ++ (h ++ (i ++ (j ++ (k ++ (l ++ (m ++ (n ++ rest)))))))))))))
 regroup a b c d e f g h i j k l m n rest = simp append_assoc
 
 long_from : (wanted place : ℕ) (bytes rest : List ℕ) → drop place bytes ≡ rest → wanted ≤ place + length rest → 0 < length rest → wanted ≤ length bytes
-long_from wanted place bytes rest at le some = omega (arith, length-drop place bytes, ap length at)
+long_from wanted place bytes rest at le some = grind (arith, length-drop)
 
 -- what is read of a file that begins with the header of this head
 pub record ReadsHeader (head : DbHead) (app sort count : ℕ) (bytes rest : List ℕ) : Type 0 where
@@ -33,13 +35,17 @@ pub record ReadsHeader (head : DbHead) (app sort count : ℕ) (bytes rest : List
   pub behind : drop 78 bytes ≡ rest
   pub long : 78 ≤ length bytes
 
-pub header-written : (head : DbHead) (after_name : List ℕ) (app sort count : ℕ) (bytes rest : List ℕ) → bytes ≡ header_text head after_name app sort count ++ rest
-    → length head.name + 1 + length after_name ≡ 32 → FitsHeader head → app < 2 ^ 32 → sort < 2 ^ 32 → count < 2 ^ 16 → ReadsHeader head app sort count bytes rest
+pub header-written : (head : DbHead) (after_name : List ℕ) (app sort count : ℕ) (bytes rest : List ℕ)
+    → bytes ≡ header_text head after_name app sort count ++ rest
+    → length head.name + 1 + length after_name ≡ 32
+    → FitsHeader head → app < 2 ^ 32 → sort < 2 ^ 32 → count < 2 ^ 16 → ReadsHeader head app sort count bytes rest
 unfolding header_text head_in
 header-written head after_name app sort count bytes rest text field fits small_app small_sort small_count =
-    let name : List ℕ = head.name ++ 0 ∷ after_name in
+    let name = head.name ++ 0 ∷ after_name in
     let size : length name ≡ 32 = omega (arith, length-append head.name (0 ∷ after_name)) in
-    let d0 = text ∙ regroup name (big_bytes 2 head.attributes) (big_bytes 2 head.version) (big_bytes 4 head.created) (big_bytes 4 head.modified) (big_bytes 4 head.backup) (big_bytes 4 head.modnum) (big_bytes 4 app) (big_bytes 4 sort) head.kind.0 head.creator.0 (big_bytes 4 head.seed) (big_bytes 4 0) (big_bytes 2 count) rest in
+    let d0 = text ∙ regroup name (big_bytes 2 head.attributes)
+    (big_bytes 2 head.version) (big_bytes 4 head.created) (big_bytes 4 head.modified) (big_bytes 4 head.backup) (big_bytes 4 head.modnum)
+    (big_bytes 4 app) (big_bytes 4 sort) head.kind.0 head.creator.0 (big_bytes 4 head.seed) (big_bytes 4 0) (big_bytes 2 count) rest in
     let d32 = behind 0 32 bytes name _ d0 size in
     let d34 = behind 32 2 bytes (big_bytes 2 head.attributes) _ d32 refl in
     let d36 = behind 34 2 bytes (big_bytes 2 head.version) _ d34 refl in
@@ -57,7 +63,7 @@ header-written head after_name app sort count bytes rest text field fits small_a
     let front : take 32 bytes ≡ name = ap (take 32) d0 ∙ take_at name _ 32 size in
     let end : name_end bytes ≡ Some (length head.name) = ap (position is_zero) front ∙ position-zero head.name after_name fits.name.nonzero in
     let named : take (unwrap_or (name_end bytes) 0) bytes ≡ head.name =
-    ap (λ (place : Option ℕ). take (unwrap_or place 0) bytes) end
+    ap (λ place. take (unwrap_or place 0) bytes) end
     ∙ ap (take (length head.name)) (d0 ∙ append_assoc head.name (0 ∷ after_name) _) ∙ take_at head.name _ (length head.name) refl in
     let attributes = number_at-written 2 32 head.attributes bytes _ d32 fits.attributes in
     let version = number_at-written 2 34 head.version bytes _ d34 fits.version in
@@ -88,47 +94,54 @@ header-written head after_name app sort count bytes rest text field fits small_a
       alone = number_at-written 4 72 0 bytes _ d72 (omega arith);
       reads_count = number_at-written 2 76 count bytes _ d76 small_count;
       behind = d78;
-      long = long_from 78 76 bytes (big_bytes 2 count ++ rest) d76 (omega (arith, length-append (big_bytes 2 count) rest)) (omega (arith, length-append (big_bytes 2 count) rest));
+      long = long_from 78 76 bytes
+          (big_bytes 2 count ++ rest) d76 (omega (arith, length-append (big_bytes 2 count) rest)) (omega (arith, length-append (big_bytes 2 count) rest));
     }
 
 -- what is written of a file that begins with a header
 pub record WritesHeader (bytes : List ℕ) : Type 0 where
   pub after_name : List ℕ
-  pub text : bytes ≡ header_text (head_in bytes) after_name (number_at 4 app_place bytes) (number_at 4 sort_place bytes) (number_at 2 count_place bytes) ++ drop 78 bytes
+  pub text : bytes ≡ header_text (head_in bytes) after_name (number_at 4 app_place bytes) (number_at 4 sort_place bytes) (number_at 2 count_place bytes)
+      ++ drop 78 bytes
   pub field : length (head_in bytes).name + 1 + length after_name ≡ 32
   pub fits : FitsHeader (head_in bytes)
   pub attributes : (head_in bytes).attributes ≡ number_at 2 attributes_place bytes
 
-pub header-read : (bytes : List ℕ) (place : ℕ) → IsBytes bytes → 78 ≤ length bytes → name_end bytes ≡ Some (suc place) → number_at 4 next_list_place bytes ≡ 0 → WritesHeader bytes
+pub header-read : (bytes : List ℕ) (place : ℕ)
+    → IsBytes bytes → 78 ≤ length bytes → name_end bytes ≡ Some (suc place) → number_at 4 next_list_place bytes ≡ 0 → WritesHeader bytes
 unfolding header_text head_in
 header-read bytes place fits long end alone =
-    let field : List ℕ = take 32 bytes in
+    let field = take 32 bytes in
     let size : length field ≡ 32 = omega (arith, length-take 32 bytes) in
     let around = field_around field (suc place) end in
     let found = position-Some is_zero field (suc place) 0 end in
     let name-is : take (suc place) field ≡ take (suc place) bytes = take-take (suc place) 32 bytes (omega arith) in
-    let named : take (unwrap_or (name_end bytes) 0) bytes ≡ take (suc place) bytes = ap (λ (place : Option ℕ). take (unwrap_or place 0) bytes) end in
-    let name-same : take (suc place) field ≡ take (unwrap_or (name_end bytes) 0) bytes = name-is ∙ sym named in
-    let after : List ℕ = drop (suc place + 1) field in
-    let front : field ≡ take (unwrap_or (name_end bytes) 0) bytes ++ 0 ∷ after = around ∙ ap (λ (name : List ℕ). name ++ 0 ∷ after) name-same in
+    let named : take (unwrap_or (name_end bytes) 0) bytes ≡ take (suc place) bytes = ap (λ place. take (unwrap_or place 0) bytes) end in
+    let name-same = name-is ∙ sym named in
+    let after = drop (suc place + 1) field in
+    let front : field ≡ take (unwrap_or (name_end bytes) 0) bytes ++ 0 ∷ after = around ∙ ap (λ name. name ++ 0 ∷ after) name-same in
     let t76 = cut_number 2 76 bytes fits long in
-    let t72 = cut_number 4 72 bytes fits (omega arith) ∙ ap (λ (number : ℕ). big_bytes 4 number ++ drop 76 bytes) alone ∙ ap (λ (rest : List ℕ). big_bytes 4 0 ++ rest) t76 in
-    let t68 = cut_number 4 68 bytes fits (omega arith) ∙ ap (λ (rest : List ℕ). big_bytes 4 (number_at 4 68 bytes) ++ rest) t72 in
-    let t64 = cut_code 64 bytes ∙ ap (λ (rest : List ℕ). code_at 64 bytes ++ rest) t68 in
-    let t60 = cut_code 60 bytes ∙ ap (λ (rest : List ℕ). code_at 60 bytes ++ rest) t64 in
-    let t56 = cut_number 4 56 bytes fits (omega arith) ∙ ap (λ (rest : List ℕ). big_bytes 4 (number_at 4 56 bytes) ++ rest) t60 in
-    let t52 = cut_number 4 52 bytes fits (omega arith) ∙ ap (λ (rest : List ℕ). big_bytes 4 (number_at 4 52 bytes) ++ rest) t56 in
-    let t48 = cut_number 4 48 bytes fits (omega arith) ∙ ap (λ (rest : List ℕ). big_bytes 4 (number_at 4 48 bytes) ++ rest) t52 in
-    let t44 = cut_number 4 44 bytes fits (omega arith) ∙ ap (λ (rest : List ℕ). big_bytes 4 (number_at 4 44 bytes) ++ rest) t48 in
-    let t40 = cut_number 4 40 bytes fits (omega arith) ∙ ap (λ (rest : List ℕ). big_bytes 4 (number_at 4 40 bytes) ++ rest) t44 in
-    let t36 = cut_number 4 36 bytes fits (omega arith) ∙ ap (λ (rest : List ℕ). big_bytes 4 (number_at 4 36 bytes) ++ rest) t40 in
-    let t34 = cut_number 2 34 bytes fits (omega arith) ∙ ap (λ (rest : List ℕ). big_bytes 2 (number_at 2 34 bytes) ++ rest) t36 in
-    let t32 = cut_number 2 32 bytes fits (omega arith) ∙ ap (λ (rest : List ℕ). big_bytes 2 (number_at 2 32 bytes) ++ rest) t34 in
-    let name : List ℕ = take (unwrap_or (name_end bytes) 0) bytes ++ 0 ∷ after in
-    let whole = sym (take-append-drop 32 bytes) ∙ ap (λ (front : List ℕ). front ++ drop 32 bytes) front ∙ ap (λ (rest : List ℕ). name ++ rest) t32 in
+    let t72 = cut_number 4 72 bytes fits (omega arith)
+    ∙ ap (λ number. big_bytes 4 number ++ drop 76 bytes) alone ∙ ap (λ rest. big_bytes 4 0 ++ rest) t76 in
+    let t68 = cut_number 4 68 bytes fits (omega arith) ∙ ap (λ rest. big_bytes 4 (number_at 4 68 bytes) ++ rest) t72 in
+    let t64 = cut_code 64 bytes ∙ ap (λ rest. code_at 64 bytes ++ rest) t68 in
+    let t60 = cut_code 60 bytes ∙ ap (λ rest. code_at 60 bytes ++ rest) t64 in
+    let t56 = cut_number 4 56 bytes fits (omega arith) ∙ ap (λ rest. big_bytes 4 (number_at 4 56 bytes) ++ rest) t60 in
+    let t52 = cut_number 4 52 bytes fits (omega arith) ∙ ap (λ rest. big_bytes 4 (number_at 4 52 bytes) ++ rest) t56 in
+    let t48 = cut_number 4 48 bytes fits (omega arith) ∙ ap (λ rest. big_bytes 4 (number_at 4 48 bytes) ++ rest) t52 in
+    let t44 = cut_number 4 44 bytes fits (omega arith) ∙ ap (λ rest. big_bytes 4 (number_at 4 44 bytes) ++ rest) t48 in
+    let t40 = cut_number 4 40 bytes fits (omega arith) ∙ ap (λ rest. big_bytes 4 (number_at 4 40 bytes) ++ rest) t44 in
+    let t36 = cut_number 4 36 bytes fits (omega arith) ∙ ap (λ rest. big_bytes 4 (number_at 4 36 bytes) ++ rest) t40 in
+    let t34 = cut_number 2 34 bytes fits (omega arith) ∙ ap (λ rest. big_bytes 2 (number_at 2 34 bytes) ++ rest) t36 in
+    let t32 = cut_number 2 32 bytes fits (omega arith) ∙ ap (λ rest. big_bytes 2 (number_at 2 32 bytes) ++ rest) t34 in
+    let name = take (unwrap_or (name_end bytes) 0) bytes ++ 0 ∷ after in
+    let whole = sym (take-append-drop 32 bytes) ∙ ap (λ front. front ++ drop 32 bytes) front ∙ ap (λ rest. name ++ rest) t32 in
     record {
       after_name = after;
-      text = whole ∙ sym (regroup name (big_bytes 2 (number_at 2 32 bytes)) (big_bytes 2 (number_at 2 34 bytes)) (big_bytes 4 (number_at 4 36 bytes)) (big_bytes 4 (number_at 4 40 bytes)) (big_bytes 4 (number_at 4 44 bytes)) (big_bytes 4 (number_at 4 48 bytes)) (big_bytes 4 (number_at 4 52 bytes)) (big_bytes 4 (number_at 4 56 bytes)) (code_at 60 bytes) (code_at 64 bytes) (big_bytes 4 (number_at 4 68 bytes)) (big_bytes 4 0) (big_bytes 2 (number_at 2 76 bytes)) (drop 78 bytes));
+      text = whole ∙ sym (regroup name
+          (big_bytes 2 (number_at 2 32 bytes)) (big_bytes 2 (number_at 2 34 bytes)) (big_bytes 4 (number_at 4 36 bytes)) (big_bytes 4 (number_at 4 40 bytes))
+          (big_bytes 4 (number_at 4 44 bytes)) (big_bytes 4 (number_at 4 48 bytes)) (big_bytes 4 (number_at 4 52 bytes)) (big_bytes 4 (number_at 4 56 bytes))
+          (code_at 60 bytes) (code_at 64 bytes) (big_bytes 4 (number_at 4 68 bytes)) (big_bytes 4 0) (big_bytes 2 (number_at 2 76 bytes)) (drop 78 bytes));
       field = omega (arith, ap length front, length-append (take (unwrap_or (name_end bytes) 0) bytes) (0 ∷ after));
       fits = record {
         name = subst IsName name-same (name_before field place size end);

@@ -1,6 +1,7 @@
 -- The name in the field of a header.
-use Rattle.std.proofs.Common.{◌≡◌, ℕ, suc, ◌+◌, ◌<◌, ◌≤◌, Bool, true, false, cond, not, List, [], ◌∷◌, ◌++◌, length, get_or, take, drop, Some, None, refl, sym, ap, ◌∙◌, arith}
-use Rattle.std.specs.Prelude.{position, nat_lt}
+use Rattle.std.proofs.Common.{◌≡◌, ℕ, suc, ◌+◌, ◌<◌, ◌≤◌, Bool, true, false, cond, List, [], ◌∷◌, ◌++◌, length, get_or, take, drop, Some, None, refl}
+use Rattle.std.proofs.Common.{arith}
+use Rattle.std.specs.Prelude.{position}
 use Rattle.std.specs.List.{prefix_len}
 use Rattle.std.proofs.lemmas.Bool.{le-ltb, lt-ltb, ltb-false, eqb-true}
 use Rattle.std.proofs.lemmas.List.{drop_more, get_or-take, length-append, length-take, take-append-drop}
@@ -28,17 +29,10 @@ some_or_none false n e = refl
 
 -- where a name ends that a zero follows
 pub position-zero : (name after : List ℕ) → position is_zero name ≡ None → position is_zero (name ++ 0 ∷ after) ≡ Some (length name)
-position-zero name after nonzero =
-    let whole : length name ≤ prefix_len (λ x. not (is_zero x)) name = ltb-false _ _ (some_or_none _ _ nonzero) in
-    let stop = prefix_len-front (λ x. not (is_zero x)) name 0 after whole refl in
-    let within : nat_lt (length name) (length (name ++ 0 ∷ after)) ≡ true = lt-ltb _ _ (omega (arith, length-append name (0 ∷ after))) in
-    rw (stop, within) refl
+position-zero name after nonzero = grind (arith, ltb-false, some_or_none, prefix_len-front, lt-ltb, length-append)
 
 none_from_whole : (xs : List ℕ) → ((k : ℕ) → k < length xs → is_zero (get_or xs k 0) ≡ false) → position is_zero xs ≡ None
-none_from_whole xs each =
-    let whole = prefix_len-whole (λ x. not (is_zero x)) xs (λ k lt. ap not (each k lt)) in
-    let past : nat_lt (length xs) (length xs) ≡ false = le-ltb _ _ (omega arith) in
-    rw (whole, past) refl
+none_from_whole xs each = grind (arith, prefix_len-whole, le-ltb)
 
 -- the bytes before a zero that isn't the first byte of the field are a name
 pub name_before : (field : List ℕ) (place : ℕ) → length field ≡ 32 → position is_zero field ≡ Some (suc place) → IsName (take (suc place) field)
@@ -56,4 +50,4 @@ pub field_around : (field : List ℕ) (place : ℕ) → position is_zero field �
 field_around field place at =
     let found = position-Some is_zero field place 0 at in
     let zero_there : get_or field place 0 ≡ 0 = eqb-true _ _ found.1 in
-    sym (take-append-drop place field) ∙ ap (λ (rest : List ℕ). take place field ++ rest) (drop_more field place 0 found.0) ∙ ap (λ (byte : ℕ). take place field ++ byte ∷ drop (place + 1) field) zero_there
+    cc (take-append-drop place field, drop_more field place 0 found.0)

@@ -1,5 +1,5 @@
 -- The bytes of a number that was read are those that it was read from.
-use Rattle.std.proofs.Common.{◌≡◌, ℕ, zero, suc, ◌+◌, ◌*◌, ◌^◌, ◌<◌, ◌≤◌, ◌/◌, List, [], ◌∷◌, ◌++◌, length, get_or, take, drop, refl, sym, ap, ◌∙◌, arith, inl, inr}
+use Rattle.std.proofs.Common.{◌≡◌, ℕ, zero, suc, ◌+◌, ◌*◌, ◌^◌, ◌<◌, ◌≤◌, ◌/◌, List, [], ◌∷◌, ◌++◌, length, get_or, take, drop, refl, sym, ap, ◌∙◌, arith}
 use Rattle.std.specs.Int.{byte_at, bytes_high_first}
 use Rattle.std.proofs.Math.Nat.{mod-lt}
 use Rattle.std.proofs.lemmas.Bool.{cases_lt}
@@ -17,11 +17,7 @@ pub IsBytes-drop : (n : ℕ) (bytes : List ℕ) → IsBytes bytes → IsBytes (d
 IsBytes-drop n bytes h i = rw get_or-drop (h (n + i))
 
 IsBytes-take : (n : ℕ) (bytes : List ℕ) → IsBytes bytes → IsBytes (take n bytes)
-IsBytes-take n bytes h i =
-    elim (cases_lt i n) [
-      | inl lt ↦ rw (get_or-take n bytes i 0 lt) (h i)
-      | inr le ↦ rw (get_or_past (take n bytes) i 0 (omega (arith, length-take n bytes))) (omega arith)
-    ]
+IsBytes-take n bytes h i = grind (arith, cases_lt, get_or-take, get_or_past, length-take)
 
 IsBytes-rest : (byte : ℕ) (bytes : List ℕ) → IsBytes (byte ∷ bytes) → IsBytes bytes
 IsBytes-rest byte bytes h i = h (suc i)
@@ -43,8 +39,8 @@ same_bytes zero [] (y ∷ ys) p q h k e = absurd (omega arith)
 same_bytes (suc n) [] ys p q h k e = absurd (omega arith)
 same_bytes (suc n) (x ∷ xs) [] p q h k e = absurd (omega arith)
 same_bytes (suc n) (x ∷ xs) (y ∷ ys) p q h k e =
-    let tails : big_from 0 n xs < 256 ^ n = big_from-lt 0 n xs (IsBytes-rest x xs h) in
-    let tails' : big_from 0 n ys < 256 ^ n = big_from-lt 0 n ys (IsBytes-rest y ys k) in
+    let tails = big_from-lt 0 n xs (IsBytes-rest x xs h) in
+    let tails' = big_from-lt 0 n ys (IsBytes-rest y ys k) in
     let whole : x * 256 ^ n + big_from 0 n xs ≡ y * 256 ^ n + big_from 0 n ys =
     ap (λ r. x * 256 ^ n + r) (sym (big_from-cons 0 n x xs)) ∙ e ∙ ap (λ r. y * 256 ^ n + r) (big_from-cons 0 n y ys) in
     let both = same_from_place x (big_from 0 n xs) y (big_from 0 n ys) (256 ^ n) tails tails' whole in
@@ -53,26 +49,31 @@ same_bytes (suc n) (x ∷ xs) (y ∷ ys) p q h k e =
 
 -- what stands behind a field
 pub behind : (place size : ℕ) (bytes field rest : List ℕ) → drop place bytes ≡ field ++ rest → length field ≡ size → drop (place + size) bytes ≡ rest
-behind place size bytes field rest at len = sym (drop-drop size place bytes) ∙ ap (drop size) at ∙ drop_at field rest size len
+behind place size bytes field rest at len = cc (drop-drop size place bytes, drop_at field rest size len)
 
 -- a number that was read, and what stands behind it
-pub cut_number : (size place : ℕ) (bytes : List ℕ) → IsBytes bytes → place + size ≤ length bytes → drop place bytes ≡ big_bytes size (number_at size place bytes) ++ drop (place + size) bytes
+pub cut_number : (size place : ℕ) (bytes : List ℕ)
+    → IsBytes bytes → place + size ≤ length bytes → drop place bytes ≡ big_bytes size (number_at size place bytes) ++ drop (place + size) bytes
 unfolding number_at
 cut_number size place bytes fits le =
-    let field : List ℕ = take size (drop place bytes) in
+    let field = take size (drop place bytes) in
     let len : length field ≡ size = omega (arith, length-take size (drop place bytes), length-drop place bytes) in
     let number : big_from 0 size field ≡ big_from 0 size (drop place bytes) = big_from-take 0 size size (drop place bytes) (omega arith) in
-    let small : big_from 0 size (drop place bytes) < 256 ^ size = big_from-lt 0 size (drop place bytes) (IsBytes-drop place bytes fits) in
+    let small = big_from-lt 0 size (drop place bytes) (IsBytes-drop place bytes fits) in
     let again : big_from 0 size (bytes_high_first size (big_from 0 size (drop place bytes))) ≡ big_from 0 size (drop place bytes) =
-    ap (big_from 0 size) (sym (append-nil (bytes_high_first size (big_from 0 size (drop place bytes))))) ∙ big_number-reads_back size (big_from 0 size (drop place bytes)) [] small in
+    ap (big_from 0 size) (sym (append-nil (bytes_high_first size (big_from 0 size (drop place bytes)))))
+    ∙ big_number-reads_back size (big_from 0 size (drop place bytes)) [] small in
     let same : bytes_high_first size (big_from 0 size (drop place bytes)) ≡ field =
-    same_bytes size _ field (length-bytes_high_first size _) len (IsBytes-big_bytes size _) (IsBytes-take size (drop place bytes) (IsBytes-drop place bytes fits)) (again ∙ sym number) in
-    sym (take-append-drop size (drop place bytes)) ∙ ap (λ (rest : List ℕ). field ++ rest) (drop-drop size place bytes) ∙ ap (λ (front : List ℕ). front ++ drop (place + size) bytes) (sym same)
+    same_bytes size _ field (length-bytes_high_first size _) len
+    (IsBytes-big_bytes size _) (IsBytes-take size (drop place bytes) (IsBytes-drop place bytes fits)) (again ∙ sym number) in
+    sym (take-append-drop size (drop place bytes))
+    ∙ ap (λ rest. field ++ rest) (drop-drop size place bytes) ∙ ap (λ front. front ++ drop (place + size) bytes) (sym same)
 
 -- a number that was written is read
-pub number_at-written : (size place number : ℕ) (bytes rest : List ℕ) → drop place bytes ≡ big_bytes size number ++ rest → number < 256 ^ size → number_at size place bytes ≡ number
+pub number_at-written : (size place number : ℕ) (bytes rest : List ℕ)
+    → drop place bytes ≡ big_bytes size number ++ rest → number < 256 ^ size → number_at size place bytes ≡ number
 unfolding number_at
-number_at-written size place number bytes rest at lt = ap (big_from 0 size) at ∙ big_number-reads_back size number rest lt
+number_at-written size place number bytes rest at lt = cc (big_number-reads_back size number rest lt)
 
 -- a number that is read fits its bytes
 pub number_at-fits : (size place : ℕ) (bytes : List ℕ) → IsBytes bytes → number_at size place bytes < 256 ^ size
@@ -82,11 +83,11 @@ number_at-fits size place bytes fits = big_from-lt 0 size (drop place bytes) (Is
 -- four bytes, and what stands behind them
 pub cut_code : (place : ℕ) (bytes : List ℕ) → drop place bytes ≡ code_at place bytes ++ drop (place + 4) bytes
 unfolding code_at
-cut_code place bytes = sym (take-append-drop 4 (drop place bytes)) ∙ ap (λ (rest : List ℕ). take 4 (drop place bytes) ++ rest) (drop-drop 4 place bytes)
+cut_code place bytes = cc (take-append-drop 4 (drop place bytes), drop-drop 4 place bytes)
 
 pub length-code_at : (place : ℕ) (bytes : List ℕ) → place + 4 ≤ length bytes → length (code_at place bytes) ≡ 4
 unfolding code_at
-length-code_at place bytes le = omega (arith, length-take 4 (drop place bytes), length-drop place bytes)
+length-code_at place bytes le = grind (arith, length-take, length-drop)
 
 pub code_at-written : (place : ℕ) (bytes code rest : List ℕ) → drop place bytes ≡ code ++ rest → length code ≡ 4 → code_at place bytes ≡ code
 unfolding code_at

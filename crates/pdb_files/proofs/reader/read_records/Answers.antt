@@ -1,27 +1,12 @@
-use Rattle.std.proofs.Common.{ap, arith, [], ◌∷◌, ◌++◌, drop, length}
+use Rattle.std.proofs.lemmas.Grind.{common_steps}
+use Rattle.std.proofs.Common.{arith, rules}
 use Rattle.std.proofs.lemmas.List.{length-append, length-drop}
-use Rattle.pdb_values.specs.Databases.{DatabaseValue}
-use Rattle.pdb_files.specs.Blocks.{blocks_in}
-use Rattle.pdb_files.specs.Reading.{records_in}
 use Rattle.pdb_files.proofs.EntryLaws.{read_record}
 use Rattle.pdb_files.proofs.ReadLaws.{one_more_item, order_left, short_left}
 use Rattle.pdb_files.proofs.reader.read_records.Goals as goal
 
 pub record-requires : goal.record-requires
-record-requires c = rw c.block.ensures (short_left c.args.begins.now c.args.bytes.now c.loop-place.place c.loop-place-test.true c.loop-place.invariant.short).0
+record-requires c = search (rules, short_left)
 
 pub loop-place-preserved : goal.loop-place-preserved
-loop-place-preserved c =
-    let begins = c.args.begins.now in
-    let bytes = c.args.bytes.now in
-    let place = c.loop-place.place in
-    let lt = c.loop-place-test.true in
-    let read = one_more_item 8 read_record c.loop-place.database.records begins bytes c.loop-place.entries.now place (records_in (drop 78 bytes) (blocks_in begins bytes)) lt c.loop-place.invariant.read in
-    record {
-      rest = rw c.in_ok-add_record.ensures.added (ap (λ (database : DatabaseValue). record database { records = c.loop-place.database.records ++ c.in_ok-item.item ∷ [] }) c.loop-place.invariant.rest);
-      count = rw c.in_ok-add_record.ensures.added (omega (arith, c.loop-place.invariant.count, length-append c.loop-place.database.records (c.in_ok-item.item ∷ [])));
-      read = rw (c.in_ok-add_record.ensures.added, c.in_ok-item.ensures.item, c.read.ensures, c.block.ensures, c.split_at-in-loop-place.ensures.back, c.entry_length.ensures) read;
-      left = rw (c.split_at-in-loop-place.ensures.back, c.entry_length.ensures) (omega (arith, c.loop-place.invariant.left, length-drop 8 c.loop-place.entries.now));
-      order = order_left (length bytes) begins place lt c.loop-place.invariant.order;
-      short = (short_left begins bytes place lt c.loop-place.invariant.short).1;
-    }
+loop-place-preserved c = grind (arith, common_steps, one_more_item, read_record, length-append, length-drop, order_left, short_left)

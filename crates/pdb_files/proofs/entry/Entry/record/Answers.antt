@@ -13,5 +13,6 @@ returns-clause-item c =
     let busy = c.has-4.ensures ∙ bit_tested 5 bits in
     let secret = c.has.ensures ∙ bit_tested 4 bits in
     let category = (rw c.unwrap-category.ensures at c.new.ensures).1 ∙ and_mask bits 4 in
-    let content = (rw c.unwrap-content.ensures at c.new-2.ensures).1 ∙ (λ i. record { category = category i; secret = secret i; bytes = c.in_ok-bytes.ensures.items i }) in
+    let content = (rw c.unwrap-content.ensures at c.new-2.ensures).1
+    ∙ (λ i. record { category = category i; secret = secret i; bytes = c.in_ok-bytes.ensures.items i }) in
     λ i. record { id = c.args.self.now.id; deleted = deleted i; dirty = dirty i; busy = busy i; content = content i }
