@@ -1,5 +1,6 @@
 -- Fates and lines: what is read is written so, and what is written so is read.
-use Rattle.std.proofs.Common.{◌≡◌, ℕ, ◌<◌, true, false, eqb, leb, List, [], ◌∷◌, ◌++◌, length, take, drop, Option, Some, None, refl, sym, ap, subst, ◌∙◌, arith, inl, inr}
+use Rattle.std.proofs.Common.{◌≡◌, ℕ, ◌<◌, true, false, eqb, leb, List, [], ◌∷◌, ◌++◌, length, take, drop, Option, Some, None, refl, sym, ap, subst, ◌∙◌, arith}
+use Rattle.std.proofs.Common.{append_assoc, inl, inr}
 use Rattle.std.specs.Prelude.{bytes_eq, codes, slice_index}
 use Rattle.std.specs.Fmt.{decimal}
 use Rattle.std.specs.List.{starts_with}
@@ -10,31 +11,30 @@ use Rattle.trace_text.specs.Fates.{FateValue, Untouched, Lost, Late, Cut, Hit, N
 use Rattle.line_script.specs.Rules.{RuleValue, IsScripted, IsLine}
 use Rattle.line_script.specs.Words.{split_at_space, number_in, short_in, bytes_in}
 use Rattle.line_script.specs.Fates.{cut_in, hit_in, noise_in, harm_in, fate_in, line_in}
-use Rattle.line_script.proofs.WordLaws.{bind_some, map_some, guard_some, test_some, some_is, chosen, bytes_is, number_in-found, number_in-only, short_in-found, short_in-only, bytes_in-found, bytes_in-only, split_at_space-found, split_at_space-decimal}
+use Rattle.line_script.proofs.WordLaws.{bind_some, map_some, guard_some, test_some, some_is, chosen, bytes_is, number_in-found, number_in-only, short_in-found}
+use Rattle.line_script.proofs.WordLaws.{short_in-only, bytes_in-found, bytes_in-only, split_at_space-found, split_at_space-decimal}
 
 -- the words are those of this fate, which a script may give
 abbrev Reads : List ℕ → FateValue → Type 0
 Reads words fate = (words ≡ fate_words fate) × IsScripted fate
 
 behind : (front words : List ℕ) → starts_with eqb words front ≡ true → words ≡ front ++ drop (length front) words
-behind front words test = sym (take-append-drop (length front) words) ∙ ap (λ (xs : List ℕ). xs ++ drop (length front) words) (sym (bytes_is front (take (length front) words) test))
+behind front words test = cc (take-append-drop (length front) words, bytes_is front (take (length front) words) test)
 
 cut_in-found : (words : List ℕ) (fate : FateValue) → starts_with eqb words (codes "cut ") ≡ true → cut_in (drop 4 words) ≡ Some fate → Reads words fate
 cut_in-found words fate test e =
     let got = map_some (short_in (drop 4 words)) _ fate e in
     let found = short_in-found (drop 4 words) got.0 got.1 in
-    subst (Reads words) got.2 (behind (codes "cut ") words test ∙ ap (λ (xs : List ℕ). codes "cut " ++ xs) found.0, found.1)
+    rw (← got.2) (behind (codes "cut ") words test ∙ ap (λ xs. codes "cut " ++ xs) found.0, found.1)
 
 noise_in-found : (words : List ℕ) (fate : FateValue) → starts_with eqb words (codes "noise ") ≡ true → noise_in (drop 6 words) ≡ Some fate → Reads words fate
 noise_in-found words fate test e =
     let got = map_some (bytes_in 1040 (drop 6 words)) _ fate e in
     let found = bytes_in-found 1040 (drop 6 words) got.0 got.1 in
-    subst (Reads words) got.2 (behind (codes "noise ") words test ∙ ap (λ (xs : List ℕ). codes "noise " ++ xs) found.0, (found.1, found.2, found.3))
+    rw (← got.2) (behind (codes "noise ") words test ∙ ap (λ xs. codes "noise " ++ xs) found.0, (found.1, found.2, found.3))
 
 append_one : (front xs ys : List ℕ) → front ++ (xs ++ 32 ∷ ys) ≡ ((front ++ xs) ++ 32 ∷ []) ++ ys
-append_one [] [] ys = refl
-append_one [] (x ∷ xs) ys = ap (λ (zs : List ℕ). x ∷ zs) (append_one [] xs ys)
-append_one (x ∷ front) xs ys = ap (λ (zs : List ℕ). x ∷ zs) (append_one front xs ys)
+append_one front xs ys = simp append_assoc
 
 hit_in-found : (words : List ℕ) (fate : FateValue) → starts_with eqb words (codes "hit ") ≡ true → hit_in (drop 4 words) ≡ Some fate → Reads words fate
 hit_in-found words fate test e =
@@ -47,10 +47,9 @@ hit_in-found words fate test e =
     let number = short_in-found parts.0.0 place.0 place.1 in
     let found = bytes_in-found 8 parts.0.1 bytes.0 bytes.1 in
     let first : slice_index bytes.0 0 ≡ 0 → ⊥ = eqb-false _ _ changes.0 in
-    let text : words ≡ fate_words (Hit place.0 bytes.0) =
-    behind (codes "hit ") words test
-    ∙ (ap (λ (xs : List ℕ). codes "hit " ++ xs) (split ∙ (ap (λ (xs : List ℕ). xs ++ 32 ∷ parts.0.1) number.0 ∙ ap (λ (xs : List ℕ). decimal place.0 ++ 32 ∷ xs) found.0)) ∙ append_one (codes "hit ") (decimal place.0) (encode_lower bytes.0)) in
-    subst (Reads words) is (text, (number.1, found.1, found.3, omega arith))
+    let text : words ≡ fate_words (Hit place.0 bytes.0) = behind (codes "hit ") words test ∙ (ap (λ xs. codes "hit " ++ xs) (split ∙ (ap (λ xs.
+    xs ++ 32 ∷ parts.0.1) number.0 ∙ ap (λ xs. decimal place.0 ++ 32 ∷ xs) found.0)) ∙ append_one (codes "hit ") (decimal place.0) (encode_lower bytes.0)) in
+    rw (← is) (text, (number.1, found.1, found.3, omega arith))
 
 harm_in-found : (words : List ℕ) (fate : FateValue) → harm_in words ≡ Some fate → Reads words fate
 harm_in-found words fate e =
@@ -64,7 +63,7 @@ harm_in-found words fate e =
 
 word_is : (words text : List ℕ) (known fate : FateValue) → bytes_eq words text ≡ true → text ≡ fate_words known → IsScripted known
     → (let o : Option FateValue = Some known in o) ≡ Some fate → Reads words fate
-word_is words text known fate test is scripted e = subst (Reads words) (some_is known fate e) (bytes_is _ _ test ∙ is, scripted)
+word_is words text known fate test is scripted e = rw (← some_is known fate e) (bytes_is _ _ test ∙ is, scripted)
 
 pub fate_in-found : (words : List ℕ) (fate : FateValue) → fate_in words ≡ Some fate → Reads words fate
 fate_in-found words fate e =
@@ -88,17 +87,15 @@ some_first (byte ∷ bytes) first = omega arith
 
 pub fate_in-only : (fate : FateValue) → IsScripted fate → fate_in (fate_words fate) ≡ Some fate
 fate_in-only Untouched scripted = absurd scripted
-fate_in-only Lost scripted = refl
-fate_in-only Late scripted = refl
 fate_in-only (Cut count) scripted = rw (short_in-only count scripted) refl
 fate_in-only (Hit place bytes) scripted =
     let split = split_at_space-decimal place (encode_lower bytes) (omega (arith, scripted.0)) in
-    let some : 0 < length bytes = some_first bytes scripted.3 in
+    let some = some_first bytes scripted.3 in
     let changes : eqb (slice_index bytes 0) 0 ≡ false = ne_eqb _ _ (λ e. omega (arith, scripted.3)) in
-    ap fate_in (sym (append_one (codes "hit ") (decimal place) (encode_lower bytes))) ∙ rw (split, short_in-only place scripted.0, bytes_in-only 8 bytes scripted.1 some scripted.2, changes) refl
-fate_in-only (Noise bytes) scripted = rw (bytes_in-only 1040 bytes scripted.0 scripted.1 scripted.2) refl
-fate_in-only Unplug scripted = refl
-fate_in-only Abort scripted = refl
+    ap fate_in (sym (append_one (codes "hit ") (decimal place) (encode_lower bytes)))
+    ∙ rw (split, short_in-only place scripted.0, bytes_in-only 8 bytes scripted.1 some scripted.2, changes) refl
+fate_in-only (Noise bytes) scripted = grind (arith, bytes_in-only)
+fate_in-only other scripted = refl
 
 pub line_in-found : (before : ℕ) (line : List ℕ) (rule : RuleValue) → line_in before line ≡ Some rule → IsLine before rule line
 unfolding line_in
@@ -112,14 +109,17 @@ line_in-found before line rule e =
     let digits = number_in-found parts.0.0 number.0 number.1 in
     let words = fate_in-found parts.0.1 fate.0 fate.1 in
     let above : before < number.0 = leb-false _ _ rises.0 in
-    subst (λ (r : RuleValue). IsLine before r line) is
-    (record { rises = above; fits = digits.1; scripted = words.1; is = split ∙ (ap (λ (xs : List ℕ). xs ++ 32 ∷ parts.0.1) digits.0 ∙ ap (λ (xs : List ℕ). decimal number.0 ++ 32 ∷ xs) words.0) })
+    subst (λ r. IsLine before r line) is
+    (record {
+      rises = above;
+      fits = digits.1;
+      scripted = words.1;
+      is = split ∙ (ap (λ xs. xs ++ 32 ∷ parts.0.1) digits.0 ∙ ap (λ xs. decimal number.0 ++ 32 ∷ xs) words.0);
+    })
 
 pub line_in-only : (before : ℕ) (line : List ℕ) (rule : RuleValue) → IsLine before rule line → line_in before line ≡ Some rule
 unfolding line_in
-line_in-only before line rule says =
-    let above : leb rule.number before ≡ false = lt-leb _ _ says.rises in
-    ap (line_in before) says.is ∙ rw (split_at_space-decimal rule.number (fate_words rule.fate) says.fits, number_in-only rule.number says.fits, fate_in-only rule.fate says.scripted, above) refl
+line_in-only before line rule says = grind (arith, lt-leb, split_at_space-decimal, number_in-only, fate_in-only)
 
 pub line_in-none : (before : ℕ) (line : List ℕ) → line_in before line ≡ None → (rule : RuleValue) → IsLine before rule line → ⊥
 line_in-none before line none rule says = absurd (cc (none, line_in-only before line rule says))

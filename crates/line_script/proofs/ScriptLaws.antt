@@ -1,5 +1,6 @@
 -- Scripts: a text has one reading, and reading goes on line by line.
-use Rattle.std.proofs.Common.{◌≡◌, ℕ, zero, suc, ◌+◌, List, [], ◌∷◌, ◌++◌, length, Result, Ok, Err, refl, sym, ap, subst, ◌∙◌, arith}
+use Rattle.std.proofs.Common.{◌≡◌, ℕ, zero, suc, ◌+◌, List, [], ◌∷◌, ◌++◌, length, Result, Ok, Err, refl, sym, ap, subst, ◌∙◌, append_assoc, arith}
+use Rattle.std.proofs.lemmas.List.{append-nil, length-append}
 use Rattle.line_script.specs.Rules.{RuleValue, IsLine}
 use Rattle.line_script.specs.Lines.{lines_of}
 use Rattle.line_script.specs.Scripts.{Rise, AreLines, IsFirstBad, IsReading}
@@ -19,7 +20,7 @@ same_lines before [] ys (line ∷ lines) a b = absurd a
 same_lines before (x ∷ xs) [] (line ∷ lines) a b = absurd b
 same_lines before (x ∷ xs) (y ∷ ys) (line ∷ lines) a b =
     let is = same_rule before x y line a.0 b.0 in
-    let rest = same_lines y.number xs ys lines (subst (λ (r : RuleValue). AreLines r.number xs lines) is a.1) b.1 in
+    let rest = same_lines y.number xs ys lines (rw (← is) a.1) b.1 in
     cc
 
 none_bad : (before : ℕ) (xs : List RuleValue) (lines : List (List ℕ)) (number : ℕ) → AreLines before xs lines → IsFirstBad before lines number → ⊥
@@ -29,7 +30,7 @@ none_bad before (x ∷ xs) (line ∷ lines) zero a bad = bad
 none_bad before (x ∷ xs) (line ∷ lines) (suc zero) a bad = bad x a.0
 none_bad before (x ∷ xs) (line ∷ lines) (suc (suc number)) a bad =
     let is = same_rule before x bad.0 line a.0 bad.1 in
-    none_bad bad.0.number xs lines (suc number) (subst (λ (r : RuleValue). AreLines r.number xs lines) is a.1) bad.2
+    none_bad bad.0.number xs lines (suc number) (rw (← is) a.1) bad.2
 
 one_bad : (before : ℕ) (lines : List (List ℕ)) (m n : ℕ) → IsFirstBad before lines m → IsFirstBad before lines n → m ≡ n
 one_bad before [] m n a b = absurd a
@@ -40,22 +41,22 @@ one_bad before (line ∷ lines) (suc zero) (suc (suc n)) a b = absurd (a b.0 b.1
 one_bad before (line ∷ lines) (suc (suc m)) (suc zero) a b = absurd (b a.0 a.1)
 one_bad before (line ∷ lines) (suc (suc m)) (suc (suc n)) a b =
     let is = same_rule before a.0 b.0 line a.1 b.1 in
-    let more = one_bad b.0.number lines (suc m) (suc n) (subst (λ (r : RuleValue). IsFirstBad r.number lines (suc m)) is a.2) b.2 in
+    let more = one_bad b.0.number lines (suc m) (suc n) (rw (← is) a.2) b.2 in
     omega arith
 
 pub one_reading : (bytes : List ℕ) (x y : Result (List RuleValue) ScriptFault) → IsReading bytes x → IsReading bytes y → ¬ (x ≡ Err NoMemory)
     → ¬ (y ≡ Err NoMemory) → x ≡ y
-one_reading bytes (Ok xs) (Ok ys) a b none_x none_y = let is = same_lines 0 xs ys (lines_of bytes) a.1 b.1 in cc
+one_reading bytes (Ok xs) (Ok ys) a b none_x none_y = grind (arith, same_lines)
 one_reading bytes (Ok xs) (Err TooLong) a b none_x none_y = absurd (omega (arith, a.0, b))
-one_reading bytes (Ok xs) (Err (BadLine n)) a b none_x none_y = absurd (none_bad 0 xs (lines_of bytes) n a.1 b.1)
+one_reading bytes (Ok xs) (Err (BadLine n)) a b none_x none_y = grind (arith, none_bad)
 one_reading bytes (Ok xs) (Err NoMemory) a b none_x none_y = absurd (none_y refl)
 one_reading bytes (Err TooLong) (Ok ys) a b none_x none_y = absurd (omega (arith, b.0, a))
 one_reading bytes (Err TooLong) (Err TooLong) a b none_x none_y = refl
 one_reading bytes (Err TooLong) (Err (BadLine n)) a b none_x none_y = absurd (omega (arith, b.0, a))
 one_reading bytes (Err TooLong) (Err NoMemory) a b none_x none_y = absurd (none_y refl)
-one_reading bytes (Err (BadLine m)) (Ok ys) a b none_x none_y = absurd (none_bad 0 ys (lines_of bytes) m b.1 a.1)
+one_reading bytes (Err (BadLine m)) (Ok ys) a b none_x none_y = grind (arith, none_bad)
 one_reading bytes (Err (BadLine m)) (Err TooLong) a b none_x none_y = absurd (omega (arith, a.0, b))
-one_reading bytes (Err (BadLine m)) (Err (BadLine n)) a b none_x none_y = let is = one_bad 0 (lines_of bytes) m n a.1 b.1 in cc
+one_reading bytes (Err (BadLine m)) (Err (BadLine n)) a b none_x none_y = grind (arith, one_bad)
 one_reading bytes (Err (BadLine m)) (Err NoMemory) a b none_x none_y = absurd (none_y refl)
 one_reading bytes (Err NoMemory) y a b none_x none_y = absurd (none_x refl)
 
@@ -67,26 +68,22 @@ pub record Goes (bytes : List ℕ) (rules : List RuleValue) (before : ℕ) (rest
   pub bad : (number : ℕ) → IsFirstBad before (lines_of rest) (suc number) → IsFirstBad 0 (lines_of bytes) (length rules + suc number)
   pub count : length rules + length (lines_of rest) ≡ length (lines_of bytes)
 
-pub goes-first : (bytes : List ℕ) → Goes bytes [] 0 bytes
-goes-first bytes = record { lines = λ more are. are; bad = λ number bad. let same : suc number ≡ 0 + suc number = omega arith in subst (IsFirstBad 0 (lines_of bytes)) same bad; count = omega arith }
-
 append_rule : (rules more : List RuleValue) (rule : RuleValue) → (rules ++ rule ∷ []) ++ more ≡ rules ++ rule ∷ more
-append_rule [] more rule = refl
-append_rule (first ∷ rules) more rule = ap (λ (xs : List RuleValue). first ∷ xs) (append_rule rules more rule)
+append_rule rules more rule = append_assoc rules (rule ∷ []) more
 
 length_one : (rules : List RuleValue) (rule : RuleValue) → length (rules ++ rule ∷ []) ≡ length rules + 1
-length_one [] rule = refl
-length_one (first ∷ rules) rule = omega (arith, length_one rules rule)
+length_one rules rule = length-append rules (rule ∷ [])
 
 counted : (lines later : List (List ℕ)) (line : List ℕ) → lines ≡ line ∷ later → length lines ≡ length later + 1
 counted lines later line is = rw is (omega arith)
 
-pub goes-on : (bytes : List ℕ) (rules : List RuleValue) (before : ℕ) (rest line behind : List ℕ) (rule : RuleValue) → Goes bytes rules before rest
-    → lines_of rest ≡ line ∷ lines_of behind → IsLine before rule line → Goes bytes (rules ++ rule ∷ []) rule.number behind
-goes-on bytes rules before rest line behind rule goes split says =
+pub goes-on : {bytes : List ℕ} {rules : List RuleValue} {before : ℕ} {rest line behind : List ℕ} {rule : RuleValue}
+    → Goes bytes rules before rest → lines_of rest ≡ line ∷ lines_of behind → IsLine before rule line → Goes bytes (rules ++ rule ∷ []) rule.number behind
+goes-on {bytes} {rules} {before} {rest} {line} {behind} {rule} goes split says =
     let len = length_one rules rule in
     record {
-      lines = λ more are. subst (λ (rs : List RuleValue). AreLines 0 rs (lines_of bytes)) (sym (append_rule rules more rule)) (goes.lines (rule ∷ more) (subst (AreLines before (rule ∷ more)) (sym split) (says, are)));
+      lines = λ more are. subst (λ (rs : List RuleValue). AreLines 0 rs (lines_of bytes))
+          (sym (append_rule rules more rule)) (goes.lines (rule ∷ more) (subst (AreLines before (rule ∷ more)) (sym split) (says, are)));
       bad = λ number bad.
           let there = goes.bad (suc number) (subst (λ (ls : List (List ℕ)). IsFirstBad before ls (suc (suc number))) (sym split) (rule, says, bad)) in
           let place : length rules + suc (suc number) ≡ length (rules ++ rule ∷ []) + suc number = omega arith in
@@ -94,20 +91,16 @@ goes-on bytes rules before rest line behind rule goes split says =
       count = omega (arith, goes.count, counted (lines_of rest) (lines_of behind) line split);
     }
 
-pub goes-bad : (bytes : List ℕ) (rules : List RuleValue) (before : ℕ) (rest line behind : List ℕ) → Goes bytes rules before rest
+pub goes-bad : {bytes : List ℕ} {rules : List RuleValue} {before : ℕ} {rest line : List ℕ} (behind : List ℕ) → Goes bytes rules before rest
     → lines_of rest ≡ line ∷ lines_of behind → ((rule : RuleValue) → ¬ (IsLine before rule line)) → IsFirstBad 0 (lines_of bytes) (length rules + 1)
-goes-bad bytes rules before rest line behind goes split none =
+goes-bad {before} behind goes split none =
     goes.bad 0 (subst (λ (ls : List (List ℕ)). IsFirstBad before ls 1) (sym split) none)
 
-append_none : (rules : List RuleValue) → rules ++ [] ≡ rules
-append_none [] = refl
-append_none (rule ∷ rules) = ap (λ (xs : List RuleValue). rule ∷ xs) (append_none rules)
-
-pub goes-end : (bytes : List ℕ) (rules : List RuleValue) (before : ℕ) (rest : List ℕ) → Goes bytes rules before rest → rest ≡ []
-    → AreLines 0 rules (lines_of bytes)
-goes-end bytes rules before rest goes end =
+pub goes-end : {bytes : List ℕ} {rules : List RuleValue} {before : ℕ} {rest : List ℕ}
+    → Goes bytes rules before rest → rest ≡ [] → AreLines 0 rules (lines_of bytes)
+goes-end {bytes} {rules} {before} {rest} goes end =
     let none : lines_of rest ≡ [] = ap lines_of end in
-    subst (λ (rs : List RuleValue). AreLines 0 rs (lines_of bytes)) (append_none rules) (goes.lines [] (subst (AreLines before []) (sym none) tt))
+    rw (← append-nil rules) (goes.lines [] (subst (AreLines before []) (sym none) tt))
 
 -- ---- the numbers rise
 

@@ -1,5 +1,6 @@
 -- Words: what is read is written so, and what is written so is read.
-use Rattle.std.proofs.Common.{◌≡◌, ◌⊎◌, ℕ, suc, ◌+◌, ◌*◌, ◌/◌, ◌^◌, ◌<◌, ◌≤◌, Bool, true, false, cond, eqb, ltb, List, [], ◌∷◌, ◌++◌, length, take, drop, Option, Some, None, Result, Ok, Err, refl, sym, ap, subst, ◌∙◌, arith, inl, inr}
+use Rattle.std.proofs.Common.{◌≡◌, ◌⊎◌, ℕ, suc, ◌+◌, ◌*◌, ◌/◌, ◌^◌, ◌<◌, ◌≤◌, Bool, true, false, cond, eqb, ltb, List, [], ◌∷◌, ◌++◌, length, take, drop}
+use Rattle.std.proofs.Common.{Option, Some, None, Result, Ok, Err, refl, sym, ap, ◌∙◌, arith, inl, inr}
 use Rattle.std.specs.Prelude.{bytes_eq, option_and_then, position, ◌&&◌}
 use Rattle.std.specs.Fmt.{decimal}
 use Rattle.std.specs.List.{position_or_len}
@@ -9,8 +10,9 @@ use Rattle.std.specs.Char.{digit_value}
 use Rattle.std.specs.Str.Parse.{digits_value, AllDigits}
 use Rattle.std.proofs.lemmas.Bool.{eqb-false, eqb-true, le-ltb, lt-ltb, ltb-false, ltb-true, ne_eqb}
 use Rattle.std.proofs.lemmas.Fmt.{decimal_is_IsNumeral}
+use Rattle.std.proofs.lemmas.List.{length-append}
 use Rattle.std.proofs.lemmas.Slice.Eq.{bytes_eq-Decides}
-use Rattle.hex.specs.Hex.{IsBytes, decode_sized, encode_lower, lower_digits}
+use Rattle.hex.specs.Hex.{IsBytes, decode_sized, encode_lower}
 use Rattle.hex.specs.declared.error.FromHexError.{FromHexError}
 use Rattle.hex.proofs.HexLemmas.{decode_of-ok, decode_sized-encode_lower, decode_sized-ok, decode_sized-twice, length-encode_with}
 use Rattle.line_script.specs.Words.{split_at_space, number_in, short_in, bytes_in}
@@ -64,7 +66,7 @@ number_in-found word number e =
     let parts = both_true _ _ test.0 in
     let is : digits_value 10 word ≡ number = some_is _ _ test.1 in
     let small : digits_value 10 word < 2 ^ 32 = ltb-true _ _ parts.1 in
-    (sym (bytes_is _ _ parts.0) ∙ ap decimal is, subst (λ (n : ℕ). n < 2 ^ 32) is small)
+    (sym (bytes_is _ _ parts.0) ∙ ap decimal is, rw (← is) small)
 
 pub number_in-only : (number : ℕ) → number < 2 ^ 32 → number_in (decimal number) ≡ Some number
 unfolding number_in
@@ -82,21 +84,11 @@ number_in-none word none = go (number_in word) refl
 
 pub short_in-found : (word : List ℕ) (number : ℕ) → short_in word ≡ Some number → (word ≡ decimal number) × (number < 2 ^ 16)
 unfolding short_in
-short_in-found word number e =
-    let got = bind_some (number_in word) _ number e in
-    let found = number_in-found word got.0 got.1 in
-    let test = guard_some (ltb 0xFFFF got.0) (Some got.0) number got.2 in
-    let is : got.0 ≡ number = some_is _ _ test.1 in
-    let few : got.0 ≤ 0xFFFF = ltb-false _ _ test.0 in
-    let small : got.0 < 2 ^ 16 = omega arith in
-    (found.0 ∙ ap decimal is, subst (λ (n : ℕ). n < 2 ^ 16) is small)
+short_in-found word number e = grind (arith, bind_some, number_in-found, guard_some, some_is, ltb-false)
 
 pub short_in-only : (number : ℕ) → number < 2 ^ 16 → short_in (decimal number) ≡ Some number
 unfolding short_in
-short_in-only number small =
-    let few : ltb 0xFFFF number ≡ false = le-ltb _ _ (omega arith) in
-    let large : number < 2 ^ 32 = omega arith in
-    rw (number_in-only number large, few) refl
+short_in-only number small = grind (arith, le-ltb, number_in-only)
 
 -- ---- bytes
 
@@ -106,8 +98,8 @@ spelled : (text : List ℕ) (r : Result (List ℕ) FromHexError) (bytes : List �
 spelled text (Err fault) bytes e = absurd cc
 spelled text (Ok found) bytes e =
     let test = test_some (bytes_eq (encode_lower found) text) (Some found) bytes e in
-    let is : found ≡ bytes = some_is found bytes test.1 in
-    (ap (λ (b : List ℕ). let r : Result (List ℕ) FromHexError = Ok b in r) is, sym (bytes_is _ _ test.0) ∙ ap encode_lower is)
+    let is = some_is found bytes test.1 in
+    (ap (λ b. let r = Ok b in r) is, sym (bytes_is _ _ test.0) ∙ ap encode_lower is)
 
 pub bytes_in-found : (most : ℕ) (word bytes : List ℕ) → bytes_in most word ≡ Some bytes
     → (word ≡ encode_lower bytes) × IsBytes bytes × (0 < length bytes) × (length bytes ≤ most)
@@ -116,21 +108,16 @@ bytes_in-found most word bytes e =
     let some = guard_some (eqb (length word) 0) _ bytes e in
     let few = guard_some (ltb (2 * most) (length word)) _ bytes some.1 in
     let is = spelled word (decode_sized word (length word / 2)) bytes few.1 in
-    let twice : length word ≡ 2 * (length word / 2) = decode_sized-ok word (length word / 2) bytes is.0 in
+    let twice = decode_sized-ok word (length word / 2) bytes is.0 in
     let ok = decode_of-ok word bytes (sym (decode_sized-twice word (length word / 2) twice) ∙ is.0) in
-    let len : length word ≡ 2 * length bytes = ok.2 in
-    let written : length word ≡ 0 → ⊥ = eqb-false (length word) 0 some.0 in
+    let len = ok.2 in
+    let written = eqb-false (length word) 0 some.0 in
     let within : length word ≤ 2 * most = ltb-false _ _ few.0 in
     (is.1, ok.3, omega arith, omega arith)
 
 pub bytes_in-only : (most : ℕ) (bytes : List ℕ) → IsBytes bytes → 0 < length bytes → length bytes ≤ most → bytes_in most (encode_lower bytes) ≡ Some bytes
 unfolding bytes_in
-bytes_in-only most bytes fits some few =
-    let len : length (encode_lower bytes) ≡ 2 * length bytes = length-encode_with lower_digits bytes in
-    let written : eqb (length (encode_lower bytes)) 0 ≡ false = ne_eqb _ _ (λ e. omega arith) in
-    let short : ltb (2 * most) (length (encode_lower bytes)) ≡ false = le-ltb _ _ (omega arith) in
-    let half : length (encode_lower bytes) / 2 ≡ length bytes = omega arith in
-    rw (written, short, decode_sized-encode_lower bytes (length (encode_lower bytes) / 2) (sym half) fits, bytes_same (encode_lower bytes)) refl
+bytes_in-only most bytes fits some few = grind (arith, length-encode_with, ne_eqb, le-ltb, decode_sized-encode_lower, bytes_same)
 
 -- ---- up to the first space
 
@@ -141,16 +128,18 @@ cut_at : (words : List ℕ) → space_place words < length words → words ≡ t
 cut_at [] less = absurd (omega arith)
 cut_at (byte ∷ words) less = go (λ inside. cut_at words inside) (eqb byte 32) refl
   where
-    go : (space_place words < length words → words ≡ take (space_place words) words ++ 32 ∷ drop (space_place words + 1) words) → (b : Bool) → eqb byte 32 ≡ b → byte ∷ words ≡ take (space_place (byte ∷ words)) (byte ∷ words) ++ 32 ∷ drop (space_place (byte ∷ words) + 1) (byte ∷ words)
+    go : (space_place words < length words → words ≡ take (space_place words) words ++ 32 ∷ drop (space_place words + 1) words) → (b : Bool)
+        → eqb byte 32 ≡ b → byte ∷ words ≡ take (space_place (byte ∷ words)) (byte ∷ words) ++ 32 ∷ drop (space_place (byte ∷ words) + 1) (byte ∷ words)
     go later true e =
         let place : space_place (byte ∷ words) ≡ 0 = rw e refl in
         let is : byte ≡ 32 = eqb-true _ _ e in
         rw (place, is) refl
     go later false e =
-        let place : space_place (byte ∷ words) ≡ suc (space_place words) = let past : space_place (byte ∷ words) ≡ 1 + space_place words = rw e refl in omega arith in
+        let place : space_place (byte ∷ words) ≡ suc (space_place words) = let past : space_place (byte ∷ words) ≡ 1 + space_place words = rw e refl in
+        omega arith in
         let more = later (omega arith) in
         let next : suc (space_place words) + 1 ≡ suc (space_place words + 1) = omega arith in
-        rw (place, next) (ap (λ (xs : List ℕ). byte ∷ xs) more)
+        rw (place, next) (ap (λ xs. byte ∷ xs) more)
 
 pub split_at_space-found : (words : List ℕ) (parts : List ℕ × List ℕ) → split_at_space words ≡ Some parts → words ≡ parts.0 ++ 32 ∷ parts.1
 unfolding split_at_space
@@ -159,25 +148,20 @@ split_at_space-found words parts e =
     let there = test_some (ltb (space_place words) (length words)) _ got.0 got.1 in
     let is : space_place words ≡ got.0 = some_is _ _ there.1 in
     let cut = cut_at words (ltb-true _ _ there.0) in
-    subst (λ (p : List ℕ × List ℕ). words ≡ p.0 ++ 32 ∷ p.1) got.2 (subst (λ (k : ℕ). words ≡ take k words ++ 32 ∷ drop (k + 1) words) is cut)
+    rw (← got.2, ← is) cut
 
 -- a digit is no space
 digit_is_none : (byte : ℕ) → digit_value byte < 10 → eqb byte 32 ≡ false
-digit_is_none byte digit = ne_eqb _ _ (λ e. let space : digit_value 32 < 10 = subst (λ (b : ℕ). digit_value b < 10) e digit in omega arith)
+digit_is_none byte digit = grind (arith, ne_eqb)
 
 front_of : (front back : List ℕ) → AllDigits 10 front
-    → (space_place (front ++ 32 ∷ back) ≡ length front) × (take (length front) (front ++ 32 ∷ back) ≡ front) × (drop (length front + 1) (front ++ 32 ∷ back) ≡ back)
+    → (space_place (front ++ 32 ∷ back) ≡ length front)
+    × (take (length front) (front ++ 32 ∷ back) ≡ front) × (drop (length front + 1) (front ++ 32 ∷ back) ≡ back)
 front_of [] back digits = (refl, refl, refl)
-front_of (byte ∷ front) back digits =
-    let other = digit_is_none byte digits.0 in
-    let more = front_of front back digits.1 in
-    let place : space_place (byte ∷ front ++ 32 ∷ back) ≡ suc (length front) = let past : space_place (byte ∷ front ++ 32 ∷ back) ≡ 1 + space_place (front ++ 32 ∷ back) = rw other refl in omega (arith, more.0) in
-    let next : suc (length front) + 1 ≡ suc (length front + 1) = omega arith in
-    (place, ap (λ (xs : List ℕ). byte ∷ xs) more.1, rw next more.2)
+front_of (byte ∷ front) back digits = grind (arith, digit_is_none, front_of front back digits.1)
 
 longer : (xs back : List ℕ) → length xs < length (xs ++ 32 ∷ back)
-longer [] back = omega arith
-longer (x ∷ xs) back = omega (arith, longer xs back)
+longer xs back = omega (arith, length-append xs (32 ∷ back))
 
 pub split_at_space-decimal : (number : ℕ) (back : List ℕ) → number < 2 ^ 32 → split_at_space (decimal number ++ 32 ∷ back) ≡ Some (decimal number, back)
 unfolding split_at_space

@@ -1,32 +1,29 @@
 -- A word that is the text of a number is parsed as that number.
-use Rattle.std.proofs.Common.{◌≡◌, ℕ, ◌<◌, ◌^◌, List, sym, ap, subst, ◌∙◌, arith}
+use Rattle.std.proofs.Common.{◌≡◌, sym, ap, ◌∙◌, arith, rules}
 use Rattle.std.specs.Prelude.{bytes_eq}
 use Rattle.std.specs.Fmt.{decimal}
-use Rattle.std.specs.Str.{IsUtf8}
 use Rattle.std.proofs.lemmas.Fmt.{IsAscii-decimal, parse-decimal}
 use Rattle.std.proofs.lemmas.Str.{IsUtf8-from_ascii}
-use Rattle.line_script.specs.Words.{number_in}
 use Rattle.line_script.proofs.WordLaws.{bytes_is, bytes_same, number_in-none, number_in-only, ok_is}
 use Rattle.line_script.proofs.word.number_in.Goals as goal
 
 pub returns-in-Err : goal.returns-in-Err
 returns-in-Err c =
-    sym (number_in-none c.args.word.now (λ number small is. absurd (c.in-Err.ensures.cases.0 (subst IsUtf8 (sym is) (IsUtf8-from_ascii (decimal number) (IsAscii-decimal number (omega arith)))))))
+    sym (number_in-none c.args.word.now
+    (λ number small is. absurd (c.in-Err.ensures.cases.0 (rw is (IsUtf8-from_ascii (decimal number) (IsAscii-decimal number (omega arith)))))))
 
 pub returns-in-Err-parse : goal.returns-in-Err-parse
 returns-in-Err-parse c =
-    sym (number_in-none c.args.word.now (λ number small is. absurd (cc (c.in-Err-parse.is, parse-decimal 32 number c.in-Ok.text.now c.parse.result small (omega arith) (c.in-Ok.ensures.cases.0 ∙ is) c.parse.ensures.value.0))))
+    sym (number_in-none c.args.word.now (λ number small is. absurd (cc
+    (c.in-Err-parse.is, parse-decimal 32 number c.in-Ok.text.now c.parse.result small (omega arith) (c.in-Ok.ensures.cases.0 ∙ is) c.parse.ensures.value.0))))
 
 pub returns-then-eq : goal.returns-then-eq
-returns-then-eq c =
-    let value = c.in-Ok-parse.ensures.value.0 in
-    let small : c.in-Ok-parse.number < 2 ^ 32 = subst (λ (n : ℕ). n < 2 ^ 32) (sym value.1) value.0.1 in
-    let text : c.args.word.now ≡ decimal c.in-Ok-parse.number = sym c.in-Ok.ensures.cases.0 ∙ (sym (bytes_is _ _ (sym c.eq.ensures ∙ c.if-eq.true)) ∙ c.format.ensures.text) in
-    sym (ap number_in text ∙ number_in-only c.in-Ok-parse.number small)
+returns-then-eq c = search (rules, bytes_is, number_in-only)
 
 pub returns-else-eq : goal.returns-else-eq
 returns-else-eq c =
     sym (number_in-none c.args.word.now (λ number small is.
-    let same : c.in-Ok-parse.number ≡ number = ok_is c.in-Ok-parse.number number (sym c.in-Ok-parse.is ∙ parse-decimal 32 number c.in-Ok.text.now c.parse.result small (omega arith) (c.in-Ok.ensures.cases.0 ∙ is) c.parse.ensures.value.0) in
-    let text : c.format.result.now ≡ c.in-Ok.text.now = c.format.ensures.text ∙ (ap decimal same ∙ (sym is ∙ sym c.in-Ok.ensures.cases.0)) in
-    absurd (cc (c.if-eq.false, c.eq.ensures ∙ ap (λ (t : List ℕ). bytes_eq t c.in-Ok.text.now) text ∙ bytes_same c.in-Ok.text.now))))
+    let same : c.in-Ok-parse.number ≡ number = ok_is c.in-Ok-parse.number number (sym c.in-Ok-parse.is
+    ∙ parse-decimal 32 number c.in-Ok.text.now c.parse.result small (omega arith) (c.in-Ok.ensures.cases.0 ∙ is) c.parse.ensures.value.0) in
+    let text = c.format.ensures.text ∙ (ap decimal same ∙ (sym is ∙ sym c.in-Ok.ensures.cases.0)) in
+    absurd (cc (c.if-eq.false, c.eq.ensures ∙ ap (λ t. bytes_eq t c.in-Ok.text.now) text ∙ bytes_same c.in-Ok.text.now))))

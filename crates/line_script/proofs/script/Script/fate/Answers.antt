@@ -1,9 +1,5 @@
 -- A binary search finds the rule of a number.
-use Rattle.std.proofs.Common.{rules, ◌≡◌, ◌<◌, List, length, get_or, Err, subst}
-use Rattle.std.specs.List.Sorted.{IsBinarySearchResult}
-use Rattle.std.specs.Ordering.{nat_cmp}
-use Rattle.std.specs.declared.cmp.Ordering.TheVariants.{Equal}
-use Rattle.line_script.specs.declared.script.Rule.{Rule}
+use Rattle.std.proofs.Common.{rules}
 use Rattle.std.proofs.lemmas.List.Sorted.{answers_always}
 use Rattle.line_script.proofs.SearchLaws.{found-fate, missing-fate}
 use Rattle.line_script.proofs.script.Script.fate.Goals as goal
@@ -12,11 +8,10 @@ pub returns-in-Ok : goal.returns-in-Ok
 returns-in-Ok c =
     let by_key = c.in-Ok.ensures.position (λ rule. rule.number) (answers_always _ _ _ (λ f a r g called. search rules)) in
     rw (← c.self.view_is, c.index.ensures) (found-fate c.self.inside.rules.items c.args.number c.in-Ok.place c.index.result.now c.self.invariant.0
-    (subst (λ (rules : List Rule). c.in-Ok.place < length rules) c.deref.ensures.value c.in-Ok.ensures.bound)
-    (λ d. subst (λ (rules : List Rule). nat_cmp (get_or rules c.in-Ok.place d).number c.args.number ≡ Equal) c.deref.ensures.value (by_key d)))
+    (rw (← c.deref.ensures.value) c.in-Ok.ensures.bound) (λ d. rw (← c.deref.ensures.value) (by_key d)))
 
 pub returns-in-Err : goal.returns-in-Err
 returns-in-Err c =
     let by_key = c.in-Err.ensures.position (λ rule. rule.number) (answers_always _ _ _ (λ f a r g called. search rules)) in
-    rw (← c.self.view_is, c.self.invariant.1) (missing-fate c.self.inside.rules.items c.args.number c.in-Err.field-0 c.self.invariant.0
-    (subst (λ (rules : List Rule). IsBinarySearchResult (λ rule. nat_cmp rule.number c.args.number) rules (Err c.in-Err.field-0)) c.deref.ensures.value by_key))
+    rw (← c.self.view_is, c.self.invariant.1)
+    (missing-fate c.self.inside.rules.items c.args.number c.in-Err.field-0 c.self.invariant.0 (rw (← c.deref.ensures.value) by_key))
