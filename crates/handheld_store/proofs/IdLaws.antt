@@ -1,6 +1,6 @@
 -- Ids that are taken, and free ones.
-use Rattle.std.proofs.Common.{◌≡◌, ℕ, ◌+◌, ◌<◌, ◌≤◌, Bool, true, false, cond, List, [], ◌∷◌, ◌||◌, map, length, refl, ap, sym, ◌∙◌, subst, arith}
-use Rattle.std.specs.Prelude.{Option, None, Some, is_none, find, is_some, nat_lt}
+use Rattle.std.proofs.Common.{◌≡◌, ℕ, ◌+◌, ◌<◌, ◌≤◌, Bool, true, false, List, [], ◌∷◌, map, length, refl, sym, subst, arith}
+use Rattle.std.specs.Prelude.{is_none, find, is_some, nat_lt}
 use Rattle.std.specs.List.{list_any}
 use Rattle.std.proofs.lemmas.List.{length-map}
 use Rattle.std.proofs.lemmas.Bool.{ltb-true, ltb-false}
@@ -12,30 +12,23 @@ use Rattle.pdb_values.proofs.PlaceLaws.{is_some-position}
 
 found_any : (test : Record → Bool) (items : List Record) → is_some (find test items) ≡ list_any test items
 found_any test [] = refl
-found_any test (item ∷ items) = let rest = found_any test items in elim (test item) as (λ b. is_some (cond b (Some item) (find test items)) ≡ (b || list_any test items)) [ true ↦ refl | false ↦ rest ]
+found_any test (item ∷ items) = grind (arith, found_any test items)
 
 pub any_has : (id : ℕ) (items : List Record) → list_any (has_id id) items ≡ is_among id (map (λ item. item.id) items)
 any_has id [] = refl
-any_has id (item ∷ items) = ap (λ b. has_id id item || b) (any_has id items)
+any_has id (item ∷ items) = rw (any_has id items)
 
 -- an id has a place exactly where it is among the ids
 pub place_among : (id : ℕ) (items : List Record) → is_some (place_of_id id items) ≡ is_among id (map (λ item. item.id) items)
-place_among id items = is_some-position (has_id id) items ∙ found_any (has_id id) items ∙ any_has id items
+place_among id items = grind (arith, is_some-position, found_any, any_has)
 
 -- an id that has a place is among the ids
 pub among_placed : (id : ℕ) (items : List Record) → is_none (place_of_id id items) ≡ false → is_among id (map (λ item. item.id) items) ≡ true
-among_placed id items placed = sym (place_among id items) ∙ some_where (place_of_id id items) placed
-  where
-    some_where : (o : Option ℕ) → is_none o ≡ false → is_some o ≡ true
-    some_where None none = absurd cc
-    some_where (Some k) none = refl
+among_placed id items placed = grind (arith, place_among)
 
 -- all ids in a range are taken
 pub record AreTaken (ids : List ℕ) (start end : ℕ) : Type 0 where
   pub each : (k : ℕ) → start ≤ k → k < end → is_among k ids ≡ true
-
-pub taken_none : (ids : List ℕ) (start : ℕ) → AreTaken ids start start
-taken_none ids start = record { each = λ k low high. absurd (omega arith) }
 
 one_more : (P : ℕ → Type 0) (k last : ℕ) → k < last + 1 → (k < last → P k) → P last → P k
 one_more P k last high below here = elim (nat_lt k last) as (λ b. nat_lt k last ≡ b → P k) [
@@ -47,7 +40,8 @@ pub taken_more : (ids : List ℕ) (start end : ℕ) → AreTaken ids start end �
 taken_more ids start end taken here = record { each = λ k low high. one_more (λ n. is_among n ids ≡ true) k end high (λ below. taken.each k low below) here }
 
 -- not all ids are taken by so few records
-pub not_all_taken : (items : List Record) (start : ℕ) → length items ≤ 65535 → start ≤ 16777216 → AreTaken (map (λ item. item.id) items) start 16777216 → AreTaken (map (λ item. item.id) items) 1 start → ⊥
+pub not_all_taken : (items : List Record) (start : ℕ)
+    → length items ≤ 65535 → start ≤ 16777216 → AreTaken (map (λ item. item.id) items) start 16777216 → AreTaken (map (λ item. item.id) items) 1 start → ⊥
 not_all_taken items start few within above below =
     let many : length (map (λ item. item.id) items) ≡ length items = length-map items (λ (item : Record). item.id) in
     not_all (map (λ item. item.id) items) (λ k low high. elim (nat_lt k start) as (λ b. nat_lt k start ≡ b → is_among k (map (λ item. item.id) items) ≡ true) [

@@ -1,11 +1,11 @@
 -- The ids that are kept beside a database.
-use Rattle.std.proofs.Common.{◌≡◌, ℕ, zero, suc, ◌+◌, ◌<◌, ◌≤◌, Bool, true, false, cond, not, List, [], ◌∷◌, ◌++◌, take, length, filter, position, refl, ap, sym, subst, ◌∙◌, arith, Option, Some, None, get_or, nat_eq, eq-eqb, add-one}
+use Rattle.std.proofs.Common.{◌≡◌, ℕ, suc, ◌+◌, ◌<◌, ◌≤◌, Bool, true, false, cond, not, List, [], ◌∷◌, ◌++◌, take, length, filter, position, refl, ap}
+use Rattle.std.proofs.Common.{sym, subst, ◌∙◌, arith, Option, Some, None, get_or, nat_eq, eq-eqb, add-one}
 use Rattle.std.specs.Prelude.{IfSome, find}
 use Rattle.std.specs.List.{list_any}
-use Rattle.std.specs.Option.{option_map}
 use Rattle.std.specs.Str.{bytes_eq}
 use Rattle.std.proofs.lemmas.Bool.{eqb-true}
-use Rattle.std.proofs.lemmas.List.{map-append}
+use Rattle.std.proofs.lemmas.List.{map-append, take_more}
 use Rattle.pdb_values.specs.Databases.{DatabaseValue}
 use Rattle.pdb_values.specs.NamedDatabases.{NamesRise, database_of, replaced, with_new, without_named}
 use Rattle.pdb_values.specs.declared.record.Record.{Record}
@@ -20,12 +20,11 @@ use Rattle.handheld_store.specs.declared.index.Index.{Index}
 -- ---- the ids of records
 
 take_next : {X : Type 0} (xs : List X) (k : ℕ) (x : X) → k < length xs → x ≡ get_or xs k x → take (suc k) xs ≡ take k xs ++ x ∷ []
-take_next [] k x within here = absurd (omega arith)
-take_next (y ∷ ys) zero x within here = ap (λ z. z ∷ []) (sym here)
-take_next (y ∷ ys) (suc k) x within here = ap (λ zs. y ∷ zs) (take_next ys k x (omega arith) here)
+take_next xs k x within here = rw (← add-one, here) (take_more xs k x within)
 
 -- the ids of the next record and those before it
-pub ids_next : (items : List Record) (k : ℕ) (item : Record) → k < length items → item ≡ get_or items k item → ids_of (take (suc k) items) ≡ ids_of (take k items) ++ item.id ∷ []
+pub ids_next : (items : List Record) (k : ℕ) (item : Record)
+    → k < length items → item ≡ get_or items k item → ids_of (take (suc k) items) ≡ ids_of (take k items) ++ item.id ∷ []
 ids_next items k item within here = ap ids_of (take_next items k item within here) ∙ map-append (λ (item : Record). item.id) (take k items) (item ∷ [])
 
 insert_by : (ids : List ℕ) (id : ℕ) (b : Bool) → not b ≡ true → cond b ids (ids ++ id ∷ []) ≡ ids ++ id ∷ []
@@ -33,33 +32,27 @@ insert_by ids id true new = absurd cc
 insert_by ids id false new = refl
 
 -- the next id is put behind those before it
-pub ids_more : (items : List Record) (k : ℕ) (item : Record) (old new : List ℕ) → k < length items → item ≡ get_or items k item → old ≡ ids_of (take k items) → not (list_any (nat_eq item.id) old) ≡ true → new ≡ insert_key nat_eq old item.id
+pub ids_more : (items : List Record) (k : ℕ) (item : Record) (old new : List ℕ) → k < length items
+    → item ≡ get_or items k item → old ≡ ids_of (take k items) → not (list_any (nat_eq item.id) old) ≡ true → new ≡ insert_key nat_eq old item.id
     → new ≡ ids_of (take (k + 1) items)
 ids_more items k item old new within here is fresh inserted =
-    inserted ∙ insert_by old item.id (list_any (nat_eq item.id) old) fresh ∙ ap (λ (ids : List ℕ). ids ++ item.id ∷ []) is ∙ sym (rw add-one (ids_next items k item within here))
+    inserted ∙ insert_by old item.id (list_any (nat_eq item.id) old) fresh
+    ∙ ap (λ ids. ids ++ item.id ∷ []) is ∙ sym (rw add-one (ids_next items k item within here))
 
 -- one more of two lists of records with the same ids
-pub same_more : (ones others : List Record) (k : ℕ) (one other : Record) → k < length ones → k < length others → one ≡ get_or ones k one → other ≡ get_or others k other → ids_of (take k ones) ≡ ids_of (take k others) → one.id ≡ other.id
+pub same_more : (ones others : List Record) (k : ℕ) (one other : Record) → k < length ones
+    → k < length others → one ≡ get_or ones k one → other ≡ get_or others k other → ids_of (take k ones) ≡ ids_of (take k others) → one.id ≡ other.id
     → ids_of (take (k + 1) ones) ≡ ids_of (take (k + 1) others)
-same_more ones others k one other first second here there same id = rw add-one (ids_next ones k one first here ∙ ap (λ (ids : List ℕ). ids ++ one.id ∷ []) same ∙ ap (λ (n : ℕ). ids_of (take k others) ++ n ∷ []) id ∙ sym (ids_next others k other second there))
+same_more ones others k one other first second here there same id = rw add-one (ids_next ones k one first here
+    ∙ ap (λ ids. ids ++ one.id ∷ []) same ∙ ap (λ n. ids_of (take k others) ++ n ∷ []) id ∙ sym (ids_next others k other second there))
 
 same_test : (a b : ℕ) → nat_eq a b ≡ nat_eq b a
-same_test a b = by (nat_eq a b) (nat_eq b a) refl refl
-  where
-    by : (p q : Bool) → nat_eq a b ≡ p → nat_eq b a ≡ q → p ≡ q
-    by true true e f = refl
-    by false false e f = refl
-    by true false e f = sym (eq-eqb b a (sym (eqb-true a b e))) ∙ f
-    by false true e f = sym (sym (eq-eqb a b (sym (eqb-true b a f))) ∙ e)
+same_test a b = grind (arith, eq-eqb, eqb-true)
 
 -- the place of an id among the ids is the record's
 pub place_among_ids : (id : ℕ) (items : List Record) → position (nat_eq id) (ids_of items) ≡ place_of_id id items
 place_among_ids id [] = refl
-place_among_ids id (item ∷ items) =
-    position-cons (nat_eq id) item.id (ids_of items)
-    ∙ ap (λ b. cond b (Some 0) (option_map (λ place. suc place) (position (nat_eq id) (ids_of items)))) (same_test id item.id)
-    ∙ ap (λ (o : Option ℕ). cond (nat_eq item.id id) (Some 0) (option_map (λ place. suc place) o)) (place_among_ids id items)
-    ∙ sym (position-cons (λ (item : Record). nat_eq item.id id) item items)
+place_among_ids id (item ∷ items) = grind (arith, position-cons, position, same_test, place_among_ids id items)
 
 -- ---- the index of a name
 
@@ -68,42 +61,38 @@ record IsFound (databases : List DatabaseValue) (name : List ℕ) (index : Index
   named : name ≡ index.name
   tells : IsIndexIn databases index
 
-found_by : (databases : List DatabaseValue) (name : List ℕ) (first index : Index) (rest : List Index) (b : Bool) → is_of name first ≡ b → cond b (Some first) (find (is_of name) rest) ≡ Some index → IsIndexIn databases first
+found_by : (databases : List DatabaseValue) (name : List ℕ) (first index : Index) (rest : List Index) (b : Bool)
+    → is_of name first ≡ b → cond b (Some first) (find (is_of name) rest) ≡ Some index → IsIndexIn databases first
     → (find (is_of name) rest ≡ Some index → IsFound databases name index) → IsFound databases name index
-found_by databases name first index rest true own is tells later = let same : first ≡ index = cc in subst (IsFound databases name) same (record { named = bytes_eq-is name first.name own; tells = tells })
+found_by databases name first index rest true own is tells later = let same : first ≡ index = cc in
+    subst (IsFound databases name) same (record { named = bytes_eq-is name first.name own; tells = tells })
 found_by databases name first index rest false own is tells later = later is
 
-found : (databases : List DatabaseValue) (name : List ℕ) (indexes : List Index) (index : Index) → find (is_of name) indexes ≡ Some index → AreIndexes databases indexes → IsFound databases name index
+found : (databases : List DatabaseValue) (name : List ℕ) (indexes : List Index) (index : Index)
+    → find (is_of name) indexes ≡ Some index → AreIndexes databases indexes → IsFound databases name index
 found databases name [] index is are = absurd cc
-found databases name (first ∷ rest) index is are = found_by databases name first index rest (is_of name first) refl is are.0 (λ later. found databases name rest index later are.1)
+found databases name (first ∷ rest) index is are =
+    found_by databases name first index rest (is_of name first) refl is are.0 (λ later. found databases name rest index later are.1)
 
 -- it has the ids of the database of its name
-pub found_ids : (databases : List DatabaseValue) (name : List ℕ) (indexes : List Index) (index : Index) (database : DatabaseValue) → find (is_of name) indexes ≡ Some index → AreIndexes databases indexes → database_of name databases ≡ Some database
+pub found_ids : (databases : List DatabaseValue) (name : List ℕ) (indexes : List Index) (index : Index) (database : DatabaseValue)
+    → find (is_of name) indexes ≡ Some index → AreIndexes databases indexes → database_of name databases ≡ Some database
     → index.ids.keys ≡ ids_of database.records
 found_ids databases name indexes index database is are here =
-    let it : IsFound databases name index = found databases name indexes index is are in
-    subst (λ (o : Option DatabaseValue). IfSome o (λ (d : DatabaseValue). index.ids.keys ≡ ids_of d.records)) (ap (λ n. database_of n databases) (sym it.named) ∙ here) it.tells
-
--- ---- one more
-
-AreIndexes-push : (databases : List DatabaseValue) (indexes : List Index) (index : Index) → IsIndexIn databases index → AreIndexes databases indexes → AreIndexes databases (indexes ++ index ∷ [])
-AreIndexes-push databases [] index tells are = (tells, tt)
-AreIndexes-push databases (first ∷ rest) index tells are = (are.0, AreIndexes-push databases rest index tells are.1)
-
--- that of a database
-pub AreIndexes-own : (databases : List DatabaseValue) (indexes : List Index) (index : Index) (database : DatabaseValue) → index.name ≡ database.head.name → index.ids.keys ≡ ids_of database.records → database_of database.head.name databases ≡ Some database
-    → AreIndexes databases indexes → AreIndexes databases (indexes ++ index ∷ [])
-AreIndexes-own databases indexes index database named tells here are = AreIndexes-push databases indexes index
-    (subst (λ (o : Option DatabaseValue). IfSome o (λ (d : DatabaseValue). index.ids.keys ≡ ids_of d.records)) (sym (ap (λ n. database_of n databases) named ∙ here)) tells) are
+    let it = found databases name indexes index is are in
+    subst (λ o. IfSome o (λ (d : DatabaseValue). index.ids.keys ≡ ids_of d.records)) (ap (λ n. database_of n databases) (sym it.named)
+    ∙ here) it.tells
 
 -- what an index says of a record's place
-pub place_found : (databases : List DatabaseValue) (name : List ℕ) (indexes : List Index) (index : Index) (database : DatabaseValue) (id : ℕ) (result : Option ℕ) → find (is_of name) indexes ≡ Some index → AreIndexes databases indexes → database_of name databases ≡ Some database
+pub place_found : (databases : List DatabaseValue) (name : List ℕ) (indexes : List Index) (index : Index) (database : DatabaseValue)
+    (id : ℕ) (result : Option ℕ) → find (is_of name) indexes ≡ Some index → AreIndexes databases indexes → database_of name databases ≡ Some database
     → result ≡ position (nat_eq id) index.ids.keys → result ≡ place_of_id id database.records
 place_found databases name indexes index database id result is are here said =
     said ∙ ap (position (nat_eq id)) (found_ids databases name indexes index database is are here) ∙ place_among_ids id database.records
 
 -- a place that was found lies within
-pub place_within : (id : ℕ) (items : List Record) (result : Option ℕ) → result ≡ place_of_id id items → length items ≤ 65535 → IfSome result (λ place. place < 65535)
+pub place_within : (id : ℕ) (items : List Record) (result : Option ℕ)
+    → result ≡ place_of_id id items → length items ≤ 65535 → IfSome result (λ place. place < 65535)
 place_within id items None is few = tt
 place_within id items (Some place) is few = let within = (position_found (λ (item : Record). nat_eq item.id id) items place (sym is)).1 in omega arith
 
@@ -114,30 +103,25 @@ abbrev pub AreOthers : List ℕ → List DatabaseValue → List DatabaseValue �
 AreOthers name old new = (other : List ℕ) → bytes_eq name other ≡ false → database_of other new ≡ database_of other old
 
 -- the indexes of all other names are still right
-pub AreIndexes-others : (name : List ℕ) (old new : List DatabaseValue) (indexes : List Index) → AreOthers name old new → AreIndexes old indexes → AreIndexes new (filter (λ index. not (is_of name index)) indexes)
+pub AreIndexes-others : (name : List ℕ) (old new : List DatabaseValue) (indexes : List Index)
+    → AreOthers name old new → AreIndexes old indexes → AreIndexes new (filter (λ index. not (is_of name index)) indexes)
 AreIndexes-others name old new [] others are = tt
-AreIndexes-others name old new (first ∷ rest) others are = by (is_of name first) refl (AreIndexes-others name old new rest others are.1)
-  where
-    by : (b : Bool) → is_of name first ≡ b → AreIndexes new (filter (λ index. not (is_of name index)) rest)
-        → AreIndexes new (cond (not b) (first ∷ filter (λ index. not (is_of name index)) rest) (filter (λ index. not (is_of name index)) rest))
-    by true own later = later
-    by false own later = (subst (λ (o : Option DatabaseValue). IfSome o (λ (d : DatabaseValue). first.ids.keys ≡ ids_of d.records)) (sym (others first.name own)) are.0, later)
-
--- the same databases
-pub AreIndexes-forgotten : (name : List ℕ) (databases : List DatabaseValue) (indexes : List Index) → AreIndexes databases indexes → AreIndexes databases (filter (λ index. not (is_of name index)) indexes)
-AreIndexes-forgotten name databases indexes are = AreIndexes-others name databases databases indexes (λ other differs. refl) are
+AreIndexes-others name old new (first ∷ rest) others are = grind (arith, AreIndexes-others name old new rest others are.1)
 
 other_by : (b : Bool) (mine rest : Option DatabaseValue) → b ≡ false → cond b mine rest ≡ rest
 other_by true mine rest differs = absurd cc
 other_by false mine rest differs = refl
 
 -- with a new one
-pub others-with_new : (new : DatabaseValue) (databases : List DatabaseValue) → database_of new.head.name databases ≡ None → AreOthers new.head.name databases (with_new new databases)
-others-with_new new databases none = λ other differs. database_of-with_new other new databases none ∙ other_by (bytes_eq new.head.name other) (Some new) (database_of other databases) differs
+pub others-with_new : (new : DatabaseValue) (databases : List DatabaseValue)
+    → database_of new.head.name databases ≡ None → AreOthers new.head.name databases (with_new new databases)
+others-with_new new databases none = λ other differs. database_of-with_new other new databases none
+    ∙ other_by (bytes_eq new.head.name other) (Some new) (database_of other databases) differs
 
 -- without one
 pub others-without_named : (name : List ℕ) (databases : List DatabaseValue) → NamesRise databases → AreOthers name databases (without_named name databases)
-others-without_named name databases rise = λ other differs. database_of-without_named other name databases rise ∙ other_by (bytes_eq name other) None (database_of other databases) differs
+others-without_named name databases rise = λ other differs. database_of-without_named other name databases rise
+    ∙ other_by (bytes_eq name other) None (database_of other databases) differs
 
 -- with another one
 pub others-replaced : (new : DatabaseValue) (databases : List DatabaseValue) → AreOthers new.head.name databases (replaced new databases)
@@ -145,51 +129,62 @@ others-replaced new databases = by (database_of new.head.name databases) refl
   where
     by : (o : Option DatabaseValue) → database_of new.head.name databases ≡ o → AreOthers new.head.name databases (replaced new databases)
     by None none = λ other differs. ap (database_of other) (replaced-none new databases none)
-    by (Some was) here = λ other differs. database_of-replaced other new was databases here ∙ other_by (bytes_eq new.head.name other) (Some new) (database_of other databases) differs
+    by (Some was) here = λ other differs. database_of-replaced other new was databases here
+        ∙ other_by (bytes_eq new.head.name other) (Some new) (database_of other databases) differs
 
 -- ---- another one with the same ids
 
-same_by : (new : DatabaseValue) (index : Index) (old : Option DatabaseValue) (b : Bool) → IfSome old (λ (d : DatabaseValue). index.ids.keys ≡ ids_of d.records) → (b ≡ true → index.ids.keys ≡ ids_of new.records)
+same_by : (new : DatabaseValue) (index : Index) (old : Option DatabaseValue) (b : Bool)
+    → IfSome old (λ (d : DatabaseValue). index.ids.keys ≡ ids_of d.records) → (b ≡ true → index.ids.keys ≡ ids_of new.records)
     → IfSome (cond b (Some new) old) (λ (d : DatabaseValue). index.ids.keys ≡ ids_of d.records)
 same_by new index old true was own = own refl
 same_by new index old false was own = was
 
-each_same : (new was : DatabaseValue) (databases : List DatabaseValue) (indexes : List Index) → database_of new.head.name databases ≡ Some was → ids_of was.records ≡ ids_of new.records → AreIndexes databases indexes → AreIndexes (replaced new databases) indexes
+each_same : (new was : DatabaseValue) (databases : List DatabaseValue) (indexes : List Index) → database_of new.head.name databases ≡ Some was
+    → ids_of was.records ≡ ids_of new.records → AreIndexes databases indexes → AreIndexes (replaced new databases) indexes
 each_same new was databases [] here same are = tt
 each_same new was databases (first ∷ rest) here same are = (
-  subst (λ (o : Option DatabaseValue). IfSome o (λ (d : DatabaseValue). first.ids.keys ≡ ids_of d.records)) (sym (database_of-replaced first.name new was databases here))
+  subst (λ o. IfSome o (λ (d : DatabaseValue). first.ids.keys ≡ ids_of d.records))
+      (sym (database_of-replaced first.name new was databases here))
       (same_by new first (database_of first.name databases) (bytes_eq new.head.name first.name) are.0 (λ own.
-      subst (λ (o : Option DatabaseValue). IfSome o (λ (d : DatabaseValue). first.ids.keys ≡ ids_of d.records)) (ap (λ n. database_of n databases) (sym (bytes_eq-is new.head.name first.name own)) ∙ here) are.0 ∙ same)),
+      subst (λ o. IfSome o (λ (d : DatabaseValue). first.ids.keys ≡ ids_of d.records))
+      (ap (λ n. database_of n databases) (sym (bytes_eq-is new.head.name first.name own)) ∙ here) are.0 ∙ same)),
   each_same new was databases rest here same are.1,
 )
 
-pub AreIndexes-same : (new : DatabaseValue) (databases : List DatabaseValue) (indexes : List Index) → IfSome (database_of new.head.name databases) (λ was. ids_of was.records ≡ ids_of new.records) → AreIndexes databases indexes → AreIndexes (replaced new databases) indexes
+pub AreIndexes-same : (new : DatabaseValue) (databases : List DatabaseValue) (indexes : List Index) → IfSome (database_of new.head.name databases)
+    (λ was. ids_of was.records ≡ ids_of new.records) → AreIndexes databases indexes → AreIndexes (replaced new databases) indexes
 AreIndexes-same new databases indexes same are = by (database_of new.head.name databases) refl same
   where
-    by : (o : Option DatabaseValue) → database_of new.head.name databases ≡ o → IfSome o (λ was. ids_of was.records ≡ ids_of new.records) → AreIndexes (replaced new databases) indexes
+    by : (o : Option DatabaseValue)
+        → database_of new.head.name databases ≡ o → IfSome o (λ was. ids_of was.records ≡ ids_of new.records) → AreIndexes (replaced new databases) indexes
     by None none same = subst (λ ds. AreIndexes ds indexes) (sym (replaced-none new databases none)) are
     by (Some was) here same = each_same new was databases indexes here same are
 
 -- ---- as a store keeps them
 
 -- the indexes that are left once those of a name are forgotten
-pub left_right : (name : List ℕ) (databases databases' : List DatabaseValue) (old left : List Index) → AreOthers name databases databases' → AreIndexes databases old → left ≡ filter (λ index. not (is_of name index)) old → AreIndexes databases' left
-left_right name databases databases' old left others are is = subst (AreIndexes databases') (sym is) (AreIndexes-others name databases databases' old others are)
+pub left_right : (name : List ℕ) (databases databases' : List DatabaseValue) (old left : List Index)
+    → AreOthers name databases databases' → AreIndexes databases old → left ≡ filter (λ index. not (is_of name index)) old → AreIndexes databases' left
+left_right name databases databases' old left others are is = rw is (AreIndexes-others name databases databases' old others are)
 
 -- the indexes that are left serve whether another database takes the place of the one of its name or not
 pub record Serve (new : DatabaseValue) (databases : List DatabaseValue) (left : List Index) : Type 0 where
   pub before : AreIndexes databases left
   pub after : AreIndexes (replaced new databases) left
 
-pub serve_forgotten : (new : DatabaseValue) (databases : List DatabaseValue) (old left : List Index) → AreIndexes databases old → left ≡ filter (λ index. not (is_of new.head.name index)) old → Serve new databases left
+pub serve_forgotten : (new : DatabaseValue) (databases : List DatabaseValue) (old left : List Index)
+    → AreIndexes databases old → left ≡ filter (λ index. not (is_of new.head.name index)) old → Serve new databases left
 serve_forgotten new databases old left are is = record {
   before = left_right new.head.name databases databases old left (λ other differs. refl) are is;
   after = left_right new.head.name databases (replaced new databases) old left (others-replaced new databases) are is;
 }
 
-pub serve_same : (new : DatabaseValue) (databases : List DatabaseValue) (left : List Index) → AreIndexes databases left → IfSome (database_of new.head.name databases) (λ was. ids_of was.records ≡ ids_of new.records) → Serve new databases left
+pub serve_same : (new : DatabaseValue) (databases : List DatabaseValue) (left : List Index)
+    → AreIndexes databases left → IfSome (database_of new.head.name databases) (λ was. ids_of was.records ≡ ids_of new.records) → Serve new databases left
 serve_same new databases left are same = record { before = are; after = AreIndexes-same new databases left same are }
 
 -- the database of a name is that of its own
-pub named_own : (name : List ℕ) (databases : List DatabaseValue) (database : DatabaseValue) → database_of name databases ≡ Some database → database_of database.head.name databases ≡ Some database
-named_own name databases database here = ap (λ n. database_of n databases) (database_of-name name databases database here) ∙ here
+pub named_own : (name : List ℕ) (databases : List DatabaseValue) (database : DatabaseValue)
+    → database_of name databases ≡ Some database → database_of database.head.name databases ≡ Some database
+named_own name databases database here = grind (arith, database_of-name)

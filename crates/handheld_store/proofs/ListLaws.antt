@@ -1,13 +1,12 @@
 -- Lists by their entries.
-use Rattle.std.proofs.Common.{◌≡◌, ℕ, zero, suc, ◌<◌, List, [], ◌∷◌, length, refl, ap, sym, ◌∙◌, arith, slice_get, slice_set, get_or, map}
+use Rattle.std.proofs.Common.{◌≡◌, ℕ, zero, suc, ◌<◌, List, [], ◌∷◌, length, refl, ap, ◌∙◌, arith, slice_get, slice_set, get_or, map}
 use Rattle.std.specs.Prelude.{Some}
+use Rattle.std.proofs.lemmas.Option.{slice_get_read}
 use Rattle.pdb_values.specs.Databases.{DatabaseValue}
 
 -- an entry that was looked up
 pub get_some : {X : Type 0} (xs : List X) (k : ℕ) (x : X) → k < length xs → x ≡ get_or xs k x → slice_get xs k ≡ Some x
-get_some [] k x within is = absurd (omega arith)
-get_some (y ∷ ys) zero x within is = ap Some (sym is)
-get_some (y ∷ ys) (suc k) x within is = get_some ys k x (omega arith) is
+get_some xs k x within is = slice_get_read xs _ k x refl within is
 
 -- lists of one length with the same entries
 pub same_lists : {X : Type 0} (xs ys : List X) → length xs ≡ length ys → ((k : ℕ) → k < length xs → slice_get xs k ≡ slice_get ys k) → xs ≡ ys
@@ -21,9 +20,10 @@ same_lists (x ∷ xs) (y ∷ ys) many each =
 
 pub map-set : {X Y : Type 0} (f : X → Y) (xs : List X) (k : ℕ) (x old : X) → slice_get xs k ≡ Some old → f x ≡ f old → map f (slice_set xs k x) ≡ map f xs
 map-set f [] k x old here same = refl
-map-set f (y ∷ ys) zero x old here same = let was : y ≡ old = cc in ap (λ z. z ∷ map f ys) (same ∙ ap f (sym was))
+map-set f (y ∷ ys) zero x old here same = grind arith
 map-set f (y ∷ ys) (suc k) x old here same = ap (λ zs. f y ∷ zs) (map-set f ys k x old here same)
 
 -- databases with the same parts
-pub same_parts : (one other : DatabaseValue) → one.head ≡ other.head → one.app ≡ other.app → one.sort ≡ other.sort → one.records ≡ other.records → one.resources ≡ other.resources → one ≡ other
-same_parts one other head app sort records resources = λ i. record { head = head i; app = app i; sort = sort i; records = records i; resources = resources i }
+pub same_parts : (one other : DatabaseValue)
+    → one.head ≡ other.head → one.app ≡ other.app → one.sort ≡ other.sort → one.records ≡ other.records → one.resources ≡ other.resources → one ≡ other
+same_parts one other head app sort records resources = grind arith
