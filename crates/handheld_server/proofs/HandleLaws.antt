@@ -10,9 +10,11 @@ use Rattle.dlp_commands.proofs.ReachedLaws.{base_at-closed, base_at-nowhere, bas
 pub base_closed : (device : Device) (handle : ℕ) → opened_at handle device.handles ≡ None → base_at device handle ≡ None
 base_closed device handle none = base_at-closed device handle none
 
-pub base_nowhere : (device : Device) (handle : ℕ) (opened : Opened) → opened_at handle device.handles ≡ Some opened → database_of opened.name device.databases ≡ None → base_at device handle ≡ None
+pub base_nowhere : (device : Device) (handle : ℕ) (opened : Opened)
+    → opened_at handle device.handles ≡ Some opened → database_of opened.name device.databases ≡ None → base_at device handle ≡ None
 base_nowhere device handle opened is none = base_at-nowhere device handle opened is none
 
-pub base_there : (device : Device) (handle : ℕ) (opened : Opened) (database : DatabaseValue) → opened_at handle device.handles ≡ Some opened → database_of opened.name device.databases ≡ Some database
+pub base_there : (device : Device) (handle : ℕ) (opened : Opened) (database : DatabaseValue)
+    → opened_at handle device.handles ≡ Some opened → database_of opened.name device.databases ≡ Some database
     → base_at device handle ≡ Some (record { opened = opened; database = database })
 base_there device handle opened database is there = base_at-there device handle opened database is there

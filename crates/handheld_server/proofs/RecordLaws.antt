@@ -14,14 +14,18 @@ use Rattle.handheld_server.proofs.KeepLaws.{touches_replaced}
 
 -- the database of the name became the one with the record
 abbrev pub IsWritten : {F : Type 0} → List ℕ → ℕ → ContentValue → StoreValue F → StoreValue F → Type 0
-IsWritten name given content old new = IfSome (database_of name old.databases) (λ database. new ≡ record old { folder = new.folder; databases = replaced (with_record given content database) old.databases })
+IsWritten name given content old new = IfSome (database_of name old.databases)
+    (λ database. new ≡ record old { folder = new.folder; databases = replaced (with_record given content database) old.databases })
 
-pub record_touches : {F : Type 0} (contents : F → Option FileMap) (name : List ℕ) (given : ℕ) (content : ContentValue) (old new : StoreValue F) → IsSome (database_of name old.databases) → IsWritten name given content old new → FollowsName contents name old new → TouchesOne contents old new
+pub record_touches : {F : Type 0} (contents : F → Option FileMap) (name : List ℕ) (given : ℕ) (content : ContentValue) (old new : StoreValue F)
+    → IsSome (database_of name old.databases) → IsWritten name given content old new → FollowsName contents name old new → TouchesOne contents old new
 record_touches {F} contents name given content old new some written follows = by (database_of name old.databases) refl some written
   where
-    by : (o : Option DatabaseValue) → database_of name old.databases ≡ o → IsSome o → IfSome o (λ database. new ≡ record old { folder = new.folder; databases = replaced (with_record given content database) old.databases }) → TouchesOne contents old new
+    by : (o : Option DatabaseValue) → database_of name old.databases ≡ o → IsSome o → IfSome o (λ database.
+        new ≡ record old { folder = new.folder; databases = replaced (with_record given content database) old.databases }) → TouchesOne contents old new
     by None is some made = absurd cc
     by (Some was) is some made =
-        let named : was.head.name ≡ name = database_of-name name old.databases was is in
-        touches_replaced contents old new was (with_record given content was) (ap (λ n. database_of n old.databases) named ∙ is) (ap (λ (s : StoreValue F). s.databases) made) (ap (λ (s : StoreValue F). s.user) made)
+        let named = database_of-name name old.databases was is in
+        touches_replaced contents old new was (with_record given content was) (ap (λ n. database_of n old.databases) named
+        ∙ is) (ap (λ (s : StoreValue F). s.databases) made) (ap (λ (s : StoreValue F). s.user) made)
         (subst (λ n. FollowsName contents n old new) (sym named) follows)

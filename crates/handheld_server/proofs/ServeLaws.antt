@@ -1,6 +1,6 @@
 -- Which requests change nothing, and which write the user.
-use Rattle.std.proofs.Common.{◌≡◌, ◌∙◌, ℕ, Bool, true, false, List, Option, Some, None, Result, Ok, Err, refl, ap, sym, subst}
-use Rattle.std.specs.Prelude.{◌==◌, ◌&&◌, OnOk, is_ok}
+use Rattle.std.proofs.Common.{◌≡◌, ◌∙◌, ℕ, Bool, true, false, List, Option, Some, None, Result, Ok, Err, refl, ap, sym}
+use Rattle.std.specs.Prelude.{◌==◌, OnOk, is_ok}
 use Rattle.std.specs.Option.{option_map}
 use Rattle.std.specs.Str.{bytes_eq}
 use Rattle.pdb_values.specs.PalmDates.{read_wire}
@@ -35,31 +35,23 @@ use Rattle.handheld_server.specs.Servers.{is_quiet, writes_user}
 
 write_changes : (asked : WritingValue) → is_change (write_number asked) ≡ true
 write_changes (value.AppBlock bytes) = refl
-write_changes (value.SortBlock bytes) = refl
-write_changes (value.WriteRecord id attributes category bytes) = refl
-write_changes (value.DeleteRecord flags id) = refl
-write_changes value.CleanUp = refl
-write_changes value.ResetFlags = refl
-write_changes (value.MoveCategory from to) = refl
-write_changes (value.WriteResource kind id bytes) = refl
-write_changes (value.DeleteResource flags kind id) = refl
+write_changes other = refl
 
 all_change : (asked : Change) → is_change (change_number asked) ≡ true
-all_change (change.WriteUser marks) = refl
-all_change (change.Create creator kind card flags version name) = refl
-all_change (change.Delete card name) = refl
 all_change (change.Write handle asked) = write_changes (writing_value asked)
+all_change other = refl
 
 quiet_by : (asked : Command) → is_change (command_number asked) ≡ false → is_quiet asked ≡ true
 quiet_by (command.Quiet asked) is = refl
-quiet_by (command.Change asked) is = let changing : is_change (change_number asked) ≡ true = all_change asked in absurd cc
+quiet_by (command.Change asked) is = let changing = all_change asked in absurd cc
 
 -- the first byte of a request is that of its function
 pub first_of : (value : RequestValue) (bytes : List ℕ) → RequestText value bytes → first_byte bytes ≡ function_number value
 first_of value bytes text = ap first_byte text.is
 
 -- a request of another function is a quiet command
-pub quiet_bytes : (bytes : List ℕ) (number : ℕ) (asked : Command) → first_byte bytes ≡ number → command_number asked ≡ number → changes bytes ≡ false → is_quiet asked ≡ true
+pub quiet_bytes : (bytes : List ℕ) (number : ℕ) (asked : Command)
+    → first_byte bytes ≡ number → command_number asked ≡ number → changes bytes ≡ false → is_quiet asked ≡ true
 unfolding changes
 quiet_bytes bytes number asked first same is = quiet_by asked (ap is_change (same ∙ sym first) ∙ is)
 
@@ -67,36 +59,15 @@ quiet_bytes bytes number asked first same is = quiet_by asked (ap is_change (sam
 
 read_other : (asked : Reading) → (read_number asked == 0x11) ≡ false
 read_other (reading.AppBlock offset count) = refl
-read_other (reading.SortBlock offset count) = refl
-read_other reading.EntryCount = refl
-read_other (reading.RecordOfId id offset count) = refl
-read_other (reading.RecordAt index offset count) = refl
-read_other (reading.RecordIds start maximum) = refl
-read_other (reading.ResourceOfType kind id offset count) = refl
-read_other (reading.ResourceAt index offset count) = refl
+read_other other = refl
 
 quiet_other : (asked : Quiet) → (quiet_number asked == 0x11) ≡ false
-quiet_other quiet.ReadUser = refl
-quiet_other (quiet.List flags card start) = refl
-quiet_other (quiet.Open card mode name) = refl
-quiet_other (quiet.Close handle) = refl
 quiet_other (quiet.Read handle asked) = read_other asked
-quiet_other (quiet.Next handle) = refl
-quiet_other (quiet.ResetIndex handle) = refl
-quiet_other quiet.AddLogEntry = refl
-quiet_other quiet.OpenConduit = refl
-quiet_other quiet.EndOfSync = refl
+quiet_other other = refl
 
 write_other : (asked : WritingValue) → (write_number asked == 0x11) ≡ false
 write_other (value.AppBlock bytes) = refl
-write_other (value.SortBlock bytes) = refl
-write_other (value.WriteRecord id attributes category bytes) = refl
-write_other (value.DeleteRecord flags id) = refl
-write_other value.CleanUp = refl
-write_other value.ResetFlags = refl
-write_other (value.MoveCategory from to) = refl
-write_other (value.WriteResource kind id bytes) = refl
-write_other (value.DeleteResource flags kind id) = refl
+write_other other = refl
 
 -- a function that is refused for its parameters alone
 abbrev OnlyParameter : {A : Type 0} → Result A ℕ → Type 0
@@ -110,33 +81,39 @@ check_only : {B : Type 0} (b : Bool) (next : Unit {0} → Result B ℕ) → Only
 check_only true next each = each
 check_only false next each = λ code is. cc
 
-marked_only : (user viewer pc : ℕ) (date : List ℕ) (bits name_len : ℕ) (name : Option (List ℕ)) (old : UserInfo) → OnlyParameter (marked user viewer pc date bits name_len name old)
+marked_only : (user viewer pc : ℕ) (date : List ℕ) (bits name_len : ℕ) (name : Option (List ℕ)) (old : UserInfo)
+    → OnlyParameter (marked user viewer pc date bits name_len name old)
 marked_only user viewer pc date bits name_len name old =
-    need_only (read_wire date) _ (λ seconds. check_only (name_len == name_length name) _ (need_only (user_name_of (name_or_empty name)) _ (λ named. λ code is. absurd cc)))
+    need_only (read_wire date) _
+    (λ seconds. check_only (name_len == name_length name) _ (need_only (user_name_of (name_or_empty name)) _ (λ named. λ code is. absurd cc)))
 
-user_by : (old new : Device) (known : Result UserInfo ℕ) (answer : List ℕ) → OnlyParameter known → outcome old 0x11 (known >>= λ user. Ok (record old { user = user }, reply.WriteUserInfo)) ≡ (answer, new)
-    → bytes_eq answer (reply_text reply.WriteUserInfo) ≡ is_ok (known >>= λ user. let done : Tried = Ok (record old { user = user }, reply.WriteUserInfo) in done)
+user_by : (old new : Device) (known : Result UserInfo ℕ) (answer : List ℕ)
+    → OnlyParameter known → outcome old 0x11 (known >>= λ user. Ok (record old { user = user }, reply.WriteUserInfo)) ≡ (answer, new)
+    → bytes_eq answer (reply_text reply.WriteUserInfo)
+    ≡ is_ok (known >>= λ user. let done : Tried = Ok (record old { user = user }, reply.WriteUserInfo) in done)
 unfolding reply_byte
 user_by old new (Ok user) answer only is =
     let same : reply_text reply.WriteUserInfo ≡ answer = ap (λ (p : List ℕ × Device). p.0) is in
-    ap (λ t. bytes_eq t (reply_text reply.WriteUserInfo)) (sym same)
+    cc
 user_by old new (Err code) answer only is =
     let same : reply_text (reply.Refused 0x11 code) ≡ answer = ap (λ (p : List ℕ × Device). p.0) is in
-    ap (λ t. bytes_eq t (reply_text reply.WriteUserInfo)) (sym same) ∙ ap (λ n. bytes_eq (reply_text (reply.Refused 0x11 n)) (reply_text reply.WriteUserInfo)) (only code refl)
+    cc (same, only code refl)
 
 -- by the bytes of the request and of the reply
-pub wrote_user-acts : (old new : Device) (asked : Command) (bytes answer : List ℕ) → first_byte bytes ≡ command_number asked → Acts old asked answer new → wrote_user bytes answer ≡ writes_user old asked
+pub wrote_user-acts : (old new : Device) (asked : Command) (bytes answer : List ℕ)
+    → first_byte bytes ≡ command_number asked → Acts old asked answer new → wrote_user bytes answer ≡ writes_user old asked
 unfolding write_user_info
-wrote_user-acts old new (command.Quiet asked) bytes answer first acts = ap (λ n. (n == 0x11) && bytes_eq answer (reply_text reply.WriteUserInfo)) first ∙ ap (λ b. b && bytes_eq answer (reply_text reply.WriteUserInfo)) (quiet_other asked)
+wrote_user-acts old new (command.Quiet asked) bytes answer first acts = rw (first, quiet_other asked) refl
 wrote_user-acts old new (command.Change (change.WriteUser marks)) bytes answer first acts =
-    ap (λ n. (n == 0x11) && bytes_eq answer (reply_text reply.WriteUserInfo)) first
-    ∙ user_by old new (marked marks.user marks.viewer marks.pc marks.date marks.bits marks.name_len (option_map (λ name. name.now) marks.name) old.user) answer
-    (marked_only marks.user marks.viewer marks.pc marks.date marks.bits marks.name_len (option_map (λ name. name.now) marks.name) old.user) acts.is
-wrote_user-acts old new (command.Change (change.Create creator kind card flags version name)) bytes answer first acts = ap (λ n. (n == 0x11) && bytes_eq answer (reply_text reply.WriteUserInfo)) first
-wrote_user-acts old new (command.Change (change.Delete card name)) bytes answer first acts = ap (λ n. (n == 0x11) && bytes_eq answer (reply_text reply.WriteUserInfo)) first
-wrote_user-acts old new (command.Change (change.Write handle asked)) bytes answer first acts = ap (λ n. (n == 0x11) && bytes_eq answer (reply_text reply.WriteUserInfo)) first ∙ ap (λ b. b && bytes_eq answer (reply_text reply.WriteUserInfo)) (write_other (writing_value asked))
+    let name = option_map (λ name. name.now) marks.name in
+    rw first (user_by old new (marked marks.user marks.viewer marks.pc marks.date marks.bits marks.name_len name old.user) answer
+    (marked_only marks.user marks.viewer marks.pc marks.date marks.bits marks.name_len name old.user) acts.is)
+wrote_user-acts old new (command.Change (change.Write handle asked)) bytes answer first acts = rw (first, write_other (writing_value asked)) refl
+wrote_user-acts old new other bytes answer first acts = rw first refl
 
-pub touches_by : {F E : Type 0} (result : Result (Unit {0}) E) (touches : Bool → StoreValue F → StoreValue F → Type 0) (before after : StoreValue F) (old new : Device) (asked : Command) (bytes answer : List ℕ) → first_byte bytes ≡ command_number asked
-    → OnOk result (Acts old asked answer new) → OnOk result (touches (writes_user old asked) before after) → OnOk result (touches (wrote_user bytes answer) before after)
-touches_by (Ok done) touches before after old new asked bytes answer first acts files = subst (λ (b : Bool). touches b before after) (sym (wrote_user-acts old new asked bytes answer first acts)) files
+pub touches_by : {F E : Type 0} (result : Result (Unit {0}) E) (touches : Bool → StoreValue F → StoreValue F → Type 0)
+    (before after : StoreValue F) (old new : Device) (asked : Command) (bytes answer : List ℕ) → first_byte bytes ≡ command_number asked
+    → OnOk result (Acts old asked answer new)
+    → OnOk result (touches (writes_user old asked) before after) → OnOk result (touches (wrote_user bytes answer) before after)
+touches_by (Ok done) touches before after old new asked bytes answer first acts files = rw (wrote_user-acts old new asked bytes answer first acts) files
 touches_by (Err fault) touches before after old new asked bytes answer first acts files = tt

@@ -1,15 +1,16 @@
 -- What a function that writes comes to, by the name that is open under its handle.
-use Rattle.std.proofs.Common.{◌≡◌, ◌∙◌, ◌+◌, ◌≤◌, ℕ, zero, suc, Bool, true, false, cond, List, length, map, Option, Some, None, Result, Ok, Err, refl, ap, sym, subst, eq-eqb, arith}
-use Rattle.std.specs.Prelude.{IfSome, is_some}
+use Rattle.std.proofs.Common.{◌≡◌, ◌∙◌, ◌+◌, ◌≤◌, ℕ, zero, suc, Bool, true, false, cond, List, length, map, Option, Some, None, Err, refl, ap, sym}
+use Rattle.std.proofs.Common.{eq-eqb, arith}
+use Rattle.std.specs.Prelude.{is_some}
 use Rattle.std.proofs.lemmas.List.{length-map}
 use Rattle.pdb_values.specs.Databases.{DatabaseValue}
-use Rattle.pdb_values.specs.NamedDatabases.{database_of, replaced}
+use Rattle.pdb_values.specs.NamedDatabases.{database_of}
 use Rattle.pdb_values.specs.declared.record.Record.{Record}
 use Rattle.pdb_values.specs.declared.user.UserInfo.{UserInfo}
 use Rattle.dlp_replies.specs.Frames.{reply_text}
-use Rattle.dlp_replies.specs.ReplyValues.{ReplyValue, Refused}
+use Rattle.dlp_replies.specs.ReplyValues.{Refused}
 use Rattle.palm_device.specs.Devices.{Device}
-use Rattle.palm_device.specs.Edits.{edit_given, edited, gives_free}
+use Rattle.palm_device.specs.Edits.{edited}
 use Rattle.palm_device.specs.FreshIds.{is_among, least_from, least_id}
 use Rattle.palm_device.specs.Handles.{Base, base_at, is_writable, opened_at}
 use Rattle.palm_device.specs.Records.{IsFree, place_of_id}
@@ -29,11 +30,12 @@ use Rattle.dlp_commands.specs.declared.command.Command.TheVariants as command
 use Rattle.dlp_commands.specs.declared.writing.Writing.{Writing}
 use Rattle.handheld_files.proofs.SettledLaws.{least_free}
 use Rattle.handheld_store.proofs.IdLaws.{place_among}
-use Rattle.handheld_server.specs.Writing.{Refuses, Wrote, may_write, written_by}
+use Rattle.handheld_server.specs.Writing.{Refuses, Wrote, written_by}
 
 -- ---- some id is free
 
-least_by : (b : Bool) (more first : ℕ) (taken : List ℕ) → (first ≤ least_from more (suc first) taken) × (least_from more (suc first) taken ≤ suc first + more) → (first ≤ cond b (least_from more (suc first) taken) first) × (cond b (least_from more (suc first) taken) first ≤ first + suc more)
+least_by : (b : Bool) (more first : ℕ) (taken : List ℕ) → (first ≤ least_from more (suc first) taken) × (least_from more (suc first) taken ≤ suc first + more)
+    → (first ≤ cond b (least_from more (suc first) taken) first) × (cond b (least_from more (suc first) taken) first ≤ first + suc more)
 least_by true more first taken later = (later.0, omega arith)
 least_by false more first taken later = (omega arith, omega arith)
 
@@ -51,7 +53,7 @@ pub some_free : (items : List Record) → length items ≤ 65535 → IsFree (lea
 some_free items few =
     let ids : List ℕ = map (λ (item : Record). item.id) items in
     let many : length ids ≡ length items = length-map items (λ (item : Record). item.id) in
-    let bound : (1 ≤ least_id ids) × (least_id ids ≤ 1 + length ids) = least_bound (length ids) 1 ids in
+    let bound = least_bound (length ids) 1 ids in
     record {
       some = omega arith;
       bound = omega arith;
@@ -60,36 +62,39 @@ some_free items few =
 
 -- ---- the id of a new record
 
-may_give : (old : Device) (handle given : ℕ) (asked : WritingValue) (base : Base) → base_at old handle ≡ Some base → (asks_free asked ≡ true → IsFree given base.database.records) → MayGiveFor old given handle asked
-may_give old handle given (value.WriteRecord id attributes category bytes) base some free = subst (λ (o : Option Base). IfSome o (λ base. id ≡ 0 → IsFree given base.database.records)) (sym some) (λ zero. free (eq-eqb id 0 zero))
+may_give : (old : Device) (handle given : ℕ) (asked : WritingValue) (base : Base)
+    → base_at old handle ≡ Some base → (asks_free asked ≡ true → IsFree given base.database.records) → MayGiveFor old given handle asked
+may_give old handle given (value.WriteRecord id attributes category bytes) base some free = rw some (λ zero. free (eq-eqb id 0 zero))
 may_give old handle given other base some free = tt
 
 may_give_none : (old : Device) (handle given : ℕ) (asked : WritingValue) → base_at old handle ≡ None → MayGiveFor old given handle asked
-may_give_none old handle given (value.WriteRecord id attributes category bytes) none = subst (λ (o : Option Base). IfSome o (λ base. id ≡ 0 → IsFree given base.database.records)) (sym none) tt
+may_give_none old handle given (value.WriteRecord id attributes category bytes) none = rw none tt
 may_give_none old handle given other none = tt
 
 -- ---- what is refused
 
-none_acts : (old : Device) (handle : ℕ) (asked : Writing) → base_at old handle ≡ None → Acts old (command.Change (change.Write handle asked)) (reply_text (Refused (write_number (writing_value asked)) none_open)) old
-none_acts old handle asked none = record { free = 0; may = may_give_none old handle 0 (writing_value asked) none; is = writes_none old (write_number (writing_value asked)) handle 0 (writing_value asked) none }
+none_acts : (old : Device) (handle : ℕ) (asked : Writing) → base_at old handle ≡ None
+    → Acts old (command.Change (change.Write handle asked)) (reply_text (Refused (write_number (writing_value asked)) none_open)) old
+none_acts old handle asked none = grind (arith, may_give_none, writes_none)
 
 -- nothing is open under the handle
-pub closed_acts : (old : Device) (handle : ℕ) (asked : Writing) → opened_at handle old.handles ≡ None → Acts old (command.Change (change.Write handle asked)) (reply_text (Refused (write_number (writing_value asked)) none_open)) old
+pub closed_acts : (old : Device) (handle : ℕ) (asked : Writing) → opened_at handle old.handles ≡ None
+    → Acts old (command.Change (change.Write handle asked)) (reply_text (Refused (write_number (writing_value asked)) none_open)) old
 closed_acts old handle asked none = none_acts old handle asked (base_at-closed old handle none)
 
-refused_by : (old : Device) (handle free code : ℕ) (asked : WritingValue) (base : Base) (b : Bool) → base_at old handle ≡ Some base → is_writable base ≡ b → (check read_only b >>= λ allowed. written_in free asked base.database) ≡ Err code
+refused_by : (old : Device) (handle free code : ℕ) (asked : WritingValue) (base : Base) (b : Bool)
+    → base_at old handle ≡ Some base → is_writable base ≡ b → (check read_only b >>= λ allowed. written_in free asked base.database) ≡ Err code
     → outcome old (write_number asked) (writes free old handle asked) ≡ (reply_text (Refused (write_number asked) code), old)
-refused_by old handle free code asked base true some allowed refused = writes_refused old (write_number asked) handle free code asked base some allowed refused
-refused_by old handle free code asked base false some locked refused =
-    let same : read_only ≡ code = cc in
-    writes_locked old (write_number asked) handle free asked base some locked ∙ ap (λ (n : ℕ). (reply_text (Refused (write_number asked) n), old)) same
+refused_by old handle free code asked base true some allowed refused = grind (arith, writes_refused)
+refused_by old handle free code asked base false some locked refused = grind (arith, writes_locked)
 
-refused_led : (old : Device) (handle code : ℕ) (asked : Writing) (opened : Opened) (o : Option DatabaseValue) → opened_at handle old.handles ≡ Some opened → database_of opened.name old.databases ≡ o → Refuses opened.mode (writing_value asked) o code
+refused_led : (old : Device) (handle code : ℕ) (asked : Writing) (opened : Opened) (o : Option DatabaseValue)
+    → opened_at handle old.handles ≡ Some opened → database_of opened.name old.databases ≡ o → Refuses opened.mode (writing_value asked) o code
     → Acts old (command.Change (change.Write handle asked)) (reply_text (Refused (write_number (writing_value asked)) code)) old
 refused_led old handle code asked opened None is found refuses =
     let refused : written_by 0 opened.mode (writing_value asked) None ≡ Err code = refuses.refused 0 in
     let same : none_open ≡ code = cc in
-    subst (λ (n : ℕ). Acts old (command.Change (change.Write handle asked)) (reply_text (Refused (write_number (writing_value asked)) n)) old) same (none_acts old handle asked (base_at-nowhere old handle opened is found))
+    rw (← same) (none_acts old handle asked (base_at-nowhere old handle opened is found))
 refused_led old handle code asked opened (Some database) is found refuses =
     let free : ℕ = least_id (map (λ (item : Record). item.id) database.records) in
     let base : Base = record { opened = opened; database = database } in
@@ -101,13 +106,15 @@ refused_led old handle code asked opened (Some database) is found refuses =
     }
 
 -- the table's refusal, where some id is free
-pub refused_acts : (old : Device) (handle code : ℕ) (asked : Writing) (opened : Opened) → opened_at handle old.handles ≡ Some opened → Refuses opened.mode (writing_value asked) (database_of opened.name old.databases) code
+pub refused_acts : (old : Device) (handle code : ℕ) (asked : Writing) (opened : Opened)
+    → opened_at handle old.handles ≡ Some opened → Refuses opened.mode (writing_value asked) (database_of opened.name old.databases) code
     → Acts old (command.Change (change.Write handle asked)) (reply_text (Refused (write_number (writing_value asked)) code)) old
 refused_acts old handle code asked opened is refuses = refused_led old handle code asked opened (database_of opened.name old.databases) is refl refuses
 
 -- ---- what is written
 
-pub wrote_acts : (old : Device) (handle given : ℕ) (asked : Writing) (opened : Opened) (databases : List DatabaseValue) → opened_at handle old.handles ≡ Some opened → Wrote opened.mode (writing_value asked) opened.name old.databases given databases
+pub wrote_acts : (old : Device) (handle given : ℕ) (asked : Writing) (opened : Opened) (databases : List DatabaseValue)
+    → opened_at handle old.handles ≡ Some opened → Wrote opened.mode (writing_value asked) opened.name old.databases given databases
     → Acts old (command.Change (change.Write handle asked)) (reply_text (write_reply given (writing_value asked))) (record old { databases = databases })
 wrote_acts old handle given asked opened databases is wrote =
     let base : Base = record { opened = opened; database = wrote.database } in
@@ -115,8 +122,9 @@ wrote_acts old handle given asked opened databases is wrote =
     record {
       free = given;
       may = may_give old handle given (writing_value asked) base there wrote.free;
-      is = writes_done old (write_number (writing_value asked)) handle given (writing_value asked) base wrote.changed (write_reply given (writing_value asked)) there wrote.allowed wrote.written
-          ∙ ap (λ (ds : List DatabaseValue). (reply_text (write_reply given (writing_value asked)), record old { databases = ds })) (sym wrote.is);
+      is = writes_done old (write_number (writing_value asked)) handle given
+          (writing_value asked) base wrote.changed (write_reply given (writing_value asked)) there wrote.allowed wrote.written
+          ∙ ap (λ ds. (reply_text (write_reply given (writing_value asked)), record old { databases = ds })) (sym wrote.is);
     }
 
 -- ---- an edit
@@ -124,44 +132,19 @@ wrote_acts old handle given asked opened databases is wrote =
 -- an edit leaves the head
 pub edited-head : (free : ℕ) (asked : Edit) (database : DatabaseValue) → (edited free asked database).head ≡ database.head
 edited-head free (edit.AppBlock bytes) database = refl
-edited-head free (edit.SortBlock bytes) database = refl
-edited-head free (edit.Record id category secret bytes) database = refl
-edited-head free edit.NoRecords database = refl
-edited-head free (edit.Keep kept) database = refl
-edited-head free (edit.WithoutRecord id) database = refl
-edited-head free edit.ResetFlags database = refl
-edited-head free (edit.MoveCategory from to) database = refl
-edited-head free (edit.Resource kind id bytes) database = refl
-edited-head free edit.NoResources database = refl
-edited-head free (edit.WithoutResource kind id) database = refl
-
--- the plan of a writing was carried out
-pub wrote_plan : (mode : ℕ) (asked : WritingValue) (name : List ℕ) (old new : List DatabaseValue) (given : ℕ) (database : DatabaseValue) (plan : Edit) → database_of name old ≡ Some database → may_write mode database ≡ true
-    → ((free : ℕ) → written_in free asked database ≡ Ok (edited free plan database, write_reply (edit_given free plan) asked)) → edit_given given plan ≡ given → gives_free plan ≡ asks_free asked
-    → (gives_free plan ≡ true → IfSome (database_of name old) (λ d. IsFree given d.records)) → IfSome (database_of name old) (λ d. new ≡ replaced (edited given plan d) old) → Wrote mode asked name old given new
-wrote_plan mode asked name old new given database plan there allowed plans is_given asks free is = record {
-  database = database;
-  there = there;
-  allowed = allowed;
-  changed = edited given plan database;
-  written = plans given ∙ ap (λ (n : ℕ). result_of (edited given plan database, write_reply n asked)) is_given;
-  free = λ asked_so. subst (λ (o : Option DatabaseValue). IfSome o (λ d. IsFree given d.records)) there (free (asks ∙ asked_so));
-  is = subst (λ (o : Option DatabaseValue). IfSome o (λ d. new ≡ replaced (edited given plan d) old)) there is;
-}
-  where
-    result_of : DatabaseValue × ReplyValue → Result (DatabaseValue × ReplyValue) ℕ
-    result_of pair = Ok pair
+edited-head free other database = refl
 
 -- ---- the same of the reply and the device as the program has them
 
 abbrev device_in : List DatabaseValue → UserInfo → List (Option Opened) → Device
 device_in databases user handles = record { databases = databases; user = user; handles = handles }
 
-device_is : (databases databases' : List DatabaseValue) (user user' : UserInfo) (handles handles' : List (Option Opened)) → databases ≡ databases' → user ≡ user' → handles ≡ handles' → device_in databases user handles ≡ device_in databases' user' handles'
-device_is databases databases' user user' handles handles' same_databases same_user same_handles = λ i. device_in (same_databases i) (same_user i) (same_handles i)
+device_is : (databases databases' : List DatabaseValue) (user user' : UserInfo) (handles handles' : List (Option Opened))
+    → databases ≡ databases' → user ≡ user' → handles ≡ handles' → device_in databases user handles ≡ device_in databases' user' handles'
+device_is databases databases' user user' handles handles' same_databases same_user same_handles = grind arith
 
-pub acts_as : (old : Device) (asked : Command) (reply text : List ℕ) (databases databases' : List DatabaseValue) (user : UserInfo) (handles : List (Option Opened)) → Acts old asked text (record old { databases = databases }) → reply ≡ text → databases ≡ databases' → old.user ≡ user → old.handles ≡ handles
+pub acts_as : (old : Device)
+    (asked : Command) (reply text : List ℕ) (databases databases' : List DatabaseValue) (user : UserInfo) (handles : List (Option Opened))
+    → Acts old asked text (record old { databases = databases }) → reply ≡ text → databases ≡ databases' → old.user ≡ user → old.handles ≡ handles
     → Acts old asked reply (record { databases = databases'; user = user; handles = handles })
-acts_as old asked reply text databases databases' user handles acts same_reply same_databases same_user same_handles =
-    subst (λ (d : Device). Acts old asked reply d) (device_is databases databases' old.user user old.handles handles same_databases same_user same_handles)
-    (subst (λ (t : List ℕ). Acts old asked t (record old { databases = databases })) (sym same_reply) acts)
+acts_as old asked reply text databases databases' user handles acts same_reply same_databases same_user same_handles = grind (arith, device_is)

@@ -1,7 +1,6 @@
 use Rattle.std.proofs.Common.{◌≡◌, ◌∙◌, Ok, ap, rules, subst}
 use Rattle.handheld_store.specs.Lents.{LentValue}
 use Rattle.handheld_store.specs.Loans.{database_in}
-use Rattle.handheld_store.specs.Stores.{StoreValue}
 use Rattle.palm_device.specs.Edits.{edited}
 use Rattle.handheld_server.proofs.KeepLaws.{Lent, kept_keeps, kept_touches}
 use Rattle.handheld_server.proofs.WriteLaws.{edited-head}
@@ -20,8 +19,10 @@ returns-in-Ok-keep-clause-keeps g c =
       there = c.in-Ok.ensures.database;
       head = edited-head c.in-Ok-apply.given c.args.edit.now (database_in c.in-Ok.base);
     } in
-    subst (λ (s : StoreValue g.row.F.Denot). Keeps g.F.Folder.contents g.F.Folder.moments g.F.Folder.paths g.F.Folder.faults c.args.store.now s (Ok c.in-Ok-apply.given)) last
-    (kept_keeps g.F.Folder.contents g.F.Folder.moments g.F.Folder.paths g.F.Folder.faults c.args.store.now entry.store.now c.keep.new.self.0 c.args.name.now (database_in c.in-Ok.base) made (database_in entry) c.in-Ok-keep.field-0 c.in-Ok-apply.given lent c.requires.sound
+    subst (λ s. Keeps g.F.Folder.contents g.F.Folder.moments g.F.Folder.paths g.F.Folder.faults c.args.store.now s
+    (Ok c.in-Ok-apply.given)) last
+    (kept_keeps g.F.Folder.contents g.F.Folder.moments g.F.Folder.paths g.F.Folder.faults c.args.store.now entry.store.now c.keep.new.self.0 c.args.name.now
+    (database_in c.in-Ok.base) made (database_in entry) c.in-Ok-keep.field-0 c.in-Ok-apply.given lent c.requires.sound
     c.in-Ok-keep.ensures.kept c.in-Ok-keep.ensures.stands c.in-Ok-keep.ensures.change)
 
 pub returns-in-Ok-keep-clause-files : goal.returns-in-Ok-keep-clause-files
@@ -36,5 +37,6 @@ returns-in-Ok-keep-clause-files g c =
       there = c.in-Ok.ensures.database;
       head = edited-head c.in-Ok-apply.given c.args.edit.now (database_in c.in-Ok.base);
     } in
-    subst (λ (s : StoreValue g.row.F.Denot). TouchesOne g.F.Folder.contents c.args.store.now s) last
-    (kept_touches g.F.Folder.contents c.args.store.now entry.store.now c.keep.new.self.0 c.args.name.now (database_in c.in-Ok.base) made (database_in entry) lent c.in-Ok-keep.ensures.kept c.in-Ok-keep.ensures.files)
+    subst (λ s. TouchesOne g.F.Folder.contents c.args.store.now s) last
+    (kept_touches g.F.Folder.contents c.args.store.now entry.store.now c.keep.new.self.0 c.args.name.now
+    (database_in c.in-Ok.base) made (database_in entry) lent c.in-Ok-keep.ensures.kept c.in-Ok-keep.ensures.files)

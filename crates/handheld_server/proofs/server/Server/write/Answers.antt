@@ -16,17 +16,23 @@ returns-clause-acts g c =
     let handles : c.args.self.now.device.handles ≡ c.self.inside.handles = search rules in
     elim c.match-write_named.branch [
       | in-Ok-Ok w ↦ rw (w.result-is, w.out-is) (
-          let wrote : Wrote c.in-Some.opened.now.mode (writing_value c.args.writing.now) c.in-Some.opened.now.name c.args.self.now.device.databases w.in-Ok-Ok.given c.write_named.new.store.databases = search rules in
+          let wrote : Wrote c.in-Some.opened.now.mode (writing_value c.args.writing.now)
+          c.in-Some.opened.now.name c.args.self.now.device.databases w.in-Ok-Ok.given c.write_named.new.store.databases = search rules in
           let user : c.args.self.now.device.user ≡ c.write_named.new.store.user = search rules in
-          acts_as c.args.self.now.device _ _ _ c.write_named.new.store.databases c.write_named.new.store.databases c.write_named.new.store.user c.self.inside.handles
-          (wrote_acts c.args.self.now.device c.args.handle w.in-Ok-Ok.given c.args.writing.now c.in-Some.opened.now c.write_named.new.store.databases there wrote)
+          acts_as c.args.self.now.device
+          _ _ _ c.write_named.new.store.databases c.write_named.new.store.databases c.write_named.new.store.user c.self.inside.handles
+          (wrote_acts c.args.self.now.device
+          c.args.handle w.in-Ok-Ok.given c.args.writing.now c.in-Some.opened.now c.write_named.new.store.databases there wrote)
           w.put_done.ensures refl user handles)
       | in-Ok-Err w ↦ rw (w.result-is, w.out-is) (
-          let refuses : Refuses c.in-Some.opened.now.mode (writing_value c.args.writing.now) (database_of c.in-Some.opened.now.name c.args.self.now.device.databases) (code_of w.in-Ok-Err.refusal) = search rules in
+          let refuses : Refuses c.in-Some.opened.now.mode (writing_value c.args.writing.now)
+          (database_of c.in-Some.opened.now.name c.args.self.now.device.databases) (code_of w.in-Ok-Err.refusal) = search rules in
           let user : c.args.self.now.device.user ≡ c.write_named.new.store.user = search rules in
           let databases : c.args.self.now.device.databases ≡ c.write_named.new.store.databases = search rules in
-          let out : w.put_refusal-in-Ok-Err.new.out ≡ reply_text (Refused (write_number (writing_value c.args.writing.now)) (code_of w.in-Ok-Err.refusal)) = search rules in
-          acts_as c.args.self.now.device _ _ _ c.args.self.now.device.databases c.write_named.new.store.databases c.write_named.new.store.user c.self.inside.handles
+          let out : w.put_refusal-in-Ok-Err.new.out ≡ reply_text (Refused (write_number (writing_value c.args.writing.now)) (code_of w.in-Ok-Err.refusal)) =
+          search rules in
+          acts_as c.args.self.now.device
+          _ _ _ c.args.self.now.device.databases c.write_named.new.store.databases c.write_named.new.store.user c.self.inside.handles
           (refused_acts c.args.self.now.device c.args.handle (code_of w.in-Ok-Err.refusal) c.args.writing.now c.in-Some.opened.now there refuses)
           out databases user handles)
       | in-Err w ↦ rw w.result-is tt

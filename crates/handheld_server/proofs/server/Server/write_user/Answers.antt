@@ -2,8 +2,6 @@ use Rattle.std.proofs.Common.{rules, ◌≡◌, ◌∙◌, ap, true}
 use Rattle.std.specs.Prelude.{is_ok}
 use Rattle.std.specs.FinMap as finmap
 use Rattle.std.specs.Option.{option_map}
-use Rattle.hs_folders.specs.FileMaps.{FileMap}
-use Rattle.pdb_values.specs.declared.user.UserInfo.{UserInfo}
 use Rattle.folder_files.specs.InfoFiles.{device_text}
 use Rattle.folder_files.specs.FileNames.{device_info_file}
 use Rattle.dlp_commands.specs.Commands.{marks_tried}
@@ -21,8 +19,10 @@ returns-clause-files g c =
           let accepted : is_ok (marks_tried c.args.self.now.device c.args.marks.now) ≡ true = search rules in
           rw accepted (record {
             file = w.in-Ok-set_user.ensures.written
-                ∙ ap (λ (u : UserInfo). option_map (λ (held : FileMap). finmap.insert held device_info_file (device_text u)) (g.F.Folder.contents c.self.inside.store.folder)) user
-                ∙ ap (λ f. option_map (λ (held : FileMap). finmap.insert held device_info_file (device_text c.set_user.new.self.user)) (g.F.Folder.contents f)) folder;
+                ∙ ap (λ u. option_map
+                (λ held. finmap.insert held device_info_file (device_text u)) (g.F.Folder.contents c.self.inside.store.folder)) user
+                ∙ ap (λ f. option_map (λ held. finmap.insert held device_info_file (device_text c.set_user.new.self.user)) (g.F.Folder.contents f))
+                folder;
             databases = search rules;
           }))
       | in-Err-set_user w ↦ rw w.result-is tt

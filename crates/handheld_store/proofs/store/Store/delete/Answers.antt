@@ -11,7 +11,8 @@ invariant_of-self g c =
     let taken : c.take_database.new.databases.items ≡ without_named c.args.name.now inside.databases.items = search rules in (
       c.take_database.ensures.kept,
       rw taken
-          (left_right c.args.name.now inside.databases.items (without_named c.args.name.now inside.databases.items) inside.indexes.items c.forget.new.indexes.items
+          (left_right c.args.name.now inside.databases.items
+          (without_named c.args.name.now inside.databases.items) inside.indexes.items c.forget.new.indexes.items
           (others-without_named c.args.name.now inside.databases.items c.self.invariant.0.order) c.self.invariant.1 forgot),
     )
 

@@ -12,7 +12,8 @@ invariant_of-self g c =
     let serve : Serve c.args.database inside.databases.items c.if-not-has_ids_of.self-inside.indexes.items =
     elim c.if-not-has_ids_of.branch [
       | then-not-has_ids_of w ↦ let forgot : c.if-not-has_ids_of.self-inside.indexes.items ≡ filter (λ index. not
-          (is_of c.args.database.head.name index)) inside.indexes.items = search rules in serve_forgotten c.args.database inside.databases.items inside.indexes.items
+          (is_of c.args.database.head.name index)) inside.indexes.items = search rules in
+          serve_forgotten c.args.database inside.databases.items inside.indexes.items
           c.if-not-has_ids_of.self-inside.indexes.items c.self.invariant.1 forgot
       | else-not-has_ids_of w ↦ let left : c.if-not-has_ids_of.self-inside.indexes.items
           ≡ inside.indexes.items = search rules in let has : c.has_ids_of.result ≡ true = search rules in serve_same c.args.database inside.databases.items
@@ -27,7 +28,8 @@ invariant_of-self-in-Err g c =
     let serve : Serve c.args.database inside.databases.items c.if-not-has_ids_of.self-inside.indexes.items =
     elim c.if-not-has_ids_of.branch [
       | then-not-has_ids_of w ↦ let forgot : c.if-not-has_ids_of.self-inside.indexes.items ≡ filter (λ index. not
-          (is_of c.args.database.head.name index)) inside.indexes.items = search rules in serve_forgotten c.args.database inside.databases.items inside.indexes.items
+          (is_of c.args.database.head.name index)) inside.indexes.items = search rules in
+          serve_forgotten c.args.database inside.databases.items inside.indexes.items
           c.if-not-has_ids_of.self-inside.indexes.items c.self.invariant.1 forgot
       | else-not-has_ids_of w ↦ let left : c.if-not-has_ids_of.self-inside.indexes.items
           ≡ inside.indexes.items = search rules in let has : c.has_ids_of.result ≡ true = search rules in serve_same c.args.database inside.databases.items
