@@ -10,7 +10,7 @@ use sync_session::DbReport;
 use trace_text::Frame;
 
 /// How far a session over the line came.
-#[derive(Clone, Copy, Debug, PartialEq, Eq)]
+#[derive(Clone, Copy, PartialEq, Eq)]
 pub enum SessionEnd {
     /// Nothing was sent.
     NotStarted,

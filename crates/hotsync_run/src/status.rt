@@ -11,7 +11,7 @@ use std::alloc::AllocError;
 use trace_text::End;
 
 /// Where a bad file lies.
-#[derive(Clone, Copy, Debug, PartialEq, Eq)]
+#[derive(Clone, Copy, PartialEq, Eq)]
 pub enum FileSide {
     Handheld,
     Desktop,
@@ -19,7 +19,7 @@ pub enum FileSide {
 }
 
 /// How a call of [`hotsync`](crate::hotsync) ended.
-#[derive(Debug, Drop)]
+#[derive(Drop)]
 pub enum Status {
     /// The command was done whole.
     Done,

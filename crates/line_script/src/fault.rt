@@ -5,7 +5,7 @@ ghost use Rattle.line_script.specs.declared.fault.ScriptFault.TheVariants.{NoMem
 use std::alloc::AllocFailed;
 
 /// Why no script was read.
-#[derive(Clone, Copy, Debug)]
+#[derive(Clone, Copy)]
 pub enum ScriptFault {
     /// There are more than 100,000 lines.
     TooLong,

@@ -10,7 +10,7 @@ use slp_frames::{MAX_PACKET, SlpReader};
 use trace_text::Fate;
 
 /// Why a run ends when a frame is to be sent.
-#[derive(Clone, Copy, Debug)]
+#[derive(Clone, Copy)]
 pub enum Stop {
     /// The cable was pulled.
     Unplugged,

@@ -15,7 +15,7 @@ use std::alloc::{AllocError, AllocFailed};
 use trace_text::{End, Fate, Frame};
 
 /// Why a run halts.
-#[derive(Clone, Copy, Debug)]
+#[derive(Clone, Copy)]
 pub enum Halt {
     /// Memory ran out, before the frame was sent.
     NoMemory,

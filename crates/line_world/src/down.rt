@@ -2,7 +2,7 @@
 use trace_text::End;
 
 /// Why a line went down.
-#[derive(Clone, Copy, Debug)]
+#[derive(Clone, Copy)]
 pub enum Down {
     /// A piece of this end was sent ten times and never acknowledged. The frames are the last ten that the line did harm.
     LineDown { end: End, frames: [u64; 10] },

@@ -4,7 +4,7 @@ ghost use Rattle.std.specs.Prelude.{◌≡◌};
 ghost use Rattle.pdb_files.specs.BadKinds.{word_of};
 
 /// What is wrong with a file of a folder, in the order of the tests on it.
-#[derive(Clone, Copy, Debug, PartialEq, Eq)]
+#[derive(Clone, Copy, PartialEq, Eq)]
 pub enum BadKind {
     /// A database file that is too short.
     Short,

@@ -6,7 +6,7 @@ use std::alloc::{AllocError, Global};
 use std::marker::Model;
 
 /// The bytes of a record, at most 65,500, with its category and whether it is secret.
-#[derive(Debug, Drop)]
+#[derive(Drop)]
 pub struct Content {
     category: Category,
     secret: bool,

@@ -26,7 +26,7 @@ pub enum PushFault<T> {
 
 /// A database: its head, an app block and a sort block where they are there, and its entries in order. It holds
 /// resources where its head says so, and else records.
-#[derive(Debug, Drop)]
+#[derive(Drop)]
 pub struct Database {
     head: DbHead,
     app: Option<Vec<u8>>,

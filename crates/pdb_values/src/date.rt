@@ -12,7 +12,7 @@ use std::marker::Model;
 pub struct BadDate;
 
 /// A date and time, in seconds since 1904-01-01T00:00:00. 0 seconds stand for no date.
-#[derive(Clone, Copy, Debug, PartialEq, Eq)]
+#[derive(Clone, Copy, PartialEq, Eq)]
 pub struct PalmDate {
     seconds: u32,
 }

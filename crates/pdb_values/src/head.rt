@@ -7,7 +7,7 @@ use crate::four_cc::FourCc;
 use crate::name::DbName;
 
 /// What the header of a database says, without its blocks and entries.
-#[derive(Debug, Drop)]
+#[derive(Drop)]
 pub struct DbHead {
     /// The name, which no other database of a handheld has.
     pub name: DbName,

@@ -22,7 +22,7 @@ pub enum NameFault {
 }
 
 /// The name of a database: 1 to 31 bytes, none of them zero.
-#[derive(Debug, Drop)]
+#[derive(Drop)]
 pub struct DbName {
     bytes: ArrayVec<u8, 31>,
 }

@@ -17,7 +17,7 @@ pub enum Kind {
 }
 
 /// One record of a database.
-#[derive(Debug, Drop)]
+#[derive(Drop)]
 pub struct Record {
     /// The number that names it over its life.
     pub id: RecordId,

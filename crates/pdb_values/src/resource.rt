@@ -3,7 +3,7 @@ use crate::bytes::Bytes;
 use crate::four_cc::FourCc;
 
 /// One resource of a resource database.
-#[derive(Debug, Drop)]
+#[derive(Drop)]
 pub struct Resource {
     /// What the resource is, as `code` or `tFRM`.
     pub kind: FourCc,

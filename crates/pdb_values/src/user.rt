@@ -9,7 +9,7 @@ use arrayvec::ArrayVec;
 use std::marker::Model;
 
 /// The name of a user: at most 40 bytes, none of them zero.
-#[derive(Debug, Drop)]
+#[derive(Drop)]
 pub struct UserName {
     bytes: ArrayVec<u8, 40>,
 }
@@ -61,7 +61,7 @@ impl UserName {
 }
 
 /// The password of a user, as the handheld stores it: at most 40 bytes.
-#[derive(Debug, Drop)]
+#[derive(Drop)]
 pub struct Password {
     bytes: ArrayVec<u8, 40>,
 }
@@ -111,7 +111,7 @@ impl Password {
 }
 
 /// What a handheld knows of its user and of its last HotSync.
-#[derive(Debug, Drop)]
+#[derive(Drop)]
 pub struct UserInfo {
     /// The number of the user. 0 means that the handheld has none yet.
     pub user: u32,
@@ -130,7 +130,7 @@ pub struct UserInfo {
 }
 
 /// What a desktop knows of a handheld that it synchronized with.
-#[derive(Debug, Drop)]
+#[derive(Drop)]
 pub struct Marks {
     /// The desktop's own number.
     pub pc: u32,

@@ -13,7 +13,7 @@ use run_words::{Command, LookWords, PacketWords, command_of};
 use std::alloc::{AllocError, Global};
 
 /// Why words give no command.
-#[derive(Clone, Copy, Debug, PartialEq, Eq)]
+#[derive(Clone, Copy, PartialEq, Eq)]
 pub enum WordsFault {
     /// The words are not in the form.
     Usage,

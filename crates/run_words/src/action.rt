@@ -6,7 +6,7 @@ use crate::stem::name_of;
 use pdb_values::DbName;
 
 /// What is done with one database.
-#[derive(Clone, Copy, Debug, PartialEq, Eq)]
+#[derive(Clone, Copy, PartialEq, Eq)]
 pub enum ActionWord {
     /// `sync`: both sides get the changes of the other.
     Sync,

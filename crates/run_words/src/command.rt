@@ -10,7 +10,7 @@ use crate::run::{RunWords, run_words};
 use crate::word::is_plain;
 
 /// What is wanted of a database file.
-#[derive(Clone, Copy, Debug, PartialEq, Eq)]
+#[derive(Clone, Copy, PartialEq, Eq)]
 pub enum Look {
     /// The number of its entries.
     Check,

@@ -12,7 +12,7 @@ pub struct DbReport {
 }
 
 /// What was done with a database.
-#[derive(Clone, Copy, Debug, PartialEq, Eq)]
+#[derive(Clone, Copy, PartialEq, Eq)]
 pub enum Did {
     /// Both sides have the merge.
     Synced(Counts),
@@ -21,7 +21,7 @@ pub enum Did {
 }
 
 /// How a database was synchronised, in numbers of records.
-#[derive(Clone, Copy, Debug, PartialEq, Eq)]
+#[derive(Clone, Copy, PartialEq, Eq)]
 pub struct Counts {
     /// Whether only what changed was read.
     pub fast: bool,

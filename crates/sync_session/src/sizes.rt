@@ -1,6 +1,6 @@
 // The limits of a side.
 /// How much a database would make, with those before it.
-#[derive(Clone, Copy, Debug, PartialEq, Eq)]
+#[derive(Clone, Copy, PartialEq, Eq)]
 pub struct Sizes {
     /// The databases of the handheld with it, where the handheld gets it; else 0.
     pub handhelds: usize,

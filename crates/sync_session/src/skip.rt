@@ -1,7 +1,7 @@
 // Why a session leaves a database alone.
 
 /// Why a database is skipped: nothing of it changes on either side.
-#[derive(Clone, Copy, Debug, PartialEq, Eq)]
+#[derive(Clone, Copy, PartialEq, Eq)]
 pub enum Skip {
     /// That is what its action asks for.
     Nothing,

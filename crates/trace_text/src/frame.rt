@@ -3,7 +3,7 @@ use crate::fate::Fate;
 use arrayvec::ArrayVec;
 
 /// An end of the line.
-#[derive(Clone, Copy, Debug, PartialEq, Eq)]
+#[derive(Clone, Copy, PartialEq, Eq)]
 pub enum End {
     Handheld,
     Desktop,
