@@ -1,7 +1,7 @@
 // A database in memory, and a file that it is read from.
 use crate::file::{ask_file, zeros};
 use case_words::{bytes_at, number_at, short_in, word};
-use pdb_files::{entry_count, read_database};
+use pdb_files::{FileFault, entry_count, read_database};
 use pdb_values::{
     Bytes, Category, Content, Database, DbHead, DbName, FourCc, PalmDate, PushFault, Record,
     RecordId, Resource, TooLarge,
@@ -61,18 +61,23 @@ impl Loaded {
 
     // How many entries the file has, or the word and the place of its refusal.
     fn parse(&mut self) -> Result<String, AllocError> {
-        let alloc = self.alloc;
-        match read_database(alloc, &self.file) {
-            Ok(database) => {
-                let count = entry_count(&database);
-                self.database = Some(database);
-                format!(in alloc; "ok {count}")
-            }
-            Err(fault) => match fault.bad_file() {
-                Some((kind, place)) => format!(in alloc; "{} {place}: {fault}", kind.word()),
-                None => String::from_str(alloc, "no memory"),
-            },
+        match read_database(self.alloc, &self.file) {
+            Ok(database) => self.load(database),
+            Err(fault) => refusal(self.alloc, fault),
         }
+    }
+
+    fn load(&mut self, database: Database) -> Result<String, AllocError> {
+        let count = entry_count(&database);
+        self.database = Some(database);
+        format!(in self.alloc; "ok {count}")
+    }
+}
+
+fn refusal(alloc: Global, fault: FileFault) -> Result<String, AllocError> {
+    match fault.bad_file() {
+        Some((kind, place)) => format!(in alloc; "{} {place}: {fault}", kind.word()),
+        None => String::from_str(alloc, "no memory"),
     }
 }
 

@@ -42,12 +42,8 @@ use std::io;
 use system::System;
 
 fn main(rt: HostRuntime) -> io::Result<()> {
-    let alloc = rt.alloc();
-    let mut cases = Cases::new(&rt, alloc);
-    for line in rt.lines(alloc) {
-        cases.answer(&line?)?;
-    }
-    Ok(())
+    let mut cases = Cases::new(&rt, rt.alloc());
+    cases.answer_lines()
 }
 
 // What the lines so far have made.
@@ -71,6 +67,13 @@ impl<'r> Cases<'r> {
             shelf: Vec::new(alloc),
             loaded: Loaded::new(alloc),
         }
+    }
+
+    fn answer_lines(&mut self) -> io::Result<()> {
+        for line in self.rt.lines(self.alloc) {
+            self.answer(&line?)?;
+        }
+        Ok(())
     }
 
     fn answer(&mut self, line: &str) -> io::Result<()> {

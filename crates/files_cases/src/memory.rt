@@ -99,11 +99,13 @@ fn kept(alloc: Global, words: &[&str]) -> Result<MemFolder, AllocError> {
 // What the folder held at a moment, and what its copy says of moments.
 fn copy(alloc: Global, folder: &MemFolder, moment: u32) -> Result<String, AllocError> {
     match folder.copy_at(alloc, u64::from(moment))? {
-        Some(mut copy) => {
-            let names = ask_folder(alloc, &mut copy, &["list"])?;
-            let note = ask_folder(alloc, &mut copy, &["read", "note"])?;
-            format!(in alloc; "moments {} {names} note {note}", copy.moments())
-        }
+        Some(mut copy) => copy_text(alloc, &mut copy),
         None => String::from_str(alloc, "no such moment"),
     }
+}
+
+fn copy_text(alloc: Global, copy: &mut MemFolder) -> Result<String, AllocError> {
+    let names = ask_folder(alloc, copy, &["list"])?;
+    let note = ask_folder(alloc, copy, &["read", "note"])?;
+    format!(in alloc; "moments {} {names} note {note}", copy.moments())
 }
