@@ -8,7 +8,9 @@ use Rattle.std.specs.Global.{Vec}
 use Rattle.std.specs.List.{AllByRecursion}
 use Rattle.pdb_values.specs.declared.user.Marks.{Marks}
 use Rattle.pdb_values.specs.declared.user.UserInfo.{UserInfo}
-use Rattle.folder_files.specs.InfoFiles.{AreSaid, IsDesktopFile, IsDeviceFile, IsSlotSaid, count_form, desktop_forms, desktop_in, desktop_text, desktop_values, device_forms, device_in, device_of, device_values, is_one_user, made, many_slots_at, one_slot_at, one_slot_of, one_user_forms, one_user_values, pc_form, slot_forms, slot_values, title_form}
+use Rattle.folder_files.specs.InfoFiles.{AreSaid, IsDesktopFile, IsDeviceFile, IsSlotSaid, count_form, desktop_forms, desktop_in, desktop_text, desktop_values}
+use Rattle.folder_files.specs.InfoFiles.{device_forms, device_in, device_of, device_values, is_one_user, made, many_slots_at, one_slot_at, one_slot_of}
+use Rattle.folder_files.specs.InfoFiles.{one_user_forms, one_user_values, pc_form, slot_forms, slot_values, title_form}
 use Rattle.folder_files.specs.Lines.{AreLines, Count, Positive, Says, Values}
 use Rattle.folder_files.specs.Reading.{◌>>=◌, line_at, lines_at}
 use Rattle.folder_files.specs.Slots.{AreSlots, AreUsers, pc_of, users_of}

@@ -1,7 +1,8 @@
 -- Texts behind keys: what is read is what they say, what they say is read, and they stand on one line.
 use Rattle.std.proofs.lemmas.Bool.Decides.{nat_tests}
 use Rattle.std.proofs.lemmas.Grind.{common_steps}
-use Rattle.std.proofs.Common.{◌≡◌, ℕ, ◌+◌, ◌-◌, ◌^◌, ◌<◌, ◌≤◌, Bool, true, false, cond, eqb, leb, List, [], ◌∷◌, ◌++◌, length, take, drop, Some, None, refl, sym, ap, subst, ◌∙◌, arith}
+use Rattle.std.proofs.Common.{◌≡◌, ℕ, ◌+◌, ◌-◌, ◌^◌, ◌<◌, ◌≤◌, Bool, true, false, cond, eqb, leb, List, [], ◌∷◌, ◌++◌, length, take, drop, Some, None, refl}
+use Rattle.std.proofs.Common.{sym, ap, subst, ◌∙◌, arith}
 use Rattle.std.specs.Prelude.{◌||◌, codes, option_and_then, slice_index}
 use Rattle.std.specs.Fmt.{decimal}
 use Rattle.std.specs.Int.{w32, from_be_bytes, to_be_bytes}
@@ -17,7 +18,8 @@ use Rattle.pdb_values.specs.Users.{password_of, user_name_of}
 use Rattle.folder_files.specs.Hexadecimal.{IsWireDate, bytes_in, bytes_text, date_in, few_bytes_in}
 use Rattle.folder_files.specs.Lines.{Kind, Title, Number, Positive, Date, Name, Password, Count, Slot, Value, Says, slot_text}
 use Rattle.folder_files.specs.Reading.{behind, count_in, field_at, if_positive, number_in, slot_in, value_in}
-use Rattle.folder_files.proofs.HexLaws.{HasNoFeed, bind_some, bytes_is, bytes_same, bytes_in-found, bytes_in-only, bytes_text-no_feed, encode_lower-no_feed, feed_past, few_bytes_in-found, few_bytes_in-only, guard_some, map_some, some_is, test_some}
+use Rattle.folder_files.proofs.HexLaws.{HasNoFeed, bind_some, bytes_is, bytes_same, bytes_in-found, bytes_in-only, bytes_text-no_feed, encode_lower-no_feed}
+use Rattle.folder_files.proofs.HexLaws.{feed_past, few_bytes_in-found, few_bytes_in-only, guard_some, map_some, some_is, test_some}
 
 -- ---- line feeds and keys
 
@@ -237,10 +239,9 @@ slot-no_feed value text is =
 
 pub on_one_line : (kind : Kind) (value : Value kind) (text : List ℕ) → Says kind value text → HasNoFeed text
 on_one_line Title value text is = subst HasNoFeed (sym is) refl
-on_one_line Number value text is = subst HasNoFeed (sym is.0) (encode_lower-no_feed _ (number_bytes value))
-on_one_line Positive value text is = subst HasNoFeed (sym is.0) (encode_lower-no_feed _ (number_bytes value))
 on_one_line Date value text is = subst HasNoFeed (sym is.1) (encode_lower-no_feed is.0 is.2.in_range)
 on_one_line Name value text is = subst HasNoFeed (sym is.0) (bytes_text-no_feed value is.1)
 on_one_line Password value text is = subst HasNoFeed (sym is.0) (bytes_text-no_feed value is.1)
 on_one_line Count value text is = grind (arith, nat_tests, common_steps, decimal-no_feed)
 on_one_line Slot value text is = slot-no_feed value text is
+on_one_line other value text is = subst HasNoFeed (sym is.0) (encode_lower-no_feed _ (number_bytes value))

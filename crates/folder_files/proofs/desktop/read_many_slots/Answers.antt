@@ -5,20 +5,20 @@ use Rattle.folder_files.proofs.desktop.read_many_slots.Goals as goal
 
 pub returns-in_err-title : goal.returns-in_err-title
 unfolding many_slots_at
-returns-in_err-title c = rw (c.in_err-title.ensures) (search rules)
+returns-in_err-title c = search rules
 
 pub returns-in_err-pc : goal.returns-in_err-pc
 unfolding many_slots_at
-returns-in_err-pc c = rw (c.in_ok-title.ensures, c.in_err-pc.ensures) (search rules)
+returns-in_err-pc c = search rules
 
 pub returns-in_err-count : goal.returns-in_err-count
 unfolding many_slots_at
-returns-in_err-count c = rw (c.in_ok-title.ensures, c.in_ok-pc.ensures, c.in_err-count.ensures) (search rules)
+returns-in_err-count c = search rules
 
 pub returns-in_err-slots : goal.returns-in_err-slots
 unfolding many_slots_at
-returns-in_err-slots c = rw (c.in_ok-title.ensures, c.in_ok-pc.ensures, c.in_ok-count.ensures) (search rules)
+returns-in_err-slots c = search rules
 
 pub returns : goal.returns
 unfolding many_slots_at
-returns c = rw (c.in_ok-title.ensures, c.in_ok-pc.ensures, c.in_ok-count.ensures) c.in_ok-slots.ensures
+returns c = search rules

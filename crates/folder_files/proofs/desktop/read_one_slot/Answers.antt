@@ -1,23 +1,24 @@
 -- Each line by itself, and then the next one.
-use Rattle.std.proofs.Common.{rules, sym, ◌∙◌}
+use Rattle.std.proofs.lemmas.Grind.{common_steps}
+use Rattle.std.proofs.Common.{rules, sym, ◌∙◌, arith}
 use Rattle.folder_files.specs.InfoFiles.{one_slot_at}
 use Rattle.folder_files.proofs.desktop.read_one_slot.Goals as goal
 
 pub returns-in_err-title : goal.returns-in_err-title
 unfolding one_slot_at
-returns-in_err-title c = rw (c.in_err-title.ensures) (search rules)
+returns-in_err-title c = search rules
 
 pub returns-in_err-pc : goal.returns-in_err-pc
 unfolding one_slot_at
-returns-in_err-pc c = rw (c.in_ok-title.ensures, c.in_err-pc.ensures) (search rules)
+returns-in_err-pc c = search rules
 
 pub returns-in_err-user : goal.returns-in_err-user
 unfolding one_slot_at
-returns-in_err-user c = rw (c.in_ok-title.ensures, c.in_ok-pc.ensures, c.in_err-user.ensures) (search rules)
+returns-in_err-user c = search rules
 
 pub returns-in_err-last : goal.returns-in_err-last
 unfolding one_slot_at
-returns-in_err-last c = rw (c.in_ok-title.ensures, c.in_ok-pc.ensures, c.in_ok-user.ensures, c.in_err-last.ensures) (search rules)
+returns-in_err-last c = grind (arith, common_steps)
 
 pub returns-in_err-name : goal.returns-in_err-name
 unfolding one_slot_at

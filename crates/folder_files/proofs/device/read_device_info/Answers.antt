@@ -1,5 +1,5 @@
 -- What is read is a file, and each file is read, by the laws of information files.
-use Rattle.std.proofs.Common.{◌∙◌}
+use Rattle.std.proofs.Common.{◌∙◌, rules}
 use Rattle.folder_files.proofs.InfoLaws.{device_only, device_read}
 use Rattle.folder_files.proofs.device.read_device_info.Goals as goal
 
@@ -7,4 +7,4 @@ pub returns-clause-only : goal.returns-clause-only
 returns-clause-only c = λ value is. c.read.ensures ∙ device_only c.args.bytes.now value is
 
 pub returns-clause-found : goal.returns-clause-found
-returns-clause-found c = device_read c.read.result c.args.bytes.now c.read.ensures
+returns-clause-found c = search (rules, device_read)
