@@ -1,5 +1,6 @@
 -- The text of a greeting is read as it was written.
-use Rattle.std.proofs.Common.{◌≡◌, ℕ, true, ◌+◌, ◌^◌, ◌<◌, List, [], ◌∷◌, length, get_or, slice_index, drop, Result, Ok, Err, None, IfOk, refl, sym, ap, ◌∙◌, arith}
+use Rattle.std.proofs.Common.{◌≡◌, ℕ, true, ◌+◌, ◌^◌, ◌<◌, List, [], ◌∷◌, length, get_or, slice_index, drop, Result, Ok, Err, None, IfOk, refl, sym, ap, ◌∙◌}
+use Rattle.std.proofs.Common.{arith}
 use Rattle.std.specs.Result.{result_err}
 use Rattle.std.proofs.lemmas.List.{drop_more, length-drop, get_or-drop}
 use Rattle.std.proofs.lemmas.Nat.{be_bytes_4, from_be_bytes-to_be_bytes_4}
@@ -19,7 +20,8 @@ rate_again : (rate : ℕ) → rate < 2 ^ 32 → big_number 4 (big_bytes 4 rate) 
 rate_again rate fits = omega (arith, from_be_bytes-to_be_bytes_4 rate fits)
 
 -- ten bytes of a kind and of the major version are the text of what they say
-pub text_of_fields : (kind : HelloKind) (bytes : List ℕ) → length bytes ≡ 10 → ((i : ℕ) → get_or bytes i 0 < 256) → kind_code kind ≡ slice_index bytes 0 → slice_index bytes 2 ≡ 1
+pub text_of_fields : (kind : HelloKind) (bytes : List ℕ)
+    → length bytes ≡ 10 → ((i : ℕ) → get_or bytes i 0 < 256) → kind_code kind ≡ slice_index bytes 0 → slice_index bytes 2 ≡ 1
     → HelloText (record { kind = kind; flags = slice_index bytes 1; minor = slice_index bytes 3; rate = big_number 4 (drop 6 bytes) }) bytes
 text_of_fields kind bytes ten fit code major =
     let rest = drop 6 bytes in
@@ -87,7 +89,8 @@ one_hello x y bytes x_text y_text =
     λ i. record { kind = kind i; flags = flags i; minor = minor i; rate = rate i }
 
 -- a text is read
-pub text_is_read : (bytes : List ℕ) (result : Result Hello HelloFault) → result_err result ≡ hello_fault bytes → IfOk result (λ hello. HelloText hello bytes) → (hello : Hello) → HelloText hello bytes → result ≡ Ok hello
+pub text_is_read : (bytes : List ℕ) (result : Result Hello HelloFault)
+    → result_err result ≡ hello_fault bytes → IfOk result (λ hello. HelloText hello bytes) → (hello : Hello) → HelloText hello bytes → result ≡ Ok hello
 text_is_read bytes (Ok read) no_fault text hello is = ap (λ (h : Hello). Ok h) (one_hello read hello bytes text is)
 text_is_read bytes (Err fault) has_fault text hello is =
     let none = (text_says hello bytes is).no_fault in

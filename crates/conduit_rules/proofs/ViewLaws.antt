@@ -1,5 +1,6 @@
 -- A plan depends on what the view's entries are, and on nothing else of it.
-use Rattle.std.proofs.Common.{◌≡◌, ◌⊎◌, ⊎_elim, inl, inr, ◌↔◌, ℕ, zero, suc, ◌==◌, List, [], ◌∷◌, refl, ap, ◌∙◌, sym, arith, Option, Some, None, Bool, true, false, not}
+use Rattle.std.proofs.Common.{◌≡◌, ◌⊎◌, ⊎_elim, inl, inr, ◌↔◌, ℕ, zero, suc, ◌==◌, List, [], ◌∷◌, refl, ap, ◌∙◌, sym, arith, Option, Some, None, Bool, true}
+use Rattle.std.proofs.Common.{false, not}
 use Rattle.std.proofs.Common.{◌&&◌}
 use Rattle.std.proofs.Common.{if◌then◌else◌, nat_lt, option_to_list, rules}
 use Rattle.std.specs.Option.{option_map, option_or}

@@ -1,7 +1,8 @@
 -- What a request that was not refused makes of a device, and its reply.
 use Rattle.std.proofs.lemmas.Bool.Decides.{nat_tests}
 use Rattle.std.proofs.lemmas.Grind.{common_steps}
-use Rattle.std.proofs.Common.{◌≡◌, ◌+◌, ◌-◌, ◌<◌, ◌^◌, ℕ, Bool, true, false, cond, List, length, Option, Some, None, Result, Ok, Err, IfSome, refl, ap, sym, ◌∙◌, arith}
+use Rattle.std.proofs.Common.{◌≡◌, ◌+◌, ◌-◌, ◌<◌, ◌^◌, ℕ, Bool, true, false, cond, List, length, Option, Some, None, Result, Ok, Err, IfSome, refl, ap, sym}
+use Rattle.std.proofs.Common.{◌∙◌, arith}
 use Rattle.std.specs.List.{AllByRecursion}
 use Rattle.std.specs.Option.{option_map}
 use Rattle.std.specs.Str.{bytes_eq}
@@ -11,7 +12,9 @@ use Rattle.pdb_values.specs.Databases.{DatabaseValue}
 use Rattle.pdb_values.specs.NamedDatabases.{database_of, with_new, without_named}
 use Rattle.pdb_values.specs.declared.head.DbHead.{DbHead}
 use Rattle.pdb_values.specs.declared.user.UserInfo.{UserInfo}
-use Rattle.pdb_values.proofs.NamedLaws.{AllByRecursion-database_of, AllByRecursion-replaced, AllByRecursion-with_new, AllByRecursion-without_named, NamesRise-replaced, NamesRise-with_new, NamesRise-without_named, database_of-name, database_of-replaced, database_of-with_new, database_of-without_other, length-replaced, length-with_new, length-without_named}
+use Rattle.pdb_values.proofs.NamedLaws.{AllByRecursion-database_of, AllByRecursion-replaced, AllByRecursion-with_new, AllByRecursion-without_named}
+use Rattle.pdb_values.proofs.NamedLaws.{NamesRise-replaced, NamesRise-with_new, NamesRise-without_named, database_of-name, database_of-replaced}
+use Rattle.pdb_values.proofs.NamedLaws.{database_of-with_new, database_of-without_other, length-replaced, length-with_new, length-without_named}
 use Rattle.dlp_args.specs.Fields.{FieldsFit}
 use Rattle.dlp_requests.specs.Forms as form
 use Rattle.dlp_requests.specs.Forms.{kinds_of}

@@ -13,7 +13,8 @@ use Rattle.dlp_args.specs.Cells.{HasNoZero}
 use Rattle.dlp_args.specs.Arguments.{arg_text}
 use Rattle.dlp_replies.specs.EntryLists.{entry_text}
 use Rattle.dlp_replies.specs.Frames.{name_text}
-use Rattle.dlp_replies.specs.ReplyValues.{ReadUserInfo, ReadDbList, ReadRecordIdList, ReadAppBlock, ReadSortBlock, ReadNextModifiedRec, ReadRecord, ReadResource}
+use Rattle.dlp_replies.specs.ReplyValues.{ReadUserInfo, ReadDbList, ReadRecordIdList, ReadAppBlock, ReadSortBlock, ReadNextModifiedRec, ReadRecord}
+use Rattle.dlp_replies.specs.ReplyValues.{ReadResource}
 use Rattle.dlp_replies.specs.Writables.{IsWritable}
 
 -- at most eight bytes stand around the data

@@ -28,7 +28,8 @@ use Rattle.dlp_commands.specs.Writings as writing
 use Rattle.dlp_commands.specs.declared.reading.Reading.TheVariants as reading
 use Rattle.dlp_commands.proofs.ReplyLaws.{list_is_reply, reply_by, user_is_reply}
 use Rattle.dlp_commands.proofs.TriedLaws.{Keeps, keeps_check, keeps_need, keeps_then}
-use Rattle.dlp_commands.proofs.DoneLaws.{Done, RequestFits, free_few, handle_count, handle_each, made_done, marked_done, next_done, reads_done, removed_done, reset_done, same_done, writes_done}
+use Rattle.dlp_commands.proofs.DoneLaws.{Done, RequestFits, free_few, handle_count, handle_each, made_done, marked_done, next_done, reads_done, removed_done}
+use Rattle.dlp_commands.proofs.DoneLaws.{reset_done, same_done, writes_done}
 
 -- ---- functions on databases
 

@@ -18,12 +18,15 @@ use Rattle.palm_device.specs.Records.{IsFree, clean, given_id, has_id, is_in, is
 use Rattle.palm_device.specs.Resources as resources
 use Rattle.palm_device.specs.Resources.{place_of_resource, has_room}
 use Rattle.palm_device.specs.Soundness.{AreIds, ids_of}
-use Rattle.palm_device.proofs.BoundLaws.{AllByRecursion-filter, AllByRecursion-map, AllByRecursion-without, IsBoundedDatabase-put_record, IsBoundedDatabase-put_resource, IsBoundedDatabase-records, IsBoundedDatabase-resources, IsBoundedRecord-clean, IsBoundedRecord-moved, length-filter, length-map, length-without}
+use Rattle.palm_device.proofs.BoundLaws.{AllByRecursion-filter, AllByRecursion-map, AllByRecursion-without, IsBoundedDatabase-put_record}
+use Rattle.palm_device.proofs.BoundLaws.{IsBoundedDatabase-put_resource, IsBoundedDatabase-records, IsBoundedDatabase-resources, IsBoundedRecord-clean}
+use Rattle.palm_device.proofs.BoundLaws.{IsBoundedRecord-moved, length-filter, length-map, length-without}
 use Rattle.palm_device.proofs.IdLaws.{AreIds-filter, AreIds-put, AreIds-without_record, ids_of-map}
 use Rattle.dlp_commands.specs.Errors.{◌>>=◌}
 use Rattle.dlp_commands.specs.Holding.{fits, on_records, on_resources}
 use Rattle.dlp_commands.specs.Writings as writing
-use Rattle.dlp_commands.specs.Writings.{IsShortWriting, WritingValue, may_write, write_reply, with_moved, with_resource, without_category, without_record, without_records, without_resources, write_number, written, written_in, written_on, written_record}
+use Rattle.dlp_commands.specs.Writings.{IsShortWriting, WritingValue, may_write, write_reply, with_moved, with_resource, without_category, without_record}
+use Rattle.dlp_commands.specs.Writings.{without_records, without_resources, write_number, written, written_in, written_on, written_record}
 use Rattle.dlp_commands.proofs.ReplyLaws.{Replies, written_reply}
 use Rattle.dlp_commands.proofs.TriedLaws.{Keeps, keeps_check, keeps_need, keeps_then}
 

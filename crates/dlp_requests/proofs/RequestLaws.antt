@@ -1,5 +1,6 @@
 -- What is read is a text of the request, each text of a request is read, and what is written is one.
-use Rattle.std.proofs.Common.{◌≡◌, ℕ, ◌<◌, ◌≤◌, Bool, true, false, ◌&&◌, eqb, leb, ltb, List, [], ◌∷◌, ◌++◌, length, Option, Some, None, Result, Ok, Err, refl, sym, ap, subst, ◌∙◌, arith, inl, inr}
+use Rattle.std.proofs.Common.{◌≡◌, ℕ, ◌<◌, ◌≤◌, Bool, true, false, ◌&&◌, eqb, leb, ltb, List, [], ◌∷◌, ◌++◌, length, Option, Some, None, Result, Ok, Err, refl}
+use Rattle.std.proofs.Common.{sym, ap, subst, ◌∙◌, arith, inl, inr}
 use Rattle.std.specs.Prelude.{IfOk}
 use Rattle.std.specs.Option.{option_map}
 use Rattle.std.proofs.lemmas.Bool.{eqb-true, eq-eqb, and_parts, leb-true, ltb-true}
@@ -57,12 +58,32 @@ each_is form.WriteAppBlock = record { owner = function.WriteAppBlock; named = re
 each_is form.ReadSortBlock = record { owner = function.ReadSortBlock; named = refl; asked = λ arguments first. refl; well = refl }
 each_is form.WriteSortBlock = record { owner = function.WriteSortBlock; named = refl; asked = λ arguments first. refl; well = refl }
 each_is form.ReadNextModifiedRec = record { owner = function.ReadNextModifiedRec; named = refl; asked = λ arguments first. refl; well = refl }
-each_is form.ReadRecordById = record { owner = function.ReadRecord; named = refl; asked = λ arguments first. ap (λ id. by_id_21 form.ReadRecordByIndex form.ReadRecordById id arguments) first; well = refl }
-each_is form.ReadRecordByIndex = record { owner = function.ReadRecord; named = refl; asked = λ arguments first. ap (λ id. by_id_21 form.ReadRecordByIndex form.ReadRecordById id arguments) first; well = refl }
+each_is form.ReadRecordById = record {
+  owner = function.ReadRecord;
+  named = refl;
+  asked = λ arguments first. ap (λ id. by_id_21 form.ReadRecordByIndex form.ReadRecordById id arguments) first;
+  well = refl;
+}
+each_is form.ReadRecordByIndex = record {
+  owner = function.ReadRecord;
+  named = refl;
+  asked = λ arguments first. ap (λ id. by_id_21 form.ReadRecordByIndex form.ReadRecordById id arguments) first;
+  well = refl;
+}
 each_is form.WriteRecord = record { owner = function.WriteRecord; named = refl; asked = λ arguments first. refl; well = refl }
 each_is form.DeleteRecord = record { owner = function.DeleteRecord; named = refl; asked = λ arguments first. refl; well = refl }
-each_is form.ReadResourceByIndex = record { owner = function.ReadResource; named = refl; asked = λ arguments first. ap (λ id. by_id_21 form.ReadResourceByType form.ReadResourceByIndex id arguments) first; well = refl }
-each_is form.ReadResourceByType = record { owner = function.ReadResource; named = refl; asked = λ arguments first. ap (λ id. by_id_21 form.ReadResourceByType form.ReadResourceByIndex id arguments) first; well = refl }
+each_is form.ReadResourceByIndex = record {
+  owner = function.ReadResource;
+  named = refl;
+  asked = λ arguments first. ap (λ id. by_id_21 form.ReadResourceByType form.ReadResourceByIndex id arguments) first;
+  well = refl;
+}
+each_is form.ReadResourceByType = record {
+  owner = function.ReadResource;
+  named = refl;
+  asked = λ arguments first. ap (λ id. by_id_21 form.ReadResourceByType form.ReadResourceByIndex id arguments) first;
+  well = refl;
+}
 each_is form.WriteResource = record { owner = function.WriteResource; named = refl; asked = λ arguments first. refl; well = refl }
 each_is form.DeleteResource = record { owner = function.DeleteResource; named = refl; asked = λ arguments first. refl; well = refl }
 each_is form.CleanUpDatabase = record { owner = function.CleanUpDatabase; named = refl; asked = λ arguments first. refl; well = refl }
@@ -167,10 +188,12 @@ request_of_takes function.WriteAppBlock arguments bytes value fits texts e = req
 request_of_takes function.ReadSortBlock arguments bytes value fits texts e = request_by_takes form.ReadSortBlock arguments bytes value fits texts e
 request_of_takes function.WriteSortBlock arguments bytes value fits texts e = request_by_takes form.WriteSortBlock arguments bytes value fits texts e
 request_of_takes function.ReadNextModifiedRec arguments bytes value fits texts e = request_by_takes form.ReadNextModifiedRec arguments bytes value fits texts e
-request_of_takes function.ReadRecord arguments bytes value fits texts e = two_take form.ReadRecordByIndex form.ReadRecordById (first_id arguments) _ arguments bytes value refl refl fits texts e
+request_of_takes function.ReadRecord arguments bytes value fits texts e =
+    two_take form.ReadRecordByIndex form.ReadRecordById (first_id arguments) _ arguments bytes value refl refl fits texts e
 request_of_takes function.WriteRecord arguments bytes value fits texts e = request_by_takes form.WriteRecord arguments bytes value fits texts e
 request_of_takes function.DeleteRecord arguments bytes value fits texts e = request_by_takes form.DeleteRecord arguments bytes value fits texts e
-request_of_takes function.ReadResource arguments bytes value fits texts e = two_take form.ReadResourceByType form.ReadResourceByIndex (first_id arguments) _ arguments bytes value refl refl fits texts e
+request_of_takes function.ReadResource arguments bytes value fits texts e =
+    two_take form.ReadResourceByType form.ReadResourceByIndex (first_id arguments) _ arguments bytes value refl refl fits texts e
 request_of_takes function.WriteResource arguments bytes value fits texts e = request_by_takes form.WriteResource arguments bytes value fits texts e
 request_of_takes function.DeleteResource arguments bytes value fits texts e = request_by_takes form.DeleteResource arguments bytes value fits texts e
 request_of_takes function.CleanUpDatabase arguments bytes value fits texts e = request_by_takes form.CleanUpDatabase arguments bytes value fits texts e
@@ -213,7 +236,8 @@ record Arguments (id : Option ℕ) (content rest : List ℕ) : Type 0 where
   read : argument_bytes id arguments ≡ Ok content
 
 argument_again : (id : Option ℕ) (content rest : List ℕ) → HasArgument id content rest → Arguments id content rest
-argument_again None content rest has = record { arguments = []; bytes = []; texts = refl; is = has.1; first = refl; read = ap (λ (xs : List ℕ). Ok xs) (sym has.0) }
+argument_again None content rest has =
+    record { arguments = []; bytes = []; texts = refl; is = has.1; first = refl; read = ap (λ (xs : List ℕ). Ok xs) (sym has.0) }
 argument_again (Some id) content rest has = record {
   arguments = record { id = id; bytes = content } ∷ [];
   bytes = has.1;
@@ -234,7 +258,8 @@ request_again value bytes text =
     let asked : request_of is.owner found.arguments ≡ request_by this found.arguments = is.asked found.arguments found.first in
     let by : request_by this found.arguments
     ≡ Ok value = ap (λ (r : Result (List ℕ) RequestFault). r >>= λ content. or_size (request_in this content)) found.read
-    ∙ ap (λ (o : Option (Fields (kinds_of this))). or_size (option_map (λ (fields : Fields (kinds_of this)). let v : RequestValue = record { form = this; fields = fields } in v) o)) fields in
+    ∙ ap (λ (o : Option (Fields (kinds_of this))). or_size
+    (option_map (λ (fields : Fields (kinds_of this)). let v : RequestValue = record { form = this; fields = fields } in v) o)) fields in
     ap request_at (text.is ∙ ap (λ (xs : List ℕ). number_of this ∷ xs) found.is)
     ∙ rw (is.named, read) (asked ∙ by)
 

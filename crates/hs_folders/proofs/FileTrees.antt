@@ -9,7 +9,8 @@ use Rattle.std.specs.declared.cmp.Ordering.TheVariants.{Less}
 use Rattle.std.specs.Ordering.{nat_cmp, eq_by_cmp, is_eq, is_lt}
 use Rattle.std.specs.Cmp.{eq_by_cmp_equiv}
 use Rattle.std.specs.Cmp.Lexicographic.{slice_cmp, nat_list_cmp_total}
-use Rattle.std.specs.FinMap.{find, is_sorted, from_sorted, get-from_entries, get-from_sorted, get-insert, get-remove, entries-from_sorted, same_map, slice_cmp-IsAntisymmetric, nat_cmp-IsAntisymmetric}
+use Rattle.std.specs.FinMap.{find, is_sorted, from_sorted, get-from_entries, get-from_sorted, get-insert, get-remove, entries-from_sorted, same_map}
+use Rattle.std.specs.FinMap.{slice_cmp-IsAntisymmetric, nat_cmp-IsAntisymmetric}
 use Rattle.std.specs.FinMap.Entries.{below_all}
 use Rattle.std.specs.FinMap as finmap
 use Rattle.std.specs.BTreeMap as tree
@@ -28,10 +29,12 @@ use Rattle.hs_folders.specs.declared.changes.Changes.{Changes}
 use Rattle.hs_folders.specs.declared.changes.Changes.TheVariants.{Kept}
 
 -- a look-up in the map finds what the tree's own finds
-find-named : (q : List ℕ) (es : List (String Global × Vec ℕ Global)) → find (slice_cmp nat_cmp) q (named es) ≡ option_map (λ v. v.items) (lookup (λ k. is_eq (slice_cmp nat_cmp q (string_bytes k))) es)
+find-named : (q : List ℕ) (es : List (String Global × Vec ℕ Global))
+    → find (slice_cmp nat_cmp) q (named es) ≡ option_map (λ v. v.items) (lookup (λ k. is_eq (slice_cmp nat_cmp q (string_bytes k))) es)
 find-named q [] = refl
 find-named q (e ∷ es) =
-    elim (is_eq (slice_cmp nat_cmp q (string_bytes e.0))) as (λ b. cond b (Some e.1.items) (find (slice_cmp nat_cmp) q (named es)) ≡ option_map (λ v. v.items) (cond b (Some e.1) (lookup (λ k. is_eq (slice_cmp nat_cmp q (string_bytes k))) es))) [
+    elim (is_eq (slice_cmp nat_cmp q (string_bytes e.0))) as (λ b. cond b (Some e.1.items) (find (slice_cmp nat_cmp) q (named es))
+    ≡ option_map (λ v. v.items) (cond b (Some e.1) (lookup (λ k. is_eq (slice_cmp nat_cmp q (string_bytes k))) es))) [
       | true ↦ refl
       | false ↦ find-named q es
     ]
@@ -53,18 +56,23 @@ tied bs q = sym (is_eq-slice_cmp bs q) ∙ (eq_by_cmp_equiv nat_list_cmp_total).
 get-updated : (m n : FileTree) (bs : List ℕ) (w : Option (Vec ℕ Global)) → tree.UpdatesBy string_cmp (λ k. slice_cmp nat_cmp bs (string_bytes k)) m n w
     → (q : List ℕ) → finmap.get (file_map n) q ≡ cond (eq_by_cmp (slice_cmp nat_cmp) q bs) (option_map (λ v. v.items) w) (finmap.get (file_map m) q)
 get-updated m n bs w changed q =
-    get-file_map n q ∙ ap (option_map (λ v. v.items)) (btree_map_updates_text bs m n w changed q) ∙ pushed (λ v. v.items) (bytes_eq bs q) w (tree.get_by_text m q)
+    get-file_map n q ∙ ap (option_map (λ v. v.items)) (btree_map_updates_text bs m n w changed q)
+    ∙ pushed (λ v. v.items) (bytes_eq bs q) w (tree.get_by_text m q)
     ∙ ap (λ b. cond b (option_map (λ v. v.items) w) (option_map (λ v. v.items) (tree.get_by_text m q))) (tied bs q)
     ∙ ap (cond (eq_by_cmp (slice_cmp nat_cmp) q bs) (option_map (λ v. v.items) w)) (sym (get-file_map m q))
 
-pub file_map-insert : (m n : FileTree) (k : String Global) (v : Vec ℕ Global) → tree.Updates string_cmp m n k (Some v) → file_map n ≡ finmap.insert (file_map m) (string_bytes k) v.items
-file_map-insert m n k v changed = same_files _ _ (λ q. get-updated m n (string_bytes k) (Some v) changed q ∙ sym (get-insert nat_list_cmp_total (file_map m) (string_bytes k) v.items q))
+pub file_map-insert : (m n : FileTree) (k : String Global) (v : Vec ℕ Global)
+    → tree.Updates string_cmp m n k (Some v) → file_map n ≡ finmap.insert (file_map m) (string_bytes k) v.items
+file_map-insert m n k v changed =
+    same_files _ _ (λ q. get-updated m n (string_bytes k) (Some v) changed q ∙ sym (get-insert nat_list_cmp_total (file_map m) (string_bytes k) v.items q))
 
-pub file_map-remove : (m n : FileTree) (bs : List ℕ) → tree.UpdatesBy string_cmp (λ k. slice_cmp nat_cmp bs (string_bytes k)) m n None → file_map n ≡ finmap.remove (file_map m) bs
+pub file_map-remove : (m n : FileTree) (bs : List ℕ)
+    → tree.UpdatesBy string_cmp (λ k. slice_cmp nat_cmp bs (string_bytes k)) m n None → file_map n ≡ finmap.remove (file_map m) bs
 file_map-remove m n bs changed = same_files _ _ (λ q. get-updated m n bs None changed q ∙ sym (get-remove nat_list_cmp_total (file_map m) bs q))
 
 -- entries with the same names and bytes
-pub named-clone : (es fs : List (String Global × Vec ℕ Global)) → AllZip (λ p q. (string_bytes q.0 ≡ string_bytes p.0) × (AllZip (λ x y. y ≡ x) p.1.items q.1.items × (vec_len q.1 ≡ vec_len p.1))) es fs → named fs ≡ named es
+pub named-clone : (es fs : List (String Global × Vec ℕ Global)) → AllZip
+    (λ p q. (string_bytes q.0 ≡ string_bytes p.0) × (AllZip (λ x y. y ≡ x) p.1.items q.1.items × (vec_len q.1 ≡ vec_len p.1))) es fs → named fs ≡ named es
 named-clone [] [] same = refl
 named-clone [] (f ∷ fs) same = absurd same
 named-clone (e ∷ es) [] same = absurd same
@@ -83,7 +91,8 @@ both : (a b : Bool) → T a → T b → T (a && b)
 both true b p q = q
 both false b p q = p
 
-below_named : (k : String Global) (es : List (String Global × Vec ℕ Global)) → AllByRecursion (λ y. string_cmp k y ≡ Less) (keys_of es) → T (below_all (slice_cmp nat_cmp) (string_bytes k) (named es))
+below_named : (k : String Global) (es : List (String Global × Vec ℕ Global))
+    → AllByRecursion (λ y. string_cmp k y ≡ Less) (keys_of es) → T (below_all (slice_cmp nat_cmp) (string_bytes k) (named es))
 below_named k [] h = tt
 below_named k (e ∷ es) h = both _ _ (subst (λ o. T (is_lt o)) (sym h.0) tt) (below_named k es h.1)
 
@@ -100,12 +109,15 @@ names-named (e ∷ es) = ap (λ names. string_bytes e.0 ∷ names) (names-named 
 pub keys-file_map : (m : FileTree) → tree.IsOrdered string_cmp m → finmap.keys (file_map m) ≡ map string_bytes (tree.keys m)
 keys-file_map m ordered =
     let sorted = is_sorted-named m.entries ordered in
-    let same : file_map m ≡ from_sorted (named m.entries) = same_files _ _ (λ q. get-from_entries nat_list_cmp_total (named m.entries) q ∙ sym (get-from_sorted (slice_cmp nat_cmp) (named m.entries) q sorted)) in
+    let same : file_map m ≡ from_sorted (named m.entries) =
+    same_files _ _ (λ q. get-from_entries nat_list_cmp_total (named m.entries) q ∙ sym (get-from_sorted (slice_cmp nat_cmp) (named m.entries) q sorted)) in
     ap finmap.keys same ∙ ap (map (λ e. e.0)) (entries-from_sorted (slice_cmp nat_cmp) (named m.entries) sorted) ∙ names-named m.entries
 
 -- what was told at a moment is what the tree kept of it stands for
 pub slice_get-kept : (changes : Changes) (past : Vec FileTree Global) (files : FileTree) (k : ℕ) → changes ≡ Kept past
-    → option_and_then (λ moments. slice_get moments k) (moments_of changes files) ≡ option_map (λ tree. Some (file_map tree)) (slice_get (past.items ++ files ∷ []) k)
+    → option_and_then (λ moments. slice_get moments k) (moments_of changes files)
+    ≡ option_map (λ tree. Some (file_map tree)) (slice_get (past.items ++ files ∷ []) k)
 slice_get-kept changes past files k kept =
     ap (λ made. option_and_then (λ moments. slice_get moments k) (moments_of made files)) kept
-    ∙ ap (λ moments. slice_get moments k) (sym (map-append (λ tree. Some (file_map tree)) past.items (files ∷ []))) ∙ slice_get-map (λ tree. Some (file_map tree)) (past.items ++ files ∷ []) k
+    ∙ ap (λ moments. slice_get moments k) (sym (map-append (λ tree. Some (file_map tree)) past.items (files ∷ [])))
+    ∙ slice_get-map (λ tree. Some (file_map tree)) (past.items ++ files ∷ []) k

@@ -15,7 +15,8 @@ length-items_from number zero generator = refl
 length-items_from number (suc count) generator = ap suc (length-items_from (suc number) count (pcg32 generator).1)
 
 -- the next item comes first
-pub items_from-suc : (number count : ℕ) (generator : Lcg) → items_from number (suc count) generator ≡ item_of number (pcg32 generator).0 ∷ items_from (suc number) count (pcg32 generator).1
+pub items_from-suc : (number count : ℕ) (generator : Lcg)
+    → items_from number (suc count) generator ≡ item_of number (pcg32 generator).0 ∷ items_from (suc number) count (pcg32 generator).1
 unfolding items_from
 items_from-suc number count generator = refl
 
@@ -29,7 +30,8 @@ pub short_number : (number : ℕ) → number ≤ 5000 → length (decimal number
 short_number number few = length-decimal-le 4 number (omega arith) (omega arith) (omega arith)
 
 -- one more item is drawn
-pub items_from-next : (number left : ℕ) (generator : Lcg) → 0 < left → items_from number left generator ≡ item_of number (pcg32 generator).0 ∷ items_from (number + 1) (left - 1) (pcg32 generator).1
+pub items_from-next : (number left : ℕ) (generator : Lcg)
+    → 0 < left → items_from number left generator ≡ item_of number (pcg32 generator).0 ∷ items_from (number + 1) (left - 1) (pcg32 generator).1
 items_from-next number zero generator more = absurd (omega arith)
 items_from-next number (suc left) generator more =
     let next : number + 1 ≡ suc number = omega arith in
@@ -37,7 +39,8 @@ items_from-next number (suc left) generator more =
     rw (next, rest) (items_from-suc number left generator)
 
 -- the items so far, and those that are still to be drawn
-pub draw : (whole items : List Item) (number left word : ℕ) (old new : Lcg) → whole ≡ items ++ items_from number left old → 0 < left → ◌≡◌ {A = ℕ × Lcg} (word, new) (pcg32 old)
+pub draw : (whole items : List Item) (number left word : ℕ) (old new : Lcg)
+    → whole ≡ items ++ items_from number left old → 0 < left → ◌≡◌ {A = ℕ × Lcg} (word, new) (pcg32 old)
     → whole ≡ (items ++ item_of number word ∷ []) ++ items_from (number + 1) (left - 1) new
 draw whole items number left word old new so_far more step =
     let next = items_from-next number left old more in

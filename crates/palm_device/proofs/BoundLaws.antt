@@ -1,7 +1,8 @@
 -- Databases within their bounds stay so where their records, resources or blocks become others.
 use Rattle.std.proofs.lemmas.Bool.Decides.{nat_tests}
 use Rattle.std.proofs.lemmas.Grind.{common_steps}
-use Rattle.std.proofs.Common.{◌≡◌, ◌<◌, ◌≤◌, ◌+◌, ◌^◌, length-append, ℕ, zero, suc, Bool, true, false, List, [], ◌∷◌, map, drop, take, length, refl, ap, subst, ◌∙◌, arith, Option, Some, None, slice_get}
+use Rattle.std.proofs.Common.{◌≡◌, ◌<◌, ◌≤◌, ◌+◌, ◌^◌, length-append, ℕ, zero, suc, Bool, true, false, List, [], ◌∷◌, map, drop, take, length, refl, ap, subst}
+use Rattle.std.proofs.Common.{◌∙◌, arith, Option, Some, None, slice_get}
 use Rattle.std.specs.Prelude.{All, filter, position}
 use Rattle.std.specs.List.{AllByRecursion}
 use Rattle.std.proofs.lemmas.Bool.{both_ways}

@@ -1,7 +1,8 @@
 -- The first entry that passes a test, by its place.
 use Rattle.std.proofs.lemmas.Bool.Decides.{nat_tests}
 use Rattle.std.proofs.lemmas.Grind.{common_steps}
-use Rattle.std.proofs.Common.{◌≡◌, ℕ, zero, suc, ◌+◌, ◌<◌, ◌≤◌, Bool, true, false, List, [], ◌∷◌, ◌++◌, map, take, drop, length, refl, arith, add-one, Some, None, slice_get, slice_set}
+use Rattle.std.proofs.Common.{◌≡◌, ℕ, zero, suc, ◌+◌, ◌<◌, ◌≤◌, Bool, true, false, List, [], ◌∷◌, ◌++◌, map, take, drop, length, refl, arith, add-one, Some}
+use Rattle.std.proofs.Common.{None, slice_get, slice_set}
 use Rattle.std.specs.Prelude.{position, remove, filter}
 use Rattle.std.specs.List.{position_or_len, list_all}
 use Rattle.pdb_values.proofs.PlaceLaws.{first_here, position_found, position_none}

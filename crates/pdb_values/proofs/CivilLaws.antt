@@ -1,12 +1,14 @@
 -- The days from 1904 are those of the library's calendar, and the date of a number of seconds has that number.
 use Rattle.std.proofs.lemmas.Grind.{common_steps}
-use Rattle.std.proofs.Common.{inl, inr, rules, ◌≡◌, ℕ, zero, suc, ◌+◌, ◌-◌, ◌*◌, ◌/◌, ◌%◌, ◌<◌, ◌≤◌, true, false, refl, sym, arith, ℤ, pos, nat_abs, ◌+ℤ◌, ◌≤ℤ◌, ◌^◌, Result, nat_lt}
+use Rattle.std.proofs.Common.{inl, inr, rules, ◌≡◌, ℕ, zero, suc, ◌+◌, ◌-◌, ◌*◌, ◌/◌, ◌%◌, ◌<◌, ◌≤◌, true, false, refl, sym, arith, ℤ, pos, nat_abs, ◌+ℤ◌, ◌≤ℤ◌}
+use Rattle.std.proofs.Common.{◌^◌, Result, nat_lt}
 use Rattle.std.proofs.lemmas.Bool.Decides.{nat_tests}
 use Rattle.std.proofs.lemmas.Bool.{cases_lt}
 use Rattle.jiff_core.specs.Calendar.{day_count, day_of_year, days_of_months, IsCivilDate}
 use Rattle.jiff_core.proofs.SignedLemmas.{signed_arith}
 use Rattle.jiff_core.proofs.MarchLemmas.{day_count-early}
-use Rattle.jiff_core.proofs.CalendarLemmas.{day_count-next_year, day_count-day_of_year, days_of_months-zero, day_of_year_bound, day_count-lt_year, days_of_months_all, day_count-last_of_year, days_from_civil-day_count}
+use Rattle.jiff_core.proofs.CalendarLemmas.{day_count-next_year, day_count-day_of_year, days_of_months-zero, day_of_year_bound, day_count-lt_year}
+use Rattle.jiff_core.proofs.CalendarLemmas.{days_of_months_all, day_count-last_of_year, days_from_civil-day_count}
 use Rattle.std.proofs.lemmas.Int.{by_lt_z}
 use Rattle.std.specs.Result.{result_ok, OkIff}
 use Rattle.std.specs.declared.num.TryFromIntError.{TryFromIntError}

@@ -1,6 +1,7 @@
 -- What stands at the front of bytes, by the relations of specs/Places.antt and by `place_of`.
 use Rattle.std.proofs.lemmas.Grind.{common_steps}
-use Rattle.std.proofs.Common.{◌≡◌, ℕ, ◌+◌, ◌≤◌, ◌⊎◌, inl, inr, Bool, true, cond, ◌&&◌, List, [], ◌++◌, length, take, drop, nat_eq, nat_lt, nat_le, refl, sym, ap, ◌∙◌, arith}
+use Rattle.std.proofs.Common.{◌≡◌, ℕ, ◌+◌, ◌≤◌, ◌⊎◌, inl, inr, Bool, true, cond, ◌&&◌, List, [], ◌++◌, length, take, drop, nat_eq, nat_lt, nat_le, refl, sym}
+use Rattle.std.proofs.Common.{ap, ◌∙◌, arith}
 use Rattle.std.specs.List.{starts_with}
 use Rattle.std.proofs.lemmas.List.{append_assoc, length-append, length-take, take_at, drop_at}
 use Rattle.std.proofs.lemmas.Bool.{and_parts, and_from, le-leb, leb-true, le-ltb, lt-ltb, ltb-true, cond-true, cond-false, cases_lt, false_from_ne_true}

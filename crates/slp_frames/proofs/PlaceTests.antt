@@ -1,7 +1,8 @@
 -- The tests by which the program tells what stands at a place.
 use Rattle.std.proofs.lemmas.Bool.Decides.{nat_tests}
 use Rattle.std.proofs.lemmas.Grind.{common_steps}
-use Rattle.std.proofs.Common.{◌≡◌, ℕ, ◌+◌, ◌<◌, ◌≤◌, min, Bool, true, false, cond, ◌&&◌, List, ◌++◌, length, take, drop, nat_eq, nat_lt, sym, ap, subst, ◌∙◌, arith}
+use Rattle.std.proofs.Common.{◌≡◌, ℕ, ◌+◌, ◌<◌, ◌≤◌, min, Bool, true, false, cond, ◌&&◌, List, ◌++◌, length, take, drop, nat_eq, nat_lt, sym, ap, subst, ◌∙◌}
+use Rattle.std.proofs.Common.{arith}
 use Rattle.std.specs.List.{starts_with}
 use Rattle.std.proofs.Math.Seq.{take-append-add}
 use Rattle.std.proofs.lemmas.List.{append_assoc, length-append, length-take-le, length-drop, take_min, take-append-drop}
@@ -12,7 +13,8 @@ use Rattle.slp_frames.specs.PacketText.{header_text, header_of, PacketValue, pac
 use Rattle.slp_frames.specs.Places.{Begins}
 use Rattle.slp_frames.specs.PacketScan.{fields_at, packet_at, has_header, is_open, Whole, Open, Dead, place_of}
 use Rattle.slp_frames.specs.Numbers.{sync_bytes, header_len, max_body}
-use Rattle.slp_frames.proofs.PlaceLaws.{starts_then, length-header_text, crc_bytes, packet_text-parts, length-behind, has_packet_stands, has_header-header_text, header_stands, place_of-packet, place_of-open}
+use Rattle.slp_frames.proofs.PlaceLaws.{starts_then, length-header_text, crc_bytes, packet_text-parts, length-behind, has_packet_stands, has_header-header_text}
+use Rattle.slp_frames.proofs.PlaceLaws.{header_stands, place_of-packet, place_of-open}
 
 -- without a packet it is open or dead
 no_packet : (bytes : List ℕ) → (Begins (packet_at bytes) bytes → ⊥) → place_of bytes ≡ cond (is_open bytes) Open Dead

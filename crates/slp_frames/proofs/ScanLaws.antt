@@ -10,7 +10,8 @@ use Rattle.slp_frames.specs.PacketScan.{Place, Whole, Open, Dead, place_of, with
 use Rattle.slp_frames.specs.Histories.{Continues}
 use Rattle.slp_frames.specs.Numbers.{sync_bytes, header_len, max_body}
 use Rattle.slp_frames.proofs.PlaceTests.{place_of_short}
-use Rattle.slp_frames.proofs.PlaceLaws.{length-header_text, length-packet_text, length-behind, crc_bytes, packet_text-parts, header_stands_first, place_of-packet, place_of-dead, place_of-open, packet_stands, dead_stands}
+use Rattle.slp_frames.proofs.PlaceLaws.{length-header_text, length-packet_text, length-behind, crc_bytes, packet_text-parts, header_stands_first}
+use Rattle.slp_frames.proofs.PlaceLaws.{place_of-packet, place_of-dead, place_of-open, packet_stands, dead_stands}
 
 -- ---- a dead place stays dead
 

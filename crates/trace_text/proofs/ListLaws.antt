@@ -23,11 +23,13 @@ each-length R (v ∷ xs) (w ∷ ys) each = ap suc (each-length R xs ys each.1)
 
 -- further bytes are taken
 pub shown-feed : (taken more held : List ℕ) (lines : List (List ℕ)) → IsShown taken lines held → IsShown (taken ++ more) lines (held ++ more)
-shown-feed taken more held lines shown = record { handed = shown.handed; each = shown.each; continues = continues_append taken more held shown.handed shown.continues }
+shown-feed taken more held lines shown =
+    record { handed = shown.handed; each = shown.each; continues = continues_append taken more held shown.handed shown.continues }
 
 -- one more packet, and its line
 pub shown-packet : (taken held held' : List ℕ) (lines : List (List ℕ)) (packet : PacketValue) (line : List ℕ)
-    → IsShown taken lines held → ((handed : List PacketValue) → Continues taken handed held → Continues taken (handed ++ packet ∷ []) held') → ShowsPacket packet line → IsShown taken (lines ++ line ∷ []) held'
+    → IsShown taken lines held → ((handed : List PacketValue) → Continues taken handed held → Continues taken (handed ++ packet ∷ []) held')
+    → ShowsPacket packet line → IsShown taken (lines ++ line ∷ []) held'
 shown-packet taken held held' lines packet line shown step shows = record {
   handed = shown.handed ++ packet ∷ [];
   each = each-append ShowsPacket shown.handed lines packet line shown.each shows;
@@ -37,11 +39,13 @@ shown-packet taken held held' lines packet line shown step shows = record {
 -- the packets of all that was taken, where none is held
 pub shown-all : (taken held : List ℕ) (lines : List (List ℕ)) → IsShown taken lines held → scan held ≡ [] → AllZip ShowsPacket (scan taken) lines
 shown-all taken held lines shown none =
-    let all : scan taken ≡ shown.handed = continues_now taken held shown.handed shown.continues ∙ ap (λ (ps : List PacketValue). shown.handed ++ ps) none ∙ append-nil shown.handed in
+    let all : scan taken ≡ shown.handed = continues_now taken held shown.handed shown.continues
+    ∙ ap (λ (ps : List PacketValue). shown.handed ++ ps) none ∙ append-nil shown.handed in
     rw all shown.each
 
 -- the lines and their number
-pub shows_packets : (packets : List PacketValue) (lines : List (List ℕ)) (count : ℕ) (text : List ℕ) → AllZip ShowsPacket packets lines → length lines ≡ count → text ≡ lines_text lines ++ count_line count → ShowsPackets packets text
+pub shows_packets : (packets : List PacketValue) (lines : List (List ℕ)) (count : ℕ) (text : List ℕ)
+    → AllZip ShowsPacket packets lines → length lines ≡ count → text ≡ lines_text lines ++ count_line count → ShowsPackets packets text
 shows_packets packets lines count text each counted is = record {
   lines = lines;
   each = each;

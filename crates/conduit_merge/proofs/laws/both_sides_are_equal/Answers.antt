@@ -7,4 +7,5 @@ pub returns-clause-equal : goal.returns-clause-equal
 returns-clause-equal c = λ ch handheld given records ids bounded shows free. sides-equal ch handheld given records (differ-ids records ids) bounded shows free
 
 pub returns-clause-honest : goal.returns-clause-honest
-returns-clause-honest c = λ ch handheld given records ids bounded shows free. honest-merged ch handheld given records (differ-ids records ids) bounded shows free
+returns-clause-honest c =
+    λ ch handheld given records ids bounded shows free. honest-merged ch handheld given records (differ-ids records ids) bounded shows free

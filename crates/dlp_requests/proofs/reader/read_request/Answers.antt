@@ -10,4 +10,5 @@ pub returns-clause-found : goal.returns-clause-found
 returns-clause-found c = is_found c.args.bytes.now c.take_request.result (λ i. omega (arith, c.type_inv.bytes i)) c.take_request.ensures
 
 pub returns-clause-only : goal.returns-clause-only
-returns-clause-only c = λ value is. subst (λ (r : Result RequestValue RequestFault). Gives request_value c.take_request.result r) (request_again value c.args.bytes.now is) c.take_request.ensures
+returns-clause-only c = λ value is. subst
+    (λ (r : Result RequestValue RequestFault). Gives request_value c.take_request.result r) (request_again value c.args.bytes.now is) c.take_request.ensures

@@ -6,4 +6,5 @@ use Rattle.file_text.proofs.head.push_codes.Goals as goal
 pub returns : goal.returns
 returns c =
     let head = c.args.head.now in
-    rw (c.in_ok-push_hex-2.ensures, c.in_ok-push_hex.ensures) (append_assoc (string_bytes c.args.text.now) (hex_text (codes "type ") head.kind.0) (hex_text (codes " creator ") head.creator.0))
+    rw (c.in_ok-push_hex-2.ensures, c.in_ok-push_hex.ensures)
+    (append_assoc (string_bytes c.args.text.now) (hex_text (codes "type ") head.kind.0) (hex_text (codes " creator ") head.creator.0))

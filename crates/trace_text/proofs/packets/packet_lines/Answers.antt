@@ -9,5 +9,11 @@ loop-rest-preserved c =
     let before = c.loop-rest.invariant.1 in
     let rest = c.loop-rest.rest.now in
     let bytes = take c.feed-count.result rest in
-    let fed = rw (← c.feed-count.ensures.held) at (shown-feed before.0 bytes _ _ before.2) in
-    (c.in_ok-push_held.ensures.drained, (before.0 ++ bytes, rw take_rest (piece_parts c.args.bytes.now before.0 rest c.feed-count.result before.1), c.in_ok-push_held.ensures.shown (before.0 ++ bytes) fed))
+    let fed = rw (← c.feed-count.ensures.held) at (shown-feed before.0 bytes _ _ before.2) in (
+      c.in_ok-push_held.ensures.drained,
+      (
+        before.0 ++ bytes,
+        rw take_rest (piece_parts c.args.bytes.now before.0 rest c.feed-count.result before.1),
+        c.in_ok-push_held.ensures.shown (before.0 ++ bytes) fed,
+      ),
+    )

@@ -7,4 +7,5 @@ use Rattle.trace_text.proofs.packets.push_held.Goals as goal
 pub loop-packet-preserved : goal.loop-packet-preserved
 loop-packet-preserved c taken before =
     rw (c.in_ok-push.ensures.items, map-append)
-    (shown-packet taken _ _ _ (lent_value c.in-Some.packet) (string_bytes c.in_ok-line.line) (c.loop-packet.invariant taken before) (λ handed continues. rw c.in-Some.is at (c.next.follows.holds-at-none.continues taken handed continues)) c.in_ok-line.ensures)
+    (shown-packet taken _ _ _ (lent_value c.in-Some.packet) (string_bytes c.in_ok-line.line) (c.loop-packet.invariant taken before)
+    (λ handed continues. rw c.in-Some.is at (c.next.follows.holds-at-none.continues taken handed continues)) c.in_ok-line.ensures)

@@ -8,6 +8,20 @@ use Rattle.trace_text.proofs.trace.frame_line.Goals.{then-frame, else-frame}
 pub returns : goal.returns
 returns c =
     elim c.if-frame.branch [
-      | then-frame w ↦ IfOk-weaker c.format.result _ _ (λ text is. is ∙ simp (w.mark-is, w.if-frame.true, c.end_word-from.ensures, c.in_ok-fate.ensures, c.in_ok-bytes.ensures, c.as_slice.ensures.value) (simp append_assoc)) c.format.ensures.ok
-      | else-frame w ↦ IfOk-weaker c.format.result _ _ (λ text is. is ∙ simp (w.mark-is, w.if-frame.false, c.end_word-from.ensures, c.in_ok-fate.ensures, c.in_ok-bytes.ensures, c.as_slice.ensures.value) (simp append_assoc)) c.format.ensures.ok
+      | then-frame w ↦ IfOk-weaker c.format.result _ _ (λ text is. is ∙ simp (
+        w.mark-is,
+        w.if-frame.true,
+        c.end_word-from.ensures,
+        c.in_ok-fate.ensures,
+        c.in_ok-bytes.ensures,
+        c.as_slice.ensures.value,
+      ) (simp append_assoc)) c.format.ensures.ok
+      | else-frame w ↦ IfOk-weaker c.format.result _ _ (λ text is. is ∙ simp (
+        w.mark-is,
+        w.if-frame.false,
+        c.end_word-from.ensures,
+        c.in_ok-fate.ensures,
+        c.in_ok-bytes.ensures,
+        c.as_slice.ensures.value,
+      ) (simp append_assoc)) c.format.ensures.ok
     ]

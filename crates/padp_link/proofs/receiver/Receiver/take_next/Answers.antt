@@ -44,6 +44,7 @@ returns c =
     let more = holds_more count bytes part key choice c.self.invariant.has_all (omega arith) c.requires.fragment next in
     let ok = c.extend_from_slice.ensures.succeeds (omega (arith, more.reaches, length-append bytes part, c.self.invariant.room)) in
     let new : c.extend_from_slice.new.self.items ≡ bytes ++ part = c.extend_from_slice.ensures.items ∙ cond-true _ _ _ ok in
-    let pieces : taken_pieces c.if-self-eq0.length (count + 1) c.extend_from_slice.new.self.items ≡ taken_pieces size count bytes ++ data_fragment key part ∷ [] = rw new more.pieces in
+    let pieces : taken_pieces c.if-self-eq0.length (count + 1) c.extend_from_slice.new.self.items
+    ≡ taken_pieces size count bytes ++ data_fragment key part ∷ [] = rw new more.pieces in
     ap (λ (ps : List FragmentValue). let r : ReceiverValue = record { awaited = c.self.inside.awaited; pieces = ps; last = Some key } in r) pieces
     ∙ ap (λ (r : ReceiverValue). with_piece r key.id (data_fragment key part)) c.self.view_is
