@@ -58,4 +58,5 @@ pub read_fits : (value : RequestValue) (bytes : List ℕ) → RequestText value 
 read_fits value bytes text short =
     let all = ap length text.is in
     let content : length text.content ≤ 65500 = omega (arith, content_short (argument_of value.form) text.content text.rest text.argument) in
-    IsRequest-short value (fields_fit (kinds_of value.form) value.fields text.content text.fields_text) (are_short (kinds_of value.form) value.fields text.content text.fields_text content)
+    IsRequest-short value (fields_fit (kinds_of value.form) value.fields text.content text.fields_text)
+    (are_short (kinds_of value.form) value.fields text.content text.fields_text content)
