@@ -10,7 +10,8 @@ loop-place-preserved c =
     let place = c.loop-place.place in
     let line : List ℕ = decimal (20 * (place + 1)) ++ (codes " lost" ++ 10 ∷ []) in
     ap (λ (l : List ℕ). l ++ script_text (losses (20 * (place + 1 + 1)) (1000 - (place + 1)))) c.in_ok-write.ensures.bytes
-    ∙ losses_grow (string_bytes c.loop-place.text) line place c.loop-place-test.true (sym (append_assoc (decimal (20 * (place + 1))) (codes " lost") (10 ∷ []))) c.loop-place.invariant
+    ∙ losses_grow (string_bytes c.loop-place.text) line place c.loop-place-test.true
+    (sym (append_assoc (decimal (20 * (place + 1))) (codes " lost") (10 ∷ []))) c.loop-place.invariant
 
 pub returns : goal.returns
 returns c =
