@@ -47,7 +47,8 @@ rest_of (reset ∷ ws) ch = ch
 abbrev pub AreOf : List Write → Choice → Sides → Type 0
 AreOf [] ch s = Unit {0}
 AreOf (replace i c ∷ ws) ch s = (ch.keep i ≡ Some c) × AreOf ws ch (given_to s i c)
-AreOf (add g a ∷ ws) ch s = (ch.adds ≡ a ∷ behind ch.adds) × (s.base g ≡ no_base) × (s.handheld g ≡ nothing) × (g < id_bound) × AreOf ws (with_add ch g a) (given_to s g a)
+AreOf (add g a ∷ ws) ch s = (ch.adds ≡ a ∷ behind ch.adds) × (s.base g ≡ no_base) × (s.handheld g ≡ nothing) × (g < id_bound)
+    × AreOf ws (with_add ch g a) (given_to s g a)
 AreOf (purge i ∷ ws) ch s = ⊥
 AreOf (clean_up ∷ ws) ch s = ⊥
 AreOf (reset ∷ ws) ch s = ⊥

@@ -77,7 +77,8 @@ pub fn a_stopped_session_is_taken_up()
 pub fn rows_stand_under_the_ids_of_both_sessions()
     ensures { (ch : Choice) (given later : List ℕ) (i : ℕ)
         → AreNew ch.keep (numbered given ch.adds) id_bound
-        → row_at (rest_of (adding (numbered given ch.adds)) ch) later i ≡ row_at ch (given ++ later) i }
+        → row_at (rest_of (adding (numbered given ch.adds)) ch) later i
+        ≡ row_at ch (given ++ later) i }
 {}
 
 /// A database that was merged is merged to the same again, whichever sides both sessions go by: its

@@ -23,4 +23,8 @@ based_of (Gone c) = gone c.now
 
 -- what becomes of an id
 abbrev pub fate_of : Verdict → Fate
-fate_of v = record { keep = option_copied v.keep; archive = option_to_list (option_copied v.archive) ++ option_to_list (option_copied v.archive_too); news = option_copied v.news }
+fate_of v = record {
+  keep = option_copied v.keep;
+  archive = option_to_list (option_copied v.archive) ++ option_to_list (option_copied v.archive_too);
+  news = option_copied v.news;
+}

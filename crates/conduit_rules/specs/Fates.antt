@@ -11,7 +11,8 @@ use Rattle.conduit_rules.specs.declared.table.Side.TheVariants.{Gone}
 use Rattle.conduit_rules.specs.declared.table.Keep.{Keep}
 use Rattle.conduit_rules.specs.declared.table.Keep.TheVariants.{None as KeepNone, Base as KeepBase, Handheld as KeepHandheld, Desktop as KeepDesktop}
 use Rattle.conduit_rules.specs.declared.table.Archive.{Archive}
-use Rattle.conduit_rules.specs.declared.table.Archive.TheVariants.{None as ArchiveNone, Base as ArchiveBase, Handheld as ArchiveHandheld, Desktop as ArchiveDesktop, Both as ArchiveBoth}
+use Rattle.conduit_rules.specs.declared.table.Archive.TheVariants.{None as ArchiveNone, Base as ArchiveBase, Handheld as ArchiveHandheld}
+use Rattle.conduit_rules.specs.declared.table.Archive.TheVariants.{Desktop as ArchiveDesktop, Both as ArchiveBoth}
 use Rattle.conduit_rules.specs.declared.table.Outcome.{Outcome}
 
 -- the content that both sides keep under the id, those that are archived, and the desktop's where it becomes a new record

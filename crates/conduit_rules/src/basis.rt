@@ -16,7 +16,8 @@ pub enum Basis<'a> {
 impl<'a> Basis<'a> {
     // What the base has under an id, by the entry in front that bears it. The id 0 names no row.
     pub fn in_front(id: RecordId, head: Option<(usize, &'a Record)>, gone_counts: bool) -> Basis<'a>
-        ensures { based_of result ≡ based_under gone_counts id (option_map (λ e. e.1.now) head.entry) }
+        ensures { based_of result ≡ based_under gone_counts id
+            (option_map (λ e. e.1.now) head.entry) }
     {
         if id.number() == 0 {
             return Basis::Nothing;

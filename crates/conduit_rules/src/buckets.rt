@@ -38,7 +38,8 @@ pub fn take_equal(buckets: &mut Vec<Vec<Content>>, content: &Content) -> bool
 }
 
 fn empty_buckets(alloc: Global, count: usize) -> Result<Vec<Vec<Content>>, AllocError>
-    ensures { IfOk result (λ buckets. map (λ bucket. bucket.items) buckets.items ≡ replicate count []) }
+    ensures { IfOk result (λ buckets. map (λ bucket. bucket.items) buckets.items
+        ≡ replicate count []) }
 {
     let mut buckets = Vec::new(alloc);
     for _ in 0..count {

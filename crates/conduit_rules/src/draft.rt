@@ -64,15 +64,19 @@ impl Draft {
         handheld: Holding<'_>,
         partner: Option<&Content>,
     ) -> Result<(), AllocError>
-        ensures kept { OnOk result (self.new.kept.items ≡ self.old.kept.items ++ with_id id (fate_of verdict.entry).keep) }
+        ensures kept { OnOk result (self.new.kept.items ≡ self.old.kept.items
+            ++ with_id id (fate_of verdict.entry).keep) }
         ensures replace { OnOk result (self.new.replace.items
-            ≡ self.old.replace.items ++ with_id id (replacement (fate_of verdict.entry).keep (held_of handheld.entry))) }
+            ≡ self.old.replace.items ++ with_id id
+            (replacement (fate_of verdict.entry).keep (held_of handheld.entry))) }
         ensures archive { OnOk result (self.new.archive.items
             ≡ self.old.archive.items ++ map (λ c. (id, c)) (fate_of verdict.entry).archive) }
         ensures gone { OnOk result (self.new.gone.items
-            ≡ self.old.gone.items ++ with_id id (lost (fate_of verdict.entry).keep (held_of handheld.entry))) }
+            ≡ self.old.gone.items ++ with_id id
+            (lost (fate_of verdict.entry).keep (held_of handheld.entry))) }
         ensures purge { OnOk result (self.new.purge.items
-            ≡ self.old.purge.items ++ purged_at (fate_of verdict.entry).keep (held_of handheld.entry) id) }
+            ≡ self.old.purge.items ++ purged_at (fate_of verdict.entry).keep
+            (held_of handheld.entry) id) }
         ensures partners { OnOk result (self.new.partners.items
             ≡ self.old.partners.items ++ option_to_list (option_copied partner.entry)) }
         ensures news { OnOk result (self.new.news.items
@@ -100,7 +104,8 @@ impl Draft {
         desktop: Holding<'_>,
     ) -> Result<(), AllocError>
         ensures grows { OnOk result (next ≤ id → Grew self.old self.new id
-            (fate_under action (based_of basis.entry) (held_of handheld.entry) (held_of desktop.entry))
+            (fate_under action (based_of basis.entry) (held_of handheld.entry)
+            (held_of desktop.entry))
             (held_of handheld.entry)
             (partner_under action (based_of basis.entry) (held_of handheld.entry))) }
         ensures stays { id < next → self.new ≡ self.old }

@@ -73,7 +73,8 @@ fn lesser_id(left: Option<RecordId>, right: Option<RecordId>) -> Option<RecordId
 
 // The entry, where it bears this id.
 fn at_id<'a, T: HasId>(head: Option<(usize, &'a T)>, id: RecordId) -> Option<(usize, &'a T)>
-    ensures { option_map (λ e. (e.0, e.1.now)) result ≡ where_id T.id_of id (option_map (λ e. (e.0, e.1.now)) head.entry) }
+    ensures { option_map (λ e. (e.0, e.1.now)) result
+        ≡ where_id T.id_of id (option_map (λ e. (e.0, e.1.now)) head.entry) }
 {
     match head {
         Some((_, item)) if item.id() == id => head,

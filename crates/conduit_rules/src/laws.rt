@@ -37,7 +37,8 @@ pub fn no_change_is_lost()
     ensures desktop { (b c : ContentValue) (h d : Held)
         → content_of d ≡ Some c → same_content c b ≡ false → stands c (named (cell b h d)) ≡ true }
     ensures gone { (b c : ContentValue) (h : Held)
-        → content_of h ≡ Some c → same_content c b ≡ false → stands c (named (gone_cell b h)) ≡ true }
+        → content_of h ≡ Some c → same_content c b ≡ false → stands c (named (gone_cell b h))
+        ≡ true }
     ensures new { (c : ContentValue) (h : Held)
         → content_of h ≡ Some c → stands c (named (unbased h)) ≡ true }
 {}

@@ -29,7 +29,8 @@ pub fn note_row<'a>(
 )
     requires { ForSome row (λ e. e.0 < length slots.old.items) }
     ensures { map option_copied slots.new.items
-        ≡ noted (option_map (λ e. (e.0, e.1.now)) row.entry) is_loose (map option_copied slots.old.items) }
+        ≡ noted (option_map (λ e. (e.0, e.1.now)) row.entry) is_loose
+        (map option_copied slots.old.items) }
 {
     if let Some((place, item)) = row {
         let slot = if is_loose { Some(item) } else { None };

@@ -14,7 +14,8 @@ pub fn leave_unpaired(
     partners: &[Content],
     offers: &[Content],
 ) -> Result<Vec<Content>, AllocError>
-    ensures { IfOk result (λ adds. adds.items ≡ unpaired (λ c. count_of c partners.now) offers.now) }
+    ensures { IfOk result (λ adds. adds.items
+        ≡ unpaired (λ c. count_of c partners.now) offers.now) }
 {
     let mut free = buckets_of(alloc, partners)?;
     let mut adds = Vec::new(alloc);

@@ -61,9 +61,11 @@ pub fn plan_counted<'a, L: Ledger>(
     requires view { IsFresh seen_id view }
     requires rows { IsFresh record_id rows }
     requires base { IsFresh record_id base }
-    ensures plan { let sides = sides_of view.entry.list rows.entry.list base.entry.list gone_counts in
+    ensures plan { let sides = sides_of view.entry.list rows.entry.list base.entry.list
+        gone_counts in
         IfOk result (λ plan. IsPlan action sides plan) }
-    ensures bound { let all = length view.entry.list + length rows.entry.list + length base.entry.list in
+    ensures bound { let all = length view.entry.list + length rows.entry.list + length
+        base.entry.list in
         steps.new ≤ steps.old + (4 * all + 3) }
 {
     let mut draft = Draft::new(alloc);

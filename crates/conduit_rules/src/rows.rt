@@ -15,7 +15,8 @@ pub fn push_row(
     id: RecordId,
     content: Option<&Content>,
 ) -> Result<(), AllocError>
-    ensures { OnOk result (rows.new.items ≡ rows.old.items ++ with_id id (option_copied content.entry)) }
+    ensures { OnOk result (rows.new.items ≡ rows.old.items
+        ++ with_id id (option_copied content.entry)) }
 {
     if let Some(content) = content {
         rows.push((id, content.copy(alloc)?))?;
@@ -29,7 +30,8 @@ pub fn push_content(
     contents: &mut Vec<Content>,
     content: Option<&Content>,
 ) -> Result<(), AllocError>
-    ensures { OnOk result (contents.new.items ≡ contents.old.items ++ option_to_list (option_copied content.entry)) }
+    ensures { OnOk result (contents.new.items ≡ contents.old.items
+        ++ option_to_list (option_copied content.entry)) }
 {
     if let Some(content) = content {
         contents.push(content.copy(alloc)?)?;
@@ -44,7 +46,8 @@ pub fn push_archived(
     id: RecordId,
     verdict: Verdict<'_>,
 ) -> Result<(), AllocError>
-    ensures { OnOk result (rows.new.items ≡ rows.old.items ++ map (λ c. (id, c)) (fate_of verdict.entry).archive) }
+    ensures { OnOk result (rows.new.items ≡ rows.old.items
+        ++ map (λ c. (id, c)) (fate_of verdict.entry).archive) }
 {
     push_row(alloc, rows, id, verdict.archive)?;
     push_row(alloc, rows, id, verdict.archive_too)?;

@@ -23,7 +23,10 @@ impl<'a, T: HasId> Model for Run<'a, T> {
 
     ghost Value = { RunValue T };
 
-    ghost view = { λ run. record { list = run.list.now; ahead = map (λ e. (e.0, e.1.now)) (drop run.passed run.entries.items) } };
+    ghost view = { λ run. record {
+      list = run.list.now;
+      ahead = map (λ e. (e.0, e.1.now)) (drop run.passed run.entries.items);
+    } };
 
     ghost invariant = { λ run. run.passed ≤ length run.entries.items };
 }

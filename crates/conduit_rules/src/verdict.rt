@@ -30,7 +30,8 @@ impl<'a> Verdict<'a> {
         handheld: Holding<'a>,
         desktop: Holding<'a>,
     ) -> Verdict<'a>
-        ensures { fate_of result ≡ fate_under action (based_of basis.entry) (held_of handheld.entry) (held_of desktop.entry) }
+        ensures { fate_of result ≡ fate_under action (based_of basis.entry) (held_of handheld.entry)
+            (held_of desktop.entry) }
     {
         match action {
             Action::Sync => Verdict::of_both(basis, handheld, desktop),
@@ -41,7 +42,8 @@ impl<'a> Verdict<'a> {
 
     // Both sides are gone by.
     fn of_both(basis: Basis<'a>, handheld: Holding<'a>, desktop: Holding<'a>) -> Verdict<'a>
-        ensures { fate_of result ≡ fate (based_of basis.entry) (held_of handheld.entry) (held_of desktop.entry) }
+        ensures { fate_of result ≡ fate (based_of basis.entry) (held_of handheld.entry)
+            (held_of desktop.entry) }
     {
         match basis {
             Basis::Nothing => Verdict::without_base(handheld),
@@ -108,7 +110,8 @@ impl<'a> Verdict<'a> {
         handheld: Holding<'a>,
         desktop: Holding<'a>,
     ) -> Verdict<'a>
-        ensures { fate_of result ≡ fate_by outcome base.now (held_of handheld.entry) (held_of desktop.entry) }
+        ensures { fate_of result ≡ fate_by outcome base.now (held_of handheld.entry)
+            (held_of desktop.entry) }
     {
         let keep = match outcome.keep {
             Keep::None => None,
@@ -139,7 +142,8 @@ impl<'a> Verdict<'a> {
     // What has to be written over the handheld's record: the content that is kept, where the record isn't live
     // with it.
     pub fn replacement(self, handheld: Holding<'_>) -> Option<&'a Content>
-        ensures { option_copied result ≡ replacement (option_copied self.entry.keep) (held_of handheld.entry) }
+        ensures { option_copied result ≡ replacement (option_copied self.entry.keep)
+            (held_of handheld.entry) }
     {
         let kept = self.keep?;
         match handheld {
@@ -150,7 +154,8 @@ impl<'a> Verdict<'a> {
 
     // What the handheld's record had, where nothing is kept.
     pub fn lost<'b>(self, handheld: Holding<'b>) -> Option<&'b Content>
-        ensures { option_copied result ≡ lost (option_copied self.entry.keep) (held_of handheld.entry) }
+        ensures { option_copied result ≡ lost (option_copied self.entry.keep)
+            (held_of handheld.entry) }
     {
         match self.keep {
             Some(_) => None,
@@ -172,7 +177,8 @@ pub fn partner_of<'a>(
     basis: Basis<'_>,
     handheld: Holding<'a>,
 ) -> Option<&'a Content>
-    ensures { option_copied result ≡ partner_under action (based_of basis.entry) (held_of handheld.entry) }
+    ensures { option_copied result ≡ partner_under action (based_of basis.entry)
+        (held_of handheld.entry) }
 {
     match (action, basis) {
         (Action::Sync, Basis::Nothing) => handheld.live(),

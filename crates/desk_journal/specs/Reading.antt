@@ -1,5 +1,6 @@
 -- Reading a journal from left to right, up to the first entry that is out of its form.
-use Rattle.std.specs.Prelude.{◌≡◌, ⊤, ◌==◌, ◌-◌, ◌&&◌, ◌||◌, ℕ, zero, suc, not, nat_eq, nat_lt, if◌then◌else◌, List, [], ◌∷◌, ◌++◌, length, take, drop, Option, None, Some, option_and_then, Result, Ok, Err}
+use Rattle.std.specs.Prelude.{◌≡◌, ⊤, ◌==◌, ◌-◌, ◌&&◌, ◌||◌, ℕ, zero, suc, not, nat_eq, nat_lt, if◌then◌else◌, List, [], ◌∷◌, ◌++◌, length, take, drop, Option}
+use Rattle.std.specs.Prelude.{None, Some, option_and_then, Result, Ok, Err}
 use Rattle.std.specs.Global.{Vec}
 use Rattle.std.specs.Int.{w16, w32, from_be_bytes}
 use Rattle.std.specs.List.{starts_with}
@@ -34,7 +35,8 @@ data_at bytes = option_and_then (λ parts. some_at (from_be_bytes w32 parts.0) p
 -- an entry whose name no earlier one bears
 unfoldable pub entry_at : List EntryValue → List ℕ → Option (EntryValue × List ℕ)
 entry_at before bytes =
-    option_and_then (λ name. option_and_then (λ held. if is_named before name.0 then None else Some (record { name = name.0; bytes = held.0 }, held.1)) (data_at name.1)) (name_at bytes)
+    option_and_then (λ name. option_and_then (λ held. if is_named before name.0 then None else Some (record { name = name.0; bytes = held.0 }, held.1))
+    (data_at name.1)) (name_at bytes)
 
 -- a step that finds something and then the next one, or else how many bytes are left
 abbrev pub or_left : {A B : Type 0} → List ℕ → (A → Result B ℕ) → Option A → Result B ℕ

@@ -28,7 +28,8 @@ pub fn commit_files<F: Folder>(
         (put_all (entry_values entries.now)) (F.contents folder.old)) }
     // After a refusal the folder stands for what it stood for, or for the whole change.
     ensures refused { OnErr result (StandsAs (F.contents folder.old) (F.contents folder.new)
-        ⊎ StandsAs (option_map (put_all (entry_values entries.now)) (F.contents folder.old)) (F.contents folder.new)) }
+        ⊎ StandsAs (option_map (put_all (entry_values entries.now)) (F.contents folder.old))
+        (F.contents folder.new)) }
     // From the first moment of the call on, at which the journal is there, it stands for the whole change.
     ensures each_moment { EachMomentSince (StandsAs
         (option_map (put_all (entry_values entries.now)) (F.contents folder.old)))

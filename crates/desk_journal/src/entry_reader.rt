@@ -70,7 +70,10 @@ pub(crate) fn read_entries(
 // An entry whose name no earlier one bears.
 #[tactic(auto, unfolding(crate::specs::Reading::entry_at))]
 fn lend_entry<'a>(earlier: &[Entry], bytes: &'a [u8]) -> Option<Lent<'a>>
-    ensures { option_map (λ lent. (record { name = lent.name.now; bytes = lent.bytes.now }, lent.rest.now)) result ≡ entry_at (entry_values earlier.now) bytes.now }
+    ensures { option_map (λ lent. (
+      record { name = lent.name.now; bytes = lent.bytes.now },
+      lent.rest.now,
+    )) result ≡ entry_at (entry_values earlier.now) bytes.now }
 {
     let (name, rest) = lend_name(bytes)?;
     let (bytes, rest) = lend_data(rest)?;
@@ -117,7 +120,8 @@ fn lend_data(bytes: &[u8]) -> Option<(&[u8], &[u8])>
 // So many bytes, and those behind them.
 #[tactic(auto, unfolding(crate::specs::Reading::some_at))]
 fn lend_some(count: usize, bytes: &[u8]) -> Option<(&[u8], &[u8])>
-    ensures parts { option_map (λ parts. (parts.0.now, parts.1.now)) result ≡ some_at count bytes.now }
+    ensures parts { option_map (λ parts. (parts.0.now, parts.1.now)) result
+        ≡ some_at count bytes.now }
     ensures length { IfSome result (λ parts. length parts.0.now ≡ count) }
 {
     if bytes.len() < count {

@@ -18,9 +18,11 @@ const FRONT: usize = 6;
 /// Reads a journal, which is all of the bytes.
 pub fn read_journal(alloc: Global, bytes: &[u8]) -> Result<Vec<Entry>, JournalFault>
     // What is read has the bytes as its text.
-    ensures found { IfOk result (λ entries. IsJournal (entry_values entries.items) × (bytes.now ≡ journal_text (entry_values entries.items))) }
+    ensures found { IfOk result (λ entries. IsJournal (entry_values entries.items)
+        × (bytes.now ≡ journal_text (entry_values entries.items))) }
     // What has the bytes as its text is read, unless memory runs out.
-    ensures only { (entries : List EntryValue) → IsJournal entries → bytes.now ≡ journal_text entries → Reads result (Ok entries) }
+    ensures only { (entries : List EntryValue) → IsJournal entries
+        → bytes.now ≡ journal_text entries → Reads result (Ok entries) }
     // Where the bytes are out of the form.
     ensures exact { Reads result (journal_in bytes.now) }
 {

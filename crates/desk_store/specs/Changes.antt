@@ -1,5 +1,6 @@
 -- Changes of a desktop: the files that each writes, and the databases that it leaves.
-use Rattle.std.specs.Prelude.{◌≡◌, ◌≢◌, ◌<◌, ◌≤◌, ℕ, false, bytes_eq, List, [], ◌∷◌, ◌++◌, length, map, slice_index, slice_set, if◌then◌else◌, Option, None, Some, IfSome}
+use Rattle.std.specs.Prelude.{◌≡◌, ◌≢◌, ◌<◌, ◌≤◌, ℕ, false, bytes_eq, List, [], ◌∷◌, ◌++◌, length, map, slice_index, slice_set, if◌then◌else◌, Option, None}
+use Rattle.std.specs.Prelude.{Some, IfSome}
 use Rattle.std.specs.List.{AllByRecursion, flat_map}
 use Rattle.pdb_values.specs.Databases.{DatabaseValue}
 use Rattle.pdb_values.specs.declared.user.Marks.{Marks}

@@ -1,5 +1,6 @@
 -- What each file of a desktop holds, by its name, its bytes and how many slots the desktop has, or its first failing test.
-use Rattle.std.specs.Prelude.{◌≡◌, ⊤, ◌&&◌, ◌++◌, ℕ, zero, suc, Bool, not, bytes_eq, codes, List, if◌then◌else◌, Option, None, Some, Result, Ok, Err, option_and_then}
+use Rattle.std.specs.Prelude.{◌≡◌, ⊤, ◌&&◌, ◌++◌, ℕ, zero, suc, Bool, not, bytes_eq, codes, List, if◌then◌else◌, Option, None, Some, Result, Ok, Err}
+use Rattle.std.specs.Prelude.{option_and_then}
 use Rattle.std.specs.Option.{option_or}
 use Rattle.pdb_values.specs.Databases.{DatabaseValue}
 use Rattle.pdb_values.specs.Heads.{holds_resources}

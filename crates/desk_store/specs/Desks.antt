@@ -19,7 +19,8 @@ use Rattle.desk_store.specs.declared.fault.DeskOpenFault.TheVariants.{DeskFault,
 pub record IsDeskOf (held : FileMap) (slots : List SlotValue) : Type 0 where
   pub no_journal : HasNoJournal held
   pub marked : marks_of slots ≡ slots_in held
-  pub shelved : (slot : ℕ) (role : Role) (name : List ℕ) → slot < length slots → database_of name (shelf_at slots slot role) ≡ database_at held (length slots) slot role name
+  pub shelved : (slot : ℕ) (role : Role) (name : List ℕ) → slot < length slots → database_of name (shelf_at slots slot role)
+      ≡ database_at held (length slots) slot role name
   pub good : (name : List ℕ) → bad_at held (length slots) name ≡ None
 
 -- the slots of a desktop are in their form, each with its databases in byte order of their names, and are those of its folder, where that tells what it holds

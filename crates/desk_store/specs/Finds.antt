@@ -1,5 +1,6 @@
 -- What reading the files of a folder finds, one after the other.
-use Rattle.std.specs.Prelude.{◌≡◌, ◌<◌, ⊤, ℕ, Bool, bytes_eq, codes, List, [], ◌∷◌, length, filter, slice_set, if◌then◌else◌, Option, None, Some, Result, Ok, Err, string_bytes}
+use Rattle.std.specs.Prelude.{◌≡◌, ◌<◌, ⊤, ℕ, Bool, bytes_eq, codes, List, [], ◌∷◌, length, filter, slice_set, if◌then◌else◌, Option, None, Some, Result, Ok}
+use Rattle.std.specs.Prelude.{Err, string_bytes}
 use Rattle.std.specs.List.{list_any}
 use Rattle.std.specs.Option.{option_map, option_or}
 use Rattle.std.specs.declared.alloc.Global.{Global}
@@ -19,7 +20,8 @@ use Rattle.pdb_values.specs.NamedDatabases.{database_of}
 
 -- a database takes the place of the one of its role and name in a slot, or else its own
 abbrev pub with_database_at : ℕ → Role → DatabaseValue → List SlotValue → List SlotValue
-with_database_at slot role database slots = slice_set slots slot (record (slot_at slots slot) { shelves = with_database role database (slot_at slots slot).shelves })
+with_database_at slot role database slots = slice_set slots slot
+    (record (slot_at slots slot) { shelves = with_database role database (slot_at slots slot).shelves })
 
 -- with what a file holds
 abbrev pub with_file : DeskFile → List SlotValue → List SlotValue
@@ -59,7 +61,8 @@ pub record FindsAll (held : FileMap) (names : List (List ℕ)) (slots : List Slo
   pub marked : marks_of slots ≡ slots_in held
   pub good : first_bad held (length slots) names ≡ None
   pub shelved : (slot : ℕ) (role : Role) (name : List ℕ) → slot < length slots
-      → database_of name (shelf_at slots slot role) ≡ (if is_among names (slot_file slot role name) then database_at held (length slots) slot role name else None)
+      → database_of name (shelf_at slots slot role) ≡ (if is_among names (slot_file slot role name) then database_at held
+      (length slots) slot role name else None)
 
 -- this file is why the folder is refused
 abbrev pub Refuses : List ℕ → Option BadDeskFile → DeskOpenFault → Type 0

@@ -55,7 +55,8 @@ bad_at held slots name = option_and_then if_bad (file_at held slots name)
 
 -- the rows, base rows or archive of the database of this name in a slot
 abbrev pub database_at : FileMap → ℕ → ℕ → Role → List ℕ → Option DatabaseValue
-database_at held slots slot role name = option_and_then (λ bytes. if_database (file_in slots (slot_file slot role name) bytes)) (finmap.get held (slot_file slot role name))
+database_at held slots slot role name = option_and_then (λ bytes. if_database (file_in slots (slot_file slot role name) bytes))
+    (finmap.get held (slot_file slot role name))
 
 -- ---- databases
 

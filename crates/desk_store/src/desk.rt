@@ -139,7 +139,8 @@ impl<F: Folder> Desk<F> {
             (database_of name (shelf_of (shelves_in self) role))) }
 
         // After a refusal the folder stands for what it stood for, or for the whole change.
-        ensures refused { OnErr result (StandsAs (F.contents self.folder) (F.contents (folder_in result))
+        ensures refused { OnErr result (StandsAs (F.contents self.folder)
+            (F.contents (folder_in result))
             ⊎ StandsAs (option_map (put_all (change_entries change self.picked self.slots))
             (F.contents self.folder)) (F.contents (folder_in result))) }
         // The folder is as it was, or with the files of the change it is that of a desktop with the change.

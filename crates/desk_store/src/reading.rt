@@ -27,7 +27,8 @@ pub(crate) fn read_files<F: Folder>(
     ensures form { IfOk result (λ found. KeepsForm slots.items found.items) }
     ensures bounded { IfOk result (λ found. KeepsBounds slots.items found.items) }
     ensures refused { IfErr result (λ fault. IfSome (F.contents folder.old) (λ held.
-        RefusesAmong (first_bad held (length (slots_in held)) (map string_bytes names.now)) fault)) }
+        RefusesAmong (first_bad held (length (slots_in held)) (map string_bytes names.now))
+        fault)) }
     ensures cause { HasCause (F.faults folder.old) (F.faults folder.new)
         (IsErrOf result DeskOpenFault.DeskFault) }
     ensures read { OnlyRead F.contents F.moments F.paths F.faults folder.old folder.new }

@@ -22,7 +22,11 @@ impl Model for Shelves {
 
     ghost Value = { ShelvesValue };
 
-    ghost view = { λ shelves. record { rows = shelves.rows.items; bases = shelves.bases.items; archives = shelves.archives.items } };
+    ghost view = { λ shelves. record {
+      rows = shelves.rows.items;
+      bases = shelves.bases.items;
+      archives = shelves.archives.items;
+    } };
 }
 
 impl Shelves {

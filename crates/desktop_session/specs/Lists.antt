@@ -1,5 +1,6 @@
 -- Lists that come in several replies: the databases of a handheld, and the ids of a database's records.
-use Rattle.std.specs.Prelude.{◌≡◌, ◌≤◌, ◌<◌, ◌==◌, ℕ, zero, suc, ◌+◌, ◌-◌, ◌*◌, ◌/◌, ◌⊎◌, Bool, true, false, List, [], ◌∷◌, ◌++◌, map, Option, None, Some, IfOk, IfSome, OnOk, Result, Ok, Err}
+use Rattle.std.specs.Prelude.{◌≡◌, ◌≤◌, ◌<◌, ◌==◌, ℕ, zero, suc, ◌+◌, ◌-◌, ◌*◌, ◌/◌, ◌⊎◌, Bool, true, false, List, [], ◌∷◌, ◌++◌, map, Option, None, Some, IfOk}
+use Rattle.std.specs.Prelude.{IfSome, OnOk, Result, Ok, Err}
 use Rattle.pdb_values.specs.Heads.{has_bit}
 use Rattle.pdb_values.specs.declared.head.DbHead.{DbHead}
 use Rattle.palm_device.specs.Devices.{Device}

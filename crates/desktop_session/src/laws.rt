@@ -52,8 +52,9 @@ pub fn first_handle_is_one()
 /// Over a device whose values keep their bounds a list of its databases takes as many requests as there are, and one where there
 /// is none; and it is the list of their heads, without their seeds.
 pub fn lists_are_whole()
-    ensures heads { (device : Device) (count : ℕ) → IsProper device → length device.databases ≤ count
-        → count ≤ 65536 → heads_listed device count ≡ map (λ database. listed database.head) device.databases }
+    ensures heads { (device : Device) (count : ℕ) → IsProper device
+        → length device.databases ≤ count → count ≤ 65536
+        → heads_listed device count ≡ map (λ database. listed database.head) device.databases }
     ensures count { (device : Device) (count : ℕ) → IsProper device → 0 < count → count ≤ 65536
         → ((k : ℕ) → k + 1 < count → has_more (list_reply device k) ≡ true)
         → (count ≡ 65536) ⊎ (has_more (list_reply device (count - 1)) ≡ false)

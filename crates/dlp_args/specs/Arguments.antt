@@ -36,7 +36,8 @@ pub record ArgText (form : Form) (argument : Argument) (text : List ℕ) : Type 
 -- the bytes are texts of these arguments, one after the other and up to the end
 abbrev pub ArgTexts : List Argument → List ℕ → Type 0
 ArgTexts [] bytes = bytes ≡ []
-ArgTexts (argument ∷ arguments) bytes = (form : Form) × (text : List ℕ) × (rest : List ℕ) × ArgText form argument text × (bytes ≡ text ++ rest) × ArgTexts arguments rest
+ArgTexts (argument ∷ arguments) bytes = (form : Form) × (text : List ℕ) × (rest : List ℕ) × ArgText form argument text × (bytes ≡ text ++ rest)
+    × ArgTexts arguments rest
 
 -- an argument of this size is written tiny below 255 bytes, and else short with the second byte 0
 abbrev pub written_form : ℕ → Form

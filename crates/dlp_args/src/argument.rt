@@ -94,7 +94,8 @@ fn find_header(place: usize, bytes: &[u8]) -> Result<Found<'_>, ArgFault>
 #[tactic(auto, unfolding(crate::specs::Reading::argument_at))]
 pub(crate) fn find_argument(place: usize, bytes: &[u8]) -> Result<(Arg<'_>, &[u8]), ArgFault>
     requires { place + length bytes.now < 2 ^ 64 }
-    ensures gives { Gives (λ found. (arg_view found.0, found.1.now)) result (argument_at place bytes.now) }
+    ensures gives { Gives (λ found. (arg_view found.0, found.1.now)) result
+        (argument_at place bytes.now) }
     ensures shorter { IfOk result (λ found. length found.1.now ≤ length bytes.now) }
 {
     let found = find_header(place, bytes)?;

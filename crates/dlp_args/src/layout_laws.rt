@@ -9,8 +9,10 @@ pub fn layouts_are_exact()
     ensures found { (ks : List Kind) (bytes : List ℕ) (fields : Fields ks)
         → ((i : ℕ) → get_or bytes i 0 < 2 ^ 8) → fields_in ks bytes ≡ Some fields
         → AreFields ks fields bytes }
-    ensures only { (ks : List Kind) (fields : Fields ks) (bytes : List ℕ) → AreFields ks fields bytes
+    ensures only { (ks : List Kind) (fields : Fields ks) (bytes : List ℕ)
+        → AreFields ks fields bytes
         → fields_in ks bytes ≡ Some fields }
-    ensures written { (ks : List Kind) (fields : Fields ks) → ends_well ks ≡ true → FieldsFit ks fields
+    ensures written { (ks : List Kind) (fields : Fields ks) → ends_well ks ≡ true
+        → FieldsFit ks fields
         → AreFields ks fields (fields_text ks fields) }
 {}

@@ -20,9 +20,11 @@ use crate::fault::ArgFault;
 /// Bytes after the last argument are `Wrapper` at the first of them.
 pub fn read_args(bytes: &[u8], count: u8, start: usize) -> Result<Args<'_>, ArgFault>
     // What is read is there, up to the end.
-    ensures found { IfOk result (λ args. (length args ≡ count) × ArgTexts args (drop start bytes.now)) }
+    ensures found { IfOk result (λ args. (length args ≡ count)
+        × ArgTexts args (drop start bytes.now)) }
     // What is there is read.
-    ensures only { (args : List Argument) → length args ≡ count → ArgTexts args (drop start bytes.now)
+    ensures only { (args : List Argument) → length args ≡ count
+        → ArgTexts args (drop start bytes.now)
         → result ≡ Ok args }
     // Which rule is the first that is broken.
     ensures exact { result ≡ arguments_at count start (drop start bytes.now) }

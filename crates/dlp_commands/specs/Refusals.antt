@@ -2,7 +2,8 @@
 use Rattle.std.specs.Prelude.{ℕ}
 use Rattle.dlp_commands.specs.Errors as error
 use Rattle.dlp_commands.specs.declared.refusal.Refusal.{Refusal}
-use Rattle.dlp_commands.specs.declared.refusal.Refusal.TheVariants.{Parameter, NotFound, NoneOpen, AlreadyOpen, TooManyOpen, Exists, NotSupported, ReadOnly, Limit}
+use Rattle.dlp_commands.specs.declared.refusal.Refusal.TheVariants.{Parameter, NotFound, NoneOpen, AlreadyOpen, TooManyOpen, Exists, NotSupported, ReadOnly}
+use Rattle.dlp_commands.specs.declared.refusal.Refusal.TheVariants.{Limit}
 
 -- by its number
 abbrev pub code_of : Refusal → ℕ

@@ -33,7 +33,8 @@ pub fn runs_append()
     ensures joined { (old between new : Device) (front back : List Exchange)
         → Ran old front between → Ran between back new → Ran old (front ++ back) new }
     ensures cut { (old new : Device) (front back : List Exchange)
-        → Ran old (front ++ back) new → (between : Device) × Ran old front between × Ran between back new }
+        → Ran old (front ++ back) new → (between : Device) × Ran old front between
+        × Ran between back new }
 {}
 
 /// A request that is refused, and bytes that are no request, change nothing, and the error is replied.
@@ -43,7 +44,11 @@ pub fn refused_changes_nothing()
         → served old free bytes ≡ (reply_text (Refused (function_number value) code), old) }
     ensures no_request { (old : Device) (free : ℕ) (bytes : List ℕ) (fault : RequestFault)
         → request_at bytes ≡ Err fault
-        → served old free bytes ≡ (reply_text (Refused (first_byte bytes) (fault_code fault)), old) }
+        → served old free bytes ≡ (
+          reply_text
+              (Refused (first_byte bytes) (fault_code fault)),
+          old,
+        ) }
 {}
 
 /// A request that reads changes no database and not the user; handles and record indexes at most.
@@ -96,11 +101,13 @@ pub fn replies_are_read()
 /// The ids that exchanges gave to new records append, and an answered request adds its own.
 pub fn given_ids_append()
     ensures joined { (front back : List Exchange)
-        → flat_map (λ (exchange : Exchange). given_in exchange.request exchange.reply) (front ++ back)
+        → flat_map (λ (exchange : Exchange). given_in exchange.request exchange.reply)
+        (front ++ back)
         ≡ flat_map (λ (exchange : Exchange). given_in exchange.request exchange.reply) front
         ++ flat_map (λ (exchange : Exchange). given_in exchange.request exchange.reply) back }
     ensures answered { (old new : Talk) (request reply : List ℕ)
-        → WasAnswered old request reply (Some new) → given new ≡ given old ++ given_in request reply }
+        → WasAnswered old request reply (Some new)
+        → given new ≡ given old ++ given_in request reply }
 {}
 
 /// After EndOfSync nothing is open.

@@ -10,7 +10,10 @@ use Rattle.dlp_replies.specs.EntryLists.{entries_text, IsEntry}
 use Rattle.dlp_replies.specs.IdLists.{ids_text, IsId}
 use Rattle.dlp_replies.specs.Layouts.{user_info, db_list, handle_alone, block, record_reply, id_alone, resource_reply, count_alone, id_list}
 use Rattle.dlp_replies.specs.ReplyReading.{reply_byte}
-use Rattle.dlp_replies.specs.ReplyValues.{ReplyValue, Refused, ReadUserInfo, ReadDbList, OpenDb, CreateDb, ReadAppBlock, ReadSortBlock, ReadNextModifiedRec, ReadRecord, WriteRecord, ReadResource, ReadOpenDbInfo, ReadRecordIdList, WriteUserInfo, CloseDb, DeleteDb, WriteAppBlock, WriteSortBlock, DeleteRecord, WriteResource, DeleteResource, CleanUpDatabase, ResetSyncFlags, ResetRecordIndex, AddSyncLogEntry, MoveCategory, OpenConduit, EndOfSync}
+use Rattle.dlp_replies.specs.ReplyValues.{ReplyValue, Refused, ReadUserInfo, ReadDbList, OpenDb, CreateDb, ReadAppBlock, ReadSortBlock, ReadNextModifiedRec}
+use Rattle.dlp_replies.specs.ReplyValues.{ReadRecord, WriteRecord, ReadResource, ReadOpenDbInfo, ReadRecordIdList, WriteUserInfo, CloseDb, DeleteDb}
+use Rattle.dlp_replies.specs.ReplyValues.{WriteAppBlock, WriteSortBlock, DeleteRecord, WriteResource, DeleteResource, CleanUpDatabase, ResetSyncFlags}
+use Rattle.dlp_replies.specs.ReplyValues.{ResetRecordIndex, AddSyncLogEntry, MoveCategory, OpenConduit, EndOfSync}
 
 -- an error of a function; a function's reply without an argument; and one with an argument of this layout
 pub data Frame : Type 0 where

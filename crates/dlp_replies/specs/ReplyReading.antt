@@ -48,7 +48,8 @@ without value arguments = no_arguments arguments >>= λ none. Ok value
 unfoldable pub reply_by : Shape → ℕ → List Argument → Result ReplyValue ReplyFault
 reply_by Unknown end arguments = Err fault.Argument
 reply_by (Bare value) end arguments = without value arguments
-reply_by (One kinds sizes checks make) end arguments = or_argument (only_content arguments) >>= λ content. made_in kinds sizes checks make (end - length content) content
+reply_by (One kinds sizes checks make) end arguments = or_argument (only_content arguments) >>= λ content. made_in kinds sizes checks make
+    (end - length content) content
 
 -- a reply with this error, where 0 is none
 abbrev pub answer_of : ℕ → ℕ → ℕ → List Argument → Result ReplyValue ReplyFault
@@ -57,7 +58,8 @@ answer_of number code end arguments = if code == 0 then reply_by (shape_of (func
 -- the function with 0x80 set, the number of arguments, the error, and the arguments
 unfoldable pub reply_at : ℕ → List ℕ → Result ReplyValue ReplyFault
 reply_at number (first ∷ count ∷ high ∷ low ∷ bytes) =
-    if first == reply_byte number then of_arguments (arguments_at count 4 bytes) >>= answer_of number (from_be_bytes w16 (high ∷ low ∷ [])) (length (first ∷ count ∷ high ∷ low ∷ bytes)) else Err (fault.Function first)
+    if first == reply_byte number then of_arguments (arguments_at count 4 bytes) >>= answer_of number (from_be_bytes w16 (high ∷ low ∷ []))
+    (length (first ∷ count ∷ high ∷ low ∷ bytes)) else Err (fault.Function first)
 reply_at number [] = Err (fault.Wrapper 0)
 reply_at number (a ∷ []) = Err (fault.Wrapper 0)
 reply_at number (a ∷ b ∷ []) = Err (fault.Wrapper 0)

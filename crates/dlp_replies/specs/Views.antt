@@ -6,7 +6,10 @@ use Rattle.dlp_replies.specs.declared.entry.EntryCells.{EntryCells}
 use Rattle.dlp_replies.specs.declared.record.RecordCells.{RecordCells}
 use Rattle.dlp_replies.specs.declared.reply.Reply.{Reply}
 use Rattle.dlp_replies.specs.declared.reply.Reply.TheVariants as lent
-use Rattle.dlp_replies.specs.ReplyValues.{ReplyValue, Refused, ReadUserInfo, ReadDbList, OpenDb, CreateDb, ReadAppBlock, ReadSortBlock, ReadNextModifiedRec, ReadRecord, WriteRecord, ReadResource, ReadOpenDbInfo, ReadRecordIdList, WriteUserInfo, CloseDb, DeleteDb, WriteAppBlock, WriteSortBlock, DeleteRecord, WriteResource, DeleteResource, CleanUpDatabase, ResetSyncFlags, ResetRecordIndex, AddSyncLogEntry, MoveCategory, OpenConduit, EndOfSync}
+use Rattle.dlp_replies.specs.ReplyValues.{ReplyValue, Refused, ReadUserInfo, ReadDbList, OpenDb, CreateDb, ReadAppBlock, ReadSortBlock, ReadNextModifiedRec}
+use Rattle.dlp_replies.specs.ReplyValues.{ReadRecord, WriteRecord, ReadResource, ReadOpenDbInfo, ReadRecordIdList, WriteUserInfo, CloseDb, DeleteDb}
+use Rattle.dlp_replies.specs.ReplyValues.{WriteAppBlock, WriteSortBlock, DeleteRecord, WriteResource, DeleteResource, CleanUpDatabase, ResetSyncFlags}
+use Rattle.dlp_replies.specs.ReplyValues.{ResetRecordIndex, AddSyncLogEntry, MoveCategory, OpenConduit, EndOfSync}
 
 -- a lent reply is what it says, with the bytes that it lends
 abbrev pub reply_value : Reply → ReplyValue

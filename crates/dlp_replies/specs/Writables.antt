@@ -4,7 +4,8 @@ use Rattle.std.specs.List.{AllByRecursion}
 use Rattle.pdb_values.specs.declared.head.DbHead.{DbHead}
 use Rattle.dlp_args.specs.Cells.{HasNoZero}
 use Rattle.dlp_replies.specs.Frames.{reply_text}
-use Rattle.dlp_replies.specs.ReplyValues.{ReplyValue, Refused, ReadUserInfo, ReadDbList, ReadAppBlock, ReadSortBlock, ReadNextModifiedRec, ReadRecord, ReadResource}
+use Rattle.dlp_replies.specs.ReplyValues.{ReplyValue, Refused, ReadUserInfo, ReadDbList, ReadAppBlock, ReadSortBlock, ReadNextModifiedRec, ReadRecord}
+use Rattle.dlp_replies.specs.ReplyValues.{ReadResource}
 
 -- an entry whose head has no seed
 abbrev pub HasNoSeed : ℕ × DbHead → Type 0

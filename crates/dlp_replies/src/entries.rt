@@ -50,7 +50,8 @@ impl<'a> Entries<'a> {
     // So many entries, which are all of the bytes and whose values are some.
     pub(crate) fn of_bytes(count: u8, bytes: &'a [u8]) -> Entries<'a>
         requires rows { is_some (rows_in count bytes.now) ≡ true }
-        requires values { first_bad (rows_checks 4 (rows_or_none (rows_in count bytes.now))) ≡ None }
+        requires values { first_bad (rows_checks 4 (rows_or_none (rows_in count bytes.now)))
+            ≡ None }
         ensures { result ≡ map item_of (rows_or_none (rows_in count bytes.now)) }
     {
         Entries {

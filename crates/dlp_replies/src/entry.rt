@@ -33,7 +33,8 @@ pub(crate) struct EntryCells<'a> {
 // The entry at the front of bytes and the bytes behind it, or None where there is none.
 #[tactic(auto, unfolding(crate::specs::EntryReading::entry_at, dlp_args::specs::CellReading::number_at, dlp_args::specs::CellReading::some_at))]
 pub(crate) fn take_entry(bytes: &[u8]) -> Option<(EntryCells<'_>, &[u8])>
-    ensures entry { option_map (λ found. (entry_row found.0, found.1.now)) result ≡ entry_at bytes.now }
+    ensures entry { option_map (λ found. (entry_row found.0, found.1.now)) result
+        ≡ entry_at bytes.now }
     ensures small { IfSome result (λ found. found.0.size < 256) }
 {
     let (size, _) = take_u8(bytes)?;
@@ -82,7 +83,9 @@ impl EntryCells<'_> {
     #[tactic(auto, unfolding(crate::specs::EntryReading::row_checks, crate::specs::EntryReading::item_of))]
     pub(crate) fn item(&self, place: usize) -> Result<(u16, DbHead), usize>
         requires { place < 2 ^ 32 }
-        ensures { Gives (λ item. item) result (or_place (first_bad (row_checks place (entry_row self.now))) (item_of (entry_row self.now))) }
+        ensures { Gives (λ item. item) result
+            (or_place (first_bad (row_checks place (entry_row self.now)))
+            (item_of (entry_row self.now))) }
     {
         let created = date_of(self.created, place + 18)?;
         let modified = date_of(self.modified, place + 26)?;

@@ -21,7 +21,8 @@ pub fn reply_round_trip()
 /// The laws of lists: so many entries are found exactly where the bytes are their texts, and the numbers of each four
 /// bytes are those of the text of ids.
 pub fn lists_are_exact()
-    ensures found { (count : ℕ) (bytes : List ℕ) (rows : List Row) → ((i : ℕ) → get_or bytes i 0 < 2 ^ 8)
+    ensures found { (count : ℕ) (bytes : List ℕ) (rows : List Row)
+        → ((i : ℕ) → get_or bytes i 0 < 2 ^ 8)
         → rows_in count bytes ≡ Some rows → (length rows ≡ count) × AreRows rows bytes }
     ensures only { (rows : List Row) (bytes : List ℕ) → AreRows rows bytes
         → rows_in (length rows) bytes ≡ Some rows }

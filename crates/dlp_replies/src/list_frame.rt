@@ -109,7 +109,8 @@ fn append_back(out: &mut Message, index: u16, head: &DbHead)
 // The ids of records.
 #[tactic(auto, using(std::proofs::Common::append_assoc, crate::proofs::IdLaws::ids_text_len))]
 pub(crate) fn put_id_list(out: &mut Message, ids: &Ids<'_>)
-    requires { length (frame_text (With 0x31 id_list (length ids.now, (ids_text ids.now, tt)))) ≤ 65535 }
+    requires { length (frame_text (With 0x31 id_list (length ids.now, (ids_text ids.now, tt))))
+        ≤ 65535 }
     ensures { out.new ≡ frame_text (With 0x31 id_list (length ids.now, (ids_text ids.now, tt))) }
 {
     let count = ids.len();

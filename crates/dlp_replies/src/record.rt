@@ -28,7 +28,8 @@ pub(crate) struct RecordCells<'a> {
 #[tactic(auto, unfolding(crate::specs::ReplyReading::reply_by))]
 pub(crate) fn next_modified_rec<'a>(end: usize, args: &Args<'a>) -> Result<Reply<'a>, ReplyFault>
     requires { end < 2 ^ 63 }
-    ensures { Gives reply_value result (reply_by (shape Function.ReadNextModifiedRec) end args.now) }
+    ensures { Gives reply_value result
+        (reply_by (shape Function.ReadNextModifiedRec) end args.now) }
 {
     let content = only_content(args)?;
     match record_reply(end.saturating_sub(content.len()), content) {
@@ -78,7 +79,8 @@ pub(crate) fn write_record<'a>(end: usize, args: &Args<'a>) -> Result<Reply<'a>,
 #[tactic(auto, unfolding(crate::specs::ReplyReading::valid_in, dlp_args::specs::CellReading::number_at))]
 fn record_reply(place: usize, content: &[u8]) -> Result<RecordCells<'_>, ReplyFault>
     requires { place < 2 ^ 63 }
-    ensures { Gives record_fields result (valid_in layouts.record_reply (λ v. true) record_checks place content.now) }
+    ensures { Gives record_fields result
+        (valid_in layouts.record_reply (λ v. true) record_checks place content.now) }
 {
     let [
         i3,

@@ -25,7 +25,8 @@ pub(crate) fn resource<'a>(end: usize, args: &Args<'a>) -> Result<Reply<'a>, Rep
 
 #[tactic(auto, unfolding(crate::specs::ReplyReading::valid_in, dlp_args::specs::CellReading::number_at, dlp_args::specs::CellReading::some_at))]
 fn resource_reply(place: usize, content: &[u8]) -> Result<Reply<'_>, ReplyFault>
-    ensures { Gives reply_value result (made_in layouts.resource_reply (λ v. true) (λ v. []) resource_said place content.now) }
+    ensures { Gives reply_value result
+        (made_in layouts.resource_reply (λ v. true) (λ v. []) resource_said place content.now) }
 {
     let [k3, k2, k1, k0, i1, i0, x1, x0, s1, s0, rest @ ..] = content else {
         return Err(ReplyFault::Size);

@@ -30,7 +30,9 @@ pub(crate) fn user_info<'a>(end: usize, args: &Args<'a>) -> Result<Reply<'a>, Re
 #[tactic(auto, unfolding(crate::specs::ReplyReading::valid_in))]
 fn user_info_reply(place: usize, content: &[u8]) -> Result<Reply<'_>, ReplyFault>
     requires { place < 2 ^ 63 }
-    ensures { Gives reply_value result (made_in layouts.user_info checks.user_sizes checks.user_checks user_said place content.now) }
+    ensures { Gives reply_value result
+        (made_in layouts.user_info checks.user_sizes checks.user_checks user_said place
+        content.now) }
 {
     let (user, rest) = take_u32(content).ok_or(ReplyFault::Size)?;
     let (viewer, rest) = take_u32(rest).ok_or(ReplyFault::Size)?;

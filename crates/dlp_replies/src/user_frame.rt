@@ -20,7 +20,8 @@ pub(crate) fn put_user_info(
     password: &[u8],
 )
     requires { IsWritable (values.ReadUserInfo user viewer pc good last name.now password.now) }
-    ensures { out.new ≡ reply_text (values.ReadUserInfo user viewer pc good last name.now password.now) }
+    ensures { out.new ≡ reply_text (values.ReadUserInfo user viewer pc good last name.now
+        password.now) }
 {
     out.clear();
     append(out, &[0x90, 1, 0, 0]);

@@ -91,7 +91,8 @@ pub(crate) fn put_create_db(
     name: &[u8],
 )
     requires { IsRequest (request_value (Request.CreateDb creator kind card flags version name)) }
-    ensures { out.new ≡ request_text (request_value (Request.CreateDb creator kind card flags version name.entry)) }
+    ensures { out.new ≡ request_text (request_value
+        (Request.CreateDb creator kind card flags version name.entry)) }
 {
     let flags = flags.to_be_bytes();
     let version = version.to_be_bytes();

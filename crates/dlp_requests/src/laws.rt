@@ -8,8 +8,10 @@ ghost use Rattle.dlp_requests.specs.RequestValues.{RequestValue};
 
 /// The law of writing and reading: what is written of a request is one of its texts, and is read as this request.
 pub fn request_round_trip()
-    ensures text { (value : RequestValue) → IsRequest value → RequestText value (request_text value) }
-    ensures again { (value : RequestValue) → IsRequest value → request_at (request_text value) ≡ Ok value }
+    ensures text { (value : RequestValue) → IsRequest value
+        → RequestText value (request_text value) }
+    ensures again { (value : RequestValue) → IsRequest value → request_at (request_text value)
+        ≡ Ok value }
 {}
 
 /// A request fits into a message where its fields keep the bounds of its layout and its text is at most 65,500 bytes.

@@ -24,7 +24,8 @@ pub fn read_request(bytes: &[u8]) -> Result<Request<'_>, RequestFault>
     // What is read has this text.
     ensures found { IfOk result (λ request. RequestText (request_value request) bytes.now) }
     // What has this text is read.
-    ensures only { (value : RequestValue) → RequestText value bytes.now → Gives request_value result (Ok value) }
+    ensures only { (value : RequestValue) → RequestText value bytes.now
+        → Gives request_value result (Ok value) }
     // Which rule is the first that is broken.
     ensures exact { Gives request_value result (request_at bytes.now) }
 {
@@ -106,7 +107,9 @@ fn request_with(function: Function, content: &[u8]) -> Option<Request<'_>>
 
 // ReadRecord by id (argument 0x20) or by index (0x21).
 fn read_record<'a>(args: &Args<'a>) -> Result<Request<'a>, RequestFault>
-    ensures { Gives request_value result (reading.by_id_21 form.ReadRecordByIndex form.ReadRecordById (reading.first_id args.now) args.now) }
+    ensures { Gives request_value result
+        (reading.by_id_21 form.ReadRecordByIndex form.ReadRecordById
+        (reading.first_id args.now) args.now) }
 {
     let Some(first) = args.iter().next() else {
         return Err(RequestFault::Argument);
@@ -120,7 +123,9 @@ fn read_record<'a>(args: &Args<'a>) -> Result<Request<'a>, RequestFault>
 
 // ReadResource by index (argument 0x20) or by type and id (0x21).
 fn read_resource<'a>(args: &Args<'a>) -> Result<Request<'a>, RequestFault>
-    ensures { Gives request_value result (reading.by_id_21 form.ReadResourceByType form.ReadResourceByIndex (reading.first_id args.now) args.now) }
+    ensures { Gives request_value result
+        (reading.by_id_21 form.ReadResourceByType form.ReadResourceByIndex
+        (reading.first_id args.now) args.now) }
 {
     let Some(first) = args.iter().next() else {
         return Err(RequestFault::Argument);

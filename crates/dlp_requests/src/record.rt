@@ -47,7 +47,8 @@ pub(crate) fn put_read_record_by_id(
     length: u16,
 )
     requires { IsRequest (request_value (Request.ReadRecordById handle id offset length)) }
-    ensures { out.new ≡ request_text (request_value (Request.ReadRecordById handle id offset length)) }
+    ensures { out.new ≡ request_text (request_value
+        (Request.ReadRecordById handle id offset length)) }
 {
     let id = id.to_be_bytes();
     let offset = offset.to_be_bytes();
@@ -86,7 +87,8 @@ pub(crate) fn put_read_record_by_index(
     length: u16,
 )
     requires { IsRequest (request_value (Request.ReadRecordByIndex handle index offset length)) }
-    ensures { out.new ≡ request_text (request_value (Request.ReadRecordByIndex handle index offset length)) }
+    ensures { out.new ≡ request_text (request_value
+        (Request.ReadRecordByIndex handle index offset length)) }
 {
     let index = index.to_be_bytes();
     let offset = offset.to_be_bytes();
@@ -140,8 +142,10 @@ pub(crate) fn put_write_record(
     category: u8,
     bytes: &[u8],
 )
-    requires { IsRequest (request_value (Request.WriteRecord handle flags id attributes category bytes)) }
-    ensures { out.new ≡ request_text (request_value (Request.WriteRecord handle flags id attributes category bytes.entry)) }
+    requires { IsRequest (request_value
+        (Request.WriteRecord handle flags id attributes category bytes)) }
+    ensures { out.new ≡ request_text (request_value
+        (Request.WriteRecord handle flags id attributes category bytes.entry)) }
 {
     let id = id.to_be_bytes();
     put(
@@ -274,7 +278,8 @@ pub(crate) fn put_read_record_id_list(
     maximum: u16,
 )
     requires { IsRequest (request_value (Request.ReadRecordIdList handle flags start maximum)) }
-    ensures { out.new ≡ request_text (request_value (Request.ReadRecordIdList handle flags start maximum)) }
+    ensures { out.new ≡ request_text (request_value
+        (Request.ReadRecordIdList handle flags start maximum)) }
 {
     let start = start.to_be_bytes();
     let maximum = maximum.to_be_bytes();

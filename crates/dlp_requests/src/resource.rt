@@ -32,7 +32,8 @@ pub(crate) fn put_read_resource_by_index(
     length: u16,
 )
     requires { IsRequest (request_value (Request.ReadResourceByIndex handle index offset length)) }
-    ensures { out.new ≡ request_text (request_value (Request.ReadResourceByIndex handle index offset length)) }
+    ensures { out.new ≡ request_text (request_value
+        (Request.ReadResourceByIndex handle index offset length)) }
 {
     let index = index.to_be_bytes();
     let offset = offset.to_be_bytes();
@@ -73,7 +74,8 @@ pub(crate) fn put_read_resource_by_type(
     length: u16,
 )
     requires { IsRequest (request_value (Request.ReadResourceByType handle kind id offset length)) }
-    ensures { out.new ≡ request_text (request_value (Request.ReadResourceByType handle kind id offset length)) }
+    ensures { out.new ≡ request_text (request_value
+        (Request.ReadResourceByType handle kind id offset length)) }
 {
     let id = id.to_be_bytes();
     let offset = offset.to_be_bytes();
@@ -106,7 +108,8 @@ pub(crate) fn write_resource(content: &[u8]) -> Option<Request<'_>>
 #[tactic(auto, unfolding(crate::specs::RequestTexts::request_text, crate::specs::RequestTexts::IsRequest), using(std::proofs::Common::append_assoc))]
 pub(crate) fn put_write_resource(out: &mut Message, handle: u8, kind: FourCc, id: u16, bytes: &[u8])
     requires { IsRequest (request_value (Request.WriteResource handle kind id bytes)) }
-    ensures { out.new ≡ request_text (request_value (Request.WriteResource handle kind id bytes.entry)) }
+    ensures { out.new ≡ request_text (request_value
+        (Request.WriteResource handle kind id bytes.entry)) }
 {
     let id = id.to_be_bytes();
     let size = (bytes.len() as u16).to_be_bytes();

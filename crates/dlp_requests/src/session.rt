@@ -41,8 +41,10 @@ pub(crate) fn put_write_user_info(
     name_len: u8,
     name: Option<&[u8]>,
 )
-    requires { IsRequest (request_value (Request.WriteUserInfo user viewer pc date bits name_len name)) }
-    ensures { out.new ≡ request_text (request_value (Request.WriteUserInfo user viewer pc date bits name_len name.entry)) }
+    requires { IsRequest (request_value
+        (Request.WriteUserInfo user viewer pc date bits name_len name)) }
+    ensures { out.new ≡ request_text (request_value
+        (Request.WriteUserInfo user viewer pc date bits name_len name.entry)) }
 {
     let size = match name {
         None => 0,

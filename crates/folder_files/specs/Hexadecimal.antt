@@ -1,5 +1,6 @@
 -- What stands in an information file in lower-case hexadecimal.
-use Rattle.std.specs.Prelude.{◌≡◌, ◌==◌, ◌/◌, ℕ, nat_lt, bytes_eq, codes, if◌then◌else◌, List, [], ◌∷◌, length, slice_index, Option, None, Some, option_and_then}
+use Rattle.std.specs.Prelude.{◌≡◌, ◌==◌, ◌/◌, ℕ, nat_lt, bytes_eq, codes, if◌then◌else◌, List, [], ◌∷◌, length, slice_index, Option, None, Some}
+use Rattle.std.specs.Prelude.{option_and_then}
 use Rattle.std.specs.Result.{result_ok}
 use Rattle.hex.specs.Hex.{IsBytes, decode_sized, encode_lower}
 use Rattle.pdb_values.specs.PalmDates.{read_wire}

@@ -4,7 +4,8 @@ use Rattle.std.specs.Fmt.{decimal}
 use Rattle.std.specs.List.{AllByRecursion, starts_with}
 use Rattle.pdb_values.specs.declared.user.UserInfo.{UserInfo}
 use Rattle.pdb_values.specs.declared.user.Marks.{Marks}
-use Rattle.folder_files.specs.Lines.{AreLines, Count, Date, Form, Name, Number, Password, Positive, SaysDate, SaysName, SaysNumber, Slot, Title, Value, Values, lines_text, text_of}
+use Rattle.folder_files.specs.Lines.{AreLines, Count, Date, Form, Name, Number, Password, Positive, SaysDate, SaysName, SaysNumber, Slot, Title, Value, Values}
+use Rattle.folder_files.specs.Lines.{lines_text, text_of}
 use Rattle.folder_files.specs.Reading.{◌>>=◌, line_at, lines_at}
 use Rattle.folder_files.specs.Slots.{AreSlots, may_follow, pc_of}
 use Rattle.folder_files.specs.declared.unread.Unread.{Unread}

@@ -7,7 +7,8 @@ use Rattle.pdb_values.specs.PalmDates.{wire_date}
 use Rattle.pdb_values.specs.Users.{password_of, user_name_of}
 use Rattle.folder_files.specs.Hexadecimal.{IsWireDate, bytes_text}
 
--- What stands behind a key: nothing; a number of 32 bits; one above 0; a date; the name of a user; a password; how many slots a desktop has; what it knows of the user of one.
+-- What stands behind a key: nothing; a number of 32 bits; one above 0; a date; the name of a user; a password; how many slots a desktop has; what it
+-- knows of the user of one.
 pub data Kind : Type 0 where
   Title : Kind
   Number : Kind

@@ -1,5 +1,6 @@
 -- Reading an information file line by line, up to the first bad line.
-use Rattle.std.specs.Prelude.{ℕ, ◌+◌, ◌-◌, ◌==◌, ◌&&◌, codes, nat_eq, nat_le, nat_lt, if◌then◌else◌, List, [], ◌∷◌, length, take, drop, position, Option, None, Some, option_and_then, Result, Ok, Err}
+use Rattle.std.specs.Prelude.{ℕ, ◌+◌, ◌-◌, ◌==◌, ◌&&◌, codes, nat_eq, nat_le, nat_lt, if◌then◌else◌, List, [], ◌∷◌, length, take, drop, position, Option, None}
+use Rattle.std.specs.Prelude.{Some, option_and_then, Result, Ok, Err}
 use Rattle.std.specs.Int.{w32, from_be_bytes}
 use Rattle.std.specs.List.{starts_with}
 use Rattle.std.specs.Option.{option_map}
@@ -39,7 +40,8 @@ field_at key size text = option_and_then (λ rest. if nat_lt (length rest) size 
 -- what a desktop knows of the user of a slot
 unfoldable pub slot_in : List ℕ → Option (ℕ × ℕ × List ℕ)
 slot_in text =
-    option_and_then (λ user. option_and_then (λ last. option_and_then (λ name. option_and_then (λ number. option_and_then (λ seconds. option_map (λ bytes. (number, seconds, bytes))
+    option_and_then (λ user. option_and_then (λ last. option_and_then
+    (λ name. option_and_then (λ number. option_and_then (λ seconds. option_map (λ bytes. (number, seconds, bytes))
     (option_and_then user_name_of (few_bytes_in name))) (option_and_then date_in (bytes_in 8 last.0))) (number_in user.0))
     (behind (codes " name ") last.1)) (field_at (codes " last ") 16 user.1)) (field_at (codes "user ") 8 text)
 

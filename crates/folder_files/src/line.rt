@@ -20,7 +20,8 @@ fn line_end(bytes: &[u8]) -> Option<usize>
 // What stands behind the key in the line at the front, and the bytes behind the line.
 #[tactic(auto, unfolding(crate::specs::Reading::split_at_key))]
 fn split_at_key<'a>(key: &[u8], bytes: &'a [u8]) -> Option<(&'a [u8], &'a [u8])>
-    ensures { option_map (λ parts. (parts.0.now, parts.1.now)) result ≡ split_key key.now bytes.now }
+    ensures { option_map (λ parts. (parts.0.now, parts.1.now)) result
+        ≡ split_key key.now bytes.now }
 {
     let end = line_end(bytes)?;
     let text = behind(key, &bytes[..end])?;
@@ -36,7 +37,8 @@ pub(crate) struct Lines<'a> {
 impl Lines<'_> {
     // A line that is this text.
     pub(crate) fn title(&mut self, text: &[u8]) -> Result<(), Unread>
-        ensures { Finds (λ _. (tt, self.new.rest.now)) result (line_at (record { key = text.now; kind = Title }) self.old.rest.now) }
+        ensures { Finds (λ _. (tt, self.new.rest.now)) result
+            (line_at (record { key = text.now; kind = Title }) self.old.rest.now) }
     {
         match split_at_key(text, self.rest) {
             Some((behind, rest)) if behind.is_empty() => {
@@ -49,7 +51,8 @@ impl Lines<'_> {
 
     // A number.
     pub(crate) fn number(&mut self, key: &[u8]) -> Result<u32, Unread>
-        ensures { Finds (λ found. (found, self.new.rest.now)) result (line_at (record { key = key.now; kind = Number }) self.old.rest.now) }
+        ensures { Finds (λ found. (found, self.new.rest.now)) result
+            (line_at (record { key = key.now; kind = Number }) self.old.rest.now) }
     {
         let unread = Unread(self.rest.len());
         let (text, rest) = split_at_key(key, self.rest).ok_or(unread)?;
@@ -60,7 +63,8 @@ impl Lines<'_> {
 
     // A number above 0.
     pub(crate) fn positive(&mut self, key: &[u8]) -> Result<u32, Unread>
-        ensures { Finds (λ found. (found, self.new.rest.now)) result (line_at (record { key = key.now; kind = Positive }) self.old.rest.now) }
+        ensures { Finds (λ found. (found, self.new.rest.now)) result
+            (line_at (record { key = key.now; kind = Positive }) self.old.rest.now) }
     {
         let unread = Unread(self.rest.len());
         let (text, rest) = split_at_key(key, self.rest).ok_or(unread)?;
@@ -71,7 +75,8 @@ impl Lines<'_> {
 
     // A date.
     pub(crate) fn date(&mut self, key: &[u8]) -> Result<PalmDate, Unread>
-        ensures { Finds (λ found. (found, self.new.rest.now)) result (line_at (record { key = key.now; kind = Date }) self.old.rest.now) }
+        ensures { Finds (λ found. (found, self.new.rest.now)) result
+            (line_at (record { key = key.now; kind = Date }) self.old.rest.now) }
     {
         let unread = Unread(self.rest.len());
         let (text, rest) = split_at_key(key, self.rest).ok_or(unread)?;
@@ -82,7 +87,8 @@ impl Lines<'_> {
 
     // The name of a user.
     pub(crate) fn name(&mut self, key: &[u8]) -> Result<UserName, Unread>
-        ensures { Finds (λ found. (found, self.new.rest.now)) result (line_at (record { key = key.now; kind = UserText }) self.old.rest.now) }
+        ensures { Finds (λ found. (found, self.new.rest.now)) result
+            (line_at (record { key = key.now; kind = UserText }) self.old.rest.now) }
     {
         let unread = Unread(self.rest.len());
         let (text, rest) = split_at_key(key, self.rest).ok_or(unread)?;
@@ -93,7 +99,8 @@ impl Lines<'_> {
 
     // A password.
     pub(crate) fn password(&mut self, key: &[u8]) -> Result<Password, Unread>
-        ensures { Finds (λ found. (found, self.new.rest.now)) result (line_at (record { key = key.now; kind = SecretText }) self.old.rest.now) }
+        ensures { Finds (λ found. (found, self.new.rest.now)) result
+            (line_at (record { key = key.now; kind = SecretText }) self.old.rest.now) }
     {
         let unread = Unread(self.rest.len());
         let (text, rest) = split_at_key(key, self.rest).ok_or(unread)?;
@@ -104,7 +111,8 @@ impl Lines<'_> {
 
     // How many slots there are.
     pub(crate) fn count(&mut self, key: &[u8]) -> Result<usize, Unread>
-        ensures { Finds (λ found. (found, self.new.rest.now)) result (line_at (record { key = key.now; kind = Count }) self.old.rest.now) }
+        ensures { Finds (λ found. (found, self.new.rest.now)) result
+            (line_at (record { key = key.now; kind = Count }) self.old.rest.now) }
     {
         let unread = Unread(self.rest.len());
         let (text, rest) = split_at_key(key, self.rest).ok_or(unread)?;
@@ -115,7 +123,8 @@ impl Lines<'_> {
 
     // What is known of the user of a slot.
     pub(crate) fn slot(&mut self, key: &[u8]) -> Result<(u32, PalmDate, UserName), Unread>
-        ensures { Finds (λ found. (found, self.new.rest.now)) result (line_at (record { key = key.now; kind = Slot }) self.old.rest.now) }
+        ensures { Finds (λ found. (found, self.new.rest.now)) result
+            (line_at (record { key = key.now; kind = Slot }) self.old.rest.now) }
     {
         let unread = Unread(self.rest.len());
         let (text, rest) = split_at_key(key, self.rest).ok_or(unread)?;

@@ -135,7 +135,8 @@ pub(crate) fn behind<'a>(key: &[u8], text: &'a [u8]) -> Option<&'a [u8]>
 // So many bytes behind a key, and what stands behind them.
 #[tactic(auto, unfolding(crate::specs::Reading::field_at))]
 fn field_of<'a>(key: &[u8], size: usize, text: &'a [u8]) -> Option<(&'a [u8], &'a [u8])>
-    ensures { option_map (λ parts. (parts.0.now, parts.1.now)) result ≡ reading.field_at key.now size text.now }
+    ensures { option_map (λ parts. (parts.0.now, parts.1.now)) result
+        ≡ reading.field_at key.now size text.now }
 {
     let rest = behind(key, text)?;
     if rest.len() < size {

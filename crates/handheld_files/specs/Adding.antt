@@ -23,7 +23,8 @@ pub record AddsDatabase (old : List DatabaseValue) (name bytes : List ℕ) (new 
 
 -- a file of a database adds it, and the information file says who the user is
 abbrev pub AddsFile : List DatabaseValue → UserInfo → List ℕ → List ℕ → List DatabaseValue → UserInfo → Type 0
-AddsFile old user name bytes new user' = MatchBool (is_database_file name) (AddsDatabase old name bytes new × (user' ≡ user)) (IsDeviceFile user' bytes × (new ≡ old))
+AddsFile old user name bytes new user' = MatchBool (is_database_file name) (AddsDatabase old name bytes new × (user' ≡ user)) (IsDeviceFile user' bytes
+    × (new ≡ old))
 
 -- what a file shows of the cause of each refusal, behind files of these databases
 abbrev pub FileShows : List DatabaseValue → List ℕ → List ℕ → OpenFault → Type 0

@@ -43,4 +43,5 @@ StoredFails name bytes kind place = BreaksRule bytes kind place ⊎ HasOtherName
 
 -- the first failing test of a file that a handheld reads, behind files of these databases
 abbrev pub FirstFails : List DatabaseValue → List ℕ → List ℕ → BadKind → ℕ → Type 0
-FirstFails earlier name bytes kind place = MatchBool (is_database_file name) (StoredFails name bytes kind place ⊎ IsTwice earlier name bytes kind place) (HasBadLine bytes kind place)
+FirstFails earlier name bytes kind place = MatchBool (is_database_file name) (StoredFails name bytes kind place ⊎ IsTwice earlier name bytes kind place)
+    (HasBadLine bytes kind place)

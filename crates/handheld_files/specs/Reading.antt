@@ -28,13 +28,15 @@ pub record Stays (old : List DatabaseValue) (user : UserInfo) (new : List Databa
 
 -- a file was passed over, or what it stands for was added
 abbrev pub ReadsOn : Option FileMap → List ℕ → List DatabaseValue → UserInfo → List DatabaseValue → UserInfo → Type 0
-ReadsOn told name old user new user' = (IsPassedOver told name × Stays old user new user') ⊎ ((bytes : List ℕ) × IsRead told name bytes × AddsFile old user name bytes new user')
+ReadsOn told name old user new user' = (IsPassedOver told name × Stays old user new user')
+    ⊎ ((bytes : List ℕ) × IsRead told name bytes × AddsFile old user name bytes new user')
 
 -- why a file was refused
 abbrev pub RefusesFile : Option FileMap → List ℕ → List DatabaseValue → OpenFault → Type 0
 RefusesFile told name earlier Keeper = ⊤
 RefusesFile told name earlier TooMany = ⊥
-RefusesFile told name earlier (BadFile file kind place) = (string_bytes {Z = Global} file ≡ name) × ((bytes : List ℕ) × IsRead told name bytes × FirstFails earlier name bytes kind place)
+RefusesFile told name earlier (BadFile file kind place) = (string_bytes {Z = Global} file ≡ name)
+    × ((bytes : List ℕ) × IsRead told name bytes × FirstFails earlier name bytes kind place)
 RefusesFile told name earlier NoMemory = ⊤
 
 -- what reading one file did

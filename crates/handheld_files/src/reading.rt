@@ -55,7 +55,8 @@ fn read_files<F: Folder>(
 ) -> Result<Handheld, OpenFault>
     requires few { count_by is_name_of_database (map string_bytes names.now) ≤ 200 }
     ensures stand { IfOk result (λ handheld. IfSome (F.contents folder.old) (λ held.
-        StandFor (among (map string_bytes names.now) held) handheld.databases.items handheld.user)) }
+        StandFor (among (map string_bytes names.now) held) handheld.databases.items
+        handheld.user)) }
     ensures kept { IfOk result (λ handheld. AreKept handheld.databases.items) }
     ensures bounded { IfOk result (λ handheld. IsBounded (opened_device handheld.databases.items
         handheld.user)) }

@@ -19,7 +19,8 @@ use Rattle.handheld_server.specs.declared.fault.ServeFault.TheVariants.{Keeper}
 
 -- The folder stands for the databases and the user afterwards where it did before, and the store is sound. After a fault the
 -- databases and the user are as before, and the whole store is, or it is not sound. The folder changed once at most.
-pub record Keeps {F A : Type 0} (contents : F → Option FileMap) (moments : F → Moments) (paths : F → Option (List (List ℕ))) (faults : F → ℕ) (old new : StoreValue F) (answer : Result A ServeFault) : Type 0 where
+pub record Keeps {F A : Type 0} (contents : F → Option FileMap) (moments : F → Moments) (paths : F → Option (List (List ℕ))) (faults : F → ℕ)
+    (old new : StoreValue F) (answer : Result A ServeFault) : Type 0 where
   pub stands : Stands (contents old.folder) old.databases old.user → OnOk answer (Stands (contents new.folder) new.databases new.user)
   pub sound : OnOk answer (new.sound ≡ true)
   pub stays : OnErr answer (new.sound ≡ true → new ≡ old)

@@ -15,7 +15,11 @@ exchange_of exchanged = record { request = exchanged.request.bytes; reply = exch
 
 -- all that was said to a device
 abbrev pub talk_of : Device → List Exchanged → Option MessageTextValue → Talk
-talk_of device exchanges left = record { device = device; exchanges = map exchange_of exchanges; left = option_map (λ (text : MessageTextValue). text.bytes) left }
+talk_of device exchanges left = record {
+  device = device;
+  exchanges = map exchange_of exchanges;
+  left = option_map (λ (text : MessageTextValue). text.bytes) left;
+}
 
 -- only where a fault was answered was a request left, or is the server no more sound
 abbrev pub is_settled : Option LinkFault → Option MessageTextValue → Bool → Bool

@@ -16,7 +16,8 @@ may_write mode database = has_bit 0x40 mode && not (is_read_only database.head.a
 
 -- what is written into it
 abbrev pub written_by : ℕ → ℕ → WritingValue → Option DatabaseValue → Result (DatabaseValue × ReplyValue) ℕ
-written_by free mode asked found = need none_open found >>= λ database. (check read_only (may_write mode database) >>= λ allowed. written_in free asked database)
+written_by free mode asked found = need none_open found >>= λ database.
+    (check read_only (may_write mode database) >>= λ allowed. written_in free asked database)
 
 -- it was written: another one takes its place, and a new record of id 0 got a free id
 pub record Wrote (mode : ℕ) (asked : WritingValue) (name : List ℕ) (old : List DatabaseValue) (given : ℕ) (new : List DatabaseValue) : Type 0 where

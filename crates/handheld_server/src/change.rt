@@ -59,7 +59,8 @@ impl<F: Folder> Server<F> {
         ensures keeps { Keeps F.contents F.moments F.paths F.faults
             (store_of self.old) (store_of self.new) result }
         ensures files { OnOk result (Touches F.contents
-            (is_ok (marks_tried self.old.device marks.now)) (store_of self.old) (store_of self.new)) }
+            (is_ok (marks_tried self.old.device marks.now)) (store_of self.old)
+            (store_of self.new)) }
     {
         let user = match marked(self.store.user(), marks) {
             Ok(user) => user,
@@ -94,7 +95,8 @@ impl<F: Folder> Server<F> {
         ensures handles { OnErr result (self.new.device.handles ≡ self.old.device.handles) }
         ensures keeps { Keeps F.contents F.moments F.paths F.faults
             (store_of self.old) (store_of self.new) result }
-        ensures files { OnOk result (TouchesOne F.contents (store_of self.old) (store_of self.new)) }
+        ensures files { OnOk result (TouchesOne F.contents (store_of self.old)
+            (store_of self.new)) }
     {
         match self.created(creator, kind, card, flags, version, name) {
             Ok(Ok(handle)) => {
@@ -127,7 +129,8 @@ impl<F: Folder> Server<F> {
         ensures handles { OnErr result (self.new.device.handles ≡ self.old.device.handles) }
         ensures keeps { Keeps F.contents F.moments F.paths F.faults
             (store_of self.old) (store_of self.new) result }
-        ensures files { OnOk result (TouchesOne F.contents (store_of self.old) (store_of self.new)) }
+        ensures files { OnOk result (TouchesOne F.contents (store_of self.old)
+            (store_of self.new)) }
     {
         let kept = match named(card, name) {
             Ok(kept) => kept,
@@ -164,7 +167,8 @@ impl<F: Folder> Server<F> {
         ensures handles { OnErr result (self.new.device.handles ≡ self.old.device.handles) }
         ensures keeps { Keeps F.contents F.moments F.paths F.faults
             (store_of self.old) (store_of self.new) result }
-        ensures files { OnOk result (TouchesOne F.contents (store_of self.old) (store_of self.new)) }
+        ensures files { OnOk result (TouchesOne F.contents (store_of self.old)
+            (store_of self.new)) }
     {
         match self.deleted(card, name) {
             Ok(Ok(())) => {
@@ -188,7 +192,8 @@ impl<F: Folder> Server<F> {
         ensures handles { OnErr result (self.new.device.handles ≡ self.old.device.handles) }
         ensures keeps { Keeps F.contents F.moments F.paths F.faults
             (store_of self.old) (store_of self.new) result }
-        ensures files { OnOk result (TouchesOne F.contents (store_of self.old) (store_of self.new)) }
+        ensures files { OnOk result (TouchesOne F.contents (store_of self.old)
+            (store_of self.new)) }
     {
         let kept = match named(card, name) {
             Ok(kept) => kept,
@@ -221,7 +226,8 @@ impl<F: Folder> Server<F> {
         ensures handles { OnErr result (self.new.device.handles ≡ self.old.device.handles) }
         ensures keeps { Keeps F.contents F.moments F.paths F.faults
             (store_of self.old) (store_of self.new) result }
-        ensures files { OnOk result (TouchesOne F.contents (store_of self.old) (store_of self.new)) }
+        ensures files { OnOk result (TouchesOne F.contents (store_of self.old)
+            (store_of self.new)) }
     {
         let number = writing.number();
         let Some(opened) = self.handles.opened_at(handle) else {

@@ -75,7 +75,8 @@ impl<F: Folder> Server<F> {
         // One step of the device, for which the folder stands afterwards.
         ensures step { OnOk result (
             DeviceStep self.old.device request.now reply.new self.new.device) }
-        ensures stands { Stands (F.contents self.old.folder) self.old.device.databases self.old.device.user
+        ensures stands { Stands (F.contents self.old.folder) self.old.device.databases
+            self.old.device.user
             → OnOk result (Stands (F.contents self.new.folder) self.new.device.databases
             self.new.device.user) }
         ensures sound { OnOk result (self.new.sound ≡ true) }

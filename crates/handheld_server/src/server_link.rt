@@ -44,7 +44,8 @@ impl<F: Folder> ServerLink<F> {
 
     /// The server, after all that was said.
     pub fn into_server(self) -> Server<F>
-        ensures { IfSome (⟦<ServerLink<F> as Link>⟧.talk self) (λ talk. result.device ≡ talk.device) }
+        ensures { IfSome (⟦<ServerLink<F> as Link>⟧.talk self)
+            (λ talk. result.device ≡ talk.device) }
     {
         let ServerLink { server, .. } = self;
         server

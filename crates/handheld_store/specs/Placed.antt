@@ -14,7 +14,8 @@ pub record Takes (id : ℕ) (database : DatabaseValue) : Type 0 where
 
 -- so many bytes can be a record's, the database holds records, and there is room for a record of this id where it is a new one
 abbrev pub HasRoomFor : ℕ → ℕ → DatabaseValue → Type 0
-HasRoomFor count id database = (count ≤ 65500) × (holds_resources database.head.attributes ≡ false) × (is_new id database.records ≡ true → length database.records < 65535)
+HasRoomFor count id database = (count ≤ 65500) × (holds_resources database.head.attributes ≡ false)
+    × (is_new id database.records ≡ true → length database.records < 65535)
 
 -- the database once it is written
 abbrev pub with_record : ℕ → ContentValue → DatabaseValue → DatabaseValue

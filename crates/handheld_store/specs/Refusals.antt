@@ -16,7 +16,8 @@ open_fault writes (Some database) = if writes && is_read_only database.head.attr
 
 -- why a database is not made: one has the name, or there are as many as there can be
 abbrev pub create_fault : List ℕ → List DatabaseValue → Option StoreFault
-create_fault name databases = if is_some (database_of name databases) then Some Exists else if nat_le most_databases (length databases) then Some Limit else None
+create_fault name databases = if is_some (database_of name databases) then Some Exists else if nat_le most_databases
+    (length databases) then Some Limit else None
 
 -- why a database is not taken away: none has the name
 abbrev pub delete_fault : List ℕ → List DatabaseValue → Option StoreFault

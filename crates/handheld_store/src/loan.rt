@@ -247,7 +247,8 @@ impl<'s, F: Folder> Loan<'s, F, LentDatabase> {
         }) }
         ensures files { OnOk result (FollowsName F.contents
             (database_in self.entry).head.name self.entry.store.now self.exit.0.now) }
-        ensures stands { IfSome (database_of (database_in self.entry).head.name self.entry.store.now.databases)
+        ensures stands { IfSome (database_of
+            (database_in self.entry).head.name self.entry.store.now.databases)
             (λ was. was.head ≡ (database_in self.entry).head)
             → Stands (F.contents self.entry.store.now.folder) self.entry.store.now.databases
             self.entry.store.now.user

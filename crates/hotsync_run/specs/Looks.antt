@@ -80,7 +80,9 @@ pub record IsLook (look : Look) (file : List ℕ) (source source_after : SourceT
   -- Standard output took the text of the database, or the line of a refusal.
   pub printed : IsPrinted (IsTextIn look source.left) out out_after status
   -- Where no object fails, the bytes decide: too many, a bad file, or a look that is done.
-  pub too_long : (bytes : List ℕ) → source.left ≡ Some bytes → source_limit < length bytes → ¬ Rose source.faults source_after.faults → (status ≡ TooLong) ⊎ (status ≡ NoMemory)
-  pub bad_file : (bytes : List ℕ) (kind : BadKind) (place : ℕ) → source.left ≡ Some bytes → IsBroken bytes kind place → ¬ Rose source.faults source_after.faults → IsBadStatus Source file kind place status
+  pub too_long : (bytes : List ℕ) → source.left ≡ Some bytes → source_limit < length bytes → ¬ Rose source.faults source_after.faults → (status ≡ TooLong)
+      ⊎ (status ≡ NoMemory)
+  pub bad_file : (bytes : List ℕ) (kind : BadKind) (place : ℕ) → source.left ≡ Some bytes → IsBroken bytes kind place → ¬ Rose source.faults source_after.faults
+      → IsBadStatus Source file kind place status
   pub complete : (bytes : List ℕ) → source.left ≡ Some bytes → IsReadable bytes
       → ¬ Rose source.faults source_after.faults → ¬ Rose out.faults out_after.faults → (status ≡ Done) ⊎ (status ≡ NoMemory)

@@ -85,7 +85,8 @@ pub record MadeRan (items : List Item) (status : Status) (report : Report) : Typ
   pub palm_after : FolderTold
   pub desk_after : FolderTold
   pub changed : ChangedOnce (files_told (desktop_files items)) desk_after report.end
-  pub talked : Talked made_run made_script device slots (files_told (handheld_files items)) palm_after (files_told (desktop_files items)) desk_after status report
+  pub talked : Talked made_run made_script device slots (files_told (handheld_files items)) palm_after
+      (files_told (desktop_files items)) desk_after status report
   pub databases : report.end ≡ Ended → report.databases.items ≡ made_report items ∷ []
 
 -- what is known of it before its lines are printed

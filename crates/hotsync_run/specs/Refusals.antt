@@ -16,7 +16,8 @@ use Rattle.hotsync_run.specs.Scripts.{HasScript, ScriptRefuses}
 use Rattle.hotsync_run.specs.Told.{CallTold}
 use Rattle.hotsync_run.specs.declared.status.FileSide.TheVariants as side
 use Rattle.hotsync_run.specs.declared.status.Status.{Status}
-use Rattle.hotsync_run.specs.declared.status.Status.TheVariants.{BadScript, TooLong, BadFile, TooMany, HandheldFolder, DesktopFolder, SourceRead, TraceWrite, NoMemory}
+use Rattle.hotsync_run.specs.declared.status.Status.TheVariants.{BadScript, TooLong, BadFile, TooMany, HandheldFolder, DesktopFolder, SourceRead, TraceWrite}
+use Rattle.hotsync_run.specs.declared.status.Status.TheVariants.{NoMemory}
 
 -- what a refusal to open the handheld's folder makes of a run
 abbrev pub handheld_status : OpenFault → Status

@@ -79,7 +79,8 @@ NamesFaults report =
 -- A session that began: what the words ask of it, what went over the line and how far it was dealt with, and its cause where it stopped. Where the
 -- script is fair up to the last frame no line goes down. Databases are told where it ended. What it left of both sides is that of the session of both,
 -- and the handheld stands at a front of that, as its folder did at each moment.
-pub record Talked (run : Run) (rules : List RuleValue) (device : Device) (slots : List SlotValue) (palm palm_after desk desk_after : FolderTold) (status : Status) (report : Report) : Type 0 where
+pub record Talked (run : Run) (rules : List RuleValue) (device : Device) (slots : List SlotValue) (palm palm_after desk desk_after : FolderTold)
+    (status : Status) (report : Report) : Type 0 where
   pub wishes : Wishes
   pub asked : AsksFor run wishes
   pub line : LineRan rules device palm palm_after report
@@ -103,8 +104,10 @@ pub record KeptSilent (palm palm_after desk desk_after : FolderTold) (status : S
   pub desktop : desk_after ≡ desk
 
 -- What is known of a session before its trace and its lines are written. A folder that is blamed had its count rise.
-pub record IsTalk (run : Run) (rules : List RuleValue) (device : Device) (slots : List SlotValue) (palm palm_after desk desk_after : FolderTold) (status : Status) (report : Report) : Type 0 where
-  pub shown : ByEnd report.end (KeptSilent palm palm_after desk desk_after status report) (Talked run rules device slots palm palm_after desk desk_after status report)
+pub record IsTalk (run : Run) (rules : List RuleValue) (device : Device) (slots : List SlotValue) (palm palm_after desk desk_after : FolderTold)
+    (status : Status) (report : Report) : Type 0 where
+  pub shown : ByEnd report.end (KeptSilent palm palm_after desk desk_after status report)
+      (Talked run rules device slots palm palm_after desk desk_after status report)
   pub changed : ChangedOnce desk desk_after report.end
   pub unsaid : IsUnsaid status
   pub handheld_failed : status ≡ HandheldFolder → Rose palm.faults palm_after.faults

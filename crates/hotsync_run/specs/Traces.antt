@@ -45,7 +45,8 @@ pub record SilentTrace (palm palm_after desk desk_after : FolderTold) (trace tra
   pub trace_taken : trace_after.taken ≡ trace.taken
 
 -- a session that began, and its trace
-pub record TalkedTrace (run : Run) (rules : List RuleValue) (device : Device) (slots : List SlotValue) (palm palm_after desk desk_after : FolderTold) (trace trace_after : SinkTold) (status : Status) (report : Report) : Type 0 where
+pub record TalkedTrace (run : Run) (rules : List RuleValue) (device : Device) (slots : List SlotValue) (palm palm_after desk desk_after : FolderTold)
+    (trace trace_after : SinkTold) (status : Status) (report : Report) : Type 0 where
   pub talked : Talked run rules device slots palm palm_after desk desk_after status report
   pub traced_is : IsTraced run.trace (trace_text (frames_in report)) trace trace_after status
 

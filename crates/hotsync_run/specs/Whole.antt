@@ -34,7 +34,8 @@ StopsAnswered (Limit name) = ⊤
 StopsAnswered DesktopFolder = ⊤
 StopsAnswered other = ⊥
 
--- All of the session's requests were issued, the frames tell the desktop a reply to each, and they end with its acknowledgement of the last one, the reply to the
+-- All of the session's requests were issued, the frames tell the desktop a reply to each, and they end with its acknowledgement of the last one, the
+-- reply to the
 -- end of the session; the run goes on behind it.
 pub record WentWhole (meeting : Meeting) (report : Report) : Type 0 where
   pub issued : (log_in report).issued ≡ requests meeting

@@ -59,7 +59,8 @@ fn stopped(alloc: Global, status: Status, cause: Option<&Down>) -> Left
 
 // The numbers of the frames that a report names beside a status.
 fn numbers_of(alloc: Global, status: &Status, cause: Option<&Down>) -> Result<Vec<u64>, AllocError>
-    ensures { IfOk result (λ numbers. numbers.items ≡ numbers_by status.now (option_copied cause.entry)) }
+    ensures { IfOk result (λ numbers. numbers.items
+        ≡ numbers_by status.now (option_copied cause.entry)) }
 {
     match status {
         Status::LineDown(_) => faults_in(alloc, cause),

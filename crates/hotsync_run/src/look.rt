@@ -23,8 +23,16 @@ pub fn look_at<S: Source, O: Sink>(
     out: &mut O,
 ) -> Status
     ensures { IsLook words.entry.look words.entry.file.now
-        (record { left = S.left source.old; paths = S.paths source.old; faults = S.faults source.old })
-        (record { left = S.left source.new; paths = S.paths source.new; faults = S.faults source.new })
+        (record {
+          left = S.left source.old;
+          paths = S.paths source.old;
+          faults = S.faults source.old;
+        })
+        (record {
+          left = S.left source.new;
+          paths = S.paths source.new;
+          faults = S.faults source.new;
+        })
         (record { taken = O.taken out.old; paths = O.paths out.old; faults = O.faults out.old })
         (record { taken = O.taken out.new; paths = O.paths out.new; faults = O.faults out.new })
         result }

@@ -15,7 +15,8 @@ use trace_text::show_packets;
 pub fn print_packets<O: Sink>(alloc: Global, hex: &str, out: &mut O) -> Status
     ensures scanned { IsScanned (bytes_of hex.now)
         (record { taken = O.taken out.old; paths = O.paths out.old; faults = O.faults out.old })
-        (record { taken = O.taken out.new; paths = O.paths out.new; faults = O.faults out.new }) result }
+        (record { taken = O.taken out.new; paths = O.paths out.new; faults = O.faults out.new })
+        result }
 {
     match packets_text(alloc, hex) {
         Ok(text) => print_text(text.as_str(), out),

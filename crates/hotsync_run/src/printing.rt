@@ -30,7 +30,8 @@ pub fn print_status<O: Sink>(
     ensures status { IsPrintedStatus status result }
     ensures printed { IsPrinted (λ text. text ≡ lines_of_done databases.now)
         (record { taken = O.taken out.old; paths = O.paths out.old; faults = O.faults out.old })
-        (record { taken = O.taken out.new; paths = O.paths out.new; faults = O.faults out.new }) result }
+        (record { taken = O.taken out.new; paths = O.paths out.new; faults = O.faults out.new })
+        result }
     ensures count { O.faults out.old ≤ O.faults out.new }
 {
     match status {
@@ -46,7 +47,8 @@ fn print_done<O: Sink>(alloc: Global, databases: &[DbReport], out: &mut O) -> St
         (result ≡ Status.NoMemory) }
     ensures printed { IsPrinted (λ text. text ≡ lines_of_done databases.now)
         (record { taken = O.taken out.old; paths = O.paths out.old; faults = O.faults out.old })
-        (record { taken = O.taken out.new; paths = O.paths out.new; faults = O.faults out.new }) result }
+        (record { taken = O.taken out.new; paths = O.paths out.new; faults = O.faults out.new })
+        result }
     ensures count { O.faults out.old ≤ O.faults out.new }
 {
     match done_lines(alloc, databases) {
@@ -62,7 +64,8 @@ pub fn print_text<O: Sink>(text: &str, out: &mut O) -> Status
         (result ≡ Status.NoMemory) }
     ensures printed { IsPrinted (λ printed. printed ≡ text.now)
         (record { taken = O.taken out.old; paths = O.paths out.old; faults = O.faults out.old })
-        (record { taken = O.taken out.new; paths = O.paths out.new; faults = O.faults out.new }) result }
+        (record { taken = O.taken out.new; paths = O.paths out.new; faults = O.faults out.new })
+        result }
     ensures count { O.faults out.old ≤ O.faults out.new }
 {
     match out.write_all(text.as_bytes()) {
@@ -79,7 +82,8 @@ pub fn print_refusal<O: Sink>(alloc: Global, refusal: Status, out: &mut O) -> St
     ensures status { (result ≡ refusal) ⊎ (result ≡ Status.NoMemory) }
     ensures printed { IsPrinted (λ text. ⊥)
         (record { taken = O.taken out.old; paths = O.paths out.old; faults = O.faults out.old })
-        (record { taken = O.taken out.new; paths = O.paths out.new; faults = O.faults out.new }) result }
+        (record { taken = O.taken out.new; paths = O.paths out.new; faults = O.faults out.new })
+        result }
     ensures count { O.faults out.old ≤ O.faults out.new }
 {
     match refusal {
@@ -95,7 +99,8 @@ fn print_line<O: Sink>(alloc: Global, refusal: Status, out: &mut O) -> Status
     ensures status { (result ≡ refusal) ⊎ (result ≡ Status.NoMemory) }
     ensures printed { IsPrinted (λ text. ⊥)
         (record { taken = O.taken out.old; paths = O.paths out.old; faults = O.faults out.old })
-        (record { taken = O.taken out.new; paths = O.paths out.new; faults = O.faults out.new }) result }
+        (record { taken = O.taken out.new; paths = O.paths out.new; faults = O.faults out.new })
+        result }
     ensures count { O.faults out.old ≤ O.faults out.new }
 {
     let Ok(line) = refusal_line(alloc, &refusal) else {

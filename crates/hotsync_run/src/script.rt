@@ -25,7 +25,8 @@ pub fn script_of<S: Source>(
 
     ensures opened { OnOk result (OpensGiven (option_copied path.entry) (S.paths source.old)
         (S.paths source.new)) }
-    ensures path { OpensGivenAtMost (option_copied path.entry) (S.paths source.old) (S.paths source.new) }
+    ensures path { OpensGivenAtMost (option_copied path.entry) (S.paths source.old)
+        (S.paths source.new) }
 {
     match path {
         Some(path) => named_script(alloc, source, path),

@@ -78,7 +78,8 @@ pub fn open_desktop<D: Folder>(alloc: Global, desk: D, path: &str) -> Result<Des
     ensures desktop { OnOk result (HasDesktop (D.contents desk)) }
     ensures finished { IfOk result (λ opened. D.contents opened.folder
         ≡ option_map finished (D.contents desk)) }
-    ensures slots { IfOk result (λ opened. IsDesk (option_map finished (D.contents desk)) opened.slots) }
+    ensures slots { IfOk result (λ opened. IsDesk
+        (option_map finished (D.contents desk)) opened.slots) }
     ensures bounded { IfOk result (λ opened. AreBounded opened.slots) }
     ensures refused { IfErr result (λ refused. DesktopRefuses (D.contents desk) refused.0) }
     ensures failed { IfErr result (λ refused. refused.0 ≡ Status.DesktopFolder
@@ -104,7 +105,8 @@ fn open_desk<D: Folder>(alloc: Global, desk: D) -> Result<Desk<D>, (Status, D)>
     ensures desktop { OnOk result (HasDesktop (D.contents desk)) }
     ensures finished { IfOk result (λ opened. D.contents opened.folder
         ≡ option_map finished (D.contents desk)) }
-    ensures slots { IfOk result (λ opened. IsDesk (option_map finished (D.contents desk)) opened.slots) }
+    ensures slots { IfOk result (λ opened. IsDesk
+        (option_map finished (D.contents desk)) opened.slots) }
     ensures bounded { IfOk result (λ opened. AreBounded opened.slots) }
     ensures refused { IfErr result (λ refused. DesktopRefuses (D.contents desk) refused.0) }
     ensures failed { IfErr result (λ refused. refused.0 ≡ Status.DesktopFolder

@@ -24,7 +24,8 @@ pub fn open_trace<T: Sink>(trace: &mut T, path: Option<&str>) -> Result<(), Stat
     ensures later { T.faults trace.old ≤ T.faults trace.new }
     ensures opened { OnOk result (OpensGiven (option_copied path.entry) (T.paths trace.old)
         (T.paths trace.new)) }
-    ensures path { OpensGivenAtMost (option_copied path.entry) (T.paths trace.old) (T.paths trace.new) }
+    ensures path { OpensGivenAtMost (option_copied path.entry) (T.paths trace.old)
+        (T.paths trace.new) }
 {
     match path {
         Some(path) => open_named(trace, path),

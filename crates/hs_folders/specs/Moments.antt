@@ -20,14 +20,16 @@ abbrev pub IsBeforeOrAfter : Option FileMap → Option FileMap → Option FileMa
 IsBeforeOrAfter before after told = (told ≡ before) ⊎ (told ≡ after)
 
 -- A folder was only read: all that it tells stays, and its count of faults did not fall.
-pub record OnlyRead {F : Type 0} (contents : F → Option FileMap) (moments : F → Moments) (paths : F → Option (List (List ℕ))) (faults : F → ℕ) (old new : F) : Type 0 where
+pub record OnlyRead {F : Type 0} (contents : F → Option FileMap) (moments : F → Moments) (paths : F → Option (List (List ℕ))) (faults : F → ℕ)
+    (old new : F) : Type 0 where
   pub same_contents : contents new ≡ contents old
   pub same_moments : moments new ≡ moments old
   pub same_paths : paths new ≡ paths old
   pub later : faults old ≤ faults new
 
 -- A call that may change a folder once, whole or not at all. `Faulted` says that it answered the folder's own failure.
-pub record OneChange {F A E : Type 0} (contents : F → Option FileMap) (moments : F → Moments) (paths : F → Option (List (List ℕ))) (faults : F → ℕ) (old new : F) (answer : Result A E) (Faulted : Type 0) : Type 0 where
+pub record OneChange {F A E : Type 0} (contents : F → Option FileMap) (moments : F → Moments) (paths : F → Option (List (List ℕ))) (faults : F → ℕ)
+    (old new : F) (answer : Result A E) (Faulted : Type 0) : Type 0 where
   -- After a refusal the files are as before.
   pub contents_stay : OnErr answer (contents new ≡ contents old)
   -- After a refusal no moment was added.

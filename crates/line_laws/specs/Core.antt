@@ -54,7 +54,8 @@ part_now side = fragment_of side.message (piece_of side.id (length side.message)
 
 -- each data frame of its newest fragment bears this part
 abbrev pub AllBear : End → List Sent → List ℕ → Type 0
-AllBear X past bytes = (n : ℕ) (frame : Sent) (older : List Sent) → n ≤ length past → at n past ≡ frame ∷ older → IsDataOf X frame → length (said X (frame ∷ older)) ≡ length (said X past) → frame.bytes ≡ bytes
+AllBear X past bytes = (n : ℕ) (frame : Sent) (older : List Sent) → n ≤ length past → at n past ≡ frame ∷ older → IsDataOf X frame
+    → length (said X (frame ∷ older)) ≡ length (said X past) → frame.bytes ≡ bytes
 
 -- an end that sends
 pub record Speaks (X : End) (past : List Sent) (fresh : Bool) (side : Side) : Type 0 where
@@ -82,7 +83,8 @@ pub record Answering (fresh : Bool) (x y : Side) : Type 0 where
   pub begins : x.acknowledged ≡ 0
   pub ends : y.acknowledged + 1 ≡ piece_count (length y.message)
 
--- Both ends: the frames so far, up to which frame those of each end were taken off the line, what both send and receive, and whether their newest fragment wasn't
+-- Both ends: the frames so far, up to which frame those of each end were taken off the line, what both send and receive, and whether their newest
+-- fragment wasn't
 -- taken yet.
 pub record Core (X Y : End) (past : List Sent) (cx cy : ℕ) (x y : Side) (rx ry : ReceiverValue) (fx fy : Bool) : Type 0 where
   pub there : Counts X Y past fx cx

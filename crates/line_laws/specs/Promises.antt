@@ -18,8 +18,10 @@ use Rattle.line_laws.specs.Talking.{Talking}
 -- its frames are a proper trace
 abbrev pub HasProperTrace : Type 0
 HasProperTrace =
-    (script : ℕ → FateValue) (talk : Talk) (cursor : End → ℕ) (frames : List FrameValue) (past : List Sent) (released : ℕ) (h d : Side) (rh rd : ReceiverValue) (fh fd : Bool) (th td : ℕ)
-    → Line Handheld Desktop past (cursor Handheld) (cursor Desktop) released h d rh rd fh fd th td → Talking Handheld Desktop talk cursor past h d fh fd → Framed script cursor frames past → IsProper script talk frames
+    (script : ℕ → FateValue) (talk : Talk) (cursor : End → ℕ) (frames : List FrameValue) (past : List Sent) (released : ℕ) (h d : Side) (rh rd : ReceiverValue)
+    (fh fd : Bool) (th td : ℕ)
+    → Line Handheld Desktop past (cursor Handheld) (cursor Desktop) released h d rh rd fh fd th td → Talking Handheld Desktop talk cursor past h d fh fd
+    → Framed script cursor frames past → IsProper script talk frames
 
 -- where an end waits with its last try and nothing can be delivered, ten faults stand among the last 53 frames
 abbrev pub HasTenFaults : Type 0

@@ -1,4 +1,5 @@
--- Rules (c) to (g) of a proper trace, over the frames so far and the two cursors: frame n of an end came exactly where n is at most its cursor and its course comes.
+-- Rules (c) to (g) of a proper trace, over the frames so far and the two cursors: frame n of an end came exactly where n is at most its cursor and its
+-- course comes.
 use Rattle.std.specs.Prelude.{◌≡◌, ℕ, ◌≤◌, ◌<◌, true, false, List, [], ◌∷◌, length}
 use Rattle.trace_text.specs.Faults.{IsHeldIn, RepeatsHaveFaults}
 use Rattle.trace_text.specs.Past.{Sent, said, is_data_of, is_repeat}

@@ -1,4 +1,5 @@
--- What holds of the messages of both ends: which of their pieces were sent, what each end knows was taken, and the rules of a proper trace for what was sent so far.
+-- What holds of the messages of both ends: which of their pieces were sent, what each end knows was taken, and the rules of a proper trace for what was
+-- sent so far.
 use Rattle.std.specs.Prelude.{◌≡◌, ℕ, ◌+◌, ◌-◌, ◌<◌, Bool, true, List, [], ◌∷◌, ◌++◌, length, drop, reverse, Some}
 use Rattle.padp_link.specs.Pieces.{piece_count, piece_of, fragment_of}
 use Rattle.trace_text.specs.Parts.{Part, spoken, message_parts, session_parts}
@@ -16,7 +17,10 @@ left side = piece_count (length side.message) - (side.acknowledged + 1)
 
 -- the part of this number of a message
 abbrev pub part_at : ℕ → List ℕ → ℕ → Part
-part_at id message number = record { key = (piece_of id (length message) number).key; bytes = (fragment_of message (piece_of id (length message) number)).bytes }
+part_at id message number = record {
+  key = (piece_of id (length message) number).key;
+  bytes = (fragment_of message (piece_of id (length message) number)).bytes;
+}
 
 -- the parts that it hasn't begun
 abbrev pub unsaid : Side → List Part
@@ -40,7 +44,8 @@ pub record TookNewest (X Y : End) (came : ℕ → Bool) (past : List Sent) : Typ
 -- what X sent
 pub record Speech (X Y : End) (talk : Talk) (cursor : End → ℕ) (past : List Sent) (x : Side) : Type 0 where
   pub begun : length (said X past) + left x ≡ pieces_before (messages_of X talk) (count_messages X talk)
-  pub current : 0 < count_messages X talk → pieces_before (messages_of X talk) (count_messages X talk) ≡ pieces_before (messages_of X talk) (count_messages X talk - 1) + piece_count (length x.message)
+  pub current : 0 < count_messages X talk → pieces_before (messages_of X talk) (count_messages X talk)
+      ≡ pieces_before (messages_of X talk) (count_messages X talk - 1) + piece_count (length x.message)
   pub says : reverse (spoken X past) ++ unsaid x ≡ session_parts 0 (messages_of X talk)
   pub begins : BeginInTurn X Y talk (came_by cursor past) past
   pub ten : AtMostTen X past
@@ -51,7 +56,8 @@ pub record Speech (X Y : End) (talk : Talk) (cursor : End → ℕ) (past : List 
 -- where both wait, the message of X, whose first piece waits, answers that of Y
 abbrev pub AnswersIt : End → End → Talk → Bool → Side → Side → Type 0
 AnswersIt X Y talk fresh x y =
-    fresh ≡ true → x.acknowledged ≡ 0 → Waiting y → (0 < count_messages X talk) × (0 < count_messages Y talk) × (answer_to Y (count_messages Y talk - 1) ≡ Some (count_messages X talk - 1))
+    fresh ≡ true → x.acknowledged ≡ 0 → Waiting y → (0 < count_messages X talk) × (0 < count_messages Y talk)
+    × (answer_to Y (count_messages Y talk - 1) ≡ Some (count_messages X talk - 1))
 
 pub record Talking (X Y : End) (talk : Talk) (cursor : End → ℕ) (past : List Sent) (x y : Side) (fx fy : Bool) : Type 0 where
   pub x_speech : Speech X Y talk cursor past x

@@ -31,7 +31,8 @@ AcksFollow X Y past cx = ack_keys Y past ≡ came_keys X (at cx past)
 -- No acknowledgement of the newest fragment of X was taken: none of its key that stands behind the fragment's first frame.
 abbrev pub NoAck : End → End → List Sent → ℕ → Key → Type 0
 NoAck X Y past cy key =
-    (n : ℕ) (frame : Sent) (older : List Sent) → n ≤ cy → at n past ≡ frame ∷ older → IsAckOf Y frame → comes frame.course ≡ true → length (said X (at n past)) ≡ length (said X past) → frame.key ≡ key → ⊥
+    (n : ℕ) (frame : Sent) (older : List Sent) → n ≤ cy → at n past ≡ frame ∷ older → IsAckOf Y frame → comes frame.course ≡ true → length (said X (at n past))
+    ≡ length (said X past) → frame.key ≡ key → ⊥
 
 -- The newest fragment of X was acknowledged, by a frame of Y that was taken: an acknowledgement of its key behind its first frame, or data of Y
 -- that acknowledges all that X said.
@@ -43,7 +44,8 @@ pub record Acknowledged (X Y : End) (past : List Sent) (cy : ℕ) : Type 0 where
   pub before : n ≤ cy
   pub here : at n past ≡ frame ∷ older
   pub came : comes frame.course ≡ true
-  pub cause : (IsAckOf Y frame × (length (said X (at n past)) ≡ length (said X past)) × (first (said X past) ≡ Some frame.key)) ⊎ (IsDataOf Y frame × (length (acked Y (at n past)) ≡ length (said X past)))
+  pub cause : (IsAckOf Y frame × (length (said X (at n past)) ≡ length (said X past)) × (first (said X past) ≡ Some frame.key))
+      ⊎ (IsDataOf Y frame × (length (acked Y (at n past)) ≡ length (said X past)))
 
 -- at no time had Y acknowledged more than X had said
 abbrev pub AcksBehind : End → End → List Sent → Type 0

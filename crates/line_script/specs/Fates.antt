@@ -41,5 +41,6 @@ fate_in words =
 unfoldable pub line_in : ℕ → List ℕ → Option RuleValue
 line_in before line =
     option_and_then
-    (λ parts. option_and_then (λ number. option_and_then (λ fate. if nat_le number before then None else Some (record { number = number; fate = fate })) (fate_in parts.1)) (number_in parts.0))
+    (λ parts. option_and_then (λ number. option_and_then (λ fate. if nat_le number before then None else Some (record { number = number; fate = fate }))
+    (fate_in parts.1)) (number_in parts.0))
     (split_at_space line)

@@ -8,6 +8,7 @@ ghost use Rattle.line_script.specs.declared.fault.ScriptFault.TheVariants.{NoMem
 /// A text is one script, or has one fault: so each answer of `read_script` comes exactly where it is that, unless memory ran
 /// out.
 pub fn a_text_has_one_reading()
-    ensures { (bytes : List ℕ) (x y : Result (List RuleValue) ScriptFault) → IsReading bytes x → IsReading bytes y →
+    ensures { (bytes : List ℕ) (x y : Result (List RuleValue) ScriptFault) → IsReading bytes x
+        → IsReading bytes y →
         ¬ (x ≡ Err NoMemory) → ¬ (y ≡ Err NoMemory) → x ≡ y }
 {}

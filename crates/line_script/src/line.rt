@@ -12,7 +12,8 @@ use crate::word::{number_in, place_of, split_at_space};
 // The line at the front, without its end, and what stands behind it.
 pub(crate) fn split_line(bytes: &[u8]) -> Option<(&[u8], &[u8])>
     ensures none { IfNone result (bytes.now ≡ []) }
-    ensures line { IfSome result (λ parts. lines_of bytes.now ≡ parts.0.now ∷ lines_of parts.1.now) }
+    ensures line { IfSome result (λ parts. lines_of bytes.now
+        ≡ parts.0.now ∷ lines_of parts.1.now) }
     ensures shorter { IfSome result (λ parts. length parts.1.now < length bytes.now) }
 {
     if bytes.is_empty() {

@@ -32,7 +32,8 @@ impl Model for Script {
 
     ghost view = { λ script. map rule_value script.rules.items };
 
-    ghost invariant = { λ script. Rise 0 (map rule_value script.rules.items) × (fate_value script.unnamed ≡ Untouched) };
+    ghost invariant = { λ script. Rise 0 (map rule_value script.rules.items)
+        × (fate_value script.unnamed ≡ Untouched) };
 }
 
 impl Script {

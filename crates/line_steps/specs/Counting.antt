@@ -13,7 +13,10 @@ use Rattle.line_steps.specs.declared.half.Wire.{Wire}
 -- the counts behind a frame: its bytes that land, and a packet where it arrives
 abbrev pub landed : FrameValue → TallyValue → TallyValue
 landed frame tally =
-    record { bytes = raised tally.bytes (landing frame.fate (length frame.bytes)); packets = if arrives frame.fate then raised tally.packets 1 else tally.packets }
+    record {
+      bytes = raised tally.bytes (landing frame.fate (length frame.bytes));
+      packets = if arrives frame.fate then raised tally.packets 1 else tally.packets;
+    }
 
 -- behind the frames of X among the first so many
 abbrev pub counts : End → ℕ → List Frame → TallyValue → TallyValue

@@ -86,4 +86,5 @@ pub record Halted (halt : Halt) (wire : Wire) (x y : Half) (new : Wire) (later_x
 -- A waiting piece isn't sent again: it was sent ten times, or memory ran out, or the run ends with it.
 abbrev pub NotAgain : Halt → FateValue → Half → Wire → Wire → Type 0
 NotAgain (Down end) given half old new = (end ≡ half.end) × (half.sender.tries ≡ 10) × (new ≡ old)
-NotAgain halt given half old new = (half.sender.tries < 10) × Halts old.frames.items half.end half.sender.id (part_now (side_of half)) given halt new.frames.items
+NotAgain halt given half old new = (half.sender.tries < 10)
+    × Halts old.frames.items half.end half.sender.id (part_now (side_of half)) given halt new.frames.items

@@ -45,7 +45,8 @@ pub record Holds (wire : Wire) (x y : Half) : Type 0 where
   pub go : AllGo 1 wire.frames.items
   pub x_half : IsHalf x
   pub y_half : IsHalf y
-  pub line : Line x.end y.end (past_now wire.frames.items) x.taken y.taken wire.released (side_of x) (side_of y) x.receiver y.receiver fx fy x.sender.tries y.sender.tries
+  pub line : Line x.end y.end (past_now wire.frames.items) x.taken y.taken wire.released (side_of x)
+      (side_of y) x.receiver y.receiver fx fy x.sender.tries y.sender.tries
 
 -- the frame behind so many is of this end, and comes
 pub record ComesNext (X : End) (frames : List Frame) (n : ℕ) : Type 0 where

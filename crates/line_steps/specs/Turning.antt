@@ -21,7 +21,8 @@ pub record Settled (wire : Wire) (x y : Half) : Type 0 where
   pub go : AllGo 1 wire.frames.items
   pub x_half : IsHalf x
   pub y_half : IsHalf y
-  pub line : Line x.end y.end (past_now wire.frames.items) x.taken y.taken wire.released (side_of x) (side_of y) x.receiver y.receiver false false x.sender.tries y.sender.tries
+  pub line : Line x.end y.end (past_now wire.frames.items) x.taken y.taken wire.released (side_of x)
+      (side_of y) x.receiver y.receiver false false x.sender.tries y.sender.tries
 
 -- x may begin its next message: it waits for nothing and knows that all its own was taken, and the other end's message is whole
 pub record Turn (wire : Wire) (x y : Half) : Type 0 where
@@ -33,7 +34,8 @@ pub record Turn (wire : Wire) (x y : Half) : Type 0 where
 -- behind data that made a message whole it is the turn of x, which took it, has the message, and sent its acknowledgement last
 abbrev pub TurnAfter : Taken → Wire → Half → Half → Type 0
 TurnAfter Whole wire x y =
-    Turn wire x y × (whole_of x.receiver.pieces ≡ Some y.message.items) × EndsAcknowledging x.end (last_key y.sender.id y.message.items) (map frame_value wire.frames.items)
+    Turn wire x y × (whole_of x.receiver.pieces ≡ Some y.message.items) × EndsAcknowledging x.end (last_key y.sender.id y.message.items)
+    (map frame_value wire.frames.items)
 TurnAfter taken wire x y = ⊤
 
 abbrev pub TurnBehind : Heard → Wire → Half → Half → Type 0

@@ -16,7 +16,8 @@ use Rattle.line_steps.specs.Telling.{KeepsTalk}
 -- x waits, and y hasn't its message whole: the newest piece wasn't taken, or another one comes behind it
 pub record Underway (wire : Wire) (x y : Half) : Type 0 where
   pub waits : Waiting (side_of x)
-  pub due : (length (acked y.end (past_now wire.frames.items)) < length (said x.end (past_now wire.frames.items))) ⊎ (x.sender.acknowledged + 1 < piece_count (length x.message.items))
+  pub due : (length (acked y.end (past_now wire.frames.items)) < length (said x.end (past_now wire.frames.items)))
+      ⊎ (x.sender.acknowledged + 1 < piece_count (length x.message.items))
 
 -- unless y took the last piece
 abbrev pub UnderwayAfter : Taken → Wire → Half → Half → Type 0

@@ -60,7 +60,8 @@ pub fn settle(wire: &mut Wire, x: &mut Half, y: &mut Half, script: &Script) -> R
         Recorded script.now wire.new x.new y.new }
     ensures counted { Counted wire.old x.old y.old → Counted wire.new x.new y.new }
     ensures turn { OnOk result (Turn wire.new x.new y.new) }
-    ensures idle { OnOk result (piece_count (length y.new.message.items) ≤ y.new.sender.acknowledged) }
+    ensures idle { OnOk result (piece_count (length y.new.message.items)
+        ≤ y.new.sender.acknowledged) }
     ensures x_same { OnOk result (SameMessage x.old x.new) }
     ensures y_same { OnOk result (SameMessage y.old y.new) }
     ensures talks { OnOk result (KeepsTalk wire.old x.old y.old wire.new x.new y.new) }
@@ -168,8 +169,10 @@ fn is_whole(heard: Heard) -> bool
 fn wait(wire: &mut Wire, x: &mut Half, y: &mut Half, fate: Fate, other: Fate) -> Result<(), Halt>
     requires holds { Holds wire.old x.old y.old }
     requires waits { Waits x.old.sender }
-    requires x_blocked { Blocked x.old.end (past_now wire.old.frames.items) x.old.taken wire.old.released }
-    requires y_blocked { Blocked y.old.end (past_now wire.old.frames.items) y.old.taken wire.old.released }
+    requires x_blocked { Blocked x.old.end
+        (past_now wire.old.frames.items) x.old.taken wire.old.released }
+    requires y_blocked { Blocked y.old.end
+        (past_now wire.old.frames.items) y.old.taken wire.old.released }
     ensures adds { AddsTwo (fate_value fate) (fate_value other)
         wire.old.frames.items wire.new.frames.items }
     ensures x_place { SamePlace x.old x.new }

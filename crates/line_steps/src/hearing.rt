@@ -31,7 +31,8 @@ pub fn hear(reader: &mut SlpReader, receiver: &mut Receiver, bytes: &[u8]) -> He
     requires short { length bytes.now ≤ 1040 }
     ensures silent { scan bytes.now ≡ [] → Silent receiver.old result receiver.new }
     ensures hears { (id : ℕ) (fragment : FragmentValue) → bytes.now ≡ padp_packet id fragment →
-        FragmentText fragment (fragment_text fragment) → Hears receiver.old id fragment result receiver.new }
+        FragmentText fragment (fragment_text fragment)
+        → Hears receiver.old id fragment result receiver.new }
     ensures gap { reader.new.held ≡ [] }
     ensures tally { reader.new.tally ≡ tally_after reader.old.tally bytes.now }
 {

@@ -44,8 +44,10 @@ pub fn tick(
     other: Fate,
 ) -> Result<(), Halt>
     requires holds { Holds wire.old x.old y.old }
-    requires x_blocked { Blocked x.old.end (past_now wire.old.frames.items) x.old.taken wire.old.released }
-    requires y_blocked { Blocked y.old.end (past_now wire.old.frames.items) y.old.taken wire.old.released }
+    requires x_blocked { Blocked x.old.end
+        (past_now wire.old.frames.items) x.old.taken wire.old.released }
+    requires y_blocked { Blocked y.old.end
+        (past_now wire.old.frames.items) y.old.taken wire.old.released }
     requires waits { Waits x.old.sender ⊎ Waits y.old.sender }
     ensures holds { OnOk result (Holds wire.new x.new y.new) }
     ensures less { OnOk result (work_left wire.new x.new y.new < work_left wire.old x.old y.old) }

@@ -62,7 +62,8 @@ pub record EndsBy (stop : Stop) (frames : List FrameValue) : Type 0 where
   pub is : frames ≡ before ++ last ∷ []
   pub stops : StopsBy last.fate last.bytes (Some stop)
 
--- This end has spent its tries: its last ten data frames bear one key, no acknowledgement of it behind the first of them came, and ten faults stand among the last frames.
+-- This end has spent its tries: its last ten data frames bear one key, no acknowledgement of it behind the first of them came, and ten faults stand
+-- among the last frames.
 pub record SpentIn (end : End) (frames : List FrameValue) : Type 0 where
   pub cursor : End → ℕ
   pub came : CameByCursor 1 cursor frames

@@ -13,7 +13,8 @@ use Rattle.line_steps.specs.Counting.{counts}
 -- how many bytes land of the frames of X up to the last one that came
 abbrev pub land_to_last : End → List FrameValue → ℕ
 land_to_last X [] = 0
-land_to_last X (frame ∷ later) = if nat_eq (count_came X (frame ∷ later)) 0 then 0 else (if is_end X frame.from then landing frame.fate (length frame.bytes) else 0) + land_to_last X later
+land_to_last X (frame ∷ later) = if nat_eq (count_came X (frame ∷ later)) 0 then 0 else
+    (if is_end X frame.from then landing frame.fate (length frame.bytes) else 0) + land_to_last X later
 
 -- a sum, or the greatest count
 abbrev pub capped : ℕ → ℕ

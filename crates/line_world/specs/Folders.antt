@@ -35,15 +35,18 @@ FilesRan told device (exchange ∷ exchanges) later new =
 
 -- files of names that a handheld doesn't read keep their bytes
 abbrev pub OthersStay : Option FileMap → Option FileMap → Type 0
-OthersStay told later = (name : List ℕ) → is_handheld_file name ≡ false → option_map (λ held. finmap.get held name) later ≡ option_map (λ held. finmap.get held name) told
+OthersStay told later = (name : List ℕ) → is_handheld_file name ≡ false → option_map (λ held. finmap.get held name) later
+    ≡ option_map (λ held. finmap.get held name) told
 
 -- The device took the steps of these exchanges, and the files went with them; a request that failed is none of them. The folder stands for the device where it
 -- stood for the one before; at each moment since it stood for the device after some of the steps.
-pub record ServedSince {F : Type 0} (contents : F → Option FileMap) (moments : F → Moments) (paths : F → Option (List (List ℕ))) (faults : F → ℕ) (old new : ServerValue F) (exchanges : List Exchange) : Type 0 where
+pub record ServedSince {F : Type 0} (contents : F → Option FileMap) (moments : F → Moments) (paths : F → Option (List (List ℕ))) (faults : F → ℕ)
+    (old new : ServerValue F) (exchanges : List Exchange) : Type 0 where
   pub ran : Ran old.device exchanges new.device
   pub files : FilesRan (contents old.folder) old.device exchanges (contents new.folder) new.device
   pub others : OthersStay (contents old.folder) (contents new.folder)
   pub stands : Stands (contents old.folder) old.device.databases old.device.user → Stands (contents new.folder) new.device.databases new.device.user
-  pub moments_since : Stands (contents old.folder) old.device.databases old.device.user → EachMomentSince (StoodAfterSome old.device exchanges) (moments old.folder) (moments new.folder)
+  pub moments_since : Stands (contents old.folder) old.device.databases old.device.user
+      → EachMomentSince (StoodAfterSome old.device exchanges) (moments old.folder) (moments new.folder)
   pub same_paths : paths new.folder ≡ paths old.folder
   pub later : faults old.folder ≤ faults new.folder

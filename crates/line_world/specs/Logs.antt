@@ -28,7 +28,11 @@ with_issued log request = record log { issued = log.issued ++ request ∷ [] }
 
 -- it is performed, with this reply
 abbrev pub with_performed : LogValue → List ℕ → List ℕ → LogValue
-with_performed log request reply = record log { performed = log.performed ++ request ∷ []; replies = log.replies ++ reply ∷ []; given = log.given ++ given_in request reply }
+with_performed log request reply = record log {
+  performed = log.performed ++ request ∷ [];
+  replies = log.replies ++ reply ∷ [];
+  given = log.given ++ given_in request reply;
+}
 
 -- there is memory for one more request that is performed
 pub record HasRoom (log : Log) : Type 0 where

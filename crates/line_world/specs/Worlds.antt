@@ -65,7 +65,8 @@ pub record TellAll (talk : talks.Talk) (frames : List FrameValue) : Type 0 where
 abbrev pub StoppedUp : Option LinkFault → Option Down → Type 0
 StoppedUp fault cause = (fault ≡ None → ⊥) × (down_end cause ≡ None)
 
--- Behind the greetings the frames told the handheld the requests that it performed, or one request more, and the desktop the replies that its calls answered, or
+-- Behind the greetings the frames told the handheld the requests that it performed, or one request more, and the desktop the replies that its calls
+-- answered, or
 -- one reply more: the one more only in a run that stopped before it was dealt with, and not because an end had spent its tries.
 pub record TellDone (log : LogValue) (answered : ℕ) (fault : Option LinkFault) (cause : Option Down) (frames : List FrameValue) : Type 0 where
   pub requests :
@@ -87,9 +88,11 @@ pub record LeavesOff (log : LogValue) (answered : ℕ) (fault : Option LinkFault
   pub down : fault ≡ Some link.Down → (log.issued ≡ []) ⊎ (answered < length log.issued)
   pub keeper : cause ≡ Some Keeper → length log.performed < length log.issued
 
--- Since the first of the two more was sent, performed and replied: each request that was performed was one step of the device, in order. The script is the same.
+-- Since the first of the two more was sent, performed and replied: each request that was performed was one step of the device, in order. The script is
+-- the same.
 -- A folder that failed meanwhile had its count rise.
-pub record WorldSince {F : Type 0} (contents : F → Option FileMap) (moments : F → Moments) (paths : F → Option (List (List ℕ))) (faults : F → ℕ) (old new : WorldValue F) : Type 0 where
+pub record WorldSince {F : Type 0} (contents : F → Option FileMap) (moments : F → Moments) (paths : F → Option (List (List ℕ))) (faults : F → ℕ)
+    (old new : WorldValue F) : Type 0 where
   pub same_script : new.script ≡ old.script
   pub requests : List (List ℕ)
   pub issued_is : new.log.issued ≡ old.log.issued ++ requests
@@ -135,7 +138,8 @@ pub record IsHeard (halt : Halt) (log : LogValue) (answered : ℕ) (line : Line)
       ⊎ ((answered < length log.replies) × IsUp halt × LineTold ends.Handheld (bytes_of wake ∷ log.replies) line)
 
 -- what holds of each world
-pub record IsWorld (line : Line) (script : List RuleValue) (log : LogValue) (sound : Bool) (answered : ℕ) (begun : Bool) (fault : Option LinkFault) (cause : Option Down) : Type 0 where
+pub record IsWorld (line : Line) (script : List RuleValue) (log : LogValue) (sound : Bool) (answered : ℕ) (begun : Bool) (fault : Option LinkFault)
+    (cause : Option Down) : Type 0 where
   pub recorded : LineRecords script line
   pub counted : LineCounts line
   pub told : IsTold line log cause

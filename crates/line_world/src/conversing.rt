@@ -47,7 +47,8 @@ pub(crate) fn converse<F: Folder>(
     ensures ends { IfErr result (λ ended. LineTells (said_in (log_value log.old)) line.old →
         LineEnds (halt_of ended) (said_in (log_value log.new)) line.new) }
     // Where nothing was sent, the line is as before.
-    ensures unsent { IfErr result (λ _. log_value log.new ≡ log_value log.old → line.new ≡ line.old) }
+    ensures unsent { IfErr result (λ _. log_value log.new ≡ log_value log.old
+        → line.new ≡ line.old) }
     ensures heard { IfErr result (λ ended. LineTells (said_in (log_value log.old)) line.old →
         IsHeard (halt_of ended) (log_value log.new) (length (log_value log.old).replies)
         line.new) }

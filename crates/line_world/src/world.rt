@@ -56,7 +56,8 @@ impl<F: Folder> Model for World<F> {
       cause = world.cause;
     } };
 
-    ghost invariant = { λ world. IsWorld world.line world.script (log_value world.log) world.server.sound
+    ghost invariant = { λ world. IsWorld world.line world.script
+        (log_value world.log) world.server.sound
         world.answered world.begun world.fault world.cause };
 }
 
@@ -132,7 +133,8 @@ impl<F: Folder> World<F> {
         // most were taken.
         ensures log { IsLog self.log self.answered }
         // The frames are a proper trace by the script of all that was said.
-        ensures proper { IsProper (fate_by self.script) (said_in self.log) (map frame_value result.0.frames.items) }
+        ensures proper { IsProper (fate_by self.script) (said_in self.log)
+            (map frame_value result.0.frames.items) }
         // They tell each end all messages of the other one, or all but the last; while the link answers, all.
         ensures told { TellBoth (said_in self.log) (map frame_value result.0.frames.items) }
         ensures all_told { self.fault ≡ None → self.begun ≡ true →

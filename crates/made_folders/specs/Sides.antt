@@ -1,5 +1,6 @@
 -- What each side holds of the items, and the files that stand for it.
-use Rattle.std.specs.Prelude.{ℕ, false, ◌==◌, ◌||◌, nat_lt, if◌then◌else◌, List, [], ◌∷◌, ◌++◌, codes, option_map, option_to_list, replicate, Option, None, Some}
+use Rattle.std.specs.Prelude.{ℕ, false, ◌==◌, ◌||◌, nat_lt, if◌then◌else◌, List, [], ◌∷◌, ◌++◌, codes, option_map, option_to_list, replicate, Option, None}
+use Rattle.std.specs.Prelude.{Some}
 use Rattle.std.specs.Fmt.{decimal}
 use Rattle.std.specs.FinMap as finmap
 use Rattle.std.specs.List.{flat_map}
@@ -72,8 +73,10 @@ made_user = record { user = 0; viewer = 0; pc = 1; good = 0; last = 0; name = []
 
 -- the handheld's folder
 abbrev pub handheld_files : List Item → FileMap
-handheld_files items = finmap.insert (finmap.insert finmap.empty (codes "MadeDB.pdb") (canonical (made_database Handheld items))) (codes "device.inf") (device_text made_user)
+handheld_files items = finmap.insert (finmap.insert finmap.empty (codes "MadeDB.pdb") (canonical (made_database Handheld items))) (codes "device.inf")
+    (device_text made_user)
 
 -- the desktop's folder: one without an information file has number 1
 abbrev pub desktop_files : List Item → FileMap
-desktop_files items = finmap.insert (finmap.insert finmap.empty (codes "MadeDB.pdb") (canonical (made_database Desktop items))) (codes "MadeDB.base") (canonical (made_database Base items))
+desktop_files items = finmap.insert (finmap.insert finmap.empty (codes "MadeDB.pdb") (canonical (made_database Desktop items))) (codes "MadeDB.base")
+    (canonical (made_database Base items))

@@ -16,9 +16,11 @@ kind_said code =
 -- the first rule behind the kind that bytes of at least a header break
 abbrev pub fault_of_kind : PadpKind → List ℕ → Option FragmentFault
 fault_of_kind kind bytes =
-    if are_flags kind (slice_index bytes flags_place) then (if fits_size kind (slice_index bytes flags_place) (big_number 2 (drop size_place bytes)) (length bytes - header_len) then None else Some BadSize) else Some BadFlags
+    if are_flags kind (slice_index bytes flags_place) then (if fits_size kind (slice_index bytes flags_place) (big_number 2 (drop size_place bytes))
+    (length bytes - header_len) then None else Some BadSize) else Some BadFlags
 
 -- the first rule that the bytes break: they have a header, its kind is one of the four, the flags are its own, the size fits
 abbrev pub fragment_fault : List ℕ → Option FragmentFault
 fragment_fault bytes =
-    if nat_lt (length bytes) header_len then Some Short else (if is_kind (slice_index bytes kind_place) then fault_of_kind (kind_said (slice_index bytes kind_place)) bytes else Some BadType)
+    if nat_lt (length bytes) header_len then Some Short else
+    (if is_kind (slice_index bytes kind_place) then fault_of_kind (kind_said (slice_index bytes kind_place)) bytes else Some BadType)

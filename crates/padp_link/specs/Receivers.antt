@@ -1,5 +1,6 @@
 -- What contracts see of the end that receives, and what it answers to a data fragment.
-use Rattle.std.specs.Prelude.{◌≡◌, ℕ, ◌+◌, ◌-◌, Bool, true, false, not, ◌&&◌, nat_eq, nat_le, List, [], ◌∷◌, ◌++◌, length, replicate, Option, Some, None, if◌then◌else◌}
+use Rattle.std.specs.Prelude.{◌≡◌, ℕ, ◌+◌, ◌-◌, Bool, true, false, not, ◌&&◌, nat_eq, nat_le, List, [], ◌∷◌, ◌++◌, length, replicate, Option, Some, None}
+use Rattle.std.specs.Prelude.{if◌then◌else◌}
 use Rattle.std.specs.List.{flat_map}
 use Rattle.std.specs.Bool.{beq}
 use Rattle.padp_link.specs.Numbers.{first_flag, last_flag}
@@ -32,7 +33,8 @@ whole_of pieces = if is_complete pieces then Some (bytes_of pieces) else None
 -- place, doesn't pass the end of the message, and is the last one exactly where it reaches that end
 abbrev pub goes_on : ℕ → ℕ → FragmentValue → Bool
 goes_on size taken fragment =
-    not (has_flag first_flag fragment.flags) && nat_eq fragment.size taken && nat_le (taken + length fragment.bytes) size && beq (has_flag last_flag fragment.flags) (nat_eq (taken + length fragment.bytes) size)
+    not (has_flag first_flag fragment.flags) && nat_eq fragment.size taken && nat_le (taken + length fragment.bytes) size && beq
+    (has_flag last_flag fragment.flags) (nat_eq (taken + length fragment.bytes) size)
 
 -- the fragment is the next piece: the first one of the message, or the one that goes on behind those that were taken
 abbrev pub is_next_piece : List FragmentValue → FragmentValue → Bool

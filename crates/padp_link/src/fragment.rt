@@ -119,7 +119,8 @@ impl<'a> Fragment<'a> {
 /// The fragment whose text these bytes are, or the first rule that they break.
 pub fn read_fragment(body: &[u8]) -> Result<Fragment<'_>, FragmentFault>
     ensures fragment { IfOk result (λ fragment. FragmentText (fragment_value fragment) body.now) }
-    ensures only { (fragment : FragmentValue) → FragmentText fragment body.now → IsOkAnd result (λ read. fragment_value read ≡ fragment) }
+    ensures only { (fragment : FragmentValue) → FragmentText fragment body.now
+        → IsOkAnd result (λ read. fragment_value read ≡ fragment) }
     ensures fault { result_err result ≡ fragment_fault body.now }
 {
     read_fields(body)
@@ -153,7 +154,8 @@ fn read_fields(body: &[u8]) -> Result<Fragment<'_>, FragmentFault>
 }
 
 fn kind_of(code: u8) -> Option<PadpKind>
-    ensures there { IfSome result (λ kind. (kind_code kind ≡ code) × (is_kind code ≡ true) × (kind_said code ≡ kind)) }
+    ensures there { IfSome result (λ kind. (kind_code kind ≡ code) × (is_kind code ≡ true)
+        × (kind_said code ≡ kind)) }
     ensures none { IfNone result (is_kind code ≡ false) }
 {
     match code {

@@ -44,7 +44,11 @@ impl Model for Receiver {
 
     ghost Value = { ReceiverValue };
 
-    ghost view = { λ receiver. record { awaited = receiver.awaited; pieces = taken_pieces receiver.length receiver.taken receiver.message.items; last = receiver.last } };
+    ghost view = { λ receiver. record {
+      awaited = receiver.awaited;
+      pieces = taken_pieces receiver.length receiver.taken receiver.message.items;
+      last = receiver.last;
+    } };
 
     ghost invariant = { λ receiver. HoldsPieces receiver.length receiver.taken receiver.message };
 }
@@ -55,7 +59,8 @@ impl Receiver {
 
     /// A receiver that waits for nothing.
     pub fn new(alloc: Global) -> Result<Receiver, AllocError>
-        ensures { IfOk result (λ receiver. receiver ≡ record { awaited = None; pieces = []; last = None }) }
+        ensures { IfOk result (λ receiver. receiver
+            ≡ record { awaited = None; pieces = []; last = None }) }
     {
         Ok(Receiver {
             awaited: None,
@@ -103,7 +108,8 @@ impl Receiver {
     /// taken.
     pub fn whole(&self) -> Option<&[u8]>
         ensures message { option_map (λ message. message.now) result ≡ whole_of self.now.pieces }
-        ensures pieces { (id : ℕ) → IfSome result (λ message. self.now.pieces ≡ fragments id message.now) }
+        ensures pieces { (id : ℕ) → IfSome result
+            (λ message. self.now.pieces ≡ fragments id message.now) }
     {
         if !self.is_complete() {
             return None;

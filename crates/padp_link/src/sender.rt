@@ -30,9 +30,15 @@ impl Model for Sender {
 
     ghost Value = { SenderValue };
 
-    ghost view = { λ sender. record { id = sender.id; length = sender.length; acknowledged = sender.acknowledged; tries = sender.tries } };
+    ghost view = { λ sender. record {
+      id = sender.id;
+      length = sender.length;
+      acknowledged = sender.acknowledged;
+      tries = sender.tries;
+    } };
 
-    ghost invariant = { λ sender. (sender.acknowledged ≤ piece_count sender.length) × (sender.tries ≤ 10) };
+    ghost invariant = { λ sender. (sender.acknowledged ≤ piece_count sender.length)
+        × (sender.tries ≤ 10) };
 }
 
 impl Sender {
@@ -76,7 +82,8 @@ impl Sender {
     #[tactic(auto, using(crate::proofs::SenderLaws::waits_with))]
     pub fn on_ack(&mut self, key: Key) -> bool
         ensures taken { IsTrue result ↔ (waiting_key self.old ≡ Some key) }
-        ensures next { result ≡ true → self.new ≡ record self.old { acknowledged = self.old.acknowledged + 1; tries = 1 } }
+        ensures next { result ≡ true → self.new
+            ≡ record self.old { acknowledged = self.old.acknowledged + 1; tries = 1 } }
         ensures stays { result ≡ false → self.new ≡ self.old }
     {
         match self.current() {

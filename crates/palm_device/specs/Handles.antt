@@ -1,5 +1,6 @@
 -- The handles of open databases, 1 to 8 (pilot-link, `pi-dlp.h`: dlp_OpenDB).
-use Rattle.std.specs.Prelude.{ℕ, ◌+◌, ◌-◌, Bool, false, ◌&&◌, not, List, replicate, position, slice_get, slice_set, Option, None, Some, option_and_then, is_none, is_some, ◌==◌, if◌then◌else◌}
+use Rattle.std.specs.Prelude.{ℕ, ◌+◌, ◌-◌, Bool, false, ◌&&◌, not, List, replicate, position, slice_get, slice_set, Option, None, Some, option_and_then}
+use Rattle.std.specs.Prelude.{is_none, is_some, ◌==◌, if◌then◌else◌}
 use Rattle.std.specs.Str.{bytes_eq}
 use Rattle.std.specs.Option.{option_map}
 use Rattle.pdb_values.specs.Databases.{DatabaseValue}

@@ -106,7 +106,8 @@ fn push_resource(
 pub fn purge_resource(database: &mut Database, kind: FourCc, id: u16) -> bool
     ensures purged { database.new ≡ with_resources
         (resources.without_resource kind.0 id database.old.resources) database.old }
-    ensures found { result ≡ is_some (resources.place_of_resource kind.0 id database.old.resources) }
+    ensures found { result ≡ is_some (resources.place_of_resource kind.0 id
+        database.old.resources) }
     ensures differs { Tells database.old (with_resources
         (resources.without_resource kind.0 id database.old.resources) database.old) result }
 {

@@ -44,7 +44,8 @@ first_place bytes = entries_end (of_resources bytes) (count_in bytes)
 abbrev pub block_begins : List ℕ → List ℕ
 block_begins bytes =
     begin_list (number_at 4 app_place bytes)
-    ++ (begin_list (number_at 4 sort_place bytes) ++ begins_in (entry_length (of_resources bytes)) (begin_place (of_resources bytes)) (count_in bytes) (drop header_length bytes))
+    ++ (begin_list (number_at 4 sort_place bytes) ++ begins_in (entry_length (of_resources bytes)) (begin_place (of_resources bytes)) (count_in bytes)
+    (drop header_length bytes))
 
 -- the first rule on blocks that these break: one is out of its place, or else one is too large
 abbrev pub blocks_fault : ℕ → ℕ → List ℕ → Option FileFault

@@ -1,5 +1,6 @@
 -- What a reading of a database file gives, step by step.
-use Rattle.std.specs.Prelude.{◌≡◌, ℕ, ◌/◌, ◌%◌, ◌==◌, Bool, true, false, if◌then◌else◌, List, [], ◌∷◌, drop, slice_index, take, Option, None, Some, unwrap_or, Result, Ok, Err}
+use Rattle.std.specs.Prelude.{◌≡◌, ℕ, ◌/◌, ◌%◌, ◌==◌, Bool, true, false, if◌then◌else◌, List, [], ◌∷◌, drop, slice_index, take, Option, None, Some, unwrap_or}
+use Rattle.std.specs.Prelude.{Result, Ok, Err}
 use Rattle.pdb_values.specs.declared.head.DbHead.{DbHead}
 use Rattle.pdb_values.specs.declared.record.Record.{Record}
 use Rattle.pdb_values.specs.declared.resource.Resource.{Resource}
@@ -10,7 +11,8 @@ use Rattle.pdb_files.specs.declared.header.Header.{Header}
 use Rattle.pdb_files.specs.declared.fault.FileFault.{FileFault}
 use Rattle.pdb_files.specs.declared.fault.FileFault.TheVariants.{NoMemory}
 use Rattle.pdb_files.specs.Fields.{number_at, code_at}
-use Rattle.pdb_files.specs.Headers.{name_end, attributes_place, version_place, created_place, modified_place, backup_place, modnum_place, app_place, sort_place, kind_place, creator_place, seed_place, header_length}
+use Rattle.pdb_files.specs.Headers.{name_end, attributes_place, version_place, created_place, modified_place, backup_place, modnum_place, app_place, sort_place}
+use Rattle.pdb_files.specs.Headers.{kind_place, creator_place, seed_place, header_length}
 use Rattle.pdb_files.specs.Entries.{bits_place, id_place, type_place, number_place, entry_length}
 use Rattle.pdb_files.specs.Blocks.{behind_front, blocks_in, front_block}
 use Rattle.pdb_files.specs.Faults.{count_in, block_begins}

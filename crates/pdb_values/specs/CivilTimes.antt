@@ -32,7 +32,8 @@ seconds_of time = days_before time * 86400 + time.hour * 3600 + time.minute * 60
 -- the calendar has this date, in the years from 1904 to 2040, and a clock this time
 abbrev pub is_civil : CivilTime → Bool
 is_civil time =
-    (nat_le 1904 time.year && nat_le time.year 2040) && (nat_le 1 time.month && nat_le time.month 12) && (nat_le 1 time.day && nat_le time.day (days_in_month time.year time.month))
+    (nat_le 1904 time.year && nat_le time.year 2040) && (nat_le 1 time.month && nat_le time.month 12) &&
+    (nat_le 1 time.day && nat_le time.day (days_in_month time.year time.month))
     && nat_lt time.hour 24 && nat_lt time.minute 60 && nat_lt time.second 60
 
 -- from this year or month on, the one in which the day of this number lies (the first has number 0), and its number there

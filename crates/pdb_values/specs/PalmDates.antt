@@ -1,5 +1,6 @@
 -- Dates on the wire (pilot-link, `pi-dlp.h`) and as text (ISO 8601).
-use Rattle.std.specs.Prelude.{ℕ, ◌+◌, ◌-◌, ◌*◌, min, bytes_eq, ◌/◌, ◌%◌, ◌^◌, ◌==◌, ◌&&◌, Bool, nat_lt, if◌then◌else◌, List, [], ◌∷◌, slice_index, Option, Some, None}
+use Rattle.std.specs.Prelude.{ℕ, ◌+◌, ◌-◌, ◌*◌, min, bytes_eq, ◌/◌, ◌%◌, ◌^◌, ◌==◌, ◌&&◌, Bool, nat_lt, if◌then◌else◌, List, [], ◌∷◌, slice_index, Option, Some}
+use Rattle.std.specs.Prelude.{None}
 use Rattle.pdb_values.specs.declared.civil.CivilTime.{CivilTime}
 use Rattle.pdb_values.specs.CivilTimes.{is_civil, seconds_of, civil_of}
 

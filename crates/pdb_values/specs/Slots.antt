@@ -1,4 +1,5 @@
--- The slots of a desktop, one for each user that it serves: at most sixteen, and slot 0 may wait for its first user (user id 0 in pilot-link's pi-dlp.h: none yet).
+-- The slots of a desktop, one for each user that it serves: at most sixteen, and slot 0 may wait for its first user (user id 0 in pilot-link's
+-- pi-dlp.h: none yet).
 use Rattle.std.specs.Prelude.{◌≡◌, ◌<◌, ⊤, ℕ, Bool, List, Option, None, Some, length, position, slice_index, ◌==◌, nat_lt, if◌then◌else◌}
 use Rattle.pdb_values.specs.declared.slot.Slot.{Slot}
 use Rattle.pdb_values.specs.declared.slot.Slot.TheVariants.{Old, New, Refused, Full}
@@ -24,7 +25,8 @@ slot_at None users add = newcomer users add
 abbrev pub slot_for : List ℕ → ℕ → Bool → Slot
 slot_for users user add = if user == 0 then Old 0 else slot_at (position (λ other. other == user) users) users add
 
--- what is told of a slot holds on a desktop with so many slots: an old one is there, a new one has room, and one is refused for want of room where all are taken
+-- what is told of a slot holds on a desktop with so many slots: an old one is there, a new one has room, and one is refused for want of room where all
+-- are taken
 abbrev pub IsWithin : ℕ → Slot → Type 0
 IsWithin count (Old place) = place < count
 IsWithin count New = count < most_slots

@@ -22,7 +22,8 @@ impl Model for UserName {
 
     ghost view = { λ name. name.bytes.items };
 
-    ghost invariant = { λ name. (length name.bytes.items ≤ 40) × (list_any (λ byte. byte == 0) name.bytes.items ≡ false) };
+    ghost invariant = { λ name. (length name.bytes.items ≤ 40)
+        × (list_any (λ byte. byte == 0) name.bytes.items ≡ false) };
 }
 
 impl UserName {

@@ -1,5 +1,6 @@
 -- The actions of `--actions=L`: items `STEM:WORD` with one comma between them, no stem twice.
-use Rattle.std.specs.Prelude.{◌≡◌, ◌<◌, ℕ, Bool, not, ◌==◌, ◌&&◌, List, [], ◌∷◌, ◌++◌, length, map, Option, Some, None, codes, bytes_eq, is_some, option_map, option_and_then, true, if◌then◌else◌}
+use Rattle.std.specs.Prelude.{◌≡◌, ◌<◌, ℕ, Bool, not, ◌==◌, ◌&&◌, List, [], ◌∷◌, ◌++◌, length, map, Option, Some, None, codes, bytes_eq, is_some, option_map}
+use Rattle.std.specs.Prelude.{option_and_then, true, if◌then◌else◌}
 use Rattle.std.specs.List.{AllByRecursion, list_any, filter_map, find, join_with_byte, slice_split, before_first, after_first}
 use Rattle.pdb_values.specs.Names.{IsName}
 use Rattle.pdb_values.specs.Stems.{stem_of}

@@ -1,5 +1,6 @@
 -- The name that a stem stands for.
-use Rattle.std.specs.Prelude.{ℕ, not, ◌+◌, ◌-◌, ◌*◌, ◌==◌, ◌&&◌, nat_le, nat_lt, List, [], ◌∷◌, Option, Some, None, option_map, option_and_then, is_none, if◌then◌else◌}
+use Rattle.std.specs.Prelude.{ℕ, not, ◌+◌, ◌-◌, ◌*◌, ◌==◌, ◌&&◌, nat_le, nat_lt, List, [], ◌∷◌, Option, Some, None, option_map, option_and_then, is_none}
+use Rattle.std.specs.Prelude.{if◌then◌else◌}
 use Rattle.pdb_values.specs.Names.{name_fault}
 use Rattle.pdb_values.specs.Stems.{is_plain}
 

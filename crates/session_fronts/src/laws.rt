@@ -28,7 +28,8 @@ ghost use Rattle.session_fronts.specs.Stops.{StandsAmongNews, StandsBehindCommit
 /// The acts of a whole session that passes no limit make the merged handheld, where each new record got an
 /// id that no record had at its turn.
 pub fn the_merge_is_reached()
-    ensures { (meeting : Meeting) (given : List ℕ) → IsSoundMeeting meeting → first_over meeting ≡ None
+    ensures { (meeting : Meeting) (given : List ℕ) → IsSoundMeeting meeting
+        → first_over meeting ≡ None
         → GetFreeIds (session meeting given) meeting.device
         → device_after (session meeting given) meeting.device ≡ merged_device meeting given }
 {}
@@ -96,7 +97,8 @@ pub fn acts_lead_to_fronts()
 pub fn given_ids_are_told()
     ensures counted { (meeting : Meeting) (given : List ℕ) → IsSoundMeeting meeting
         → length given ≡ adds_of meeting
-        → (ids_in (before_commit meeting given) ≡ given) × (ids_in (session meeting given) ≡ given) }
+        → (ids_in (before_commit meeting given) ≡ given)
+        × (ids_in (session meeting given) ≡ given) }
     ensures commit { (meeting : Meeting) (given : List ℕ) → IsSoundMeeting meeting
         → first_over meeting ≡ None → GetFreeIds (before_commit meeting given) meeting.device
         → flat_map (λ (exchange : Exchange). given_in exchange.request exchange.reply)

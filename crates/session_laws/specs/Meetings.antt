@@ -55,7 +55,8 @@ pub record LeftAmongNews (meeting next : Meeting) (given : List ℕ → List ℕ
   pub asks : AsksTheSame meeting next
   pub marks : IsUnderWay next
   pub slot : slot_of next ≡ slot_of meeting
-  pub records : (name : List ℕ) → records_of (task_of next name).handheld ≡ after (news_done (action_at meeting name) (found_of meeting name) (given name) (count name)) (found_of meeting name).records
+  pub records : (name : List ℕ) → records_of (task_of next name).handheld
+      ≡ after (news_done (action_at meeting name) (found_of meeting name) (given name) (count name)) (found_of meeting name).records
 
 -- the desktop has the merge of a database
 pub record IsMergedAt (next : Meeting) (name : List ℕ) (end : Ended) : Type 0 where
@@ -70,7 +71,9 @@ pub record LeftBehindCommit (meeting next : Meeting) (given : List ℕ → List 
   pub asks : AsksTheSame meeting next
   pub marks : IsUnderWay next
   pub merged : IsMergedAt next name (ended (action_at meeting name) (found_of meeting name) (given name))
-  pub records : records_of (task_of next name).handheld ≡ after (giving (chosen (action_at meeting name) (found_of meeting name)) (shown (found_of meeting name)) (given name) ++ clearing_done (action_at meeting name) (found_of meeting name) (count name)) (found_of meeting name).records
+  pub records : records_of (task_of next name).handheld
+      ≡ after (giving (chosen (action_at meeting name) (found_of meeting name)) (shown (found_of meeting name)) (given name)
+      ++ clearing_done (action_at meeting name) (found_of meeting name) (count name)) (found_of meeting name).records
 
 -- what it finds behind the whole session
 pub record LeftAtEnd (meeting next : Meeting) (given : List ℕ → List ℕ) (name : List ℕ) : Type 0 where
@@ -101,7 +104,8 @@ places_of es = map (λ (e : Meeting × Place). e.1) es
 -- the databases of a session get their ids in order, each as many as it has adds
 abbrev pub ids_dealt : Meeting → List Task → List ℕ → List ℕ → List ℕ
 ids_dealt meeting [] given name = []
-ids_dealt meeting (task ∷ later) given name = if bytes_eq task.name name then take (add_count meeting task) given else ids_dealt meeting later (drop (add_count meeting task) given) name
+ids_dealt meeting (task ∷ later) given name = if bytes_eq task.name name then take (add_count meeting task) given else ids_dealt meeting later
+    (drop (add_count meeting task) given) name
 
 -- ---- a whole session
 

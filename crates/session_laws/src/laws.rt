@@ -47,7 +47,8 @@ pub fn purges_are_taken_up()
 /// What is merged on both sides stays as it is, whichever sides the sessions go by, and whichever way the
 /// next one reads.
 pub fn an_ended_session_is_not_undone()
-    ensures { (a : Action) (x : Found) (given later : List ℕ) (view : List Seen) (gone_counts : Bool)
+    ensures { (a : Action) (x : Found) (given later : List ℕ) (view : List Seen)
+        (gone_counts : Bool)
         → IsRead x → GotIds a x given
         → let y = left_at_end a x given view gone_counts in
         IsRead y → EndAlike (ended a y later) (ended a x given) }

@@ -28,7 +28,8 @@ pub fn a_reading_shows()
 /// Where a session stopped, the next meeting finds each database at the place of the stop: while the
 /// handheld's mark says that a session was under way, all is read and gone rows count.
 pub fn a_stop_is_found()
-    ensures news { (meeting next : Meeting) (given : List ℕ → List ℕ) (count : List ℕ → ℕ) (name : List ℕ)
+    ensures news { (meeting next : Meeting) (given : List ℕ → List ℕ) (count : List ℕ → ℕ)
+        (name : List ℕ)
         → LeftAmongNews meeting next given count
         → Follows meeting next name (among_news (given name) (count name)) }
     ensures commit { (meeting next : Meeting) (given : List ℕ → List ℕ) (count : List ℕ → ℕ)
@@ -67,7 +68,8 @@ pub fn a_merge_is_found()
         → LeftAtEnd meeting next (ids_at meeting given) name }
     ensures holds { (meeting : Meeting) (given : List ℕ) (name : List ℕ) → IsActive meeting name
         → let ids = ids_at meeting given name in
-        holding_after meeting given name ≡ ended (action_at meeting name) (found_of meeting name) ids }
+        holding_after meeting given name
+        ≡ ended (action_at meeting name) (found_of meeting name) ids }
 {}
 
 /// After any number of meetings that stopped, both sides hold of each database what they would hold if the

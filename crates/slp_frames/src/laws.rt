@@ -7,7 +7,8 @@ ghost use Rattle.slp_frames.specs.PacketScan.{scan};
 
 /// The text of a packet determines it, whatever follows.
 pub fn text_determines_packet()
-    ensures { (p q : PacketValue) (x y : List ℕ) → HasText p → HasText q → packet_text p ++ x ≡ packet_text q ++ y → (p ≡ q) × (x ≡ y) }
+    ensures { (p q : PacketValue) (x y : List ℕ) → HasText p → HasText q
+        → packet_text p ++ x ≡ packet_text q ++ y → (p ≡ q) × (x ≡ y) }
 {}
 
 /// The text of a packet holds that packet alone.
@@ -22,16 +23,20 @@ pub fn dead_stays_dead()
 
 /// The packets of the first bytes of a stream are the first ones of the stream.
 pub fn scan_begins_longer_scan()
-    ensures { (bytes more : List ℕ) → (later : List PacketValue) × (scan (bytes ++ more) ≡ scan bytes ++ later) }
+    ensures { (bytes more : List ℕ) → (later : List PacketValue)
+        × (scan (bytes ++ more) ≡ scan bytes ++ later) }
 {}
 
 /// The packets of the scan are those that stand next to each other by places.
 pub fn scan_is_by_places()
-    ensures there { (bytes : List ℕ) → (found : List Located) × IsScan bytes found × (map (λ f. f.packet) found ≡ scan bytes) }
-    ensures only { (bytes : List ℕ) (found others : List Located) → IsScan bytes found → IsScan bytes others → found ≡ others }
+    ensures there { (bytes : List ℕ) → (found : List Located) × IsScan bytes found
+        × (map (λ f. f.packet) found ≡ scan bytes) }
+    ensures only { (bytes : List ℕ) (found others : List Located) → IsScan bytes found
+        → IsScan bytes others → found ≡ others }
 {}
 
 /// A text that is cut off before its end holds no packet.
 pub fn a_cut_text_holds_no_packet()
-    ensures { (p : PacketValue) (bytes more : List ℕ) → HasText p → bytes ++ more ≡ packet_text p → length bytes < length (packet_text p) → scan bytes ≡ [] }
+    ensures { (p : PacketValue) (bytes more : List ℕ) → HasText p → bytes ++ more ≡ packet_text p
+        → length bytes < length (packet_text p) → scan bytes ≡ [] }
 {}

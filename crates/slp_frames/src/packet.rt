@@ -80,7 +80,8 @@ pub fn write_packet(packet: &Packet, out: &mut ArrayVec<u8, MAX_PACKET>)
 /// The header with these fields.
 #[tactic(auto, unfolding(crate::specs::PacketText::header_text))]
 pub(crate) fn write_header(dest: u8, source: u8, kind: u8, size: u16, id: u8) -> [u8; HEADER_LEN]
-    ensures { result ≡ header_text (record { dest = dest; source = source; kind = kind; size = size; id = id }) }
+    ensures { result ≡ header_text (record
+        { dest = dest; source = source; kind = kind; size = size; id = id }) }
 {
     let mut header = [SYNC[0], SYNC[1], SYNC[2], dest, source, kind, 0, 0, id, 0];
     BigEndian::write_u16(&mut header[SIZE..], size);

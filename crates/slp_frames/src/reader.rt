@@ -29,7 +29,10 @@ impl Model for SlpReader {
 
     ghost Value = { ReaderValue };
 
-    ghost view = { λ reader. record { held = drop reader.passed reader.buffer.items; tally = reader.tally } };
+    ghost view = { λ reader. record {
+      held = drop reader.passed reader.buffer.items;
+      tally = reader.tally;
+    } };
 
     ghost invariant = { λ reader. reader.passed ≤ length reader.buffer.items };
 }
@@ -54,8 +57,10 @@ impl SlpReader {
         ensures count { result ≡ min (length piece.now) (1040 - length self.old.held) }
         ensures held { self.new.held ≡ self.old.held ++ take result piece.now }
         ensures continues { (taken : List ℕ) (handed : List PacketValue) →
-            Continues taken handed self.old.held → Continues (taken ++ take result piece.now) handed self.new.held }
-        ensures tally { self.new.tally ≡ record self.old.tally { bytes = raised self.old.tally.bytes result } }
+            Continues taken handed self.old.held
+            → Continues (taken ++ take result piece.now) handed self.new.held }
+        ensures tally { self.new.tally ≡ record self.old.tally
+            { bytes = raised self.old.tally.bytes result } }
     {
         self.buffer.drain(..self.passed);
         self.passed = 0;

@@ -27,8 +27,10 @@ pub trait PacketSink {
 /// Hands each packet of a stream that comes in these pieces to the sink, up to the sink's first
 /// fault.
 pub fn read_pieces<S: PacketSink>(pieces: &[Vec<u8>], sink: &mut S) -> Result<(), S::Fault>
-    ensures ok { OnOk result (S.taken sink.new ≡ S.taken sink.old ++ scan (flat_map (λ piece. piece.items) pieces.now)) }
-    ensures err { OnErr result (GainsFront (flat_map (λ piece. piece.items) pieces.now) (S.taken sink.old) (S.taken sink.new)) }
+    ensures ok { OnOk result (S.taken sink.new ≡ S.taken sink.old
+        ++ scan (flat_map (λ piece. piece.items) pieces.now)) }
+    ensures err { OnErr result (GainsFront (flat_map (λ piece. piece.items) pieces.now)
+        (S.taken sink.old) (S.taken sink.new)) }
 {
     let mut reader = SlpReader::new();
     for piece in pieces {
@@ -44,9 +46,11 @@ fn read_piece<S: PacketSink>(
     sink: &mut S,
 ) -> Result<(), S::Fault>
     requires { IsDrained reader.old.held }
-    ensures ok { OnOk result (Gains (reader.old.held ++ piece.now) (S.taken sink.old) (S.taken sink.new) reader.new.held) }
+    ensures ok { OnOk result (Gains (reader.old.held ++ piece.now) (S.taken sink.old)
+        (S.taken sink.new) reader.new.held) }
     ensures drained { OnOk result (IsDrained reader.new.held) }
-    ensures err { OnErr result (GainsFront (reader.old.held ++ piece.now) (S.taken sink.old) (S.taken sink.new)) }
+    ensures err { OnErr result (GainsFront (reader.old.held ++ piece.now) (S.taken sink.old)
+        (S.taken sink.new)) }
 {
     let mut rest = piece;
     while !rest.is_empty() {
@@ -59,7 +63,8 @@ fn read_piece<S: PacketSink>(
 
 /// Hands the packets that the reader holds to the sink.
 fn drain<S: PacketSink>(reader: &mut SlpReader, sink: &mut S) -> Result<(), S::Fault>
-    ensures ok { OnOk result (Gains reader.old.held (S.taken sink.old) (S.taken sink.new) reader.new.held) }
+    ensures ok { OnOk result (Gains reader.old.held (S.taken sink.old)
+        (S.taken sink.new) reader.new.held) }
     ensures drained { OnOk result (IsDrained reader.new.held) }
     ensures err { OnErr result (GainsFront reader.old.held (S.taken sink.old) (S.taken sink.new)) }
 {

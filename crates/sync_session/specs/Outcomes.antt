@@ -1,5 +1,6 @@
 -- How a session over a link that tells its device ends, and what it leaves of both sides.
-use Rattle.std.specs.Prelude.{◌≡◌, ◌⊎◌, ℕ, List, [], ◌∷◌, length, map, replicate, slice_index, Option, None, Some, IfErr, IfOk, IfSome, IsSome, OnErr, Result, Ok, Err}
+use Rattle.std.specs.Prelude.{◌≡◌, ◌⊎◌, ℕ, List, [], ◌∷◌, length, map, replicate, slice_index, Option, None, Some, IfErr, IfOk, IfSome, IsSome, OnErr, Result}
+use Rattle.std.specs.Prelude.{Ok, Err}
 use Rattle.std.specs.Global.{Vec}
 use Rattle.hs_folders.specs.FileMaps.{FileMap}
 use Rattle.hs_folders.specs.Moments.{EachMomentSince, Moments}

@@ -107,7 +107,8 @@ fn give_planned<L: Link>(
     one: &Planned,
 ) -> Result<Vec<RecordId>, SessionFault>
     requires { linked.old.abandoned ≡ false }
-    ensures spans { Spans L.talk L.since L.fault L.downs (news_under (L.talk linked.old.link) one.now)
+    ensures spans { Spans L.talk L.since L.fault L.downs
+        (news_under (L.talk linked.old.link) one.now)
         (λ handle given ids. gained (L.talk linked.old.link) one.now handle given ids.items)
         linked.old linked.new result }
 {

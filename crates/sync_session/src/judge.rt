@@ -66,7 +66,8 @@ fn differs(handheld: Option<&DbHead>, rows: Option<&DbHead>) -> bool
 
 // Whether the side is missing that the action goes by, or the handheld lost what both had.
 fn misses(action: Action, handheld: Option<&DbHead>, rows: Option<&DbHead>, base: bool) -> bool
-    ensures { result ≡ is_missing action (option_copied handheld.entry) (option_copied rows.entry) base }
+    ensures { result ≡ is_missing action (option_copied handheld.entry)
+        (option_copied rows.entry) base }
 {
     match action {
         Action::Sync => handheld.is_none() && base,
@@ -82,7 +83,8 @@ fn reason_of(
     rows: Option<&DbHead>,
     base: bool,
 ) -> Option<Skip>
-    ensures { result ≡ reason action (option_copied handheld.entry) (option_copied rows.entry) base }
+    ensures { result ≡ reason action (option_copied handheld.entry)
+        (option_copied rows.entry) base }
 {
     if holds_resources(handheld) || holds_resources(rows) {
         Some(Skip::Resource)
@@ -107,7 +109,8 @@ pub fn skip_of(
     rows: Option<&DbHead>,
     base: bool,
 ) -> Option<Skip>
-    ensures { result ≡ reason_by action (option_copied handheld.entry) (option_copied rows.entry) base }
+    ensures { result ≡ reason_by action (option_copied handheld.entry)
+        (option_copied rows.entry) base }
 {
     match action {
         Some(action) => reason_of(action, handheld, rows, base),

@@ -40,9 +40,11 @@ pub fn requests_bear_no_given_id()
 
 /// The rows and the base rows of a plan are those of the merge.
 pub fn planned_rows_are_merged()
-    ensures rows { (action : Action) (sides : Sides) (plan : Plan) (given : List ℕ) → IsPlan action sides plan
+    ensures rows { (action : Action) (sides : Sides) (plan : Plan) (given : List ℕ)
+        → IsPlan action sides plan
         → planned_rows plan given ≡ merged_rows (choice_for action sides) given }
-    ensures base { (action : Action) (sides : Sides) (plan : Plan) (given : List ℕ) → IsPlan action sides plan
+    ensures base { (action : Action) (sides : Sides) (plan : Plan) (given : List ℕ)
+        → IsPlan action sides plan
         → planned_base plan given ≡ merged_base (choice_for action sides) sides.handheld given }
 {}
 
@@ -50,7 +52,8 @@ pub fn planned_rows_are_merged()
 pub fn the_first_over_is_the_meetings()
     ensures { (meeting : Meeting) (planned : List Planned)
         → IsProper meeting.device → ArePlannedFor meeting planned
-        → over_planned (slot_of meeting).shelves (length meeting.device.databases) (all_rows meeting.slots) planned
+        → over_planned (slot_of meeting).shelves (length meeting.device.databases)
+        (all_rows meeting.slots) planned
         ≡ first_over meeting }
 {}
 

@@ -99,7 +99,8 @@ pub(crate) fn archive_count(
     old: &[Record],
     new: &[(RecordId, Content)],
 ) -> Result<usize, AllocError>
-    ensures { IfOk result (λ count. count ≡ length (one_copy_behind [] (entries_of old.now ++ new.now))) }
+    ensures { IfOk result (λ count. count
+        ≡ length (one_copy_behind [] (entries_of old.now ++ new.now))) }
 {
     Ok(merged_archive(alloc, old, new)?.len())
 }

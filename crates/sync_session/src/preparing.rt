@@ -57,7 +57,8 @@ fn judge<D: Folder>(
     listed: usize,
     planned: &[Planned],
 ) -> Result<Vec<DbReport>, Stop>
-    ensures { Judges (over_planned (shelves_in desk.now) listed (all_rows desk.now.slots) planned.now)
+    ensures { Judges (over_planned (shelves_in desk.now) listed
+        (all_rows desk.now.slots) planned.now)
         (reports_planned (shelves_in desk.now) planned.now) result }
 {
     match first_over(alloc, desk, listed, planned)? {
@@ -75,7 +76,8 @@ pub fn prepare<L: Link, D: Folder>(
     wishes: &Wishes,
 ) -> Result<Prepared, Stop>
     requires { linked.old.abandoned ≡ false }
-    ensures prepares { Prepares L.talk L.since L.fault L.downs heads.now wishes.now desk.now linked.old
+    ensures prepares { Prepares L.talk L.since L.fault L.downs heads.now wishes.now desk.now
+        linked.old
         linked.new result }
     ensures open { OnOk result (linked.new.abandoned ≡ false) }
 {

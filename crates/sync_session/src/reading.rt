@@ -129,7 +129,8 @@ fn read_job<L: Link, D: Folder>(
     ensures spans { Spans L.talk L.since L.fault L.downs
         (reads_under (shelves_in desk.now) (L.talk linked.old.link) job.now)
         (λ handle given view.
-        shown_under (shelves_in desk.now) (L.talk linked.old.link) job.now handle given view.seen.items)
+        shown_under (shelves_in desk.now)
+        (L.talk linked.old.link) job.now handle given view.seen.items)
         linked.old linked.new result }
 {
     match &job.skip {

@@ -25,7 +25,8 @@ fn archived_count<D: Folder>(
     desk: &Desk<D>,
     one: &Planned,
 ) -> Result<usize, AllocError>
-    ensures { IfOk result (λ count. count ≡ reports.archived_planned (shelves_in desk.now) one.now) }
+    ensures { IfOk result (λ count. count
+        ≡ reports.archived_planned (shelves_in desk.now) one.now) }
 {
     let old = archived(desk, &one.job.name);
     let before = archive_count(alloc, old, &[])?;
@@ -35,7 +36,8 @@ fn archived_count<D: Folder>(
 
 // How a planned database is synchronised.
 fn counts_of<D: Folder>(alloc: Global, desk: &Desk<D>, one: &Planned) -> Result<Counts, AllocError>
-    ensures { IfOk result (λ counts. counts ≡ reports.counts_planned (shelves_in desk.now) one.now) }
+    ensures { IfOk result (λ counts. counts
+        ≡ reports.counts_planned (shelves_in desk.now) one.now) }
 {
     let plan = &one.plan;
     Ok(Counts {
@@ -55,7 +57,8 @@ fn report_of<D: Folder>(
     desk: &Desk<D>,
     one: &Planned,
 ) -> Result<DbReport, AllocError>
-    ensures { IfOk result (λ report. report ≡ reports.report_planned (shelves_in desk.now) one.now) }
+    ensures { IfOk result (λ report. report
+        ≡ reports.report_planned (shelves_in desk.now) one.now) }
 {
     let did = match one.job.skip {
         Some(skip) => Did::Skipped(skip),
@@ -75,7 +78,8 @@ pub fn reports_of<D: Folder>(
     desk: &Desk<D>,
     planned: &[Planned],
 ) -> Result<Vec<DbReport>, AllocError>
-    ensures { IfOk result (λ made. made.items ≡ reports.reports_planned (shelves_in desk.now) planned.now) }
+    ensures { IfOk result (λ made. made.items
+        ≡ reports.reports_planned (shelves_in desk.now) planned.now) }
 {
     let mut made = Vec::new(alloc);
     for one in planned {

@@ -17,5 +17,6 @@ pub fn a_losing_line_has_a_proper_trace()
 
 /// With one digit changed the trace is proper by no script and for no messages.
 pub fn a_changed_digit_is_noticed()
-    ensures { (script : ℕ → FateValue) (messages : Talk) → ¬ (IsProper script messages changed_frames) }
+    ensures { (script : ℕ → FateValue) (messages : Talk)
+        → ¬ (IsProper script messages changed_frames) }
 {}

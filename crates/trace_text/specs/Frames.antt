@@ -25,7 +25,12 @@ course_of _ = Gone
 -- what stands in the places of a fragment's fields
 abbrev pub fields_of : List ℕ → FragmentValue
 fields_of body =
-    record { kind = kind_said (slice_index body kind_place); flags = slice_index body flags_place; size = big_number 2 (drop size_place body); bytes = drop header_len body }
+    record {
+      kind = kind_said (slice_index body kind_place);
+      flags = slice_index body flags_place;
+      size = big_number 2 (drop size_place body);
+      bytes = drop header_len body;
+    }
 
 -- the fragment in the body of the packet that a frame is
 abbrev pub fragment_in : FrameValue → FragmentValue

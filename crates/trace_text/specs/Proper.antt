@@ -27,7 +27,8 @@ StaysAway X frame = frame.from ≡ X → frame.came ≡ false
 abbrev pub ComeInOrder : List FrameValue → Type 0
 ComeInOrder [] = Unit {0}
 ComeInOrder (frame ∷ later) =
-    (frame.came ≡ true → arrives frame.fate ≡ true) × (arrives frame.fate ≡ true → frame.came ≡ false → AllByRecursion (StaysAway frame.from) later) × ComeInOrder later
+    (frame.came ≡ true → arrives frame.fate ≡ true) × (arrives frame.fate ≡ true → frame.came ≡ false → AllByRecursion (StaysAway frame.from) later)
+    × ComeInOrder later
 
 -- Frame n reached the frame that is sent behind this past: it stands there, came, and isn't held.
 pub record Reaches (came : ℕ → Bool) (n : ℕ) (past : List Sent) : Type 0 where
@@ -79,7 +80,8 @@ IfAnswers (Some turn) talk came past = EndReached turn talk came past
 -- where a message of X begins behind this past, the end of the message that it answers was reached
 abbrev pub AnswersReached : End → Talk → (ℕ → Bool) → List Sent → Type 0
 AnswersReached X talk came past =
-    (number : ℕ) → number < length (messages_of X talk) → pieces_before (messages_of X talk) number ≡ length (said X past) → IfAnswers (answered_by X number) talk came past
+    (number : ℕ) → number < length (messages_of X talk) → pieces_before (messages_of X talk) number ≡ length (said X past)
+    → IfAnswers (answered_by X number) talk came past
 
 -- each new fragment of X goes out once X knows that the one before it was taken, and once what its message answers was taken
 abbrev pub BeginInTurn : End → End → Talk → (ℕ → Bool) → List Sent → Type 0
@@ -107,7 +109,8 @@ pub record Numbered : Type 0 where
 abbrev pub data_that_came : End → (ℕ → Bool) → List Sent → List Numbered
 data_that_came X came [] = []
 data_that_came X came (frame ∷ past) =
-    if is_data_of X frame && came (length past + 1) then record { number = length past + 1; key = frame.key } ∷ data_that_came X came past else data_that_came X came past
+    if is_data_of X frame && came (length past + 1) then record { number = length past + 1; key = frame.key } ∷ data_that_came X came past else data_that_came X
+    came past
 
 abbrev pub is_ack_of : End → Sent → Bool
 is_ack_of Y frame = is_end Y frame.from && not frame.is_data
@@ -117,7 +120,8 @@ abbrev pub AcksAreFor : End → (ℕ → Bool) → List Sent → List Numbered �
 AcksAreFor Y came [] answered = answered ≡ []
 AcksAreFor Y came (frame ∷ past) answered =
     MatchBool (is_ack_of Y frame)
-    ((data_frame : Numbered) × (older : List Numbered) × (answered ≡ data_frame ∷ older) × (data_frame.key ≡ frame.key) × Reaches came data_frame.number past × AcksAreFor Y came past older)
+    ((data_frame : Numbered) × (older : List Numbered) × (answered ≡ data_frame ∷ older) × (data_frame.key ≡ frame.key) × Reaches came data_frame.number past
+    × AcksAreFor Y came past older)
     (AcksAreFor Y came past answered)
 
 -- of all but the last

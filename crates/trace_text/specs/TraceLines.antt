@@ -33,7 +33,8 @@ mark_word came = if came then codes "+" else codes "-"
 -- `NUMBER END FATE MARK HEX` and a line feed
 abbrev pub frame_line : FrameValue → List ℕ
 frame_line frame =
-    decimal frame.number ++ codes " " ++ end_word frame.from ++ codes " " ++ fate_words frame.fate ++ codes " " ++ mark_word frame.came ++ codes " " ++ encode_lower frame.bytes ++ codes "\n"
+    decimal frame.number ++ codes " " ++ end_word frame.from ++ codes " " ++ fate_words frame.fate ++ codes " " ++ mark_word frame.came ++ codes " "
+    ++ encode_lower frame.bytes ++ codes "\n"
 
 -- a line for each frame
 abbrev pub trace_text : List FrameValue → List ℕ

@@ -42,7 +42,8 @@ fn show_body(alloc: Global, body: &[u8]) -> Result<String, AllocError>
 
 #[tactic(auto, unfolding(crate::specs::PacketLines::fragment_words))]
 fn fragment_words(alloc: Global, fragment: &Fragment<'_>) -> Result<String, AllocError>
-    ensures { IfOk result (λ text. string_bytes text ≡ fragment_words (fragment_value fragment.now)) }
+    ensures { IfOk result (λ text. string_bytes text
+        ≡ fragment_words (fragment_value fragment.now)) }
 {
     let flags = hex::encode(alloc, [fragment.flags])?;
     let (size, len) = (fragment.size, fragment.bytes.len());

@@ -22,7 +22,8 @@ pub fn show_packets(alloc: Global, bytes: &[u8]) -> Result<String, AllocError>
 
 // A line for each packet of a stream.
 fn packet_lines(alloc: Global, bytes: &[u8]) -> Result<Vec<String>, AllocError>
-    ensures { IfOk result (λ lines. AllZip ShowsPacket (scan bytes.now) (map string_bytes lines.items)) }
+    ensures { IfOk result (λ lines. AllZip ShowsPacket (scan bytes.now)
+        (map string_bytes lines.items)) }
 {
     let mut lines = Vec::new(alloc);
     let mut reader = SlpReader::new();
@@ -42,7 +43,8 @@ fn push_held(
     lines: &mut Vec<String>,
 ) -> Result<(), AllocError>
     ensures shown { OnOk result ((taken : List ℕ) →
-        IsShown taken (map string_bytes lines.old.items) reader.old.held → IsShown taken (map string_bytes lines.new.items) reader.new.held) }
+        IsShown taken (map string_bytes lines.old.items) reader.old.held
+        → IsShown taken (map string_bytes lines.new.items) reader.new.held) }
     ensures drained { OnOk result (IsDrained reader.new.held) }
 {
     while let Some(packet) = reader.next() {
@@ -54,7 +56,8 @@ fn push_held(
 
 // The lines, each with its end, and then how many there are.
 fn joined(alloc: Global, lines: &[String]) -> Result<String, AllocError>
-    ensures { IfOk result (λ text. string_bytes text ≡ lines_text (map string_bytes lines.now) ++ count_line (length lines.now)) }
+    ensures { IfOk result (λ text. string_bytes text ≡ lines_text (map string_bytes lines.now)
+        ++ count_line (length lines.now)) }
 {
     let mut text = String::new(alloc);
     for line in lines {
