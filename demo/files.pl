@@ -1,5 +1,5 @@
 #!/usr/bin/perl
-# Writes the database files that the run of `examples_run` shows, with the modules of Debian's libpalm-perl, so that
+# Writes the database files that `run_cases` shows, with the modules of Debian's libpalm-perl, so that
 # they come from software that is not ours: perl demo/files.pl FOLDER. The document beside them is made by txt2pdbdoc:
 # txt2pdbdoc -c 'Sonnet 18' sonnet.txt sonnet.pdb
 use strict;

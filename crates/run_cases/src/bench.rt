@@ -2,7 +2,7 @@
 use crate::shown::{files_text, report_text, trace_lines};
 use crate::words::words_text;
 use case_words::{bytes_in, number_in};
-use hotsync_run::{Answer, Ended, run_program};
+use hotsync_run::{Answer, Ended, Report, run_program};
 use hs_folders::{MemFolder, MemSink, MemSource};
 use std::alloc::{AllocError, Global};
 use std::{io, mem};
@@ -43,8 +43,8 @@ impl Bench {
                 *self = Bench::new(self.alloc);
                 return Ok(format!(in self.alloc; "{line}\n")?);
             }
-            "call" => return self.call(rest, true),
-            "print" => return self.call(rest, false),
+            "call" => return Ok(self.call(rest, true)?),
+            "print" => return Ok(self.call(rest, false)?),
             "names" => return self.shown(false),
             "files" => return self.shown(true),
             "trace" => return Ok(trace_lines(self.alloc, &self.trace, rest)?),
@@ -133,22 +133,36 @@ impl Bench {
     }
 
     // Calls with these words, and tells what the session did where that is asked for.
-    fn call(&mut self, rest: &str, whole: bool) -> io::Result<String> {
+    fn call(&mut self, rest: &str, whole: bool) -> Result<String, AllocError> {
         let alloc = self.alloc;
-        let mut args = vec![in alloc; String::from_str(alloc, "hotsync")?]?;
-        for word in rest.split(' ').filter(|word| *word != "-") {
-            args.push(String::from_str(alloc, word)?)?;
-        }
-        let palm = mem::replace(&mut self.palm, MemFolder::new(alloc));
-        let desk = mem::replace(&mut self.desk, MemFolder::new(alloc));
+        let args = args_of(alloc, rest)?;
         let mut source = MemSource::new(alloc, self.source.clone()?);
         source.fail_calls(self.failing_source.clone()?);
-        let mut trace = MemSink::new(alloc);
-        trace.fail_calls(self.failing_trace.clone()?);
-        let mut out = MemSink::new(alloc);
-        out.fail_calls(self.failing_out.clone()?);
-        let ended = run_program(alloc, &args, palm, desk, &mut source, &mut trace, &mut out);
-        let Ended { code, answer } = ended;
+        let mut trace = failing_sink(alloc, &self.failing_trace)?;
+        let mut out = failing_sink(alloc, &self.failing_out)?;
+        let (code, report) = self.over_folders(&args, &mut source, &mut trace, &mut out);
+        self.trace = Vec::from_slice(alloc, trace.bytes())?;
+        let printed = String::from_utf8_lossy(alloc, out.bytes())?;
+        let did = if whole {
+            report_text(alloc, &report)?
+        } else {
+            String::new(alloc)
+        };
+        format!(in alloc; "status {code}\n{printed}{did}")
+    }
+
+    // Calls over both folders, which come back and fail no more.
+    fn over_folders(
+        &mut self,
+        args: &[String],
+        source: &mut MemSource,
+        trace: &mut MemSink,
+        out: &mut MemSink,
+    ) -> (u8, Report) {
+        let alloc = self.alloc;
+        let palm = mem::replace(&mut self.palm, MemFolder::new(alloc));
+        let desk = mem::replace(&mut self.desk, MemFolder::new(alloc));
+        let Ended { code, answer } = run_program(alloc, args, palm, desk, source, trace, out);
         let Answer {
             device,
             desk,
@@ -159,14 +173,7 @@ impl Bench {
         self.desk = desk;
         self.palm.fail_calls(Vec::new(alloc));
         self.desk.fail_calls(Vec::new(alloc));
-        self.trace = Vec::from_slice(alloc, trace.bytes())?;
-        let printed = String::from_utf8_lossy(alloc, out.bytes())?;
-        let did = if whole {
-            report_text(alloc, &report)?
-        } else {
-            String::new(alloc)
-        };
-        Ok(format!(in alloc; "status {code}\n{printed}{did}")?)
+        (code, report)
     }
 
     // The files of both folders.
@@ -176,6 +183,22 @@ impl Bench {
         shown.push_str(desk.as_str())?;
         Ok(shown)
     }
+}
+
+/// The words of a call, behind the program's name. A `-` stands for no word.
+pub fn args_of(alloc: Global, rest: &str) -> Result<Vec<String>, AllocError> {
+    let mut args = vec![in alloc; String::from_str(alloc, "hotsync")?]?;
+    for word in rest.split(' ').filter(|word| *word != "-") {
+        args.push(String::from_str(alloc, word)?)?;
+    }
+    Ok(args)
+}
+
+// A sink of which these calls fail.
+fn failing_sink(alloc: Global, calls: &Vec<u32>) -> Result<MemSink, AllocError> {
+    let mut sink = MemSink::new(alloc);
+    sink.fail_calls(calls.clone()?);
+    Ok(sink)
 }
 
 // An empty folder that records its moments.

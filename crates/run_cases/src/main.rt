@@ -15,6 +15,8 @@
 //! - `words WORDS` prints what these words are read as: `usage` where they are out of the form, and else each word, the date in
 //!   seconds and an option that isn't given as `-`; behind `actions` the names with their actions, and what is done with
 //!   `MemoDB`.
+//! - `system WORDS` calls over the folders, files and standard output of the system, and prints the words behind `$ hotsync`, and
+//!   then what that call prints. These are the calls of the folder `examples`, and some over files that other software wrote.
 //! - `moments` prints how often each folder changed, and `at palm N` takes it as it was after N changes.
 #![tactic(auto)]
 
@@ -22,16 +24,46 @@ mod bench;
 mod shown;
 mod words;
 
-use bench::Bench;
+use bench::{Bench, args_of};
+use hotsync_run::run_program;
+use hs_folders::{DirFolder, FileSink, FileSource, StdoutSink};
 use std::io;
 
 fn main(rt: HostRuntime) -> io::Result<()> {
-    let alloc = rt.alloc();
-    let mut bench = Bench::new(alloc);
-    for line in rt.lines(alloc) {
+    let mut bench = Bench::new(rt.alloc());
+    answer(&rt, &mut bench)
+}
+
+// Prints what each line gets.
+fn answer(rt: &HostRuntime, bench: &mut Bench) -> io::Result<()> {
+    for line in rt.lines(rt.alloc()) {
         let line = line?;
-        let said = bench.obey(line.as_str())?;
-        print!(rt; "{said}")?;
+        match line.strip_prefix("system ") {
+            Some(words) => call_on_system(rt, words)?,
+            None => print_said(rt, bench, line.as_str())?,
+        }
     }
+    Ok(())
+}
+
+fn print_said(rt: &HostRuntime, bench: &mut Bench, line: &str) -> io::Result<()> {
+    let said = bench.obey(line)?;
+    print!(rt; "{said}")
+}
+
+// Calls over the folders beside the program, and the files and the standard output of the system.
+fn call_on_system(rt: &HostRuntime, words: &str) -> io::Result<()> {
+    let alloc = rt.alloc();
+    println!(rt; "$ hotsync {words}")?;
+    let args = args_of(alloc, words)?;
+    run_program(
+        alloc,
+        &args,
+        DirFolder::new(rt, alloc),
+        DirFolder::new(rt, alloc),
+        &mut FileSource::new(rt),
+        &mut FileSink::new(rt),
+        &mut StdoutSink::new(rt),
+    );
     Ok(())
 }
