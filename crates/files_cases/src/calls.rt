@@ -1,6 +1,6 @@
 // Calls on any folder, any source and any sink.
 use case_words::{bytes_at, number_at, word};
-use hs_folders::{Folder, FolderFault, Sink, SinkFault, Source, SourceFault};
+use hs_folders::{Folder, FolderFault, FolderOpenFault, Sink, SinkFault, Source, SourceFault};
 use std::alloc::{AllocError, Global};
 
 /// What a folder answers to a call.
@@ -20,7 +20,7 @@ fn ask_named<F: Folder>(
     name: &str,
 ) -> Result<String, AllocError> {
     let outcome = match word(words, 0) {
-        "open" => folder.open(name),
+        "open" => return opened_text(alloc, folder.open(name)),
         "replace" => folder.replace(name, &bytes_at(alloc, words, 2)),
         "remove" => folder.remove(name),
         "read" => return read_file(alloc, folder, name),
@@ -53,6 +53,16 @@ fn lists_some<F: Folder>(alloc: Global, folder: &mut F) -> Result<String, AllocE
         Ok(names) => format!(in alloc; "some {}", !names.is_empty()),
         Err(fault) => folder_text(alloc, Err(fault)),
     }
+}
+
+fn opened_text(alloc: Global, outcome: Result<(), FolderOpenFault>) -> Result<String, AllocError> {
+    let said = match outcome {
+        Ok(()) => "ok",
+        Err(FolderOpenFault::InUse) => "in use",
+        Err(FolderOpenFault::Failed) => "failed",
+        Err(FolderOpenFault::NoMemory) => "no memory",
+    };
+    String::from_str(alloc, said)
 }
 
 fn folder_text(alloc: Global, outcome: Result<(), FolderFault>) -> Result<String, AllocError> {

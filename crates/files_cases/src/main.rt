@@ -9,9 +9,10 @@
 //! - In memory: `folder CALL`, and `folder new`, `folder put NAME H`, `folder keep NAME H` (a new one that keeps its moments),
 //!   `folder moments`, `folder copy MOMENT` (what it then held); `source CALL`, and `source new H`; `sink CALL`, and
 //!   `sink new`, `sink bytes`. Each has `fail CALL` too.
-//! - Of the system: `disk folder CALL`, `disk source CALL`, `disk sink CALL`, `disk stdout CALL`, and `disk new` (each of them).
-//!   What others do there: `disk make PATH` (an empty folder; what stood there goes), `disk write PATH H`,
-//!   `disk link TARGET PATH`, `disk pipe PATH PATH` (a pipe, and links to its ends), `disk clear PATH`, and `disk stands PATH`.
+//! - Of the system: `disk folder CALL`, `disk other CALL` (one folder more), `disk source CALL`, `disk sink CALL`,
+//!   `disk stdout CALL`, and `disk new` (each of them). What others do there: `disk make PATH` (an empty folder; what stood
+//!   there goes), `disk write PATH H`, `disk chmod PATH N`, `disk link TARGET PATH`, `disk pipe PATH PATH` (a pipe, and links
+//!   to its ends), `disk clear PATH`; and `disk stands PATH`, `disk mode PATH`.
 //! - Values: `name H`, `stem H`, `id N`, `category N`, `user H`, `password H`, `content LENGTH`, `kind DELETED H`,
 //!   `date TEXT`, `wire H`, `seconds N`.
 //! - Databases by name: `shelf new NAME VERSION`, `shelf put NAME VERSION`, `shelf find NAME`, `shelf remove NAME`.

@@ -1,20 +1,22 @@
 // A folder, a source and sinks of the system, and what others do beside them.
 use crate::calls::{ask_folder, ask_sink, ask_source, name_at, shown};
-use case_words::{bytes_at, word};
+use case_words::{bytes_at, number_at, word};
 use hs_folders::{DirFolder, FileSink, FileSource, StdoutSink};
 use std::alloc::{AllocError, Global};
+use std::fs::Permissions;
 use std::io::{PipeReader, PipeWriter};
 use std::os::fd::AsRawFd;
-use std::os::unix::fs::symlink;
+use std::os::unix::fs::{PermissionsExt, symlink};
 use std::rt::Files;
 use std::{fs, io};
 
-/// One of each, and the last pipe, which stays open.
+/// One of each, one folder more, and the last pipe, which stays open.
 #[derive(Drop)]
 pub struct System<'r> {
     rt: &'r HostRuntime,
     alloc: Global,
     folder: DirFolder<'r, HostRuntime>,
+    other: DirFolder<'r, HostRuntime>,
     source: FileSource<'r, HostRuntime>,
     sink: FileSink<'r, HostRuntime>,
     stdout: StdoutSink<'r, HostRuntime>,
@@ -27,8 +29,9 @@ impl<'r> System<'r> {
             rt,
             alloc,
             folder: DirFolder::new(rt, alloc),
+            other: DirFolder::new(rt, alloc),
             source: FileSource::new(rt),
-            sink: FileSink::new(rt),
+            sink: FileSink::new(rt, alloc),
             stdout: StdoutSink::new(rt),
             pipe: None,
         }
@@ -39,6 +42,7 @@ impl<'r> System<'r> {
         let call = words.get(1..).unwrap_or(words);
         match word(words, 0) {
             "folder" => ask_folder(self.alloc, &mut self.folder, call),
+            "other" => ask_folder(self.alloc, &mut self.other, call),
             "source" => ask_source(self.alloc, &mut self.source, call),
             "sink" => ask_sink(self.alloc, &mut self.sink, call),
             "stdout" => ask_sink(self.alloc, &mut self.stdout, call),
@@ -51,8 +55,9 @@ impl<'r> System<'r> {
 
     fn renew(&mut self) -> Result<String, AllocError> {
         self.folder = DirFolder::new(self.rt, self.alloc);
+        self.other = DirFolder::new(self.rt, self.alloc);
         self.source = FileSource::new(self.rt);
-        self.sink = FileSink::new(self.rt);
+        self.sink = FileSink::new(self.rt, self.alloc);
         self.stdout = StdoutSink::new(self.rt);
         String::from_str(self.alloc, "new")
     }
@@ -84,6 +89,8 @@ fn link_end(rt: &HostRuntime, alloc: Global, end: i32, path: &str) -> io::Result
 fn beside(rt: &HostRuntime, alloc: Global, words: &[&str]) -> Result<String, AllocError> {
     let path = word(words, 1);
     match word(words, 0) {
+        "mode" => mode_of(rt, alloc, path),
+        "chmod" => done(alloc, is_changed(rt, path, number_at(words, 2))),
         "make" => done(alloc, is_made_anew(rt, path)),
         "link" => done(alloc, symlink(rt, path, word(words, 2)).is_ok()),
         "clear" => done(alloc, fs::remove_dir_all(rt, path).is_ok()),
@@ -93,6 +100,18 @@ fn beside(rt: &HostRuntime, alloc: Global, words: &[&str]) -> Result<String, All
         }
         _ => String::from_str(alloc, "no such line"),
     }
+}
+
+// The permissions of a file, in octal.
+fn mode_of(rt: &HostRuntime, alloc: Global, path: &str) -> Result<String, AllocError> {
+    match fs::metadata(rt, path) {
+        Ok(found) => format!(in alloc; "mode {:o}", found.permissions().mode() & 0o777),
+        Err(_) => String::from_str(alloc, "nothing"),
+    }
+}
+
+fn is_changed(rt: &HostRuntime, path: &str, mode: u32) -> bool {
+    fs::set_permissions(rt, path, Permissions::from_mode(mode)).is_ok()
 }
 
 fn is_written(rt: &HostRuntime, path: &str, bytes: &[u8]) -> bool {

@@ -9,6 +9,7 @@ use crate::answer::Answer;
 use crate::command::hotsync;
 use hs_folders::{DirFolder, FileSink, FileSource, Folder, Sink, Source, StdoutSink};
 use std::alloc::Global;
+use std::fs::File;
 use std::process::ExitCode;
 use std::rt::{Env, Files};
 use std::{env, io};
@@ -59,7 +60,7 @@ pub fn run_program<H: Folder, D: Folder, S: Source, T: Sink, O: Sink>(
 }
 
 /// Runs the program over the system's folders and files and its standard output.
-pub fn run_on_system<R: Env + Files + Print + AllocGlobal>(rt: &R) -> ExitCode {
+pub fn run_on_system<R: Env + Files<File = File> + Print + AllocGlobal>(rt: &R) -> ExitCode {
     let alloc = rt.alloc();
     // Arguments that are no text, or that the system does not hand over, ask for nothing that this program does.
     let args = arguments(rt).unwrap_or(Vec::new(alloc));
@@ -69,7 +70,7 @@ pub fn run_on_system<R: Env + Files + Print + AllocGlobal>(rt: &R) -> ExitCode {
         DirFolder::new(rt, alloc),
         DirFolder::new(rt, alloc),
         &mut FileSource::new(rt),
-        &mut FileSink::new(rt),
+        &mut FileSink::new(rt, alloc),
         &mut StdoutSink::new(rt),
     );
     ExitCode::from(ended.code)

@@ -16,7 +16,7 @@ ghost use Rattle.hotsync_run.specs.Views.{device_in};
 use crate::status::Status;
 use desk_store::Desk;
 use handheld_store::Store;
-use hs_folders::{Folder, FolderFault};
+use hs_folders::{Folder, FolderOpenFault};
 use std::alloc::Global;
 
 /// Opens the handheld's folder at this path, and reads all that it holds. A refusal hands it back.
@@ -44,8 +44,10 @@ pub fn open_handheld<H: Folder>(
     let mut device = device;
     match device.open(path) {
         Ok(()) => open_store(alloc, device),
-        Err(FolderFault::Failed) => Err((Status::HandheldFolder, device)),
-        Err(FolderFault::Missing | FolderFault::NoMemory) => Err((Status::NoMemory, device)),
+        Err(FolderOpenFault::InUse | FolderOpenFault::Failed) => {
+            Err((Status::HandheldFolder, device))
+        }
+        Err(FolderOpenFault::NoMemory) => Err((Status::NoMemory, device)),
     }
 }
 
@@ -95,8 +97,10 @@ pub fn open_desktop<D: Folder>(alloc: Global, desk: D, path: &str) -> Result<Des
     let mut desk = desk;
     match desk.open(path) {
         Ok(()) => open_desk(alloc, desk),
-        Err(FolderFault::Failed) => Err((Status::DesktopFolder, desk)),
-        Err(FolderFault::Missing | FolderFault::NoMemory) => Err((Status::NoMemory, desk)),
+        Err(FolderOpenFault::InUse | FolderOpenFault::Failed) => {
+            Err((Status::DesktopFolder, desk))
+        }
+        Err(FolderOpenFault::NoMemory) => Err((Status::NoMemory, desk)),
     }
 }
 

@@ -1,7 +1,7 @@
 // A folder in memory that is refused nothing but memory.
 ghost use Rattle.std.specs.Prelude.{◌≡◌, ◌≢◌, ◌↔◌, None};
 
-use hs_folders::{Folder, FolderFault, MemFolder};
+use hs_folders::{Folder, FolderFault, FolderOpenFault, MemFolder};
 use std::alloc::Global;
 
 /// A folder in memory, of which no call is to fail. It tells its files alone.
@@ -29,10 +29,10 @@ impl Folder for SteadyFolder {
 
     ghost faults = { λ steady. 0 };
 
-    fn open(&mut self, path: &str) -> Result<(), FolderFault> {
+    fn open(&mut self, path: &str) -> Result<(), FolderOpenFault> {
         match self.folder.open(path) {
             Ok(()) => Ok(()),
-            Err(fault) => Err(steady_fault(fault)),
+            Err(_) => Err(FolderOpenFault::NoMemory),
         }
     }
 

@@ -1,6 +1,6 @@
 -- How a count of faults goes on over a run of calls.
 use Rattle.std.proofs.Common.{◌≡◌, ◌∙◌, ℕ, Err, Ok, ap, arith, subst}
-use Rattle.std.specs.Prelude.{IsErrOf, Result}
+use Rattle.std.specs.Prelude.{IsErrOf}
 use Rattle.hs_folders.specs.Causes.{HasCause, Rose}
 
 -- what was done answers no fault

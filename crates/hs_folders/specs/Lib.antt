@@ -9,3 +9,4 @@ pub mod MemFolders
 pub mod MemSinks
 pub mod MemSources
 pub mod Moments
+pub mod Opens

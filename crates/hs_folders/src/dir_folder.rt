@@ -4,12 +4,15 @@ ghost use Rattle.std.specs.FinMap as finmap;
 ghost use Rattle.std.specs.Option.{option_map};
 ghost use Rattle.hs_folders.specs.Causes.{HasCause};
 ghost use Rattle.hs_folders.specs.FileNames.{IsFileName};
+ghost use Rattle.hs_folders.specs.Opens.{IsBlamedOpen};
 
-use crate::faults::FolderFault;
+use crate::faults::{FolderFault, FolderOpenFault};
 use crate::file_name::is_file_name;
 use crate::folder::Folder;
-use crate::system_files::{list_names, open_folder, read_file, remove_file, write_file};
+use crate::replacement::write_file;
+use crate::system_files::{OpenedFolder, list_names, open_folder, read_file, remove_file};
 use std::alloc::Global;
+use std::fs::File;
 use std::io;
 use std::io::ErrorKind;
 use std::rt::Files;
@@ -23,18 +26,23 @@ const WORKING: &str = ".";
 /// and each with a slash or a zero byte. So is a name under which a pipe, a device or a folder
 /// stands, where it is to be read.
 ///
+/// From its opening on it is locked, by an advisory lock on the folder itself that ends with this
+/// value. A folder that is locked already, be it by this value, is in use. A file system without
+/// locks gives none.
+///
 /// A replacement is written to the file `hotsync.tmp`, made new, which then takes the old file's
-/// name. Its list leaves out that name and each name that is not UTF-8. A file of more than
+/// name and permissions. A new file is its owner's alone where one of the folder's files is not
+/// readable to all; else the user's mask decides. Nothing stays of a replacement that failed. Its list leaves out that name and each name that is not UTF-8. A file of more than
 /// 4,294,967,295 bytes, and a folder of more names, is a fault.
 #[derive(Drop)]
-pub struct DirFolder<'r, R: Files> {
+pub struct DirFolder<'r, R: Files<File = File>> {
     rt: &'r R,
     alloc: Global,
-    path: Option<String>,
+    opened: Option<OpenedFolder>,
     faults: u64,
 }
 
-impl<'r, R: Files> DirFolder<'r, R> {
+impl<'r, R: Files<File = File>> DirFolder<'r, R> {
     /// The folder in which the program runs, until another is opened.
     pub fn new(rt: &'r R, alloc: Global) -> Self
         ensures contents { ⟦<Self as Folder>⟧.contents result ≡ None }
@@ -45,13 +53,15 @@ impl<'r, R: Files> DirFolder<'r, R> {
         DirFolder {
             rt,
             alloc,
-            path: None,
+            opened: None,
             faults: 0,
         }
     }
 
     fn folder(&self) -> &str {
-        self.path.as_ref().map_or(WORKING, String::as_str)
+        self.opened
+            .as_ref()
+            .map_or(WORKING, |opened| opened.path.as_str())
     }
 
     // Refuses a name that leads out of the folder, as a fault.
@@ -66,6 +76,22 @@ impl<'r, R: Files> DirFolder<'r, R> {
         }
         self.faults = self.faults.saturating_add(1);
         Err(FolderFault::Failed)
+    }
+
+    // Counts a refusal of the system to open a folder.
+    fn counted_open<T: Drop>(&mut self, outcome: io::Result<T>) -> Result<T, FolderOpenFault>
+        ensures cause { HasCause self.old.faults self.new.faults (IsBlamedOpen result) }
+    {
+        let blamed = match outcome {
+            Ok(value) => return Ok(value),
+            Err(error) => match error.kind() {
+                ErrorKind::OutOfMemory => return Err(FolderOpenFault::NoMemory),
+                ErrorKind::WouldBlock => FolderOpenFault::InUse,
+                _ => FolderOpenFault::Failed,
+            },
+        };
+        self.faults = self.faults.saturating_add(1);
+        Err(blamed)
     }
 
     // Counts a refusal of the system.
@@ -85,7 +111,7 @@ impl<'r, R: Files> DirFolder<'r, R> {
     }
 }
 
-impl<'r, R: Files> Folder for DirFolder<'r, R> {
+impl<'r, R: Files<File = File>> Folder for DirFolder<'r, R> {
     ghost contents = { λ _. None };
 
     ghost moments = { λ _. None };
@@ -94,9 +120,9 @@ impl<'r, R: Files> Folder for DirFolder<'r, R> {
 
     ghost faults = { λ folder. folder.faults };
 
-    fn open(&mut self, path: &str) -> Result<(), FolderFault> {
+    fn open(&mut self, path: &str) -> Result<(), FolderOpenFault> {
         let opened = open_folder(self.rt, self.alloc, path);
-        self.path = Some(self.counted(opened)?);
+        self.opened = Some(self.counted_open(opened)?);
         Ok(())
     }
 

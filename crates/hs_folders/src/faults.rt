@@ -1,6 +1,7 @@
 // What the outside refuses.
 ghost use Rattle.std.specs.Prelude.{◌≡◌};
 ghost use Rattle.hs_folders.specs.declared.faults.FolderFault.TheVariants.{NoMemory};
+ghost use Rattle.hs_folders.specs.declared.faults.FolderOpenFault.TheVariants.{NoMemory as OpenNoMemory};
 ghost use Rattle.hs_folders.specs.declared.faults.SinkFault.TheVariants.{NoMemory as SinkNoMemory};
 ghost use Rattle.hs_folders.specs.declared.faults.SourceFault.TheVariants.{NoMemory as SourceNoMemory};
 
@@ -13,6 +14,17 @@ pub enum FolderFault {
     Failed,
     /// There is no file of this name.
     Missing,
+    /// Memory was refused.
+    NoMemory,
+}
+
+/// Why a folder was not opened.
+#[derive(Clone, Copy)]
+pub enum FolderOpenFault {
+    /// Somebody else has the folder open. This is counted as a fault.
+    InUse,
+    /// The folder failed, and counted the fault.
+    Failed,
     /// Memory was refused.
     NoMemory,
 }
@@ -48,6 +60,22 @@ impl<T: Drop> From<AllocFailed<T>> for FolderFault {
 
     fn from(_: AllocFailed<T>) -> Self {
         FolderFault::NoMemory
+    }
+}
+
+impl From<AllocError> for FolderOpenFault {
+    ghost from_gives = { λ _ fault. fault ≡ OpenNoMemory };
+
+    fn from(_: AllocError) -> Self {
+        FolderOpenFault::NoMemory
+    }
+}
+
+impl<T: Drop> From<AllocFailed<T>> for FolderOpenFault {
+    ghost from_gives = { λ _ fault. fault ≡ OpenNoMemory };
+
+    fn from(_: AllocFailed<T>) -> Self {
+        FolderOpenFault::NoMemory
     }
 }
 

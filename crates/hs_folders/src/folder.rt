@@ -5,8 +5,9 @@ ghost use Rattle.std.specs.FinMap as finmap;
 ghost use Rattle.hs_folders.specs.Causes.{HasCause};
 ghost use Rattle.hs_folders.specs.FileMaps.{FileMap};
 ghost use Rattle.hs_folders.specs.Moments.{Moments};
+ghost use Rattle.hs_folders.specs.Opens.{IsBlamedOpen};
 
-use crate::faults::FolderFault;
+use crate::faults::{FolderFault, FolderOpenFault};
 use std::alloc::Global;
 
 /// A folder of files, each with a name and its bytes.
@@ -32,16 +33,16 @@ pub trait Folder {
     /// How often it has failed, as a number of 64 bits that never falls.
     ghost faults: { Self → ℕ };
 
-    /// Stands for the folder at this path from now on. A folder that is not there is a fault.
-    fn open(&mut self, path: &str) -> Result<(), FolderFault>
+    /// Stands for the folder at this path from now on. A folder that is not there is a fault. One
+    /// that somebody else has open is refused before anything of it is read; whether anybody has is
+    /// told as far as the folder can know.
+    fn open(&mut self, path: &str) -> Result<(), FolderOpenFault>
         ensures opened { OnOk result (
             paths self.new ≡ option_map (λ paths. paths ++ path.now ∷ []) (paths self.old)) }
         ensures refused { OnErr result (paths self.new ≡ paths self.old) }
         ensures contents { contents self.new ≡ contents self.old }
         ensures moments { moments self.new ≡ moments self.old }
-        ensures never_missing { ¬ IsErrOf result FolderFault.Missing }
-        ensures cause { HasCause (faults self.old) (faults self.new)
-            (IsErrOf result FolderFault.Failed) };
+        ensures cause { HasCause (faults self.old) (faults self.new) (IsBlamedOpen result) };
 
     /// The names of its files in rising byte order.
     fn list(&mut self, alloc: Global) -> Result<Vec<String>, FolderFault>

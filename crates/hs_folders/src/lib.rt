@@ -14,6 +14,7 @@
 mod calls;
 mod changes;
 mod dir_folder;
+mod draft;
 mod faults;
 mod file_name;
 mod file_sink;
@@ -23,13 +24,14 @@ mod folder;
 mod mem_folder;
 mod mem_sink;
 mod mem_source;
+mod replacement;
 mod sink;
 mod source;
 mod stdout_sink;
 mod system_files;
 
 pub use dir_folder::DirFolder;
-pub use faults::{FolderFault, SinkFault, SourceFault};
+pub use faults::{FolderFault, FolderOpenFault, SinkFault, SourceFault};
 pub use file_sink::FileSink;
 pub use file_source::FileSource;
 pub use folder::Folder;

@@ -6,11 +6,12 @@ ghost use Rattle.hs_folders.specs.Calls.{CountsCall};
 ghost use Rattle.hs_folders.specs.Causes.{HasCause};
 ghost use Rattle.hs_folders.specs.Changes.{moments_of};
 ghost use Rattle.hs_folders.specs.FileTrees.{file_map};
+ghost use Rattle.hs_folders.specs.Opens.{IsBlamedOpen};
 ghost use Rattle.hs_folders.specs.MemFolders.{calls_made, changes_made, failing_calls, past_moments};
 
 use crate::calls::Calls;
 use crate::changes::{Changes, change_to, tree_at};
-use crate::faults::FolderFault;
+use crate::faults::{FolderFault, FolderOpenFault};
 use crate::file_tree::{
     FileTree, copy_file, copy_files, copy_names, has_file, put_file, take_file,
 };
@@ -158,7 +159,7 @@ impl Folder for MemFolder {
 
     ghost faults = { λ folder. folder.calls.faults };
 
-    fn open(&mut self, path: &str) -> Result<(), FolderFault>
+    fn open(&mut self, path: &str) -> Result<(), FolderOpenFault>
         ensures opened { OnOk result (⟦<Self as Folder>⟧.paths self.new ≡ option_map (λ paths.
             paths ++ path.now ∷ []) (⟦<Self as Folder>⟧.paths self.old)) }
         ensures refused { OnErr result (
@@ -167,16 +168,17 @@ impl Folder for MemFolder {
             ≡ ⟦<Self as Folder>⟧.contents self.old }
         ensures moments { ⟦<Self as Folder>⟧.moments self.new
             ≡ ⟦<Self as Folder>⟧.moments self.old }
-        ensures never_missing { ¬ IsErrOf result FolderFault.Missing }
         ensures cause { HasCause (⟦<Self as Folder>⟧.faults self.old)
-            (⟦<Self as Folder>⟧.faults self.new) (IsErrOf result FolderFault.Failed) }
+            (⟦<Self as Folder>⟧.faults self.new) (IsBlamedOpen result) }
 
+        ensures never_in_use { ¬ IsErrOf result FolderOpenFault.InUse }
         ensures counted { CountsCall (calls_made self.old) (calls_made self.new)
-            (failing_calls self.old) (failing_calls self.new) (IsErrOf result FolderFault.Failed) }
+            (failing_calls self.old) (failing_calls self.new)
+            (IsErrOf result FolderOpenFault.Failed) }
         ensures changes { changes_made self.new ≡ changes_made self.old }
     {
         if self.calls.count() {
-            return Err(FolderFault::Failed);
+            return Err(FolderOpenFault::Failed);
         }
         self.opened.push(String::from_str(self.alloc, path)?)?;
         Ok(())

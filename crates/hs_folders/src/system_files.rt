@@ -1,24 +1,50 @@
-// What the file system is asked for one file or one folder.
+// What the file system is asked for one folder, and for a file that is read or removed.
 ghost use Rattle.std.specs.Prelude.{◌≢◌, ◌≤◌, All, IfOk, IsSorted, codes, string_bytes, vec_len};
 ghost use Rattle.std.specs.String.{string_cmp};
 
 use std::alloc::Global;
-use std::fs::{OpenFile, OpenOptions};
-use std::io::{ErrorKind, Write};
+use std::fs::{File, OpenFile, TryLockError};
+use std::io::ErrorKind;
 use std::path::Path;
 use std::rt::Files;
 use std::{fs, io};
 
 // The file that a replacement is written to before it takes the old one's name.
-const TEMPORARY: &str = "hotsync.tmp";
+pub(crate) const TEMPORARY: &str = "hotsync.tmp";
 
 // More bytes or names than these are refused.
 const LIMIT: usize = 4_294_967_295;
 
-// A folder is there if its names can be read. It may be reached by a symbolic link.
-pub(crate) fn open_folder<R: Files>(rt: &R, alloc: Global, folder: &str) -> io::Result<String> {
+// A folder that was opened: its path, and its lock, which lasts as long as this value.
+#[derive(Drop)]
+pub(crate) struct OpenedFolder {
+    pub(crate) path: String,
+    pub(crate) lock: File,
+}
+
+// A folder is there if its names can be read. It may be reached by a symbolic link. It is locked,
+// and a temporary file that an earlier run left in it is removed. The answer is `WouldBlock` where
+// somebody else holds the lock.
+pub(crate) fn open_folder<R: Files<File = File>>(
+    rt: &R,
+    alloc: Global,
+    folder: &str,
+) -> io::Result<OpenedFolder> {
     let _names = fs::read_dir(&(rt, alloc), folder)?;
-    Ok(String::from_str(alloc, folder)?)
+    let path = String::from_str(alloc, folder)?;
+    let temporary = Path::new(folder).join(alloc, TEMPORARY)?;
+    let lock = locked(fs::open(rt, folder)?)?;
+    let _ = fs::remove_file(rt, temporary);
+    Ok(OpenedFolder { path, lock })
+}
+
+// Locks an open file or folder, without waiting. Where its file system knows no locks, it goes on
+// without one.
+pub(crate) fn locked(file: File) -> io::Result<File> {
+    match file.try_lock() {
+        Err(TryLockError::WouldBlock) => Err(io::Error::from(ErrorKind::WouldBlock)),
+        Ok(()) | Err(TryLockError::Error(_)) => Ok(file),
+    }
 }
 
 // The names in byte order, without that of the temporary file.
@@ -52,14 +78,6 @@ pub(crate) fn open_file<R: Files>(rt: &R, path: &str) -> io::Result<R::File> {
     fs::open(rt, path)
 }
 
-// Makes a file new, to be written. What stands there and is no file is refused unopened.
-pub(crate) fn create_file<R: Files>(rt: &R, path: &str) -> io::Result<R::File> {
-    match fs::metadata(rt, path) {
-        Ok(found) if !found.is_file() => Err(io::Error::from(ErrorKind::InvalidInput)),
-        _ => fs::create(rt, path),
-    }
-}
-
 pub(crate) fn read_file<R: Files>(
     rt: &R,
     alloc: Global,
@@ -77,35 +95,6 @@ pub(crate) fn read_file<R: Files>(
     Ok(bytes)
 }
 
-// The bytes are on the disk before the file takes its name.
-pub(crate) fn write_file<R: Files>(
-    rt: &R,
-    alloc: Global,
-    folder: &str,
-    name: &str,
-    bytes: &[u8],
-) -> io::Result<()> {
-    let temporary = Path::new(folder).join(alloc, TEMPORARY)?;
-    let path = Path::new(folder).join(alloc, name)?;
-    let mut file = create_anew(rt, temporary.as_path())?;
-    file.write_all(bytes)?;
-    file.sync_all()?;
-    fs::rename(rt, temporary, path)?;
-    sync_folder(rt, folder);
-    Ok(())
-}
-
-// What stands there goes first, be it a link. The new file is made only where nothing stands then.
-fn create_anew<R: Files>(rt: &R, path: Path<'_>) -> io::Result<R::File> {
-    match fs::remove_file(rt, path) {
-        Err(error) if error.kind() != ErrorKind::NotFound => Err(error),
-        _ => OpenOptions::new()
-            .write(true)
-            .create_new(true)
-            .open(rt, path),
-    }
-}
-
 pub(crate) fn remove_file<R: Files>(
     rt: &R,
     alloc: Global,
@@ -120,7 +109,7 @@ pub(crate) fn remove_file<R: Files>(
 
 // Puts the folder's names on the disk. A system that refuses has made the change all the same, so
 // that its answer is not asked for.
-fn sync_folder<R: Files>(rt: &R, folder: &str) {
+pub(crate) fn sync_folder<R: Files>(rt: &R, folder: &str) {
     if let Ok(folder) = fs::open(rt, folder) {
         let _ = folder.sync_all();
     }

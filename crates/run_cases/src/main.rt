@@ -62,7 +62,7 @@ fn call_on_system(rt: &HostRuntime, words: &str) -> io::Result<()> {
         DirFolder::new(rt, alloc),
         DirFolder::new(rt, alloc),
         &mut FileSource::new(rt),
-        &mut FileSink::new(rt),
+        &mut FileSink::new(rt, alloc),
         &mut StdoutSink::new(rt),
     );
     Ok(())
