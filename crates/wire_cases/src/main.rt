@@ -1,5 +1,5 @@
-//! Calls on packets, fragments, both ends of a fragment's way, greetings, scripts and traces, as the lines of standard
-//! input ask for them.
+//! Calls on packets, fragments, both ends of a fragment's way, greetings, scripts and traces, and on arguments, requests and
+//! replies, as the lines of standard input ask for them.
 //!
 //! Bytes are hexadecimal, `-` stands for none.
 //!
@@ -15,15 +15,34 @@
 //!   the same of a script of so many lines `N lost`, from 1 on, and these bytes behind them; `none NUMBER..`: the same of
 //!   the empty script.
 //! - `frame NUMBER END MARK H FATE..`: the trace of this frame alone. A fate is `ok`, or one that a script has.
+//!
+//! What goes in messages, each behind the word `dlp`; numbers are hexadecimal there:
+//!
+//! - `args COUNT START H`, the arguments in these bytes; `arg ID H`, an argument as it is written; `kept H`, a message
+//!   and its copies; `put` and `begin`, messages that are put together.
+//! - `u8 H`, `u16 H`, `u32 H`, `four H`, `eight H`, `end H`, `rest H`, `names H`, `text H`, `short LIMIT H`,
+//!   `maybe LIMIT H` and `counted H`, the cells at the front of these bytes and the number of bytes behind; `functions`,
+//!   the bytes that name functions.
+//! - `request H`, the request of these bytes, and how it is written.
+//! - `reply FUNCTION H`, what these bytes reply; `list H`, a reply with databases, one by one; `ids H`, one with ids;
+//!   `write NAME`, a reply as it is written.
 #![tactic(auto)]
 
+mod arguments;
+mod cells;
 mod fragments;
+mod messages;
 mod packets;
 mod pieces;
+mod replies;
+mod requests;
 mod scripts;
+mod shown;
+mod written;
 
 use arrayvec::ArrayVec;
 use case_words::bytes_in;
+use dlp_args::Message;
 use padp_link::{Receiver, Sender};
 use slp_frames::SlpReader;
 use std::alloc::{AllocError, Global};
@@ -37,25 +56,38 @@ struct Ends {
     receiver: Receiver,
 }
 
+/// What the lines so far have made.
+#[derive(Drop)]
+struct Cases {
+    ends: Ends,
+    message: Message,
+}
+
 fn main(rt: HostRuntime) -> io::Result<()> {
     let alloc = rt.alloc();
-    let mut ends = Ends {
-        reader: SlpReader::new(),
-        sender: Sender::new(),
-        receiver: Receiver::new(alloc)?,
+    let mut cases = Cases {
+        ends: Ends {
+            reader: SlpReader::new(),
+            sender: Sender::new(),
+            receiver: Receiver::new(alloc)?,
+        },
+        message: Message::new(alloc)?,
     };
     for line in rt.lines(alloc) {
-        let said = answer(alloc, &mut ends, &line?)?;
+        let said = answer(alloc, &mut cases, &line?)?;
         println!(rt; "{said}")?;
     }
     Ok(())
 }
 
 // What a line asks for.
-fn answer(alloc: Global, ends: &mut Ends, line: &str) -> Result<String, AllocError> {
+fn answer(alloc: Global, cases: &mut Cases, line: &str) -> Result<String, AllocError> {
     let words: Vec<&str> = line.split(' ').collect(alloc)?;
     let last = bytes_in(alloc, words.last().copied().unwrap_or(""));
-    packets::obey(alloc, ends, &words, &last)
+    match words.as_slice() {
+        ["dlp", words @ ..] => messages::obey(alloc, &mut cases.message, words, &last),
+        words => packets::obey(alloc, &mut cases.ends, words, &last),
+    }
 }
 
 // The number of one byte that a text gives, or 0.
