@@ -1,5 +1,5 @@
 // What the file system is asked for one folder, and for a file that is read or removed.
-ghost use Rattle.std.specs.Prelude.{◌≢◌, ◌≤◌, All, IfOk, IsSorted, codes, string_bytes, vec_len};
+ghost use Rattle.std.specs.Prelude.{◌≢◌, ◌≤◌, All, IfOk, IsSorted, OnOk, codes, string_bytes, vec_len};
 ghost use Rattle.std.specs.String.{string_cmp};
 
 use std::alloc::Global;
@@ -57,17 +57,30 @@ pub(crate) fn list_names<R: Files>(rt: &R, alloc: Global, folder: &str) -> io::R
     let mut names = Vec::new(alloc);
     for entry in fs::read_dir(&(rt, alloc), folder)? {
         match entry {
-            Ok(entry) if entry.file_name() == TEMPORARY => {}
-            Ok(entry) => names.push(String::from_str(alloc, entry.file_name())?)?,
+            Ok(entry) => add_name(alloc, &mut names, entry.file_name())?,
             Err(error) if error.kind() == ErrorKind::InvalidFilename => {}
             Err(error) => return Err(error),
-        }
-        if names.len() > LIMIT {
-            return Err(io::Error::from(ErrorKind::FileTooLarge));
         }
     }
     names.sort()?;
     Ok(names)
+}
+
+// Adds a name, unless it is that of the temporary file.
+fn add_name(alloc: Global, names: &mut Vec<String>, name: &str) -> io::Result<()>
+    requires no_temporary { All (λ name. string_bytes name ≢ codes "hotsync.tmp") names.old.items }
+    requires few { vec_len names.old ≤ 4_294_967_295 }
+    ensures no_temporary { All (λ name. string_bytes name ≢ codes "hotsync.tmp") names.new.items }
+    ensures few { OnOk result (vec_len names.new ≤ 4_294_967_295) }
+{
+    if name == TEMPORARY {
+        return Ok(());
+    }
+    if names.len() == LIMIT {
+        return Err(io::Error::from(ErrorKind::FileTooLarge));
+    }
+    names.push(String::from_str(alloc, name)?)?;
+    Ok(())
 }
 
 // Opens a file to be read. A pipe or a device, which might never answer, is refused unopened.
