@@ -1,7 +1,7 @@
 -- What a folder stands for while its journal is carried out.
 use Rattle.std.proofs.lemmas.Bool.Decides.{nat_tests}
 use Rattle.std.proofs.lemmas.Grind.{common_steps}
-use Rattle.std.proofs.Common.{◌≡◌, ◌+◌, ◌<◌, ℕ, zero, suc, Bool, true, false, cond, List, [], ◌∷◌, ◌++◌, length, take, get_or, Option, Some, None, Result, Ok}
+use Rattle.std.proofs.Common.{◌≡◌, ◌+◌, ◌<◌, ◌≤◌, ℕ, zero, suc, Bool, true, false, cond, List, [], ◌∷◌, ◌++◌, length, take, get_or, Option, Some, None, Result, Ok}
 use Rattle.std.proofs.Common.{Err, refl, sym, ap, ◌∙◌, arith}
 use Rattle.std.specs.Prelude.{IfSome, IsSome, OnErr, bytes_eq}
 use Rattle.std.specs.FinMap as finmap
@@ -11,7 +11,7 @@ use Rattle.std.specs.Cmp.Lexicographic.{slice_cmp, nat_list_cmp_total}
 use Rattle.std.specs.Option.{option_map, option_or}
 use Rattle.std.proofs.lemmas.Map.Text.{is_eq-slice_cmp}
 use Rattle.std.proofs.lemmas.Slice.Eq.{bytes_eq-Decides}
-use Rattle.std.proofs.lemmas.List.{map_push, take-map, take_all, take_more}
+use Rattle.std.proofs.lemmas.List.{length-map, map_push, take-map, take_all, take_more}
 use Rattle.hs_folders.specs.FileMaps.{FileMap}
 use Rattle.folder_files.specs.FileNames.{is_kept_file, journal_file}
 use Rattle.desk_journal.specs.declared.bad_journal.BadJournal.{BadJournal}
@@ -33,7 +33,7 @@ same_name-is a b = is_eq-slice_cmp a b
 same_name-refl : (a : List ℕ) → same_name a a ≡ true
 same_name-refl a = same_name-is a a ∙ grind (arith, bytes_eq-Decides a a)
 
-same_name-true : (a b : List ℕ) → same_name a b ≡ true → a ≡ b
+pub same_name-true : (a b : List ℕ) → same_name a b ≡ true → a ≡ b
 same_name-true a b e = grind (arith, same_name-is, bytes_eq-Decides)
 
 pub same_name-other : (a b : List ℕ) → (a ≡ b → ⊥) → same_name a b ≡ false
@@ -210,6 +210,9 @@ pub values_more : (entries : List Entry) (place : ℕ) {item : Entry} → place 
     → take (place + 1) (entry_values entries) ≡ take place (entry_values entries) ++ entry_value item ∷ []
 values_more entries place less is = grind (arith, nat_tests, common_steps, take-map, take_more, map_push)
 
+pub values_taken : (entries : List Entry) (place : ℕ) → length entries ≤ place → take place (entry_values entries) ≡ entry_values entries
+values_taken entries place past = grind (arith, nat_tests, common_steps, take_all, length-map)
+
 -- ---- finishing
 
 abbrev pub Journals : Option FileMap → List ℕ → Type 0
@@ -221,7 +224,7 @@ finished_none told none = grind (arith, plain_overlay)
 pub bad_none : (told : Option FileMap) → IfSome told HasNoJournal → IfSome told (λ held. None ≡ bad_of (finmap.get held journal_file))
 bad_none told none = grind arith
 
-bad_is : (held : FileMap) {bytes : List ℕ} {r : Result (List EntryValue) BadJournal} → finmap.get held journal_file ≡ Some bytes → journal_in bytes ≡ r
+pub bad_is : (held : FileMap) {bytes : List ℕ} {r : Result (List EntryValue) BadJournal} → finmap.get held journal_file ≡ Some bytes → journal_in bytes ≡ r
     → bad_of (finmap.get held journal_file) ≡ if_bad r
 bad_is held there is = ap bad_of there ∙ ap if_bad is
 
@@ -256,7 +259,7 @@ taken_back held bytes none =
     cases q true e = sym (ap (finmap.get held) (same_name-true q journal_file e) ∙ none)
     cases q false e = refl
 
-overlaid_after : (entries : List EntryValue) (held : FileMap) → IsJournal entries → HasNoJournal held
+pub overlaid_after : (entries : List EntryValue) (held : FileMap) → IsJournal entries → HasNoJournal held
     → overlay (finmap.insert held journal_file (journal_text entries)) ≡ put_all entries held
 overlaid_after entries held form none =
     cc (
@@ -265,7 +268,7 @@ overlaid_after entries held form none =
       taken_back held (journal_text entries) none,
     )
 
-none_after : (entries : List EntryValue) (held : FileMap) → IsJournal entries → HasNoJournal held → HasNoJournal (put_all entries held)
+pub none_after : (entries : List EntryValue) (held : FileMap) → IsJournal entries → HasNoJournal held → HasNoJournal (put_all entries held)
 none_after entries held form none = grind (arith, get-put_all, no_entry)
 
 pub commit_done : (entries : List EntryValue) (told : Option FileMap) → IsJournal entries → IfSome told HasNoJournal

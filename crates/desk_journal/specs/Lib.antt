@@ -1,3 +1,4 @@
 pub mod Entries
 pub mod Overlays
 pub mod Reading
+pub mod Steps

@@ -48,3 +48,7 @@ finished held = if is_some (bad_of (finmap.get held journal_file)) then held els
 -- what is told of a folder stands for what these files stand for
 abbrev pub StandsAs : Option FileMap → Option FileMap → Type 0
 StandsAs before told = option_map overlay told ≡ option_map overlay before
+
+-- once its journal is finished, what is told of a folder is what these files are once theirs is; so a journal that is there is in its form, or all is as it was
+abbrev pub FinishesAs : Option FileMap → Option FileMap → Type 0
+FinishesAs before told = option_map finished told ≡ option_map finished before

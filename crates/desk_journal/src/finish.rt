@@ -5,7 +5,7 @@ ghost use Rattle.std.specs.Option.{option_map};
 ghost use Rattle.hs_folders.specs.Causes.{HasCause};
 ghost use Rattle.hs_folders.specs.Moments.{EachMomentSince};
 ghost use Rattle.folder_files.specs.FileNames.{journal_file};
-ghost use Rattle.desk_journal.specs.Overlays.{HasNoJournal, StandsAs, bad_of, finished};
+ghost use Rattle.desk_journal.specs.Overlays.{FinishesAs, HasNoJournal, StandsAs, bad_of, finished};
 
 use crate::bad_journal::BadJournal;
 use crate::fault::JournalFault;
@@ -31,6 +31,10 @@ pub fn finish_journal<F: Folder>(
     // The folder stands for what it stood for, at each moment and whatever the answer.
     ensures stands { StandsAs (F.contents folder.old) (F.contents folder.new) }
     ensures each_moment { EachMomentSince (StandsAs (F.contents folder.old)) (F.moments folder.old)
+        (F.moments folder.new) }
+    // And finishing the journal that is left then leaves the same files.
+    ensures left { FinishesAs (F.contents folder.old) (F.contents folder.new) }
+    ensures each_left { EachMomentSince (FinishesAs (F.contents folder.old)) (F.moments folder.old)
         (F.moments folder.new) }
 
     ensures cause { HasCause (F.faults folder.old) (F.faults folder.new)

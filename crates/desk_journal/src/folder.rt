@@ -1,12 +1,12 @@
 // Steps of a change in a folder.
-ghost use Rattle.std.specs.Prelude.{◌≡◌, Some, IfSome, IsErrOf, IsSome, OnErr, OnOk};
+ghost use Rattle.std.specs.Prelude.{◌≡◌, ◌∷◌, [], Some, IfSome, IsErrOf, IsSome, OnErr, OnOk};
 ghost use Rattle.std.specs.FinMap as finmap;
 ghost use Rattle.std.specs.Option.{option_map};
 ghost use Rattle.hs_folders.specs.Causes.{HasCause};
-ghost use Rattle.hs_folders.specs.Moments.{EachMomentSince};
 ghost use Rattle.folder_files.specs.FileNames.{journal_file};
 ghost use Rattle.desk_journal.specs.Entries.{IsJournal, entry_values, journal_text};
-ghost use Rattle.desk_journal.specs.Overlays.{StandsAs, overlay, put_all};
+ghost use Rattle.desk_journal.specs.Overlays.{overlay, put_all};
+ghost use Rattle.desk_journal.specs.Steps.{GoesThrough, GoesThroughAll, journal_steps, replacements, without_journal};
 
 use crate::entry::Entry;
 use folder_files::JOURNAL;
@@ -19,9 +19,12 @@ pub(crate) fn carry_out<F: Folder>(folder: &mut F, entries: &[Entry]) -> Result<
         (λ held. finmap.get held journal_file ≡ Some (journal_text (entry_values entries.now))) }
     ensures done { OnOk result (F.contents folder.new ≡ option_map overlay
         (F.contents folder.old)) }
-    ensures stands { StandsAs (F.contents folder.old) (F.contents folder.new) }
-    ensures each_moment { EachMomentSince (StandsAs (F.contents folder.old)) (F.moments folder.old)
+    ensures steps { GoesThrough (journal_steps (entry_values entries.now) (F.contents folder.old))
+        (F.contents folder.old) (F.contents folder.new) (F.moments folder.old)
         (F.moments folder.new) }
+    ensures all { OnOk result (IfSome (F.contents folder.old) (λ held. GoesThroughAll
+        (journal_steps (entry_values entries.now) (Some held)) (F.moments folder.old)
+        (F.moments folder.new))) }
     ensures cause { HasCause (F.faults folder.old) (F.faults folder.new)
         (IsErrOf result FolderFault.Failed) }
     ensures never_missing { ¬ IsErrOf result FolderFault.Missing }
@@ -34,14 +37,14 @@ pub(crate) fn carry_out<F: Folder>(folder: &mut F, entries: &[Entry]) -> Result<
 
 // Replaces the file of each entry, in their order.
 fn replace_all<F: Folder>(folder: &mut F, entries: &[Entry]) -> Result<(), FolderFault>
-    requires form { IsJournal (entry_values entries.now) }
-    requires written { IfSome (F.contents folder.old)
-        (λ held. finmap.get held journal_file ≡ Some (journal_text (entry_values entries.now))) }
     ensures done { OnOk result (F.contents folder.new ≡ option_map
         (put_all (entry_values entries.now)) (F.contents folder.old)) }
-    ensures stands { StandsAs (F.contents folder.old) (F.contents folder.new) }
-    ensures each_moment { EachMomentSince (StandsAs (F.contents folder.old)) (F.moments folder.old)
+    ensures steps { GoesThrough (replacements (entry_values entries.now) (F.contents folder.old))
+        (F.contents folder.old) (F.contents folder.new) (F.moments folder.old)
         (F.moments folder.new) }
+    ensures all { OnOk result (GoesThroughAll
+        (replacements (entry_values entries.now) (F.contents folder.old)) (F.moments folder.old)
+        (F.moments folder.new)) }
     ensures cause { HasCause (F.faults folder.old) (F.faults folder.new)
         (IsErrOf result FolderFault.Failed) }
     ensures never_missing { ¬ IsErrOf result FolderFault.Missing }
@@ -57,11 +60,14 @@ fn replace_all<F: Folder>(folder: &mut F, entries: &[Entry]) -> Result<(), Folde
 fn remove_journal<F: Folder>(folder: &mut F) -> Result<(), FolderFault>
     requires there { IfSome (F.contents folder.old)
         (λ held. IsSome (finmap.get held journal_file)) }
-    ensures removed { OnOk result (F.contents folder.new ≡ option_map
-        (λ held. finmap.remove held journal_file) (F.contents folder.old)) }
-    ensures contents { OnErr result (F.contents folder.new ≡ F.contents folder.old) }
-    ensures each_moment { EachMomentSince (λ told. told ≡ F.contents folder.new)
-        (F.moments folder.old) (F.moments folder.new) }
+    ensures removed { OnOk result (F.contents folder.new
+        ≡ without_journal (F.contents folder.old)) }
+    ensures steps { GoesThrough (without_journal (F.contents folder.old) ∷ [])
+        (F.contents folder.old) (F.contents folder.new) (F.moments folder.old)
+        (F.moments folder.new) }
+    ensures all { OnOk result (IfSome (F.contents folder.old) (λ _. GoesThroughAll
+        (without_journal (F.contents folder.old) ∷ []) (F.moments folder.old)
+        (F.moments folder.new))) }
     ensures cause { HasCause (F.faults folder.old) (F.faults folder.new)
         (IsErrOf result FolderFault.Failed) }
     ensures never_missing { ¬ IsErrOf result FolderFault.Missing }

@@ -13,6 +13,7 @@
 #![tactic(auto)]
 
 mod bad_journal;
+mod change;
 mod commit;
 mod entry;
 mod entry_reader;

@@ -1,6 +1,6 @@
 -- The files of a change: their names, and that what is written is read.
-use Rattle.std.proofs.Common.{◌≡◌, ◌<◌, ℕ, true, false, List, ◌++◌, ◌-◌, length, take, Option, Some, Ok, refl, sym, ap, ◌∙◌, arith}
-use Rattle.std.specs.Prelude.{codes}
+use Rattle.std.proofs.Common.{◌≡◌, ◌||◌, ◌<◌, ℕ, true, false, List, ◌++◌, ◌-◌, length, take, Option, Some, Ok, refl, sym, ap, ◌∙◌, arith}
+use Rattle.std.specs.Prelude.{bytes_eq, codes}
 use Rattle.std.proofs.lemmas.Bool.Decides.{Decides-eqb, nat_tests}
 use Rattle.std.proofs.lemmas.Slice.Eq.{ends_is}
 use Rattle.pdb_values.specs.Databases.{DatabaseValue}
@@ -9,16 +9,16 @@ use Rattle.pdb_values.specs.declared.user.Marks.{Marks}
 use Rattle.pdb_files.specs.Files.{IsFileText}
 use Rattle.pdb_files.specs.Reading.{database_in}
 use Rattle.pdb_files.proofs.FileLaws.{file-written}
-use Rattle.folder_files.specs.FileNames.{desktop_info_file, has_ending, is_kept_file}
+use Rattle.folder_files.specs.FileNames.{desktop_info_file, has_ending, is_kept_file, journal_file}
 use Rattle.folder_files.specs.InfoFiles.{IsDesktopFile}
 use Rattle.folder_files.proofs.InfoLaws.{desktop_only}
-use Rattle.desk_store.specs.DeskFiles.{by_role, file_in, if_slot, if_slots, is_own_file, own_slot, role_of, slot_file}
+use Rattle.desk_store.specs.DeskFiles.{by_role, file_in, if_slot, if_slots, is_desk_file, is_own_file, own_slot, role_of, slot_file}
 use Rattle.desk_store.specs.declared.file.DeskFile.TheVariants as files
 use Rattle.desk_store.specs.declared.role.Role.{Role}
 use Rattle.desk_store.specs.declared.role.Role.TheVariants.{Rows, Base, Archive}
 use Rattle.desk_store.proofs.OwnLaws.{ending_of, last_byte, last_byte-append, own_file, own_slot-some, slot_file-ends, slot_stem}
 use Rattle.pdb_values.proofs.NamedLaws.{bytes_eq-own}
-use Rattle.std.proofs.lemmas.Bool.{false_from_ne_true}
+use Rattle.std.proofs.lemmas.Bool.{false_from_ne_true, or_parts}
 use Rattle.std.proofs.lemmas.Grind.{common_steps}
 
 -- ---- endings
@@ -55,6 +55,17 @@ kept_by name is = grind (arith, common_steps, nat_tests)
 
 pub file_kept : (slot : ℕ) (role : Role) (name : List ℕ) → is_kept_file (slot_file slot role name) ≡ true
 file_kept slot role name = kept_by (slot_file slot role name) (role_of_file slot role name)
+
+-- the file of another name holds nothing to a desktop
+pub file_in_other : (slots : ℕ) (name bytes : List ℕ) → is_desk_file name ≡ false → file_in slots name bytes ≡ Ok files.Other
+unfolding file_in
+file_in_other slots name bytes other =
+    let kept = or_parts (is_kept_file name) (bytes_eq name journal_file) other in
+    let rows = or_parts (has_ending (codes ".pdb") name) (has_ending (codes ".base") name || (has_ending (codes ".arc") name || bytes_eq name desktop_info_file))
+    kept.0 in
+    let base = or_parts (has_ending (codes ".base") name) (has_ending (codes ".arc") name || bytes_eq name desktop_info_file) rows.1 in
+    let archive = or_parts (has_ending (codes ".arc") name) (bytes_eq name desktop_info_file) base.1 in
+    rw (rows.0, base.0, archive.0, archive.1, kept.1) refl
 
 -- the file of a database is not the information file
 pub not_info : (slot : ℕ) (role : Role) (name : List ℕ) → slot_file slot role name ≡ desktop_info_file → ⊥

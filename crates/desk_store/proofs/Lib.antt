@@ -12,3 +12,4 @@ pub mod BearLaws
 pub mod BoundLaws
 pub mod CommitLaws
 pub mod CountLaws
+pub mod OpenableLaws

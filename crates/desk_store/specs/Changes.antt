@@ -2,6 +2,7 @@
 use Rattle.std.specs.Prelude.{◌≡◌, ◌≢◌, ◌<◌, ◌≤◌, ℕ, false, bytes_eq, List, [], ◌∷◌, ◌++◌, length, map, slice_index, slice_set, if◌then◌else◌, Option, None}
 use Rattle.std.specs.Prelude.{Some, IfSome}
 use Rattle.std.specs.List.{AllByRecursion, flat_map}
+use Rattle.hs_folders.specs.FileMaps.{FileMap}
 use Rattle.pdb_values.specs.Databases.{DatabaseValue}
 use Rattle.pdb_values.specs.declared.user.Marks.{Marks}
 use Rattle.pdb_values.specs.Heads.{holds_resources}
@@ -9,6 +10,7 @@ use Rattle.pdb_files.specs.Files.{IsFileText, canonical}
 use Rattle.folder_files.specs.InfoFiles.{desktop_text}
 use Rattle.folder_files.specs.FileNames.{desktop_info_file}
 use Rattle.desk_journal.specs.Entries.{EntryValue}
+use Rattle.desk_journal.specs.Steps.{changed_in, commit_steps}
 use Rattle.folder_files.specs.Slots.{users_of}
 use Rattle.desk_store.specs.DeskFiles.{slot_file}
 use Rattle.desk_store.specs.declared.role.Role.{Role}
@@ -108,6 +110,10 @@ with_commit change place slots = slice_set (with_place slots place) place (chang
 -- the files that this writes
 abbrev pub change_entries : DeskChange → ℕ → List SlotValue → List EntryValue
 change_entries change place slots = slot_entries place change.databases.items (marks_of (with_commit change place slots))
+
+-- the steps in which a folder gets the files that this changes
+abbrev pub steps_of : DeskChange → ℕ → List SlotValue → FileMap → List (Option FileMap)
+steps_of change place slots held = commit_steps (changed_in held (change_entries change place slots)) (Some held)
 
 -- ---- what was written
 

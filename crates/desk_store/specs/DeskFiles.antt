@@ -1,5 +1,5 @@
 -- What each file of a desktop holds, by its name, its bytes and how many slots the desktop has, or its first failing test.
-use Rattle.std.specs.Prelude.{◌≡◌, ⊤, ◌&&◌, ◌++◌, ℕ, zero, suc, Bool, not, bytes_eq, codes, List, if◌then◌else◌, Option, None, Some, Result, Ok, Err}
+use Rattle.std.specs.Prelude.{◌≡◌, ⊤, ◌&&◌, ◌||◌, ◌++◌, ℕ, zero, suc, Bool, not, bytes_eq, codes, List, if◌then◌else◌, Option, None, Some, Result, Ok, Err}
 use Rattle.std.specs.Prelude.{option_and_then}
 use Rattle.std.specs.Option.{option_or}
 use Rattle.pdb_values.specs.Databases.{DatabaseValue}
@@ -10,7 +10,7 @@ use Rattle.pdb_files.specs.Faults.{file_fault}
 use Rattle.pdb_files.specs.Reading.{database_in}
 use Rattle.pdb_files.specs.declared.bad_kind.BadKind.{BadKind}
 use Rattle.pdb_files.specs.declared.bad_kind.BadKind.TheVariants as kinds
-use Rattle.folder_files.specs.FileNames.{archive_file, base_file, desktop_info_file, has_ending, journal_file, rows_file, slot_prefix}
+use Rattle.folder_files.specs.FileNames.{archive_file, base_file, desktop_info_file, has_ending, is_kept_file, journal_file, rows_file, slot_prefix}
 use Rattle.folder_files.specs.InfoFiles.{desktop_in}
 use Rattle.folder_files.specs.declared.bad_line.BadLine.{BadLine}
 use Rattle.desk_journal.specs.Overlays.{bad_of}
@@ -22,6 +22,10 @@ use Rattle.desk_store.specs.declared.file.DeskFile.{DeskFile}
 use Rattle.desk_store.specs.declared.file.DeskFile.TheVariants as files
 use Rattle.desk_store.specs.declared.role.Role.{Role}
 use Rattle.desk_store.specs.declared.role.Role.TheVariants.{Rows, Base, Archive}
+
+-- a desktop reads the files that it keeps and its journal, and no other
+abbrev pub is_desk_file : List ℕ → Bool
+is_desk_file name = is_kept_file name || bytes_eq name journal_file
 
 -- what a database is to a desktop, by the ending of its file's name
 abbrev pub role_of : List ℕ → Option Role

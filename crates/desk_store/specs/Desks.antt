@@ -3,12 +3,13 @@ use Rattle.std.specs.Prelude.{◌≡◌, ⊤, ◌<◌, ◌≤◌, ℕ, List, len
 use Rattle.std.specs.FinMap as finmap
 use Rattle.std.specs.declared.alloc.Global.{Global}
 use Rattle.hs_folders.specs.FileMaps.{FileMap}
+use Rattle.hs_folders.specs.Moments.{EachMomentSince, Moments}
 use Rattle.pdb_values.specs.NamedDatabases.{database_of}
 use Rattle.pdb_values.specs.Slots.{most_slots}
 use Rattle.pdb_values.specs.declared.slot.Slot.{Slot}
 use Rattle.pdb_values.specs.declared.slot.Slot.TheVariants.{Old, New, Refused, Full}
 use Rattle.folder_files.specs.Slots.{AreSlots}
-use Rattle.desk_journal.specs.Overlays.{HasNoJournal}
+use Rattle.desk_journal.specs.Overlays.{HasNoJournal, finished}
 use Rattle.desk_store.specs.Finds.{first_bad_in, rows_count}
 use Rattle.desk_store.specs.Shelves.{AreInOrder, SlotValue, bad_at, database_at, marks_of, shelf_at, slots_in}
 use Rattle.desk_store.specs.declared.role.Role.{Role}
@@ -56,6 +57,15 @@ all_rows slots = sum_by (λ slot. length slot.shelves.rows) slots
 pub record IsReadable (held : FileMap) : Type 0 where
   pub few : rows_count (finmap.keys held) ≤ 200
   pub good : first_bad_in held ≡ None
+
+-- a folder can be opened as a desktop: it is so once its journal is finished
+abbrev pub IsOpenable : FileMap → Type 0
+IsOpenable held = IsReadable (finished held)
+
+-- it can be opened now and could be at each moment since, where it tells what it holds
+pub record StaysOpenable (now : Option FileMap) (old new : Moments) : Type 0 where
+  pub here : IfSome now IsOpenable
+  pub each : EachMomentSince (λ told. IfSome told IsOpenable) old new
 
 -- what the files of a folder show of the cause of each refusal
 abbrev pub Shows : FileMap → DeskOpenFault → Type 0

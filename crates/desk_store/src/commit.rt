@@ -1,14 +1,15 @@
 // Carrying out a change.
-ghost use Rattle.std.specs.Prelude.{◌≡◌, ◌≤◌, ◌⊎◌, ◌++◌, ◌∷◌, [], IfOk, IfSome, IsErrOf, OnErr, OnOk};
+ghost use Rattle.std.specs.Prelude.{◌≡◌, ◌≤◌, ◌⊎◌, ◌++◌, ◌∷◌, [], IfOk, IfSome, IsErrOf, OnErr, OnOk, Some};
 ghost use Rattle.std.specs.Option.{option_map};
 ghost use Rattle.hs_folders.specs.Causes.{HasCause};
 ghost use Rattle.hs_folders.specs.Moments.{EachMomentSince};
 ghost use Rattle.folder_files.specs.InfoFiles.{IsDesktopFile, desktop_text};
 ghost use Rattle.folder_files.specs.Slots.{AreSlots};
 ghost use Rattle.desk_journal.specs.Entries.{entry_values};
-ghost use Rattle.desk_journal.specs.Overlays.{StandsAs, put_all};
+ghost use Rattle.desk_journal.specs.Overlays.{FinishesAs, StandsAs, put_all};
+ghost use Rattle.desk_journal.specs.Steps.{GoesThrough, GoesThroughAll};
 ghost use Rattle.desk_store.specs.Changes as changes;
-ghost use Rattle.desk_store.specs.Changes.{IsDeskChange, MayBear, with_commit};
+ghost use Rattle.desk_store.specs.Changes.{IsDeskChange, MayBear, steps_of, with_commit};
 ghost use Rattle.desk_store.specs.Desks.{IsDesk, IsPlace};
 ghost use Rattle.desk_store.specs.Shelves.{marks_of as marks_in, new_slot, number_of};
 
@@ -49,6 +50,17 @@ pub(crate) fn write_change<F: Folder>(
     ensures each_moment { EachMomentSince (StandsAs (option_map
         (put_all (changes.change_entries change place slots.items)) (F.contents folder.old)))
         (F.moments folder.old) (F.moments folder.new) }
+    ensures left { FinishesAs (F.contents folder.old) (F.contents folder.new)
+        ⊎ FinishesAs (option_map (put_all (changes.change_entries change place slots.items))
+        (F.contents folder.old)) (F.contents folder.new) }
+    ensures each_left { EachMomentSince (FinishesAs (option_map
+        (put_all (changes.change_entries change place slots.items)) (F.contents folder.old)))
+        (F.moments folder.old) (F.moments folder.new) }
+    ensures steps { IfSome (F.contents folder.old) (λ held. GoesThrough
+        (steps_of change place slots.items held) (Some held) (F.contents folder.new)
+        (F.moments folder.old) (F.moments folder.new)) }
+    ensures all { OnOk result (IfSome (F.contents folder.old) (λ held. GoesThroughAll
+        (steps_of change place slots.items held) (F.moments folder.old) (F.moments folder.new))) }
     ensures cause { HasCause (F.faults folder.old) (F.faults folder.new)
         (IsErrOf result CommitFault.DeskFault) }
     ensures paths { F.paths folder.new ≡ F.paths folder.old }
@@ -56,7 +68,7 @@ pub(crate) fn write_change<F: Folder>(
     let mut entries = database_entries(alloc, place, &change.databases)?;
     let after = put_change(slots, place, newcomer, change)?;
     push_slots(alloc, &mut entries, &after)?;
-    commit_files(alloc, folder, &entries)?;
+    commit_files(alloc, folder, entries)?;
     Ok(after)
 }
 

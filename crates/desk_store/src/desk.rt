@@ -6,11 +6,12 @@ ghost use Rattle.hs_folders.specs.Causes.{HasCause};
 ghost use Rattle.hs_folders.specs.Moments.{EachMomentSince};
 ghost use Rattle.pdb_values.specs.NamedDatabases.{NamesRise, database_of};
 ghost use Rattle.folder_files.specs.Slots.{AreSlots, users_of as users_in};
-ghost use Rattle.desk_journal.specs.Overlays.{StandsAs, finished, put_all};
+ghost use Rattle.desk_journal.specs.Overlays.{FinishesAs, StandsAs, finished, put_all};
+ghost use Rattle.desk_journal.specs.Steps.{GoesThrough, GoesThroughAll};
 ghost use Rattle.desk_store.specs.declared.role.Role.{Role};
 ghost use Rattle.desk_store.specs.Bounds.{AreBounded};
-ghost use Rattle.desk_store.specs.Changes.{IsDeskChange, MayBear, change_entries, changed, with_commit};
-ghost use Rattle.desk_store.specs.Desks.{IsDesk, IsJudged, IsPickable, IsReadable, Shows, all_rows, place_of};
+ghost use Rattle.desk_store.specs.Changes.{IsDeskChange, MayBear, change_entries, changed, steps_of, with_commit};
+ghost use Rattle.desk_store.specs.Desks.{IsDesk, IsJudged, IsOpenable, IsPickable, IsReadable, Shows, StaysOpenable, all_rows, place_of};
 ghost use Rattle.desk_store.specs.Finds.{rows_count};
 ghost use Rattle.desk_store.specs.Shelves.{marks_of, number_of, shelf_of};
 ghost use Rattle.desk_store.specs.Views.{folder_in, marks_in, picked_slot, shelves_in};
@@ -83,6 +84,12 @@ impl<F: Folder> Desk<F> {
         ensures stands { StandsAs (F.contents folder) (F.contents (folder_in result)) }
         ensures each_moment { EachMomentSince (StandsAs (F.contents folder)) (F.moments folder)
             (F.moments (folder_in result)) }
+        // And finishing the journal that is left then leaves the same files. So where it can be opened, it stays so.
+        ensures left { FinishesAs (F.contents folder) (F.contents (folder_in result)) }
+        ensures each_left { EachMomentSince (FinishesAs (F.contents folder)) (F.moments folder)
+            (F.moments (folder_in result)) }
+        ensures openable { IfSome (F.contents folder) IsOpenable → StaysOpenable
+            (F.contents (folder_in result)) (F.moments folder) (F.moments (folder_in result)) }
         ensures paths { F.paths (folder_in result) ≡ F.paths folder }
     {
         let mut folder = folder;
@@ -114,7 +121,8 @@ impl<F: Folder> Desk<F> {
     }
 
     /// Carries out a change of the picked slot: replaces the files of each database in order of names, its rows, its base
-    /// rows and its archive where one is given, and then the information file, all of them or none.
+    /// rows and its archive where one is given, and then the information file, all of them or none. Files that have their new
+    /// bytes already are left alone.
     ///
     /// The marks bear the desktop's number, and a user that no other slot has, 0 only in slot 0. At most 200 databases
     /// change, in rising byte order of their names, which differ. The rows, base rows and archive of one change hold records
@@ -151,6 +159,29 @@ impl<F: Folder> Desk<F> {
         ensures each_moment { EachMomentSince (StandsAs (option_map
             (put_all (change_entries change self.picked self.slots)) (F.contents self.folder)))
             (F.moments self.folder) (F.moments (folder_in result)) }
+
+        // Whatever was left, once the journal is finished the files are those from before, or those of the whole change.
+        ensures left { FinishesAs (F.contents self.folder) (F.contents (folder_in result))
+            ⊎ FinishesAs (option_map (put_all (change_entries change self.picked self.slots))
+            (F.contents self.folder)) (F.contents (folder_in result)) }
+        ensures each_left { EachMomentSince (FinishesAs (option_map
+            (put_all (change_entries change self.picked self.slots)) (F.contents self.folder)))
+            (F.moments self.folder) (F.moments (folder_in result)) }
+        // So the folder can be opened, where neither desktop has more than 200 databases.
+        ensures openable { all_rows self.slots ≤ 200
+            → all_rows (with_commit change self.picked self.slots) ≤ 200 → StaysOpenable
+            (F.contents (folder_in result)) (F.moments self.folder)
+            (F.moments (folder_in result)) }
+
+        // The moments of the call: it writes no file that has its bytes already, and each other one in order, by way of a
+        // journal where there is more than one.
+        ensures steps { IfSome (F.contents self.folder) (λ held. GoesThrough
+            (steps_of change self.picked self.slots held) (Some held)
+            (F.contents (folder_in result)) (F.moments self.folder)
+            (F.moments (folder_in result))) }
+        ensures all { IfOk result (λ desk. IfSome (F.contents self.folder) (λ held. GoesThroughAll
+            (steps_of change self.picked self.slots held) (F.moments self.folder)
+            (F.moments desk.folder))) }
         ensures cause { HasCause (F.faults self.folder) (F.faults (folder_in result))
             (IsErrAnd result (λ refusal. refusal.0 ≡ CommitFault.DeskFault)) }
         ensures paths { F.paths (folder_in result) ≡ F.paths self.folder }
@@ -217,11 +248,14 @@ impl<F: Folder> Desk<F> {
     }
 
     /// How many databases have rows in all slots, which is the number of files of rows; the greatest number, were there more.
-    #[tactic(auto, using(crate::proofs::CountLaws::told_number))]
+    #[tactic(auto, using(crate::proofs::CountLaws::told_number, crate::proofs::OpenableLaws::told_openable))]
     pub fn all_len(&self) -> usize
         ensures count { result ≡ min (all_rows self.now.slots) usize.MAX }
         ensures number { IfSome (F.contents self.now.folder)
             (λ held. all_rows self.now.slots ≡ rows_count (finmap.keys held)) }
+        // With at most 200 the folder can be opened again.
+        ensures openable { all_rows self.now.slots ≤ 200
+            → IfSome (F.contents self.now.folder) IsOpenable }
     {
         count_rows(&self.slots)
     }

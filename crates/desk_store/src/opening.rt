@@ -7,7 +7,7 @@ ghost use Rattle.hs_folders.specs.Moments.{EachMomentSince, OnlyRead};
 ghost use Rattle.folder_files.specs.FileNames.{has_ending};
 ghost use Rattle.folder_files.specs.InfoFiles.{desktop_in};
 ghost use Rattle.folder_files.specs.Slots.{AreSlots};
-ghost use Rattle.desk_journal.specs.Overlays.{HasNoJournal, StandsAs, finished};
+ghost use Rattle.desk_journal.specs.Overlays.{FinishesAs, StandsAs, finished};
 ghost use Rattle.desk_store.specs.Bounds.{AreBounded};
 ghost use Rattle.desk_store.specs.Desks.{IsDesk, IsJudged, IsReadable, Shows};
 ghost use Rattle.desk_store.specs.Finds.{FindsAll, rows_count};
@@ -43,6 +43,9 @@ pub(crate) fn open_files<F: Folder>(
         (IsErrOf result DeskOpenFault.DeskFault) }
     ensures stands { StandsAs (F.contents folder.old) (F.contents folder.new) }
     ensures each_moment { EachMomentSince (StandsAs (F.contents folder.old)) (F.moments folder.old)
+        (F.moments folder.new) }
+    ensures left { FinishesAs (F.contents folder.old) (F.contents folder.new) }
+    ensures each_left { EachMomentSince (FinishesAs (F.contents folder.old)) (F.moments folder.old)
         (F.moments folder.new) }
     ensures paths { F.paths folder.new ≡ F.paths folder.old }
 {

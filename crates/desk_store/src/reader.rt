@@ -1,18 +1,28 @@
 // Reading one file of a desktop.
-ghost use Rattle.std.specs.Prelude.{◌≡◌, IfOk, Some};
+ghost use Rattle.std.specs.Prelude.{◌≡◌, false, ℕ, IfOk, List, Ok, Some};
 ghost use Rattle.pdb_files.specs.Reading.{database_in};
 ghost use Rattle.folder_files.specs.InfoFiles.{desktop_in};
 ghost use Rattle.desk_journal.specs.Overlays.{bad_of};
-ghost use Rattle.desk_store.specs.DeskFiles.{Reads, broken_rule, file_in, if_journal, if_own, if_slots, is_own_file as stands_in_its_file, other_in, own_slot as slot_of_own};
+ghost use Rattle.desk_store.specs.DeskFiles.{Reads, broken_rule, file_in, if_journal, if_own, if_slots, is_desk_file as is_name_of_desktop, is_own_file as stands_in_its_file, other_in, own_slot as slot_of_own};
 
 use crate::file::DeskFile;
 use crate::file_fault::{BadDeskFile, DeskFileFault};
 use crate::role::Role;
 use desk_journal::{JournalFault, read_journal};
-use folder_files::{DESKTOP_INFO, InfoFault, JOURNAL, read_desktop_info};
+use folder_files::{DESKTOP_INFO, InfoFault, JOURNAL, is_kept_file, read_desktop_info};
 use pdb_files::{BadKind, read_database};
 use pdb_values::Database;
 use std::alloc::{AllocError, Global};
+
+// Whether a desktop reads the file of this name. Any other holds nothing to it, whatever its bytes.
+#[tactic(auto, using(crate::proofs::FileLaws::file_in_other))]
+pub(crate) fn is_desk_file(name: &str) -> bool
+    ensures named { result ≡ is_name_of_desktop name.now }
+    ensures others { is_name_of_desktop name.now ≡ false → (slots : ℕ) (bytes : List ℕ)
+        → file_in slots name.now bytes ≡ Ok DeskFile.Other }
+{
+    is_kept_file(name) || name == JOURNAL
+}
 
 /// Reads the file of this name, which is all of the bytes, of a desktop with so many slots.
 ///

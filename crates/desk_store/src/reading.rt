@@ -9,6 +9,7 @@ ghost use Rattle.desk_store.specs.Finds.{AddsAny, FindsAll, KeepsForm, RefusesAm
 
 use crate::fault::DeskOpenFault;
 use crate::found::add_file;
+use crate::reader::is_desk_file;
 use crate::slot::DeskSlot;
 use hs_folders::{Folder, FolderFault};
 use std::alloc::Global;
@@ -43,7 +44,7 @@ pub(crate) fn read_files<F: Folder>(
     Ok(found)
 }
 
-// Reads one file. One that is listed and then missing counts as not there.
+// Reads one file, if it is one that a desktop reads. One that is listed and then missing counts as not there.
 fn read_file<F: Folder>(
     alloc: Global,
     folder: &mut F,
@@ -60,6 +61,9 @@ fn read_file<F: Folder>(
         (IsErrOf result DeskOpenFault.DeskFault) }
     ensures read { OnlyRead F.contents F.moments F.paths F.faults folder.old folder.new }
 {
+    if !is_desk_file(name) {
+        return Ok(());
+    }
     let bytes = match folder.read(alloc, name) {
         Ok(bytes) => bytes,
         Err(FolderFault::Missing) => return Ok(()),

@@ -3,6 +3,7 @@ use crate::change::change_of;
 use crate::desktop::{look, pick, refusal, slots_text};
 use crate::files::said;
 use crate::folder::{change, files, put_many};
+use crate::steps::steps;
 use case_words::{bytes_at, number_at, word};
 use desk_store::{CommitFault, Desk};
 use hs_folders::MemFolder;
@@ -23,6 +24,7 @@ pub fn obey(
         "files" => files(alloc, folder),
         "finish" | "change" => change(alloc, folder, &words),
         "moment" => moment(alloc, folder, &words),
+        "steps" => steps(alloc, folder),
         "open" => open(alloc, folder, desk),
         "close" => close(alloc, folder, desk),
         "commit" => commit(alloc, folder, desk, &words),

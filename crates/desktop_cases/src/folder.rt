@@ -45,7 +45,7 @@ pub fn change(alloc: Global, folder: &mut MemFolder, words: &[&str]) -> Result<S
     let Ok(entries) = read_journal(alloc, &bytes_at(alloc, words, 1)) else {
         return String::from_str(alloc, "finished");
     };
-    match commit_files(alloc, folder, &entries) {
+    match commit_files(alloc, folder, entries) {
         Ok(()) => String::from_str(alloc, "changed"),
         Err(fault) => String::from_str(alloc, fault_word(fault)),
     }

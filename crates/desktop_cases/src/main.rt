@@ -16,7 +16,8 @@
 //! - `open`; of the opened desktop `users`, and how many databases have rows in all slots; `pick PLACE`, an old slot or a new
 //!   one behind the last; of the picked one `marks`, `list`, `rows H`, `base H` and `archive H` by name; `commit USER SECONDS
 //!   NAME H ROWS BASE ARCHIVE`, new marks and a change of one database whose files are given; `close`; `moment N`, the
-//!   desktop of the folder at one moment, slot after slot.
+//!   desktop of the folder at one moment, slot after slot; `steps`, the files that each change of the folder replaced, or
+//!   removed, with a minus.
 #![tactic(auto)]
 
 mod bench;
@@ -26,6 +27,7 @@ mod files;
 mod folder;
 mod plans;
 mod shown;
+mod steps;
 
 use bench::{empty_folder, obey};
 use desk_store::Desk;

@@ -1,0 +1,124 @@
+-- What a folder is once its journal is finished, at each step of carrying the journal out.
+use Rattle.std.proofs.Common.{◌≡◌, ◌⊎◌, inl, inr, ℕ, List, [], ◌∷◌, ◌++◌, length, take, Option, None, Some, refl, sym, ap, subst, ◌∙◌, arith}
+use Rattle.std.specs.Prelude.{IfSome}
+use Rattle.std.specs.FinMap as finmap
+use Rattle.std.specs.List.{AllByRecursion}
+use Rattle.std.specs.Option.{option_map}
+use Rattle.std.proofs.lemmas.Grind.{common_steps}
+use Rattle.std.proofs.lemmas.Bool.Decides.{nat_tests}
+use Rattle.hs_folders.specs.FileMaps.{FileMap}
+use Rattle.hs_folders.specs.Moments.{EachMomentSince, Moments}
+use Rattle.folder_files.specs.FileNames.{journal_file}
+use Rattle.desk_journal.specs.Entries.{EntryValue, IsJournal, journal_text}
+use Rattle.desk_journal.specs.Overlays.{FinishesAs, HasNoJournal, StandsAs, bad_of, finished, overlay, put_all}
+use Rattle.desk_journal.specs.Steps.{GoesThrough, commit_steps, journal_steps, replacements, with_journal, without_journal}
+use Rattle.desk_journal.proofs.OverlayLaws.{ArePending, IsPending, bad_is, commit_stands, none_after, overlaid_after, overlay_has_none, overlay_stays}
+use Rattle.desk_journal.proofs.OverlayLaws.{pending_stays, plain_overlay, told_overlaid, told_removed, told_stays, written_there}
+use Rattle.desk_journal.proofs.ReadLaws.{journal_only}
+use Rattle.desk_journal.proofs.StepLaws.{all_and, all_weaken, each_replacement, none_put, through_each, through_either, through_last}
+
+-- ---- one folder
+
+pub plain_finished : (held : FileMap) → HasNoJournal held → finished held ≡ held
+plain_finished held none = grind (arith, common_steps, nat_tests, plain_overlay)
+
+pending_finished : {entries : List EntryValue} {held : FileMap} → IsPending entries held → finished held ≡ overlay held
+pending_finished {entries} {held} is =
+    let good : bad_of (finmap.get held journal_file) ≡ None = bad_is held is.written (journal_only entries is.form) in rw good refl
+
+finished_stays : {entries : List EntryValue} (count : ℕ) {held : FileMap} → IsPending entries held → finished (put_all (take count entries) held) ≡ finished held
+finished_stays count is = pending_finished (pending_stays count is) ∙ (overlay_stays count is ∙ sym (pending_finished is))
+
+finished_overlaid : {entries : List EntryValue} {held : FileMap} → IsPending entries held → finished (overlay held) ≡ finished held
+finished_overlaid {entries} {held} is = plain_finished (overlay held) (overlay_has_none is) ∙ sym (pending_finished is)
+
+finished_journal : (entries : List EntryValue) (held : FileMap) → IsJournal entries → HasNoJournal held
+    → finished (finmap.insert held journal_file (journal_text entries)) ≡ finished (put_all entries held)
+finished_journal entries held form none =
+    pending_finished {entries = entries} {held = finmap.insert held journal_file (journal_text entries)}
+    (record { form = form; written = written_there (Some held) (journal_text entries) })
+    ∙ (overlaid_after entries held form none ∙ sym (plain_finished (put_all entries held) (none_after entries held form none)))
+
+-- ---- where contents are told or not
+
+-- what is told stands for the same, and is the same once its journal is finished
+abbrev pub SameFor : Option FileMap → Option FileMap → Type 0
+SameFor before told = StandsAs before told × FinishesAs before told
+
+told_finishes : (entries : List EntryValue) (count : ℕ) (told : Option FileMap) → IsJournal entries → ArePending entries told
+    → FinishesAs told (option_map (put_all (take count entries)) told)
+told_finishes entries count None form written = refl
+told_finishes entries count (Some held) form written = ap Some (finished_stays count (record { form = form; written = written }))
+
+told_finished : (entries : List EntryValue) (told : Option FileMap) → IsJournal entries → ArePending entries told → FinishesAs told (option_map overlay told)
+told_finished entries None form written = refl
+told_finished entries (Some held) form written = ap Some (finished_overlaid {entries = entries} (record { form = form; written = written }))
+
+take_front : {X : Type 0} (a b : List X) → take (length a) (a ++ b) ≡ a
+take_front [] b = refl
+take_front (x ∷ a) b = ap (λ (s : List _). x ∷ s) (take_front a b)
+
+-- each step of carrying a journal out
+pub journal_same : (entries : List EntryValue) (told : Option FileMap) → IsJournal entries → ArePending entries told
+    → AllByRecursion (SameFor told) (journal_steps entries told)
+journal_same entries told form written =
+    all_and (SameFor told) (replacements entries told) (without_journal (option_map (put_all entries) told) ∷ [])
+    (subst (λ (t : Option FileMap). AllByRecursion (SameFor told) (replacements entries t)) (sym (none_put told))
+    (each_replacement (SameFor told) [] entries told (λ a b is. front a b is)))
+    (subst (SameFor told) (sym (told_removed entries told form written)) (told_overlaid entries told form written, told_finished entries told form written), tt)
+  where
+    front : (a b : List EntryValue) → entries ≡ a ++ b → SameFor told (option_map (put_all a) told)
+    front a b is =
+        let part : take (length a) entries ≡ a = ap (take (length a)) is ∙ take_front a b in
+        subst (λ (e : List EntryValue). SameFor told (option_map (put_all e) told)) part
+        (told_stays entries (length a) told form written, told_finishes entries (length a) told form written)
+
+journal_finishes : (entries : List EntryValue) (told : Option FileMap) → IsJournal entries → IfSome told HasNoJournal
+    → FinishesAs (option_map (put_all entries) told) (with_journal entries told)
+journal_finishes entries None form none = refl
+journal_finishes entries (Some held) form none = ap Some (finished_journal entries held form none)
+
+same_on : (before mid told : Option FileMap) → SameFor before mid → SameFor mid told → SameFor before told
+same_on before mid told first then = (then.0 ∙ first.0, then.1 ∙ first.1)
+
+-- each step of a commit
+pub commit_same : (entries : List EntryValue) (told : Option FileMap) → IsJournal entries → IfSome told HasNoJournal
+    → AllByRecursion (SameFor (option_map (put_all entries) told)) (commit_steps entries told)
+commit_same [] told form none = tt
+commit_same (entry ∷ []) told form none = ((refl, refl), tt)
+commit_same (entry ∷ other ∷ entries) told form none =
+    let all : List EntryValue = entry ∷ other ∷ entries in
+    let after : Option FileMap = option_map (put_all all) told in
+    let here : SameFor after (with_journal all told) = (commit_stands all told form none, journal_finishes all told form none) in (
+      here,
+      all_weaken (SameFor (with_journal all told)) (SameFor after) (journal_steps all (with_journal all told)) (λ t is. same_on after (with_journal all told) t here is)
+          (journal_same all (with_journal all told) form (written_there told (journal_text all))),
+    )
+
+-- ---- going through such steps
+
+stands_at : (before : Option FileMap) (steps : List (Option FileMap)) → AllByRecursion (SameFor before) steps → AllByRecursion (StandsAs before) steps
+stands_at before steps all = all_weaken (SameFor before) (StandsAs before) steps (λ t is. is.0) all
+
+finishes_at : (before : Option FileMap) (steps : List (Option FileMap)) → AllByRecursion (SameFor before) steps → AllByRecursion (FinishesAs before) steps
+finishes_at before steps all = all_weaken (SameFor before) (FinishesAs before) steps (λ t is. is.1) all
+
+pub each_stands : (same : Option FileMap) (steps : List (Option FileMap)) {before after : Option FileMap} {old new : Moments}
+    → AllByRecursion (SameFor same) steps → GoesThrough steps before after old new → EachMomentSince (StandsAs same) old new
+each_stands same steps all it = through_each (StandsAs same) (stands_at same steps all) it
+
+pub each_finishes : (same : Option FileMap) (steps : List (Option FileMap)) {before after : Option FileMap} {old new : Moments}
+    → AllByRecursion (SameFor same) steps → GoesThrough steps before after old new → EachMomentSince (FinishesAs same) old new
+each_finishes same steps all it = through_each (FinishesAs same) (finishes_at same steps all) it
+
+pub last_stands : (steps : List (Option FileMap)) {before after : Option FileMap} {old new : Moments} → AllByRecursion (SameFor before) steps
+    → GoesThrough steps before after old new → SameFor before after
+last_stands steps {before} all it = through_last (SameFor before) (refl, refl) all it
+
+pub either_stands : (same : Option FileMap) (steps : List (Option FileMap)) {before after : Option FileMap} {old new : Moments}
+    → AllByRecursion (SameFor same) steps → GoesThrough steps before after old new → StandsAs before after ⊎ StandsAs same after
+either_stands same steps all it = elim (through_either (SameFor same) all it) [ inl is ↦ inl (ap (option_map overlay) is) | inr is ↦ inr is.0 ]
+
+pub either_finishes : (same : Option FileMap) (steps : List (Option FileMap)) {before after : Option FileMap} {old new : Moments}
+    → AllByRecursion (SameFor same) steps → GoesThrough steps before after old new → FinishesAs before after ⊎ FinishesAs same after
+either_finishes same steps all it = elim (through_either (SameFor same) all it) [ inl is ↦ inl (ap (option_map finished) is) | inr is ↦ inr is.1 ]
