@@ -24,6 +24,7 @@ pub mod QuietRuns
 pub mod RunLaws
 pub mod SlotLaws
 pub mod StatusLaws
+pub mod SystemLaws
 pub mod TalkLaws
 pub mod TraceLaws
 pub mod UndisturbedLaws

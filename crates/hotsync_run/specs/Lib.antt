@@ -16,6 +16,7 @@ pub mod Reports
 pub mod Runs
 pub mod Scans
 pub mod Scripts
+pub mod Systems
 pub mod Talks
 pub mod Told
 pub mod Traces
