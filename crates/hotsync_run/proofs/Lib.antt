@@ -5,6 +5,7 @@ pub mod CleanLaws
 pub mod EndLaws
 pub mod FrontLaws
 pub mod FrontMoments
+pub mod HeadlineLaws
 pub mod LeftLaws
 pub mod LineLaws
 pub mod LookLaws

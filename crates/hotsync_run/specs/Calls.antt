@@ -25,7 +25,8 @@ pub record IsNothing (out out_after : SinkTold) (status : Status) : Type 0 where
   pub ended : (status ≡ Usage) ⊎ (status ≡ NoMemory)
   pub printed : IsPrinted (λ text. ⊥) out out_after status
 
--- What is known of a call: words out of the form give the usage line. Only a run sends anything, and a session between made folders.
+-- What is known of a call: words out of the form give the usage line. Only a run sends anything,
+-- and a session between made folders.
 abbrev pub IsCall : Option Task → CallTold → CallTold → SinkTold → SinkTold → Status → Report → Type 0
 IsCall None before after out out_after status report = IsNothing out out_after status
 IsCall (Some (Sync run)) before after out out_after status report = IsRun run before after out out_after status report
@@ -33,16 +34,31 @@ IsCall (Some (LookAt look file)) before after out out_after status report = IsLo
 IsCall (Some (Scan bytes)) before after out out_after status report = IsScanned bytes out out_after status
 IsCall (Some (Make seed count)) before after out out_after status report = IsMake seed count out out_after status report
 
--- What is known of a call holds of its objects before it and after it, as the members of their traits
--- tell them, and of what it answered. Standard output comes last among the objects.
+-- a call: what its words ask for, its objects before and after it, and what it answered
+pub record Call : Type 0 where
+  pub task : Option Task
+  pub before : CallTold
+  pub after : CallTold
+  pub out : SinkTold
+  pub out_after : SinkTold
+  pub status : Status
+  pub report : Report
+
+-- what the contract of the program says of it
+abbrev pub IsAnsweredCall : Call → Type 0
+IsAnsweredCall call =
+    IsCall call.task call.before call.after call.out call.out_after call.status call.report
+
+-- What is known of a call holds of its objects before it and after it, as the members of their
+-- traits tell them, and of what it answered. Standard output comes last among the objects.
 abbrev pub OfCall : (CallTold → CallTold → SinkTold → SinkTold → Status → Report → Type 0)
     → {H D S T O : Type 0} → FolderMembers H → FolderMembers D → SourceMembers S → SinkMembers T
     → SinkMembers O → H → D → S → T → O → Answer H D → S → T → O → Type 0
-OfCall Holds palms desks sources traces outs palm desk source trace out answer read written printed =
-    Holds (call_told palms desks sources traces palm desk source trace)
+OfCall Fact palms desks sources traces outs palm desk source trace out answer read written said =
+    Fact (call_told palms desks sources traces palm desk source trace)
     (call_told palms desks sources traces answer.device answer.desk read written)
     (sink_told outs.taken outs.paths outs.faults out)
-    (sink_told outs.taken outs.paths outs.faults printed) answer.status answer.report
+    (sink_told outs.taken outs.paths outs.faults said) answer.status answer.report
 
 -- the words ask for a run
 abbrev pub IsSync : Option Task → Type 0
