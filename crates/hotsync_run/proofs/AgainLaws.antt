@@ -22,7 +22,7 @@ use Rattle.sync_session.specs.News.{all_news}
 use Rattle.sync_session.specs.Outcomes.{StandsForSlots}
 use Rattle.sync_session.specs.Sessions.{adds_of, after_commit, before_commit, before_writes, requests, writes_before_commit}
 use Rattle.sync_session.specs.Skips.{active}
-use Rattle.sync_session.specs.Tasks.{Meeting, meeting_of, place_for, slot_of}
+use Rattle.sync_session.specs.Tasks.{Meeting, place_for, slot_of}
 use Rattle.sync_session.specs.Users.{agreed_user, begin_mark}
 use Rattle.sync_session.proofs.QuietLaws.{quiet-before_writes}
 use Rattle.session_laws.specs.Meetings.{AsksTheSame, IsActive, action_at, found_of, ids_at}
@@ -32,10 +32,12 @@ use Rattle.session_fronts.specs.Stops.{StandsAmongNews, StandsBehindCommit}
 use Rattle.session_fronts.proofs.FrontLaws.{front-among, front-behind}
 use Rattle.session_fronts.proofs.ManyLaws.{all-run_again}
 use Rattle.session_fronts.proofs.StopLaws.{active-among, active-behind}
-use Rattle.hotsync_run.specs.Again.{AllMeet, AllRan, AreTold, DidRun, EndsAsOne, Meets, RunCall, TakesUp, last_call}
+use Rattle.hotsync_run.specs.Again.{AllMeet, AllRan, AreTold, DidRun, EndsAsOne, TakesUp, last_call}
 use Rattle.hotsync_run.specs.Causes.{ByEnd}
 use Rattle.hotsync_run.specs.Ends.{EndedSession, SessionLeft, StoppedBefore, StoppedBehind}
+use Rattle.hotsync_run.specs.Headline.{RunCall}
 use Rattle.hotsync_run.specs.LineRuns.{LineRan, log_in, write_count}
+use Rattle.hotsync_run.specs.Meetings.{Meets}
 use Rattle.hotsync_run.specs.Runs.{SentNothing, SessionRan}
 use Rattle.hotsync_run.specs.Told.{CallTold}
 use Rattle.hotsync_run.specs.Wishes.{actions_by}
@@ -311,22 +313,18 @@ session_in call is did = grind arith
 abbrev ran-of : (call : RunCall) → SessionRan call.run call.before call.after call.status call.report → AreTold call.before → Ran
 ran-of call ran told = record {
   rules = ran.rules;
-  meeting = meeting_of ran.device ran.slots ran.talked.wishes;
-  add = ran.talked.wishes.add_user;
+  meeting = ran.meeting;
+  add = ran.meeting.wishes.add_user;
   before = call.before;
   after = call.after;
   report = call.report;
   told = told;
-  picked = refl;
-  handheld = ran.handheld;
-  desktop = ran.desktop;
+  picked = ran.meets.picked;
+  handheld = ran.meets.handheld;
+  desktop = ran.meets.desktop;
   line = ran.talked.line;
   left = ran.talked.left;
 }
-
-meets-of : (call : RunCall) (ran : SessionRan call.run call.before call.after call.status call.report)
-    → Meets call.run call.before (meeting_of ran.device ran.slots ran.talked.wishes)
-meets-of call ran = grind arith
 
 -- the sessions of calls
 record AreSessions (call : RunCall) (later : List RunCall) : Type 0 where
@@ -347,7 +345,7 @@ are-sessions call [] all =
       ran = ran;
       others = [];
       precede = ran.left.ended all.1;
-      meets = meets-of call session;
+      meets = session.meets;
       meet = tt;
       before = refl;
       last_given = refl;
@@ -364,8 +362,8 @@ are-sessions call (next ∷ later) all =
       precede = (
         record {
           asks = record {
-            actions = asked.actions ∙ ap actions_by all.2.actions ∙ sym session.talked.asked.actions;
-            slow = asked.slow ∙ all.2.slow ∙ sym session.talked.asked.slow;
+            actions = asked.actions ∙ ap actions_by all.2.actions ∙ sym session.meets.asked.actions;
+            slow = asked.slow ∙ all.2.slow ∙ sym session.meets.asked.slow;
           };
           palm = ap (λ (told : CallTold). told.palm.contents) rest.before ∙ all.2.palm;
           desk = ap (λ (told : CallTold). told.desk.contents) rest.before ∙ all.2.desk;
@@ -373,7 +371,7 @@ are-sessions call (next ∷ later) all =
         },
         rest.precede,
       );
-      meets = meets-of call session;
+      meets = session.meets;
       meet = (rest.meets, refl, refl, rest.meet);
       before = refl;
       last_given = rest.last_given;

@@ -6,7 +6,6 @@ use Rattle.palm_device.specs.Devices.{Device}
 use Rattle.dlp_commands.specs.DeviceRuns.{DeviceRun, exchanged}
 use Rattle.desktop_session.specs.Says.{IsPrefix}
 use Rattle.line_script.specs.Rules.{RuleValue}
-use Rattle.desk_store.specs.Shelves.{SlotValue}
 use Rattle.made_folders.specs.Items.{made}
 use Rattle.made_folders.specs.declared.item.Item.{Item}
 use Rattle.run_words.specs.Runs.{Run}
@@ -21,7 +20,7 @@ use Rattle.hotsync_run.specs.Makes.{IsMake, MadeNothing, MadeRan}
 use Rattle.hotsync_run.specs.Reports.{IsNotStarted}
 use Rattle.hotsync_run.specs.Runs.{IsRun, SentNothing, SessionRan}
 use Rattle.hotsync_run.specs.Talks.{Talked}
-use Rattle.hotsync_run.specs.Told.{CallTold, FolderTold, SinkTold}
+use Rattle.hotsync_run.specs.Told.{CallTold, FolderTold, SidesTold, SinkTold}
 use Rattle.hotsync_run.specs.declared.report.Report.{Report}
 use Rattle.hotsync_run.specs.declared.report.SessionEnd.{SessionEnd}
 use Rattle.hotsync_run.specs.declared.report.SessionEnd.TheVariants.{NotStarted, Ended, Stopped}
@@ -49,8 +48,8 @@ module _ {rules : List RuleValue} {before after : FolderTold} {report : Report} 
       by (Some name) over =
           run_by line (left.over (subst IsSome (sym over) refl)) (λ count replies last run. read-answered meeting count replies last left.sound run)
 
-talked_answered : {run : Run} {rules : List RuleValue} {device : Device} {slots : List SlotValue} {palm palm_after desk desk_after : FolderTold}
-    {status : Status} {report : Report} → Talked run rules device slots palm palm_after desk desk_after status report → AreAnswered report
+talked_answered : {rules : List RuleValue} {meeting : Meeting} {before after : SidesTold} {status : Status} {report : Report}
+    → Talked rules meeting before after status report → AreAnswered report
 talked_answered talked = session_answered talked.line talked.left
 
 not_started : {report : Report} → IsNotStarted report → AreAnswered report
@@ -79,7 +78,7 @@ made-answered seed count out out_after status report is = by report.end is.ran
 
     session : MadeRan items status report → AreAnswered report
     session ran =
-        talked_answered ran.talked
+        talked_answered ran.talked.talked
 
     by : (end : SessionEnd) → ByEnd end (MadeNothing status report) (MadeRan items status report) → AreAnswered report
     by NotStarted nothing = not_started nothing.report_is

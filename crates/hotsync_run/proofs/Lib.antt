@@ -5,6 +5,7 @@ pub mod CleanLaws
 pub mod EndLaws
 pub mod FrontLaws
 pub mod FrontMoments
+pub mod HeadlineLaws
 pub mod LeftLaws
 pub mod LineLaws
 pub mod LookLaws
@@ -24,6 +25,7 @@ pub mod QuietRuns
 pub mod RunLaws
 pub mod SlotLaws
 pub mod StatusLaws
+pub mod SystemLaws
 pub mod TalkLaws
 pub mod TraceLaws
 pub mod UndisturbedLaws

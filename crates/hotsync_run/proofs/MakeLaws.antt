@@ -18,6 +18,7 @@ use Rattle.pdb_values.specs.declared.slot.Slot.TheVariants.{Full}
 use Rattle.line_world.specs.Causes.{BearsOut}
 use Rattle.run_words.specs.Runs.{Run}
 use Rattle.sync_session.specs.Outcomes.{IsOtherUser, slot_in}
+use Rattle.sync_session.specs.Reports.{reports}
 use Rattle.sync_session.specs.Tasks.{Meeting, meeting_of}
 use Rattle.sync_session.specs.declared.wishes.Wishes.{Wishes}
 use Rattle.made_folders.specs.Items.{generator_of, made}
@@ -29,10 +30,10 @@ use Rattle.made_merge.proofs.NumberLaws.{drawn_are_made}
 use Rattle.hotsync_run.specs.Causes.{EndsAs, IsLineDown, IsUnsaid, cause_in}
 use Rattle.hotsync_run.specs.Ends.{StatusShows}
 use Rattle.hotsync_run.specs.LineRuns.{frames_in}
-use Rattle.hotsync_run.specs.Makes.{HasMade, MadeNothing, MadeRan, files_told, made_run, made_script}
+use Rattle.hotsync_run.specs.Makes.{HasMade, MadeNothing, MadeRan, files_told, made_run, made_script, made_told}
 use Rattle.hotsync_run.specs.Printed.{IsPrintedStatus}
-use Rattle.hotsync_run.specs.Talks.{IsTalk, KeptSilent, Talked}
-use Rattle.hotsync_run.specs.Told.{FolderTold}
+use Rattle.hotsync_run.specs.Talks.{IsTalk, KeptSilent, Talked, TalkedFor}
+use Rattle.hotsync_run.specs.Told.{FolderTold, SidesTold}
 use Rattle.hotsync_run.specs.declared.report.Report.{Report}
 use Rattle.hotsync_run.specs.declared.status.Status.{Status}
 use Rattle.hotsync_run.specs.declared.status.Status.TheVariants.{Done, Usage, BadScript, TooLong, BadFile, TooMany, HandheldFolder, DesktopFolder, SourceRead}
@@ -71,11 +72,14 @@ told_alone is = λ k. record { contents = is k; moments = None; paths = None; fa
 
 -- a session is that of the made folders
 pub made_given : (items : List Item) {run : Run} {rules : List RuleValue} {device : Device} {slots : List SlotValue}
-    {palm palm_after desk desk_after : FolderTold} {status : Status} {report : Report}
-    → run ≡ made_run → rules ≡ made_script → palm ≡ files_told (handheld_files items) → desk ≡ files_told (desktop_files items)
-    → IsTalk run rules device slots palm palm_after desk desk_after status report
-    → IsTalk made_run made_script device slots (files_told (handheld_files items)) palm_after (files_told (desktop_files items)) desk_after status report
-made_given items run_is rules_are palm_is desk_is talk = grind arith
+    {before after : SidesTold} {status : Status} {report : Report}
+    → run ≡ made_run → rules ≡ made_script → before.palm ≡ files_told (handheld_files items) → before.desk ≡ files_told (desktop_files items)
+    → IsTalk run rules device slots before after status report → IsTalk made_run made_script device slots (made_told items) after status report
+made_given items {run} {rules} {device} {slots} {before} {after} {status} {report} run_is rules_are palm_is desk_is talk =
+    let sides : before ≡ made_told items = λ k. record { palm = palm_is k; desk = desk_is k } in
+    subst (λ (r : Run). IsTalk r made_script device slots (made_told items) after status report) run_is
+    (subst (λ (r : List RuleValue). IsTalk run r device slots (made_told items) after status report) rules_are
+    (subst (λ (s : SidesTold). IsTalk run rules device slots s after status report) sides talk))
 
 meets : (items : List Item) (device : Device) (slots : List SlotValue) (wishes : Wishes) → AreItems items
     → HoldsAll (handheld_files items) device.databases device.user → device.handles ≡ no_handles → IsDesk (Some (desktop_files items)) slots
@@ -87,21 +91,26 @@ meets items device slots wishes are holds closed desk =
 asks_nothing : (wishes : Wishes) → wishes.slow ≡ false → wishes.actions.items ≡ [] → AsksNothing wishes
 asks_nothing wishes slow actions = record { slow = slow; actions = actions }
 
-pub made_talk : {items : List Item} {device : Device} {slots : List SlotValue} (palm_after desk_after : FolderTold) {status : Status} {report : Report}
+pub made_talk : {items : List Item} {device : Device} {slots : List SlotValue} (after : SidesTold) {status : Status} {report : Report}
     → AreItems items → IsMadeMerge items → HoldsAll (handheld_files items) device.databases device.user → device.handles ≡ no_handles
-    → IsDesk (Some (desktop_files items)) slots
-    → IsTalk made_run made_script device slots (files_told (handheld_files items)) palm_after (files_told (desktop_files items)) desk_after status report
+    → IsDesk (Some (desktop_files items)) slots → IsTalk made_run made_script device slots (made_told items) after status report
     → HasMade items status report
-made_talk {items} {device} {slots} palm_after desk_after {status} {report} are merged holds closed desk talk =
-    grind (
-      arith,
-      by_end_then report.end
-          {A = KeptSilent (files_told (handheld_files items)) palm_after (files_told (desktop_files items)) desk_after status report}
-          {B = Talked made_run made_script device slots (files_told (handheld_files items)) palm_after (files_told (desktop_files items)) desk_after
-          status report} {C = MadeNothing status report} {D = MadeRan items status report},
-      meets items device slots,
-      reports_are items,
-    )
+made_talk {items} {device} {slots} after {status} {report} are merged holds closed desk talk =
+    by_end_then report.end {A = KeptSilent (made_told items) after status report}
+    {B = TalkedFor made_run made_script device slots (made_told items) after status report} {C = MadeNothing status report}
+    {D = MadeRan items status report} (λ kept. record { memory = kept.memory; report_is = kept.report_is }) (λ had. record {
+      device = device;
+      handheld = holds;
+      closed = closed;
+      slots = slots;
+      desktop = desk;
+      after = after;
+      changed = talk.changed;
+      talked = had;
+      databases = λ ended. (had.talked.left.ended ended).databases
+          ∙ ap reports (meets items device slots had.wishes are holds closed desk)
+          ∙ reports_are items had.wishes (asks_nothing had.wishes had.asked.slow had.asked.actions) merged;
+    }) talk.shown
 
 -- ---- its status
 
@@ -118,12 +127,12 @@ unfolding made_meeting made_device made_slot
 not_full items wishes is = absurd cc
 
 -- it was done, or memory ran out
-module _ {items : List Item} (palm_after desk_after : FolderTold) (report : Report) (are : AreItems items) (merged : IsMadeMerge items)
-    (calm : palm_after.faults ≡ 0) (steady : desk_after.faults ≡ 0) where
+module _ {items : List Item} (after : SidesTold) (report : Report) (are : AreItems items) (merged : IsMadeMerge items)
+    (calm : after.palm.faults ≡ 0) (steady : after.desk.faults ≡ 0) where
   by_status : {wishes : Wishes} (status : Status) → AsksNothing wishes → EndsAs status report.end → IsUnsaid status → (IsLineDown status → ⊥)
       → BearsOut (cause_in status report.faulted.items) (frames_in report) → AreNumbered 1 (fate_by made_script) (frames_in report)
-      → StatusShows (made_meeting items wishes) report status → (status ≡ HandheldFolder → Rose 0 palm_after.faults)
-      → (status ≡ DesktopFolder → Rose 0 desk_after.faults) → (status ≡ Done) ⊎ (status ≡ NoMemory)
+      → StatusShows (made_meeting items wishes) report status → (status ≡ HandheldFolder → Rose 0 after.palm.faults)
+      → (status ≡ DesktopFolder → Rose 0 after.desk.faults) → (status ≡ Done) ⊎ (status ≡ NoMemory)
   by_status Done asks ends unsaid up caused numbered shows palm desk = inl refl
   by_status NoMemory asks ends unsaid up caused numbered shows palm desk = inr refl
   by_status Usage asks ends unsaid up caused numbered shows palm desk = absurd ends
@@ -147,37 +156,45 @@ module _ {items : List Item} (palm_after desk_after : FolderTold) (report : Repo
 
   pub made_ends : {device : Device} {slots : List SlotValue} {status : Status} → HoldsAll (handheld_files items) device.databases device.user
       → device.handles ≡ no_handles → IsDesk (Some (desktop_files items)) slots
-      → IsTalk made_run made_script device slots (files_told (handheld_files items)) palm_after (files_told (desktop_files items)) desk_after status report
-      → (status ≡ Done) ⊎ (status ≡ NoMemory)
-  made_ends {device} {slots} {status} holds closed desk talk =
-      by_end_both report.end
-      {A = KeptSilent (files_told (handheld_files items)) palm_after (files_told (desktop_files items)) desk_after status report}
-      {B = Talked made_run made_script device slots (files_told (handheld_files items)) palm_after (files_told (desktop_files items)) desk_after status report}
-      {C = (status ≡ Done) ⊎ (status ≡ NoMemory)} (λ kept. inr kept.memory) (λ talked.
-      let meeting = meets items device slots talked.wishes are holds closed desk in
-      let asks = asks_nothing talked.wishes talked.asked.slow talked.asked.actions in
-      by_status status asks talked.ends talk.unsaid (talked.fair (made_fair (length (frames_in report)))) talked.caused talked.line.proper.numbered
-      (subst (λ (m : Meeting). StatusShows m report status) meeting talked.shows) talk.handheld_failed talk.desktop_failed) talk.shown
+      → IsTalk made_run made_script device slots (made_told items) after status report → IsUnsaid status → (status ≡ Done) ⊎ (status ≡ NoMemory)
+  made_ends {device} {slots} {status} holds closed desk talk unsaid =
+      by_end_both report.end {A = KeptSilent (made_told items) after status report}
+      {B = TalkedFor made_run made_script device slots (made_told items) after status report} {C = (status ≡ Done) ⊎ (status ≡ NoMemory)}
+      (λ kept. inr kept.memory) (λ had.
+      let talked = had.talked in
+      let meeting = meets items device slots had.wishes are holds closed desk in
+      let asks = asks_nothing had.wishes had.asked.slow had.asked.actions in
+      by_status status asks talked.ends unsaid (talked.fair (made_fair (length (frames_in report)))) talked.caused talked.line.proper.numbered
+      (subst (λ (m : Meeting). StatusShows m report status) meeting talked.shows) talk.blames.handheld talk.blames.desktop) talk.shown
 
 -- ---- what is printed
 
 module _ (items : List Item) (status : Status) (report : Report) where
   ran_as : {other : Status} (ran : MadeRan items status report)
-      → Talked made_run made_script ran.device ran.slots (files_told (handheld_files items)) ran.palm_after
-      (files_told (desktop_files items)) ran.desk_after other report → MadeRan items other report
-  ran_as ran talked = grind arith
+      → Talked made_script (meeting_of ran.device ran.slots ran.talked.wishes) (made_told items) ran.after other report → MadeRan items other report
+  ran_as ran talked = record {
+    device = ran.device;
+    handheld = ran.handheld;
+    closed = ran.closed;
+    slots = ran.slots;
+    desktop = ran.desktop;
+    after = ran.after;
+    changed = ran.changed;
+    talked = record { wishes = ran.talked.wishes; asked = ran.talked.asked; talked = talked };
+    databases = ran.databases;
+  }
 
   made_memory : HasMade items status report → HasMade items NoMemory report
   made_memory has =
       by_end_then report.end {A = MadeNothing status report} {B = MadeRan items status report} {C = MadeNothing NoMemory report}
       {D = MadeRan items NoMemory report}
-      (λ nothing. record { memory = refl; report_is = nothing.report_is }) (λ ran. ran_as ran (talked_memory ran.talked)) has
+      (λ nothing. record { memory = refl; report_is = nothing.report_is }) (λ ran. ran_as ran (talked_memory ran.talked.talked)) has
 
   made_unsaid : status ≡ Done → HasMade items status report → HasMade items OutWrite report
   made_unsaid done has =
       by_end_then report.end {A = MadeNothing status report} {B = MadeRan items status report} {C = MadeNothing OutWrite report}
       {D = MadeRan items OutWrite report}
-      (λ nothing. let memory = nothing.memory in absurd cc) (λ ran. ran_as ran (talked_unsaid ran.talked done)) has
+      (λ nothing. let memory = nothing.memory in absurd cc) (λ ran. ran_as ran (talked_unsaid ran.talked.talked done)) has
 
   -- what is known of it stays, whatever is printed of it
   pub made_printed : (printed : Status) → IsPrintedStatus status printed → HasMade items status report → HasMade items printed report

@@ -32,7 +32,8 @@ use Rattle.desk_store.proofs.SlotListLaws.{marks-length, ordered_at, slot_at-any
 use Rattle.run_words.specs.Runs.{Run}
 use Rattle.sync_session.specs.Outcomes.{StandsForSlots}
 use Rattle.sync_session.specs.Tasks.{Meeting}
-use Rattle.hotsync_run.specs.Again.{AreOfOneKind, AreTold, Meets}
+use Rattle.hotsync_run.specs.Again.{AreOfOneKind, AreTold}
+use Rattle.hotsync_run.specs.Meetings.{Meets}
 use Rattle.hotsync_run.specs.Told.{CallTold}
 use Rattle.hotsync_run.proofs.EndLaws.{same_some}
 

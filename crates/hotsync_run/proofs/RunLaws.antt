@@ -1,10 +1,8 @@
 -- What is known of a run at each of its ends.
 use Rattle.std.proofs.lemmas.Grind.{common_steps}
-use Rattle.std.proofs.lemmas.Bool.Decides.{nat_tests}
-use Rattle.std.proofs.Common.{◌≡◌, ◌≢◌, ◌⊎◌, ◌∙◌, ◌+◌, ◌-◌, ◌^◌, ◌≤◌, ℕ, List, ◌++◌, inl, inr, refl, sym, subst, ap, arith}
+use Rattle.std.proofs.Common.{◌≡◌, ◌≢◌, ◌⊎◌, ◌∙◌, ◌+◌, ◌-◌, ◌^◌, ◌≤◌, ℕ, List, inl, inr, refl, sym, subst, ap, arith}
 use Rattle.std.specs.Prelude.{IfSome, Option, min}
 use Rattle.std.specs.Option.{option_map}
-use Rattle.hs_folders.specs.Appends.{AppendsPrefix}
 use Rattle.hs_folders.specs.Causes.{Rose}
 use Rattle.hs_folders.specs.FileMaps.{FileMap}
 use Rattle.hs_folders.specs.Moments.{EachMomentSince, Moments}
@@ -13,14 +11,12 @@ use Rattle.palm_device.specs.Devices.{Device}
 use Rattle.palm_device.specs.Handles.{no_handles}
 use Rattle.handheld_files.specs.Openings.{HoldsAll}
 use Rattle.handheld_files.specs.declared.fault.OpenFault.{OpenFault}
-use Rattle.handheld_files.specs.declared.fault.OpenFault.TheVariants as opening
 use Rattle.line_script.specs.Rules.{RuleValue}
 use Rattle.line_world.specs.Folders.{OthersStay, StoodAfterSome}
 use Rattle.desk_journal.specs.Overlays.{StandsAs, finished, put_all}
 use Rattle.desk_store.specs.Desks.{IsDesk}
 use Rattle.desk_store.specs.Shelves.{SlotValue}
 use Rattle.desk_store.specs.declared.fault.DeskOpenFault.{DeskOpenFault}
-use Rattle.desk_store.specs.declared.fault.DeskOpenFault.TheVariants as desk_opening
 use Rattle.run_words.specs.Runs.{Run}
 use Rattle.sync_session.specs.Merges.{merged_slots}
 use Rattle.sync_session.specs.Outcomes.{StandsForSlots}
@@ -34,16 +30,16 @@ use Rattle.hotsync_run.specs.Printed.{IsPrintedStatus}
 use Rattle.hotsync_run.specs.Refusals.{BlamesHandheld, BlamesScript, DesktopRefuses, HandheldRefuses, HasDesktop, HasHandheld, IsRefused, IsTraceRefusal}
 use Rattle.hotsync_run.specs.Refusals.{TraceRefuses, desktop_status, handheld_status}
 use Rattle.hotsync_run.specs.Reports.{IsNotStarted}
-use Rattle.hotsync_run.specs.Runs.{DesktopRan, HasRun, OpensNamed, SentNothing, SessionRan, StandsAsItDid, StaysAsItWas}
+use Rattle.hotsync_run.specs.Runs.{HasRun, OpensNamed, SentNothing, SessionRan, StandsAsItDid, StaysAsItWas}
 use Rattle.hotsync_run.specs.Scripts.{HasScript, IsScriptRefusal, IsScripted, ScriptRefuses}
-use Rattle.hotsync_run.specs.Talks.{ChangedOnce, Talked}
-use Rattle.hotsync_run.specs.Told.{CallTold, FolderTold, SinkTold, SourceTold}
-use Rattle.hotsync_run.specs.Traces.{IsTraced, IsTracedTalk, SilentTrace, TalkedTrace}
+use Rattle.hotsync_run.specs.Talks.{DesktopRan, IsTalk, KeptSilent, Talked, TalkedFor}
+use Rattle.hotsync_run.specs.Told.{CallTold, FolderTold, SidesTold, SinkTold, SourceTold, sides_of}
+use Rattle.hotsync_run.specs.Traces.{IsTraced, TracesReport}
 use Rattle.hotsync_run.proofs.TraceLaws.{by_end_then, talk_not_script, talked_memory, talked_unsaid}
 use Rattle.hotsync_run.specs.declared.report.Report.{Report}
 use Rattle.hotsync_run.specs.declared.report.SessionEnd.{SessionEnd}
 use Rattle.hotsync_run.specs.declared.status.Status.{Status}
-use Rattle.hotsync_run.specs.declared.status.Status.TheVariants.{Done, BadScript, TooLong, HandheldFolder, DesktopFolder, SourceRead, TraceWrite, OutWrite}
+use Rattle.hotsync_run.specs.declared.status.Status.TheVariants.{Done, HandheldFolder, DesktopFolder, SourceRead, TraceWrite, OutWrite}
 use Rattle.hotsync_run.specs.declared.status.Status.TheVariants.{NoMemory}
 
 -- a refusal of a script is no other one
@@ -147,8 +143,7 @@ module _ (run : Run) (before after : CallTold) {report : Report} (is : IsNotStar
         });
         blames = record {
           source = failed;
-          handheld = λ e. absurd (alone.handheld e);
-          desktop = λ e. absurd (alone.desktop e);
+          folders = record { handheld = λ e. absurd (alone.handheld e); desktop = λ e. absurd (alone.desktop e) };
           trace = λ e. absurd (alone.trace e);
         };
         opened = opens_refused (inl (ap (λ told. told.paths) palm)) (inl (ap (λ told. told.paths) desk)) opened (inl (ap (λ told. told.paths) trace));
@@ -171,8 +166,7 @@ module _ (run : Run) (before after : CallTold) {report : Report} (is : IsNotStar
         });
         blames = record {
           source = λ e. absurd (alone.source e);
-          handheld = failed;
-          desktop = λ e. absurd (alone.desktop e);
+          folders = record { handheld = failed; desktop = λ e. absurd (alone.desktop e) };
           trace = λ e. absurd (alone.trace e);
         };
         opened = opens_refused path (inl (ap (λ told. told.paths) desk)) opened (inl (ap (λ told. told.paths) trace));
@@ -196,8 +190,7 @@ module _ (run : Run) (before after : CallTold) {report : Report} (is : IsNotStar
         });
         blames = record {
           source = λ e. absurd (alone.source e);
-          handheld = λ e. absurd (alone.handheld e);
-          desktop = failed;
+          folders = record { handheld = λ e. absurd (alone.handheld e); desktop = failed };
           trace = λ e. absurd (alone.trace e);
         };
         opened = opens_refused path desk_path opened (inl (ap (λ told. told.paths) trace));
@@ -222,8 +215,7 @@ module _ (run : Run) (before after : CallTold) {report : Report} (is : IsNotStar
         });
         blames = record {
           source = λ e. absurd (alone.source e);
-          handheld = λ e. absurd (alone.handheld e);
-          desktop = λ e. absurd (alone.desktop e);
+          folders = record { handheld = λ e. absurd (alone.handheld e); desktop = λ e. absurd (alone.desktop e) };
           trace = failed;
         };
         opened = opens_refused path desk_path opened trace_path;
@@ -277,15 +269,11 @@ left_from {meeting} {first} {before} {after} stood left =
           after.moments left.moments (λ told is. elim is [ inl stands ↦ inl (stands ∙ stood.stands) | inr done ↦ inr done ]));
     }
 
-talked_from : {run : Run} {rules : List RuleValue} {device : Device} {slots : List SlotValue} {first : FolderTold} (before : FolderTold)
-    {after desk_first desk_before desk_after : FolderTold} {status : Status} {report : Report}
-    → StaysAsItWas first before → StandsAsItDid desk_first desk_before → Talked run rules device slots before after desk_before desk_after status report
-    → Talked run rules device slots first after desk_first desk_after status report
-unfolding line_from
-talked_from {rules} {device} {slots} {first} before {after} {report} stays stood talked = record {
-  wishes = talked.wishes;
-  asked = talked.asked;
-  line = line_from rules device first before after report stays talked.line;
+talked_from : {rules : List RuleValue} {meeting : Meeting} {first : SidesTold} (before : SidesTold) {after : SidesTold} {status : Status}
+    {report : Report} → StaysAsItWas first.palm before.palm → StandsAsItDid first.desk before.desk → Talked rules meeting before after status report
+    → Talked rules meeting first after status report
+talked_from {rules} {meeting} {first} before {after} {report} stays stood talked = record {
+  line = line_from rules meeting.device first.palm before.palm after.palm report stays talked.line;
   ends = talked.ends;
   caused = talked.caused;
   fair = talked.fair;
@@ -296,7 +284,7 @@ talked_from {rules} {device} {slots} {first} before {after} {report} stays stood
   shows = talked.shows;
   refused = talked.refused;
   front = talked.front;
-  fronts = subst (λ (m : Moments). EachMomentSince (StandsAtFront (meeting_of device slots talked.wishes)) m after.moments) stays.moments talked.fronts;
+  fronts = subst (λ (m : Moments). EachMomentSince (StandsAtFront meeting) m after.palm.moments) stays.moments talked.fronts;
 }
 
 traced_from : {path : Option (List ℕ)} {text : List ℕ} (first : SinkTold) {before after : SinkTold} {status : Status} → before.taken ≡ first.taken
@@ -305,25 +293,24 @@ traced_from {text} first {before} {after} same later traced = grind (arith, rose
 
 -- the desktop's folder, from before its journal was finished on
 desktop_ran : {first : FolderTold} (before : FolderTold) {after : FolderTold} {end : SessionEnd} → before.contents ≡ option_map finished first.contents
-    → StandsAsItDid first before → ChangedOnce before after end → DesktopRan first after end
-desktop_ran {first} before {after} finished_is stood changed =
-    let merged = option_map (put_all changed.entries) (option_map finished first.contents) in
-    let same : option_map (put_all changed.entries) before.contents ≡ merged =
-    ap (λ (t : Option FileMap). option_map (put_all changed.entries) t) finished_is in
+    → StandsAsItDid first before → DesktopRan before.contents before after end → DesktopRan (option_map finished first.contents) first after end
+desktop_ran {first} before {after} finished_is stood ran =
+    let same : option_map (put_all ran.entries) before.contents ≡ option_map (put_all ran.entries) (option_map finished first.contents) =
+    ap (λ (t : Option FileMap). option_map (put_all ran.entries) t) finished_is in
     record {
-      entries = changed.entries;
-      place = changed.place;
-      files = changed.files;
-      written = λ ended. changed.written ended ∙ same;
-      stands = elim changed.stands [
+      entries = ran.entries;
+      place = ran.place;
+      files = ran.files;
+      written = λ ended. ran.written ended ∙ same;
+      stands = elim ran.stands [
         | inl stays ↦ inl (stays ∙ stood.stands)
         | inr moved ↦ inr (subst (λ (t : Option FileMap). StandsAs t after.contents) same moved)
       ];
-      each_moment = moments_go_on (λ told. StandsAs first.contents told ⊎ StandsAs merged told) first.moments before.moments after.moments
-          (moments_weaken (StandsAs first.contents) (λ told. StandsAs first.contents told ⊎ StandsAs merged told) first.moments before.moments
-          stood.each_moment (λ told stands. inl stands)) (moments_weaken (StandsAs (option_map (put_all changed.entries) before.contents))
-          (λ told. StandsAs first.contents told ⊎ StandsAs merged told) before.moments after.moments changed.each_moment
-          (λ told stands. inr (subst (λ (t : Option FileMap). StandsAs t told) same stands)));
+      between = ran.between;
+      unchanged = moments_go_on (StandsAs first.contents) first.moments before.moments ran.between stood.each_moment
+          (moments_weaken (StandsAs before.contents) (StandsAs first.contents) before.moments ran.between ran.unchanged
+          (λ told stands. stands ∙ stood.stands));
+      changed = subst (λ (t : Option FileMap). EachMomentSince (StandsAs t) ran.between after.moments) same ran.changed;
     }
 
 -- what stands between the opening of all objects and their session
@@ -347,55 +334,63 @@ pub record AreOpened (run : Run) (before : CallTold) (source : SourceTold) (palm
   pub trace_taken : trace.taken ≡ before.trace.taken
   pub trace_later : before.trace.faults ≤ trace.faults
 
+abbrev both_told : FolderTold → FolderTold → SidesTold
+both_told palm desk = record { palm = palm; desk = desk }
+
 module _ {run : Run} (before after : CallTold) {palm desk : FolderTold} {trace : SinkTold} {rules : List RuleValue} {device : Device}
     {slots : List SlotValue} {status : Status} {report : Report} (opened : AreOpened run before after.source palm desk trace rules device slots) where
-  silent_run : SilentTrace palm after.palm desk after.desk trace after.trace status report → SentNothing run before after status report
-  silent_run silent = record {
-    judged = inl silent.silent.memory;
-    report_is = silent.silent.report_is;
-    handheld = subst (StaysAsItWas before.palm) (sym silent.silent.handheld) opened.stays;
-    desktop = subst (StandsAsItDid before.desk) (sym silent.silent.desktop) opened.stands;
-    trace = silent.trace_taken ∙ opened.trace_taken;
+  silent_run : TracesReport run.trace report trace after.trace status → KeptSilent (both_told palm desk) (sides_of after) status report
+      → SentNothing run before after status report
+  silent_run traced silent = record {
+    judged = inl silent.memory;
+    report_is = silent.report_is;
+    handheld = subst (StaysAsItWas before.palm) (sym silent.handheld) opened.stays;
+    desktop = subst (StandsAsItDid before.desk) (sym silent.desktop) opened.stands;
+    trace = traced.silent silent.report_is.frames ∙ opened.trace_taken;
   }
 
-  session_run : ChangedOnce desk after.desk report.end
-      → TalkedTrace run rules device slots palm after.palm desk after.desk trace after.trace status report → SessionRan run before after status report
-  session_run changed talked = record {
+  session_run : TracesReport run.trace report trace after.trace status → DesktopRan desk.contents desk after.desk report.end
+      → TalkedFor run rules device slots (both_told palm desk) (sides_of after) status report → SessionRan run before after status report
+  session_run traced changed had = record {
     rules = rules;
     scripted = opened.scripted;
-    device = device;
-    handheld = opened.handheld;
-    closed = opened.closed;
-    slots = slots;
-    desktop = opened.slots_are;
+    meeting = meeting_of device slots had.wishes;
+    meets = record {
+      handheld = opened.handheld;
+      closed = opened.closed;
+      desktop = opened.slots_are;
+      picked = refl;
+      asked = had.asked;
+    };
     changed = desktop_ran desk opened.finished_is opened.stands changed;
-    talked = talked_from palm opened.stays opened.stands talked.talked;
-    traced = traced_from before.trace opened.trace_taken opened.trace_later talked.traced_is;
+    talked = talked_from (both_told palm desk) opened.stays opened.stands had.talked;
+    traced = traced_from before.trace opened.trace_taken opened.trace_later traced.traced;
   }
 
   -- a run with a session
-  pub by_session : IsTracedTalk run rules device slots palm after.palm desk after.desk trace after.trace status report
+  pub by_session : IsTalk run rules device slots (both_told palm desk) (sides_of after) status report → TracesReport run.trace report trace after.trace status
       → HasRun run before after status report
-  by_session talk = record {
-    shown = by_end_then report.end {A = SilentTrace palm after.palm desk after.desk trace after.trace status report}
-        {B = TalkedTrace run rules device slots palm after.palm desk after.desk trace after.trace status report}
-        {C = SentNothing run before after status report} {D = SessionRan run before after status report} silent_run
-        (session_run talk.changed) talk.shown;
+  by_session talk traced = record {
+    shown = by_end_then report.end {A = KeptSilent (both_told palm desk) (sides_of after) status report}
+        {B = TalkedFor run rules device slots (both_told palm desk) (sides_of after) status report} {C = SentNothing run before after status report}
+        {D = SessionRan run before after status report} (silent_run traced) (session_run traced talk.changed) talk.shown;
     blames = record {
       source = λ e. absurd (talk_not_script talk (subst BlamesScript (sym e) tt));
-      handheld = λ e. rose_earlier (2 ^ 64 - 1) before.palm.faults palm.faults after.palm.faults opened.palm_later (talk.handheld_failed e);
-      desktop = λ e. rose_earlier (2 ^ 64 - 1) before.desk.faults desk.faults after.desk.faults opened.desk_later (talk.desktop_failed e);
-      trace = λ e. rose_earlier (2 ^ 64 - 1) before.trace.faults trace.faults after.trace.faults opened.trace_later (talk.trace_failed e);
+      folders = record {
+        handheld = λ e. rose_earlier (2 ^ 64 - 1) before.palm.faults palm.faults after.palm.faults opened.palm_later (talk.blames.handheld e);
+        desktop = λ e. rose_earlier (2 ^ 64 - 1) before.desk.faults desk.faults after.desk.faults opened.desk_later (talk.blames.desktop e);
+      };
+      trace = λ e. rose_earlier (2 ^ 64 - 1) before.trace.faults trace.faults after.trace.faults opened.trace_later (traced.failed e);
     };
     opened = record {
-      handheld = inr (talk.handheld_paths ∙ opened.palm_opened);
-      desktop = inr (talk.desktop_paths ∙ opened.desk_opened);
+      handheld = inr (talk.paths.handheld ∙ opened.palm_opened);
+      desktop = inr (talk.paths.desktop ∙ opened.desk_opened);
       script = opened.script;
-      trace = subst (OpensGivenAtMost run.trace before.trace.paths) (sym talk.trace_paths) opened.trace_at_most;
-      handheld_opened = λ begun. talk.handheld_paths ∙ opened.palm_opened;
-      desktop_opened = λ begun. talk.desktop_paths ∙ opened.desk_opened;
+      trace = subst (OpensGivenAtMost run.trace before.trace.paths) (sym traced.paths) opened.trace_at_most;
+      handheld_opened = λ begun. talk.paths.handheld ∙ opened.palm_opened;
+      desktop_opened = λ begun. talk.paths.desktop ∙ opened.desk_opened;
       script_opened = λ begun. opened.script_opened;
-      trace_opened = λ begun. subst (OpensGiven run.trace before.trace.paths) (sym talk.trace_paths) opened.trace_opened;
+      trace_opened = λ begun. subst (OpensGiven run.trace before.trace.paths) (sym traced.paths) opened.trace_opened;
     };
   }
 
@@ -411,16 +406,13 @@ module _ {run : Run} {before after : CallTold} {status : Status} {report : Repor
       record { judged = inl refl; report_is = sent.report_is; handheld = sent.handheld; desktop = sent.desktop; trace = sent.trace }
 
   ran_as : {other : Status} (ran : SessionRan run before after status report)
-      → Talked run ran.rules ran.device ran.slots before.palm after.palm before.desk after.desk other report → (other ≢ NoMemory → status ≢ NoMemory)
+      → Talked ran.rules ran.meeting (sides_of before) (sides_of after) other report → (other ≢ NoMemory → status ≢ NoMemory)
       → SessionRan run before after other report
   ran_as {other} ran talked served = record {
     rules = ran.rules;
     scripted = ran.scripted;
-    device = ran.device;
-    handheld = ran.handheld;
-    closed = ran.closed;
-    slots = ran.slots;
-    desktop = ran.desktop;
+    meeting = ran.meeting;
+    meets = ran.meets;
     changed = ran.changed;
     talked = talked;
     traced = traced_as other served ran.traced;
@@ -432,7 +424,7 @@ module _ {run : Run} {before after : CallTold} {status : Status} {report : Repor
     shown = by_end_then report.end {A = SentNothing run before after status report} {B = SessionRan run before after status report}
         {C = SentNothing run before after NoMemory report} {D = SessionRan run before after NoMemory report} sent_memory (λ ran. ran_as ran
         (talked_memory ran.talked) (λ served. absurd (served refl))) has.shown;
-    blames = record { source = λ e. cc; handheld = λ e. cc; desktop = λ e. cc; trace = λ e. cc };
+    blames = record { source = λ e. cc; folders = record { handheld = λ e. cc; desktop = λ e. cc }; trace = λ e. cc };
     opened = has.opened;
   }
 
@@ -473,7 +465,7 @@ module _ {run : Run} {before after : CallTold} {status : Status} {report : Repor
         {C = SentNothing run before after OutWrite report} {D = SessionRan run before after OutWrite report}
         (λ sent. absurd (sent_not_done run before status sent.judged done)) (λ ran. ran_as ran (talked_unsaid ran.talked done) (λ served e. cc))
         has.shown;
-    blames = record { source = λ e. cc; handheld = λ e. cc; desktop = λ e. cc; trace = λ e. cc };
+    blames = record { source = λ e. cc; folders = record { handheld = λ e. cc; desktop = λ e. cc }; trace = λ e. cc };
     opened = has.opened;
   }
 

@@ -1,7 +1,7 @@
 -- What a session's status says, by how it ended.
 use Rattle.std.proofs.lemmas.Grind.{common_steps}
 use Rattle.std.proofs.Common.{arith, ◌≡◌, ◌⊎◌, ◌∙◌, ap, inl, inr, refl, sym, subst, ℕ, List, [], length}
-use Rattle.std.specs.Prelude.{Option, None, Some, Result, Err, IsErrOf}
+use Rattle.std.specs.Prelude.{Option, None, Some, Result, Err, IsErrOf, OnOk}
 use Rattle.std.specs.Global.{Vec}
 use Rattle.std.specs.Option.{option_map}
 use Rattle.hs_folders.specs.FileMaps.{FileMap}
@@ -36,8 +36,8 @@ use Rattle.hotsync_run.specs.Causes.{ByEnd, EndsAs, IsLineDown, IsUnsaid, cause_
 use Rattle.hotsync_run.specs.Ends.{SessionLeft}
 use Rattle.hotsync_run.specs.LineRuns.{TellsWorld, frames_in}
 use Rattle.hotsync_run.specs.Reports.{IsNotStarted}
-use Rattle.hotsync_run.specs.Talks.{ChangedOnce, IsLeft, IsTalk, KeptSilent, Talked, left_databases, left_end}
-use Rattle.hotsync_run.specs.Told.{FolderTold, folder_told}
+use Rattle.hotsync_run.specs.Talks.{DesktopRan, IsLeft, IsTalk, KeptSilent, Talked, TalkedFor, left_databases, left_end}
+use Rattle.hotsync_run.specs.Told.{FolderTold, SidesTold, folder_told}
 use Rattle.hotsync_run.specs.Whole.{DealtWith}
 use Rattle.hotsync_run.specs.Wishes.{AsksFor}
 use Rattle.hotsync_run.specs.Ends.{SessionLeft}
@@ -50,7 +50,7 @@ use Rattle.hotsync_run.proofs.WholeLaws.{dealt_with}
 use Rattle.hotsync_run.specs.declared.left.Left.{Left}
 use Rattle.hotsync_run.specs.declared.report.Report.{Report}
 use Rattle.hotsync_run.specs.declared.report.SessionEnd.{SessionEnd}
-use Rattle.hotsync_run.specs.declared.report.SessionEnd.TheVariants.{Stopped}
+use Rattle.hotsync_run.specs.declared.report.SessionEnd.TheVariants.{Ended, Stopped}
 use Rattle.hotsync_run.specs.declared.status.Status.{Status}
 use Rattle.hotsync_run.specs.declared.status.Status.TheVariants.{HandheldFolder, DesktopFolder, NoMemory}
 
@@ -58,7 +58,6 @@ use Rattle.hotsync_run.specs.declared.status.Status.TheVariants.{HandheldFolder,
 pub record Shown (status : Status) (end : SessionEnd) (numbers : List ℕ) (cause : Option Down) (frames : List FrameValue) : Type 0 where
   pub ends : EndsAs status end
   pub caused : BearsOut (cause_in status numbers) frames
-  pub unsaid : IsUnsaid status
   pub up : down_end cause ≡ None → IsLineDown status → ⊥
   pub faulted : (numbers ≡ []) ⊎ ((end : End) × BearsOut (Some (down.LineDown end numbers)) frames)
   pub keeper : status ≡ HandheldFolder → cause ≡ Some down.Keeper
@@ -72,6 +71,10 @@ module _ (answer : Result (Vec DbReport) Stop) (cause : Option Down) (left : Lef
   pub shown_left : (frames : List FrameValue) → IsLeft answer cause left → BearsOut cause frames
       → Shown left.status left.end left.faulted.items cause frames
   shown_left frames is borne = grind (arith, common_steps)
+
+  -- nothing is said of it yet
+  pub left_unsaid : IsLeft answer cause left → IsUnsaid left.status
+  left_unsaid is = grind (arith, common_steps)
 
   -- a session that stopped is left so
   pub left_stopped : {stopped : Stop} {status : Status} → answer ≡ Err stopped → status ≡ stop_status cause stopped
@@ -97,10 +100,24 @@ faults_moved : {numbers numbers' : List ℕ} {frames frames' : List FrameValue} 
     → (numbers ≡ []) ⊎ ((end : End) × BearsOut (Some (down.LineDown end numbers)) frames)
 faults_moved same same_frames is = grind (arith, [])
 
+-- a session that ended is one that answered
+ended_ok : (answer : Result (Vec DbReport) Stop) {end : SessionEnd} {P : Type 0} → end ≡ left_end answer → OnOk answer P → end ≡ Ended → P
+ended_ok answer is ok ended = grind (arith, common_steps)
+
 desk_changed : {L D : Type 0} {contents : D → Option FileMap} {moments : D → Moments} {paths : D → Option (List (List ℕ))} {faults : D → ℕ} {folder : D}
     {outcome : Outcome L D} {end : SessionEnd} → end ≡ left_end outcome.end → LeavesFolder contents moments paths faults folder outcome
-    → ChangedOnce (folder_told contents moments paths faults folder) (folder_told contents moments paths faults outcome.folder) end
-desk_changed is leaves = grind arith
+    → DesktopRan (contents folder) (folder_told contents moments paths faults folder)
+    (folder_told contents moments paths faults outcome.folder) end
+desk_changed {contents} {moments} {folder} {outcome} is leaves = record {
+  entries = leaves.entries;
+  place = leaves.place;
+  files = leaves.files;
+  written = ended_ok outcome.end is leaves.written;
+  stands = leaves.stands;
+  between = moments folder;
+  unchanged = no_moment (StandsAs (contents folder)) (moments folder) (moments folder) refl;
+  changed = leaves.each_moment;
+}
 
 -- what is known of a session over a world that was fresh, by all that its calls answered
 pub spoke : {F D : Type 0} {contents : F → Option FileMap} {moments : F → Moments} {paths : F → Option (List (List ℕ))} {faults : F → ℕ}
@@ -117,9 +134,13 @@ pub spoke : {F D : Type 0} {contents : F → Option FileMap} {moments : F → Mo
     (folder_told desk_contents desk_moments desk_paths desk_faults outcome.folder) outcome.end
     → IsLeft outcome.end cause left → TellsWorld outcome.link report → report.end ≡ left.end → report.databases.items ≡ left.databases.items
     → report.faulted.items ≡ left.faulted.items
-    → IsTalk run old.script old.server.device slots (folder_told contents moments paths faults old.server.folder)
-    (folder_told contents moments paths faults outcome.link.server.folder) (folder_told desk_contents desk_moments desk_paths desk_faults folder)
-    (folder_told desk_contents desk_moments desk_paths desk_faults outcome.folder) left.status report
+    → IsTalk run old.script old.server.device slots (record {
+      palm = folder_told contents moments paths faults old.server.folder;
+      desk = folder_told desk_contents desk_moments desk_paths desk_faults folder;
+    }) (record {
+      palm = folder_told contents moments paths faults outcome.link.server.folder;
+      desk = folder_told desk_contents desk_moments desk_paths desk_faults outcome.folder;
+    }) left.status report
 spoke {contents} {moments} {paths} {faults} {desk_contents} {desk_moments} {desk_paths} {desk_faults} fault downs {run} {wishes} slots {old} {folder}
     {outcome} {cause} {left} {report}
     asked stands silent calm since leaves cause_is caused borne fair sound ends is tells end_is databases_are faulted_are =
@@ -131,6 +152,8 @@ spoke {contents} {moments} {paths} {faults} {desk_contents} {desk_moments} {desk
     let palm_after = folder_told contents moments paths faults new.server.folder in
     let desk = folder_told desk_contents desk_moments desk_paths desk_faults folder in
     let desk_after = folder_told desk_contents desk_moments desk_paths desk_faults outcome.folder in
+    let before : SidesTold = record { palm = palm; desk = desk } in
+    let after : SidesTold = record { palm = palm_after; desk = desk_after } in
     let line = line_ran silent stands since tells in
     let sides : Tells old new palm_after report =
     record { silent = silent; is_log = tells.log; said = tells.said; given = line.given; writes = tells.writes; stands = since.served.stands stands } in
@@ -142,9 +165,7 @@ spoke {contents} {moments} {paths} {faults} {desk_contents} {desk_moments} {desk
     let bears : BearsOut (cause_in left.status report.faulted.items) (frames_in report) =
     subst (λ (n : List ℕ). BearsOut (cause_in left.status n) (frames_in report)) (sym faulted_are)
     (subst (λ (f : List FrameValue). BearsOut (cause_in left.status left.faulted.items) f) (sym tells.frames) shown.caused) in
-    let talked : Talked run old.script old.server.device slots palm palm_after desk desk_after left.status report = record {
-      wishes = wishes;
-      asked = asked;
+    let talked : Talked old.script meeting before after left.status report = record {
       line = line;
       ends = ends_as;
       caused = bears;
@@ -164,38 +185,41 @@ spoke {contents} {moments} {paths} {faults} {desk_contents} {desk_moments} {desk
       refused = refusal_told (meeting_of old.server.device slots wishes) cause contents moments paths faults fault downs old new desk desk_after outcome.end
           is.status ends;
     } in
+    let has : TalkedFor run old.script old.server.device slots before after left.status report =
+    record { wishes = wishes; asked = asked; talked = talked } in
     record {
-      shown = by_left outcome.end (KeptSilent palm palm_after desk desk_after left.status report) end talked;
+      shown = by_left outcome.end (KeptSilent before after left.status report) end has;
       changed = desk_changed end leaves;
-      unsaid = shown.unsaid;
-      handheld_failed = λ e. elim (since.keeper (sym cause_is ∙ shown.keeper e)) [ inl before ↦ absurd (none_is_some (sym calm ∙ before)) | inr rose ↦ rose ];
-      desktop_failed = λ e. leaves.cause.rose (left_desk outcome.end cause left is e);
-      handheld_paths = since.served.same_paths;
-      desktop_paths = leaves.same_paths;
+      blames = record {
+        handheld = λ e. elim (since.keeper (sym cause_is ∙ shown.keeper e)) [ inl was ↦ absurd (none_is_some (sym calm ∙ was)) | inr rose ↦ rose ];
+        desktop = λ e. leaves.cause.rose (left_desk outcome.end cause left is e);
+      };
+      paths = record { handheld = since.served.same_paths; desktop = leaves.same_paths };
     }
   where
     none_is_some : {A : Type 0} {a : A} → None ≡ Some a → ⊥
     none_is_some e = cc
 
 -- a session that kept silent for want of memory
-pub kept_silent : (run : Run) (rules : List RuleValue) (device : Device) (slots : List SlotValue) {palm palm_after desk desk_after : FolderTold}
-    {status : Status} {report : Report} → status ≡ NoMemory → IsNotStarted report → palm_after ≡ palm → desk_after ≡ desk
-    → IsTalk run rules device slots palm palm_after desk desk_after status report
-kept_silent run rules device slots {palm} {palm_after} {desk} {desk_after} {status} {report} memory is palm_same desk_same = record {
-  shown = subst (λ (e : SessionEnd). ByEnd e (KeptSilent palm palm_after desk desk_after status report)
-      (Talked run rules device slots palm palm_after desk desk_after status report)) (sym is.end)
-      (record { memory = memory; report_is = is; handheld = palm_same; desktop = desk_same });
-  changed = subst (λ (d : FolderTold). ChangedOnce desk d report.end) (sym desk_same) (record {
+pub kept_silent : (run : Run) (rules : List RuleValue) (device : Device) (slots : List SlotValue) (before after : SidesTold)
+    {status : Status} {report : Report} → status ≡ NoMemory → IsNotStarted report → after.palm ≡ before.palm → after.desk ≡ before.desk
+    → IsTalk run rules device slots before after status report
+kept_silent run rules device slots before after {status} {report} memory is palm_same desk_same = record {
+  shown = subst (λ (e : SessionEnd). ByEnd e (KeptSilent before after status report) (TalkedFor run rules device slots before after status report))
+      (sym is.end) (record { memory = memory; report_is = is; handheld = palm_same; desktop = desk_same });
+  changed = subst (λ (d : FolderTold). DesktopRan before.desk.contents before.desk d report.end) (sym desk_same) (record {
     entries = [];
     place = 0;
     files = tt;
     written = λ ended. let none = is.end in cc;
     stands = inl refl;
-    each_moment = no_moment (StandsAs (option_map (put_all []) desk.contents)) desk.moments desk.moments refl;
+    between = before.desk.moments;
+    unchanged = no_moment (StandsAs before.desk.contents) before.desk.moments before.desk.moments refl;
+    changed = no_moment (StandsAs (option_map (put_all []) before.desk.contents)) before.desk.moments before.desk.moments refl;
   });
-  unsaid = subst IsUnsaid (sym memory) tt;
-  handheld_failed = λ e. cc;
-  desktop_failed = λ e. cc;
-  handheld_paths = ap (λ (t : FolderTold). t.paths) palm_same;
-  desktop_paths = ap (λ (t : FolderTold). t.paths) desk_same;
+  blames = record { handheld = λ e. cc; desktop = λ e. cc };
+  paths = record {
+    handheld = ap (λ (t : FolderTold). t.paths) palm_same;
+    desktop = ap (λ (t : FolderTold). t.paths) desk_same;
+  };
 }

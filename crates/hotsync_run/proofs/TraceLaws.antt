@@ -1,29 +1,28 @@
 -- What is known of a session stays, whatever becomes of its trace.
 use Rattle.std.proofs.lemmas.Grind.{common_steps}
-use Rattle.std.proofs.Common.{arith, ◌≡◌, ◌⊎◌, ◌≤◌, ◌++◌, inl, inr, refl, subst, List, [], ℕ}
+use Rattle.std.proofs.Common.{arith, ◌≡◌, ◌⊎◌, ◌≤◌, ◌++◌, inl, inr, refl, subst, List, ℕ}
 use Rattle.std.specs.Option.{option_map}
 use Rattle.std.specs.Prelude.{◌⊎◌, Option, IfSome, Result}
 use Rattle.hs_folders.proofs.Prefixes.{all_taken}
 use Rattle.palm_device.specs.Devices.{Device}
 use Rattle.pdb_values.specs.declared.user.UserInfo.{UserInfo}
 use Rattle.desktop_session.specs.declared.fault.SessionFault.{SessionFault}
-use Rattle.trace_text.specs.TraceLines.{trace_text}
 use Rattle.line_script.specs.Rules.{RuleValue}
 use Rattle.line_world.specs.Causes.{BearsOut}
 use Rattle.desk_store.specs.Shelves.{SlotValue}
 use Rattle.run_words.specs.Runs.{Run}
 use Rattle.sync_session.specs.Limits.{first_over}
 use Rattle.sync_session.specs.Outcomes.{seat_of}
-use Rattle.sync_session.specs.Tasks.{meeting_of}
+use Rattle.sync_session.specs.Tasks.{Meeting}
 use Rattle.hotsync_run.specs.Causes.{ByEnd, EndsAs, IsFallen, IsLineDown, IsTracedStatus, IsUnsaid, cause_in}
 use Rattle.hotsync_run.specs.Ends.{IsCutShort, IsToldRefusal, StatusShows, status_refused}
 use Rattle.hotsync_run.specs.LineRuns.{frames_in}
 use Rattle.hotsync_run.specs.Refusals.{BlamesHandheld, BlamesScript}
-use Rattle.hotsync_run.specs.Talks.{IsTalk, KeptSilent, Talked}
-use Rattle.hotsync_run.specs.Told.{FolderTold, SinkTold}
+use Rattle.hotsync_run.specs.Talks.{IsTalk, KeptSilent, Talked, TalkedFor}
+use Rattle.hotsync_run.specs.Told.{SidesTold, SinkTold}
 use Rattle.hotsync_run.specs.Whole.{StopsAnswered}
 use Rattle.hotsync_run.proofs.WholeLaws.{dealt_as}
-use Rattle.hotsync_run.specs.Traces.{IsTracedTalk, SilentTrace, TalkedTrace, TracesFrames, TracesText}
+use Rattle.hotsync_run.specs.Traces.{TracesText}
 use Rattle.hotsync_run.specs.declared.report.Report.{Report}
 use Rattle.hotsync_run.specs.declared.report.SessionEnd.{SessionEnd}
 use Rattle.hotsync_run.specs.declared.report.SessionEnd.TheVariants.{NotStarted, Ended}
@@ -39,15 +38,12 @@ pub by_end_both : (end : SessionEnd) {A B C : Type 0} → (A → C) → (B → C
 by_end_both end not began is = grind (arith, common_steps)
 
 -- what is known of a session under another status
-talked_as : {run : Run} {rules : List RuleValue} {device : Device} {slots : List SlotValue} {palm palm_after desk desk_after : FolderTold}
-    {status other : Status} {report : Report}
-    → (talked : Talked run rules device slots palm palm_after desk desk_after status report) → EndsAs other report.end
+talked_as : {rules : List RuleValue} {meeting : Meeting} {before after : SidesTold} {status other : Status} {report : Report}
+    → (talked : Talked rules meeting before after status report) → EndsAs other report.end
     → BearsOut (cause_in other report.faulted.items) (frames_in report) → (IsLineDown other → ⊥) → (IsFallen other → ⊥) → (StopsAnswered other → ⊥)
-    → (report.end ≡ Ended) ⊎ (other ≡ NoMemory) → StatusShows (meeting_of device slots talked.wishes) report other
-    → IsToldRefusal (meeting_of device slots talked.wishes) other → Talked run rules device slots palm palm_after desk desk_after other report
+    → (report.end ≡ Ended) ⊎ (other ≡ NoMemory) → StatusShows meeting report other → IsToldRefusal meeting other
+    → Talked rules meeting before after other report
 talked_as talked ends caused up stands free over shows refused = record {
-  wishes = talked.wishes;
-  asked = talked.asked;
   line = talked.line;
   ends = ends;
   caused = caused;
@@ -71,32 +67,28 @@ done_refused : (seat : Result UserInfo SessionFault) (over : Option (List ℕ)) 
     → IfSome (status_refused seat over) (λ refused. (other ≡ refused) ⊎ IsCutShort other)
 done_refused seat over other is = grind (arith, common_steps)
 
-module _ {run : Run} {rules : List RuleValue} {device : Device} {slots : List SlotValue} {palm palm_after desk desk_after : FolderTold}
-    {status : Status} {report : Report} (talked : Talked run rules device slots palm palm_after desk desk_after status report) where
-  pub talked_memory : Talked run rules device slots palm palm_after desk desk_after NoMemory report
+module _ {rules : List RuleValue} {meeting : Meeting} {before after : SidesTold} {status : Status} {report : Report}
+    (talked : Talked rules meeting before after status report) where
+  pub talked_memory : Talked rules meeting before after NoMemory report
   talked_memory =
-      talked_as talked tt tt (λ is. is) (λ is. is) (λ is. is) (inr refl) tt
-      (memory_refused (status_refused (seat_of (meeting_of device slots talked.wishes)) (first_over (meeting_of device slots talked.wishes))))
+      talked_as talked tt tt (λ is. is) (λ is. is) (λ is. is) (inr refl) tt (memory_refused (status_refused (seat_of meeting) (first_over meeting)))
 
   talked_done : status ≡ Done → report.end ≡ Ended
   talked_done done = subst (λ (s : Status). EndsAs s report.end) done talked.ends
 
-  pub talked_untold : status ≡ Done → Talked run rules device slots palm palm_after desk desk_after TraceWrite report
+  pub talked_untold : status ≡ Done → Talked rules meeting before after TraceWrite report
   talked_untold done =
       let ended = talked_done done in
       talked_as talked ended tt (λ is. is) (λ is. is) (λ is. is) (inl ended) tt
-      (done_refused (seat_of (meeting_of device slots talked.wishes)) (first_over (meeting_of device slots talked.wishes)) TraceWrite
-      (subst (IsToldRefusal (meeting_of device slots talked.wishes)) done talked.refused))
+      (done_refused (seat_of meeting) (first_over meeting) TraceWrite (subst (IsToldRefusal meeting) done talked.refused))
 
-  pub talked_unsaid : status ≡ Done → Talked run rules device slots palm palm_after desk desk_after OutWrite report
+  pub talked_unsaid : status ≡ Done → Talked rules meeting before after OutWrite report
   talked_unsaid done =
       let ended = talked_done done in
       talked_as talked ended tt (λ is. is) (λ is. is) (λ is. is) (inl ended) tt
-      (done_refused (seat_of (meeting_of device slots talked.wishes)) (first_over (meeting_of device slots talked.wishes)) OutWrite
-      (subst (IsToldRefusal (meeting_of device slots talked.wishes)) done talked.refused))
+      (done_refused (seat_of meeting) (first_over meeting) OutWrite (subst (IsToldRefusal meeting) done talked.refused))
 
-  talked_traced :
-      (traced : Status) → IsTracedStatus status traced → Talked run rules device slots palm palm_after desk desk_after traced report
+  talked_traced : (traced : Status) → IsTracedStatus status traced → Talked rules meeting before after traced report
   talked_traced traced (inl same) = grind arith
   talked_traced traced (inr (inl memory)) = grind (arith, talked_memory)
   talked_traced traced (inr (inr untold)) = grind (arith, talked_untold untold.0)
@@ -108,7 +100,7 @@ folder_traced : (status : Status) {traced blamed : Status} → IsTracedStatus st
     → traced ≡ blamed → status ≡ blamed
 folder_traced status e not_memory not_trace is = grind (arith, common_steps)
 
-unprinted_traced : (status traced : Status) → IsUnsaid status → IsTracedStatus status traced → traced ≡ OutWrite → ⊥
+pub unprinted_traced : (status traced : Status) → IsUnsaid status → IsTracedStatus status traced → traced ≡ OutWrite → ⊥
 unprinted_traced status traced unsaid e is = grind (arith, common_steps)
 
 -- a text that was taken
@@ -118,36 +110,25 @@ pub text_written : (text : List ℕ) (before after : SinkTold) (status : Status)
 text_written text before after status unsaid taken paths later = grind (arith, all_taken before.taken after.taken text taken)
 
 -- a session, and then its trace
-pub talk_traced : {run : Run} {rules : List RuleValue} {device : Device} {slots : List SlotValue} {palm palm_after desk desk_after : FolderTold}
-    (trace trace_after : SinkTold) {status : Status} (traced : Status) {report : Report}
-    → IsTalk run rules device slots palm palm_after desk desk_after status report
-    → TracesFrames run.trace (trace_text (frames_in report)) trace trace_after status traced
-    → (report.frames.items ≡ [] → trace_after.taken ≡ trace.taken)
-    → IsTracedTalk run rules device slots palm palm_after desk desk_after trace trace_after traced report
-talk_traced {run} {rules} {device} {slots} {palm} {palm_after} {desk} {desk_after} trace trace_after {status} traced {report} talk traces silent = record {
+pub talk_traced : {run : Run} {rules : List RuleValue} {device : Device} {slots : List SlotValue} {before after : SidesTold} {status : Status}
+    (traced : Status) {report : Report} → IsTalk run rules device slots before after status report → IsTracedStatus status traced
+    → IsTalk run rules device slots before after traced report
+talk_traced {run} {rules} {device} {slots} {before} {after} {status} traced {report} talk is = record {
   shown = by_end_then report.end
-      {A = KeptSilent palm palm_after desk desk_after status report} {B = Talked run rules device slots palm palm_after desk desk_after status report}
-      {C = SilentTrace palm palm_after desk desk_after trace trace_after traced report}
-      {D = TalkedTrace run rules device slots palm palm_after desk desk_after trace trace_after traced report} (λ kept. record {
-        silent = record {
-          memory = memory_traced traced traces.stands.status_is kept.memory;
-          report_is = kept.report_is;
-          handheld = kept.handheld;
-          desktop = kept.desktop;
-        };
-        trace_taken = silent kept.report_is.frames;
-      }) (λ talked. record {
-        talked = talked_traced talked traced traces.stands.status_is;
-        traced_is = traces.traced_is;
-      }) talk.shown;
+      {A = KeptSilent before after status report} {B = TalkedFor run rules device slots before after status report}
+      {C = KeptSilent before after traced report} {D = TalkedFor run rules device slots before after traced report}
+      (λ kept. record {
+        memory = memory_traced traced is kept.memory;
+        report_is = kept.report_is;
+        handheld = kept.handheld;
+        desktop = kept.desktop;
+      }) (λ had. record { wishes = had.wishes; asked = had.asked; talked = talked_traced had.talked traced is }) talk.shown;
   changed = talk.changed;
-  unprinted = unprinted_traced status traced talk.unsaid traces.stands.status_is;
-  handheld_failed = λ is. talk.handheld_failed (folder_traced status traces.stands.status_is (λ e. cc) (λ e. cc) is);
-  desktop_failed = λ is. talk.desktop_failed (folder_traced status traces.stands.status_is (λ e. cc) (λ e. cc) is);
-  trace_failed = traces.stands.failed;
-  handheld_paths = talk.handheld_paths;
-  desktop_paths = talk.desktop_paths;
-  trace_paths = traces.stands.paths;
+  blames = record {
+    handheld = λ e. talk.blames.handheld (folder_traced status is (λ f. cc) (λ f. cc) e);
+    desktop = λ e. talk.blames.desktop (folder_traced status is (λ f. cc) (λ f. cc) e);
+  };
+  paths = talk.paths;
 }
 
 -- a session's status blames neither the script nor the source
@@ -160,18 +141,12 @@ memory_not_script status is blames = subst BlamesScript is blames
 memory_not_handheld : (status : Status) → status ≡ NoMemory → BlamesHandheld status → ⊥
 memory_not_handheld status is blames = subst BlamesHandheld is blames
 
-module _ {run : Run} {rules : List RuleValue} {device : Device} {slots : List SlotValue} {palm palm_after desk desk_after : FolderTold}
-    {trace trace_after : SinkTold} {status : Status} {report : Report}
-    (talk : IsTracedTalk run rules device slots palm palm_after desk desk_after trace trace_after status report) where
+module _ {run : Run} {rules : List RuleValue} {device : Device} {slots : List SlotValue} {before after : SidesTold} {status : Status}
+    {report : Report} (talk : IsTalk run rules device slots before after status report) where
   pub talk_not_script : BlamesScript status → ⊥
   talk_not_script blames =
-      grind (
-        arith,
-        by_end_both report.end {A = SilentTrace palm palm_after desk desk_after trace trace_after status report}
-            {B = TalkedTrace run rules device slots palm palm_after desk desk_after trace trace_after status report} {C = ⊥},
-        memory_not_script status,
-        ends_not_script status report.end,
-      )
+      by_end_both report.end {A = KeptSilent before after status report} {B = TalkedFor run rules device slots before after status report} {C = ⊥}
+      (λ kept. memory_not_script status kept.memory blames) (λ had. ends_not_script status report.end had.talked.ends blames) talk.shown
 
   pub talk_not_handheld : report.end ≡ NotStarted → BlamesHandheld status → ⊥
   talk_not_handheld is blames = grind (arith, memory_not_handheld status)

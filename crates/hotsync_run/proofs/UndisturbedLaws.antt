@@ -1,7 +1,6 @@
 -- A run that nothing disturbs is done whole.
 use Rattle.std.proofs.lemmas.Grind.{common_steps}
-use Rattle.std.proofs.lemmas.Bool.Decides.{nat_tests}
-use Rattle.std.proofs.Common.{◌≡◌, ◌⊎◌, ◌∙◌, ◌+◌, ℕ, List, [], ◌∷◌, ◌++◌, inl, inr, refl, sym, subst, ap, arith, Ok, Err}
+use Rattle.std.proofs.Common.{◌≡◌, ◌⊎◌, ◌+◌, ℕ, List, [], ◌∷◌, ◌++◌, inl, inr, refl, subst, arith, Ok, Err}
 use Rattle.std.specs.Prelude.{false, IfSome, IsSome, Option, None, Some, string_bytes}
 use Rattle.std.specs.declared.alloc.Global.{Global}
 use Rattle.hs_folders.specs.FileMaps.{FileMap}
@@ -9,7 +8,6 @@ use Rattle.handheld_files.specs.Openings as handheld
 use Rattle.handheld_files.specs.declared.fault.OpenFault.{OpenFault}
 use Rattle.handheld_files.specs.declared.fault.OpenFault.TheVariants as opening
 use Rattle.trace_text.specs.Fates.{FateValue, is_stop}
-use Rattle.trace_text.specs.Fates as fate
 use Rattle.trace_text.specs.Proper.{AreNumbered}
 use Rattle.trace_text.specs.TraceLines.{FrameValue}
 use Rattle.line_script.specs.Rules.{RuleValue}
@@ -21,9 +19,8 @@ use Rattle.line_world.specs.Causes.{BearsOut, EndsBy}
 use Rattle.desk_journal.specs.Overlays.{finished}
 use Rattle.desk_store.specs.Desks as desktop
 use Rattle.desk_store.specs.declared.fault.DeskOpenFault.{DeskOpenFault}
-use Rattle.desk_store.specs.declared.fault.DeskOpenFault.TheVariants as desk_opening
 use Rattle.run_words.specs.Runs.{Run}
-use Rattle.sync_session.specs.Tasks.{Meeting, meeting_of}
+use Rattle.sync_session.specs.Tasks.{Meeting}
 use Rattle.hotsync_run.specs.Causes.{ByEnd, EndsAs, IsLineDown, cause_in}
 use Rattle.hotsync_run.specs.Ends.{StatusShows}
 use Rattle.hotsync_run.specs.LineRuns.{frames_in}
@@ -35,11 +32,9 @@ use Rattle.hotsync_run.specs.Told.{CallTold, SinkTold}
 use Rattle.hotsync_run.specs.Undisturbed.{EndsWell, IsGoodDesktop, IsGoodHandheld, IsGoodScript, IsUndisturbed, MayMeet}
 use Rattle.hotsync_run.specs.declared.report.Report.{Report}
 use Rattle.hotsync_run.specs.declared.report.SessionEnd.{SessionEnd}
-use Rattle.hotsync_run.specs.declared.report.SessionEnd.TheVariants.{NotStarted, Ended, Stopped}
 use Rattle.hotsync_run.specs.declared.status.Status.{Status}
-use Rattle.hotsync_run.specs.declared.status.Status.TheVariants.{Done, Usage, BadScript, TooLong, BadFile, TooMany, HandheldFolder, DesktopFolder, SourceRead}
-use Rattle.hotsync_run.specs.declared.status.Status.TheVariants.{TraceWrite, OutWrite, NoMemory, LineDown, Unplugged, Aborted, Undetected, OtherUser}
-use Rattle.hotsync_run.specs.declared.status.Status.TheVariants.{TooManyUsers, Limit}
+use Rattle.hotsync_run.specs.declared.status.Status.TheVariants.{BadScript, TooLong, HandheldFolder, DesktopFolder, SourceRead}
+use Rattle.hotsync_run.specs.declared.status.Status.TheVariants.{TraceWrite, OutWrite, NoMemory}
 
 none_holds : (A : Type 0) → IsSome {T = A} None → ⊥
 none_holds A e = cc
@@ -142,9 +137,8 @@ session_ends_well : {run : Run} {before after : CallTold} {out out_after : SinkT
     → IsUndisturbed run before after out out_after report → BlamesNone status → SessionRan run before after status report → EndsWell status report
 session_ends_well {status} {report} calm blames ran =
     let talked = ran.talked in
-    let meeting = meeting_of ran.device ran.slots talked.wishes in
     let kind = calm.line ran.rules ran.scripted in
-    ends_well {meeting = meeting} status {report = report} (record {
+    ends_well {meeting = ran.meeting} status {report = report} (record {
       ends = talked.ends;
       caused = talked.caused;
       shows = talked.shows;
@@ -152,7 +146,7 @@ session_ends_well {status} {report} calm blames ran =
       up = talked.fair kind.fair;
       unplugged = never_unplugged (fate_by ran.rules) (frames_in report) talked.line.proper.numbered kind.goes_on;
       aborted = never_aborted (fate_by ran.rules) (frames_in report) talked.line.proper.numbered kind.goes_on;
-      may_meet = calm.sides ran.device ran.slots talked.wishes ran.handheld ran.desktop talked.asked;
+      may_meet = calm.sides ran.meeting ran.meets;
     })
 
 -- ---- both
@@ -173,8 +167,8 @@ module _ (run : Run) (before after : CallTold) (out out_after : SinkTold) (statu
       let failed = calm.none_failed in
       let blames : BlamesNone status = record {
         source = λ e. failed.reading (has.blames.source e);
-        handheld = λ e. failed.handheld (has.blames.handheld e);
-        desktop = λ e. failed.desktop (has.blames.desktop e);
+        handheld = λ e. failed.handheld (has.blames.folders.handheld e);
+        desktop = λ e. failed.desktop (has.blames.folders.desktop e);
         trace = λ e. failed.tracing (has.blames.trace e);
         out = λ e. failed.printing (printed.failed e);
       } in

@@ -1,25 +1,19 @@
 -- Runs of one pair of folders, one behind another, of which each stopped but the last.
-use Rattle.std.specs.Prelude.{◌≡◌, ℕ, List, [], ◌∷◌, IfSome, IsSome}
-use Rattle.std.specs.Option.{option_map}
-use Rattle.palm_device.specs.Handles.{no_handles}
-use Rattle.handheld_files.specs.Openings.{HoldsAll, Stands}
-use Rattle.desk_journal.specs.Overlays.{finished}
+use Rattle.std.specs.Prelude.{◌≡◌, ℕ, List, [], ◌∷◌, IsSome}
+use Rattle.handheld_files.specs.Openings.{Stands}
 use Rattle.desk_store.specs.Desks.{IsDesk}
 use Rattle.desk_store.specs.Shelves.{slot_at}
-use Rattle.run_words.specs.Runs.{Run}
 use Rattle.sync_session.specs.Merges.{merged_device, merged_slot, merged_slots}
-use Rattle.sync_session.specs.Tasks.{Meeting, place_for}
+use Rattle.sync_session.specs.Tasks.{Meeting}
 use Rattle.session_laws.specs.Meetings.{IsActive, action_at, found_of, holding_after, ids_at}
 use Rattle.session_laws.specs.Renaming.{AreUnknown, SameEnds}
 use Rattle.session_laws.specs.Repeats.{GotAllIds}
 use Rattle.session_fronts.specs.Again.{IsFreshBehind, Later, last_run}
+use Rattle.hotsync_run.specs.Headline.{IsAnsweredRun, RunCall}
 use Rattle.hotsync_run.specs.LineRuns.{log_in}
-use Rattle.hotsync_run.specs.Runs.{IsRun}
-use Rattle.hotsync_run.specs.Told.{CallTold, SinkTold}
-use Rattle.hotsync_run.specs.Wishes.{AsksFor}
-use Rattle.hotsync_run.specs.declared.report.Report.{Report}
+use Rattle.hotsync_run.specs.Meetings.{Meets}
+use Rattle.hotsync_run.specs.Told.{CallTold}
 use Rattle.hotsync_run.specs.declared.report.SessionEnd.TheVariants.{Ended, Stopped}
-use Rattle.hotsync_run.specs.declared.status.Status.{Status}
 
 -- ---- both sides before a run
 
@@ -27,15 +21,6 @@ use Rattle.hotsync_run.specs.declared.status.Status.{Status}
 pub record AreTold (told : CallTold) : Type 0 where
   pub palm : IsSome told.palm.contents
   pub desk : IsSome told.desk.contents
-
--- The meeting of what the folders of a run hold, by what its words ask: the handheld, without an open database, and the desktop's slots once a
--- journal that was left is finished, with the slot of the handheld's user picked.
-pub record Meets (run : Run) (before : CallTold) (meeting : Meeting) : Type 0 where
-  pub handheld : IfSome before.palm.contents (λ held. HoldsAll held meeting.device.databases meeting.device.user)
-  pub closed : meeting.device.handles ≡ no_handles
-  pub desktop : IsDesk (option_map finished before.desk.contents) meeting.slots
-  pub picked : meeting.picked ≡ place_for meeting.device meeting.slots meeting.wishes.add_user
-  pub asked : AsksFor run meeting.wishes
 
 -- two meetings of the same sides
 pub record AreOfOneKind (meeting other : Meeting) : Type 0 where
@@ -45,18 +30,9 @@ pub record AreOfOneKind (meeting other : Meeting) : Type 0 where
 
 -- ---- runs one behind another
 
--- a call for the words of a run: its objects before and after it, and what it answered
-pub record RunCall : Type 0 where
-  pub run : Run
-  pub before : CallTold
-  pub after : CallTold
-  pub out : SinkTold
-  pub out_after : SinkTold
-  pub status : Status
-  pub report : Report
-
+-- a call for a run, whose folders are told
 abbrev pub DidRun : RunCall → Type 0
-DidRun call = AreTold call.before × IsRun call.run call.before call.after call.out call.out_after call.status call.report
+DidRun call = AreTold call.before × IsAnsweredRun call
 
 -- nothing is edited between two calls, and the words ask the same, but for date, script, trace and whether a user may be added
 pub record IsRepeat (call next : RunCall) : Type 0 where

@@ -1,28 +1,64 @@
 -- What holds of every call, by what its words ask for.
-use Rattle.std.specs.Prelude.{◌≡◌, ◌⊎◌, ⊤, IsSome, Option, None, Some}
-use Rattle.run_words.specs.Commands.{Task, Sync, LookAt, Scan, Make}
+use Rattle.std.specs.Prelude.{◌≡◌, ◌⊎◌, ⊤, IsSome, List, Option, None, Some, String, map, string_bytes}
+use Rattle.std.specs.declared.alloc.Global.{Global}
+use Rattle.hs_folders.specs.declared.folder.Folder.{Ghosts as FolderMembers}
+use Rattle.hs_folders.specs.declared.sink.Sink.{Ghosts as SinkMembers}
+use Rattle.hs_folders.specs.declared.source.Source.{Ghosts as SourceMembers}
+use Rattle.run_words.specs.Commands.{Task, Sync, LookAt, Scan, Make, task_of}
 use Rattle.hotsync_run.specs.Looks.{IsLook}
 use Rattle.hotsync_run.specs.Makes.{IsMake}
 use Rattle.hotsync_run.specs.Printed.{IsPrinted}
 use Rattle.hotsync_run.specs.Runs.{IsRun}
 use Rattle.hotsync_run.specs.Scans.{IsScanned}
-use Rattle.hotsync_run.specs.Told.{CallTold, SinkTold}
+use Rattle.hotsync_run.specs.Told.{CallTold, SinkTold, call_told, sink_told}
+use Rattle.hotsync_run.specs.declared.answer.Answer.{Answer}
 use Rattle.hotsync_run.specs.declared.report.Report.{Report}
 use Rattle.hotsync_run.specs.declared.status.Status.{Status}
 use Rattle.hotsync_run.specs.declared.status.Status.TheVariants.{Usage, NoMemory}
+
+-- what words ask for
+abbrev pub task_in : List (String Global) → Option Task
+task_in words = task_of (map string_bytes words)
 
 -- a call that does nothing ends with the usage line
 pub record IsNothing (out out_after : SinkTold) (status : Status) : Type 0 where
   pub ended : (status ≡ Usage) ⊎ (status ≡ NoMemory)
   pub printed : IsPrinted (λ text. ⊥) out out_after status
 
--- What is known of a call: words out of the form give the usage line. Only a run sends anything, and a session between made folders.
+-- What is known of a call: words out of the form give the usage line. Only a run sends anything,
+-- and a session between made folders.
 abbrev pub IsCall : Option Task → CallTold → CallTold → SinkTold → SinkTold → Status → Report → Type 0
 IsCall None before after out out_after status report = IsNothing out out_after status
 IsCall (Some (Sync run)) before after out out_after status report = IsRun run before after out out_after status report
 IsCall (Some (LookAt look file)) before after out out_after status report = IsLook look file before.source after.source out out_after status
 IsCall (Some (Scan bytes)) before after out out_after status report = IsScanned bytes out out_after status
 IsCall (Some (Make seed count)) before after out out_after status report = IsMake seed count out out_after status report
+
+-- a call: what its words ask for, its objects before and after it, and what it answered
+pub record Call : Type 0 where
+  pub task : Option Task
+  pub before : CallTold
+  pub after : CallTold
+  pub out : SinkTold
+  pub out_after : SinkTold
+  pub status : Status
+  pub report : Report
+
+-- what the contract of the program says of it
+abbrev pub IsAnsweredCall : Call → Type 0
+IsAnsweredCall call =
+    IsCall call.task call.before call.after call.out call.out_after call.status call.report
+
+-- What is known of a call holds of its objects before it and after it, as the members of their
+-- traits tell them, and of what it answered. Standard output comes last among the objects.
+abbrev pub OfCall : (CallTold → CallTold → SinkTold → SinkTold → Status → Report → Type 0)
+    → {H D S T O : Type 0} → FolderMembers H → FolderMembers D → SourceMembers S → SinkMembers T
+    → SinkMembers O → H → D → S → T → O → Answer H D → S → T → O → Type 0
+OfCall Fact palms desks sources traces outs palm desk source trace out answer read written said =
+    Fact (call_told palms desks sources traces palm desk source trace)
+    (call_told palms desks sources traces answer.device answer.desk read written)
+    (sink_told outs.taken outs.paths outs.faults out)
+    (sink_told outs.taken outs.paths outs.faults said) answer.status answer.report
 
 -- the words ask for a run
 abbrev pub IsSync : Option Task → Type 0

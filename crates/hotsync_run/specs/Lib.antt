@@ -5,10 +5,12 @@ pub mod Causes
 pub mod Clean
 pub mod Codes
 pub mod Ends
+pub mod Headline
 pub mod LineRuns
 pub mod Lines
 pub mod Looks
 pub mod Makes
+pub mod Meetings
 pub mod Opening
 pub mod Printed
 pub mod Refusals
@@ -16,6 +18,7 @@ pub mod Reports
 pub mod Runs
 pub mod Scans
 pub mod Scripts
+pub mod Systems
 pub mod Talks
 pub mod Told
 pub mod Traces

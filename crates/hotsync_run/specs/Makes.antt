@@ -21,8 +21,8 @@ use Rattle.hotsync_run.specs.Causes.{ByEnd}
 use Rattle.hotsync_run.specs.Lines.{done_lines}
 use Rattle.hotsync_run.specs.Printed.{IsPrinted}
 use Rattle.hotsync_run.specs.Reports.{IsNotStarted}
-use Rattle.hotsync_run.specs.Talks.{ChangedOnce, Talked}
-use Rattle.hotsync_run.specs.Told.{FolderTold, SinkTold}
+use Rattle.hotsync_run.specs.Talks.{DesktopRan, TalkedFor}
+use Rattle.hotsync_run.specs.Told.{FolderTold, SidesTold, SinkTold}
 use Rattle.hotsync_run.specs.declared.report.Report.{Report}
 use Rattle.hotsync_run.specs.declared.report.SessionEnd.TheVariants.{Ended}
 use Rattle.hotsync_run.specs.declared.status.Status.{Status}
@@ -53,6 +53,13 @@ script_text rules = flat_map (λ (rule : RuleValue). rule_text rule ++ 10 ∷ []
 abbrev pub files_told : FileMap → FolderTold
 files_told files = record { contents = Some files; moments = None; paths = None; faults = 0 }
 
+-- what both made folders tell
+abbrev pub made_told : List Item → SidesTold
+made_told items = record {
+  palm = files_told (handheld_files items);
+  desk = files_told (desktop_files items);
+}
+
 -- how the one database was synchronised, by the kinds of the items
 abbrev pub made_counts : List Item → Counts
 made_counts items = record {
@@ -82,11 +89,10 @@ pub record MadeRan (items : List Item) (status : Status) (report : Report) : Typ
   pub closed : device.handles ≡ no_handles
   pub slots : List SlotValue
   pub desktop : IsDesk (Some (desktop_files items)) slots
-  pub palm_after : FolderTold
-  pub desk_after : FolderTold
-  pub changed : ChangedOnce (files_told (desktop_files items)) desk_after report.end
-  pub talked : Talked made_run made_script device slots (files_told (handheld_files items)) palm_after
-      (files_told (desktop_files items)) desk_after status report
+  pub after : SidesTold
+  pub changed : DesktopRan (Some (desktop_files items)) (files_told (desktop_files items)) after.desk
+      report.end
+  pub talked : TalkedFor made_run made_script device slots (made_told items) after status report
   pub databases : report.end ≡ Ended → report.databases.items ≡ made_report items ∷ []
 
 -- what is known of it before its lines are printed

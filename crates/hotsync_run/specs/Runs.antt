@@ -1,37 +1,30 @@
 -- What holds of every run: all objects before it, and all of them after it.
-use Rattle.std.specs.Prelude.{◌≡◌, ◌⊎◌, ℕ, List, IfSome}
-use Rattle.std.specs.List.{AllByRecursion}
+use Rattle.std.specs.Prelude.{◌≡◌, ◌⊎◌, List}
 use Rattle.std.specs.Option.{option_map}
 use Rattle.hs_folders.specs.Causes.{Rose}
 use Rattle.hs_folders.specs.Moments.{EachMomentSince}
-use Rattle.palm_device.specs.Devices.{Device}
-use Rattle.palm_device.specs.Handles.{no_handles}
 use Rattle.trace_text.specs.TraceLines.{trace_text}
 use Rattle.line_script.specs.Rules.{RuleValue}
-use Rattle.handheld_files.specs.Openings.{HoldsAll}
-use Rattle.desk_journal.specs.Entries.{EntryValue}
-use Rattle.desk_journal.specs.Overlays.{StandsAs, finished, put_all}
-use Rattle.desk_store.specs.Desks.{IsDesk}
-use Rattle.desk_store.specs.Shelves.{SlotValue}
+use Rattle.desk_journal.specs.Overlays.{StandsAs, finished}
 use Rattle.run_words.specs.Runs.{Run}
-use Rattle.sync_session.specs.Leaving.{IsSlotsFile}
+use Rattle.sync_session.specs.Tasks.{Meeting}
 use Rattle.hotsync_run.specs.Causes.{ByEnd, HasBegun}
 use Rattle.hotsync_run.specs.LineRuns.{frames_in}
 use Rattle.hotsync_run.specs.Lines.{done_lines}
+use Rattle.hotsync_run.specs.Meetings.{Meets}
 use Rattle.hotsync_run.specs.Opening.{Opens, OpensAtMost, OpensGiven, OpensGivenAtMost}
 use Rattle.hotsync_run.specs.Printed.{IsPrinted}
 use Rattle.hotsync_run.specs.Refusals.{IsRefused}
 use Rattle.hotsync_run.specs.Reports.{IsNotStarted}
 use Rattle.hotsync_run.specs.Scripts.{IsScripted}
-use Rattle.hotsync_run.specs.Talks.{Talked}
-use Rattle.hotsync_run.specs.Told.{CallTold, FolderTold, SinkTold}
+use Rattle.hotsync_run.specs.Talks.{BlamesFolders, DesktopRan, Talked}
+use Rattle.hotsync_run.specs.Told.{CallTold, FolderTold, SinkTold, sides_of}
 use Rattle.hotsync_run.specs.Traces.{IsTraced}
 use Rattle.hotsync_run.specs.Undisturbed.{EndsWell, IsUndisturbed}
 use Rattle.hotsync_run.specs.declared.report.Report.{Report}
 use Rattle.hotsync_run.specs.declared.report.SessionEnd.{SessionEnd}
-use Rattle.hotsync_run.specs.declared.report.SessionEnd.TheVariants.{Ended}
 use Rattle.hotsync_run.specs.declared.status.Status.{Status}
-use Rattle.hotsync_run.specs.declared.status.Status.TheVariants.{HandheldFolder, DesktopFolder, SourceRead, TraceWrite, NoMemory}
+use Rattle.hotsync_run.specs.declared.status.Status.TheVariants.{SourceRead, TraceWrite, NoMemory}
 
 -- ---- a run that sent nothing
 
@@ -40,12 +33,14 @@ pub record StaysAsItWas (before after : FolderTold) : Type 0 where
   pub contents : after.contents ≡ before.contents
   pub moments : after.moments ≡ before.moments
 
--- the desktop's folder stands for what it stood for, at each moment; a journal that was left may have been finished
+-- the desktop's folder stands for what it stood for, at each moment; a journal that was left may
+-- have been finished
 pub record StandsAsItDid (before after : FolderTold) : Type 0 where
   pub stands : StandsAs before.contents after.contents
   pub each_moment : EachMomentSince (StandsAs before.contents) before.moments after.moments
 
--- Memory ran out, or what is judged before a session refuses the run. Both sides stand for what they stood for, and the trace took nothing.
+-- Memory ran out, or what is judged before a session refuses the run. Both sides stand for what
+-- they stood for, and the trace took nothing.
 pub record SentNothing (run : Run) (before after : CallTold) (status : Status) (report : Report) : Type 0 where
   pub judged : (status ≡ NoMemory) ⊎ IsRefused run before status
   pub report_is : IsNotStarted report
@@ -55,29 +50,17 @@ pub record SentNothing (run : Run) (before after : CallTold) (status : Status) (
 
 -- ---- a run with a session
 
--- The desktop's folder, its journal finished, and then changed once at most: an ended session has put some files over the others, all of one slot or the
--- information file. One that stopped left it standing for what it stood for at first, or for that, as it did at each moment.
-pub record DesktopRan (before after : FolderTold) (end : SessionEnd) : Type 0 where
-  pub entries : List EntryValue
-  pub place : ℕ
-  pub files : AllByRecursion (λ (entry : EntryValue). IsSlotsFile place entry.name) entries
-  pub written : end ≡ Ended → after.contents ≡ option_map (put_all entries) (option_map finished before.contents)
-  pub stands : StandsAs before.contents after.contents ⊎ StandsAs (option_map (put_all entries) (option_map finished before.contents)) after.contents
-  pub each_moment : EachMomentSince (λ told. StandsAs before.contents told ⊎ StandsAs (option_map (put_all entries) (option_map finished before.contents)) told)
-      before.moments after.moments
-
--- Both sides before it, as far as the folders tell them: the handheld's databases and user, without an open database, and the desktop's slots once a
--- journal that was left is finished; the script; and all that is known of the session between them.
-pub record SessionRan (run : Run) (before after : CallTold) (status : Status) (report : Report) : Type 0 where
+-- Both sides before it; the script; how the desktop's folder was changed; all that is known of the
+-- session between both; and what the trace took.
+pub record SessionRan (run : Run) (before after : CallTold) (status : Status) (report : Report)
+    : Type 0 where
   pub rules : List RuleValue
   pub scripted : IsScripted run.script before.source.left rules
-  pub device : Device
-  pub handheld : IfSome before.palm.contents (λ held. HoldsAll held device.databases device.user)
-  pub closed : device.handles ≡ no_handles
-  pub slots : List SlotValue
-  pub desktop : IsDesk (option_map finished before.desk.contents) slots
-  pub changed : DesktopRan before.desk after.desk report.end
-  pub talked : Talked run rules device slots before.palm after.palm before.desk after.desk status report
+  pub meeting : Meeting
+  pub meets : Meets run before meeting
+  pub changed : DesktopRan (option_map finished before.desk.contents) before.desk after.desk
+      report.end
+  pub talked : Talked rules meeting (sides_of before) (sides_of after) status report
   pub traced : IsTraced run.trace (trace_text (frames_in report)) before.trace after.trace status
 
 -- ---- every run
@@ -85,11 +68,11 @@ pub record SessionRan (run : Run) (before after : CallTold) (status : Status) (r
 -- a status that blames an object shows that object's count rise
 pub record BlamesByCount (before after : CallTold) (status : Status) : Type 0 where
   pub source : status ≡ SourceRead → Rose before.source.faults after.source.faults
-  pub handheld : status ≡ HandheldFolder → Rose before.palm.faults after.palm.faults
-  pub desktop : status ≡ DesktopFolder → Rose before.desk.faults after.desk.faults
+  pub folders : BlamesFolders (sides_of before) (sides_of after) status
   pub trace : status ≡ TraceWrite → Rose before.trace.faults after.trace.faults
 
--- Each object was opened at the path that the words give it, or not at all, and where a session began it was.
+-- Each object was opened at the path that the words give it, or not at all, and where a session
+-- began it was.
 pub record OpensNamed (run : Run) (before after : CallTold) (end : SessionEnd) : Type 0 where
   pub handheld : OpensAtMost run.handheld before.palm.paths after.palm.paths
   pub desktop : OpensAtMost run.desktop before.desk.paths after.desk.paths
@@ -100,13 +83,15 @@ pub record OpensNamed (run : Run) (before after : CallTold) (end : SessionEnd) :
   pub script_opened : HasBegun end → OpensGiven run.script before.source.paths after.source.paths
   pub trace_opened : HasBegun end → OpensGiven run.trace before.trace.paths after.trace.paths
 
--- What is known of a run before its lines are printed. A clause on what an object holds speaks where that object tells it.
+-- What is known of a run before its lines are printed. A clause on what an object holds speaks
+-- where that object tells it.
 pub record HasRun (run : Run) (before after : CallTold) (status : Status) (report : Report) : Type 0 where
   pub shown : ByEnd report.end (SentNothing run before after status report) (SessionRan run before after status report)
   pub blames : BlamesByCount before after status
   pub opened : OpensNamed run before after report.end
 
--- What is known of a run: this, and that standard output took exactly the lines of its status. One that nothing disturbs is done whole.
+-- What is known of a run: this, and that standard output took exactly the lines of its status. One
+-- that nothing disturbs is done whole.
 pub record IsRun (run : Run) (before after : CallTold) (out out_after : SinkTold) (status : Status) (report : Report) : Type 0 where
   pub ran : HasRun run before after status report
   pub printed : IsPrinted (λ text. text ≡ done_lines report.databases.items) out out_after status

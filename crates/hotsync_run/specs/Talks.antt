@@ -4,7 +4,8 @@ use Rattle.std.specs.Global.{Vec}
 use Rattle.std.specs.List.{AllByRecursion}
 use Rattle.std.specs.Option.{option_map}
 use Rattle.hs_folders.specs.Causes.{Rose}
-use Rattle.hs_folders.specs.Moments.{EachMomentSince}
+use Rattle.hs_folders.specs.FileMaps.{FileMap}
+use Rattle.hs_folders.specs.Moments.{EachMomentSince, Moments}
 use Rattle.palm_device.specs.Devices.{Device}
 use Rattle.trace_text.specs.Tallies.{IsFairUpTo}
 use Rattle.trace_text.specs.declared.frame.End.{End}
@@ -16,18 +17,18 @@ use Rattle.line_world.specs.declared.down.Down.TheVariants as down
 use Rattle.run_words.specs.Runs.{Run}
 use Rattle.sync_session.specs.Fronts.{Front}
 use Rattle.sync_session.specs.Leaving.{IsSlotsFile}
-use Rattle.sync_session.specs.Tasks.{meeting_of}
+use Rattle.sync_session.specs.Tasks.{Meeting, meeting_of}
 use Rattle.sync_session.specs.declared.report.DbReport.{DbReport}
 use Rattle.sync_session.specs.declared.stop.Stop.{Stop}
 use Rattle.sync_session.specs.declared.wishes.Wishes.{Wishes}
 use Rattle.desk_journal.specs.Entries.{EntryValue}
 use Rattle.desk_journal.specs.Overlays.{StandsAs, put_all}
 use Rattle.desk_store.specs.Shelves.{SlotValue}
-use Rattle.hotsync_run.specs.Causes.{ByEnd, EndsAs, IsLineDown, IsUnsaid, cause_in, numbers_by, stop_status}
+use Rattle.hotsync_run.specs.Causes.{ByEnd, EndsAs, IsLineDown, cause_in, numbers_by, stop_status}
 use Rattle.hotsync_run.specs.Ends.{IsToldRefusal, SessionLeft, StandsAtFront, StatusShows}
 use Rattle.hotsync_run.specs.LineRuns.{LineRan, frames_in}
 use Rattle.hotsync_run.specs.Reports.{IsNotStarted}
-use Rattle.hotsync_run.specs.Told.{FolderTold}
+use Rattle.hotsync_run.specs.Told.{FolderTold, SidesTold}
 use Rattle.hotsync_run.specs.Whole.{DealtWith}
 use Rattle.hotsync_run.specs.Wishes.{AsksFor}
 use Rattle.hotsync_run.specs.declared.left.Left.{Left}
@@ -61,56 +62,78 @@ pub record IsLeft (answer : Result (Vec DbReport) Stop) (cause : Option Down) (l
 
 -- ---- what is known of it
 
--- The desktop's folder, changed once at most: with some files put over the others, all of one slot or the information file, it has what an ended session
--- leaves, and stands for that at each moment since. A session that stopped left it standing for what it stood for, or for that.
-pub record ChangedOnce (desk desk_after : FolderTold) (end : SessionEnd) : Type 0 where
+-- The desktop's folder, which is this once a journal that was left is finished, and then changed
+-- once at most: an ended session has put some files over the others, all of one slot or the
+-- information file. One that stopped left it standing for what it stood for at first, or for that.
+-- At each moment it stood for the one, and from some moment on for the other.
+pub record DesktopRan (opened : Option FileMap) (before after : FolderTold) (end : SessionEnd)
+    : Type 0 where
   pub entries : List EntryValue
   pub place : ℕ
   pub files : AllByRecursion (λ (entry : EntryValue). IsSlotsFile place entry.name) entries
-  pub written : end ≡ Ended → desk_after.contents ≡ option_map (put_all entries) desk.contents
-  pub stands : StandsAs desk.contents desk_after.contents ⊎ StandsAs (option_map (put_all entries) desk.contents) desk_after.contents
-  pub each_moment : EachMomentSince (StandsAs (option_map (put_all entries) desk.contents)) desk.moments desk_after.moments
+  pub written : end ≡ Ended → after.contents ≡ option_map (put_all entries) opened
+  pub stands : StandsAs before.contents after.contents
+      ⊎ StandsAs (option_map (put_all entries) opened) after.contents
+  pub between : Moments
+  pub unchanged : EachMomentSince (StandsAs before.contents) before.moments between
+  pub changed : EachMomentSince (StandsAs (option_map (put_all entries) opened)) between
+      after.moments
 
 -- no frame is named, or these are the last ten that the line did harm, and it went down for them
 abbrev pub NamesFaults : Report → Type 0
 NamesFaults report =
     (report.faulted.items ≡ []) ⊎ ((end : End) × BearsOut (Some (down.LineDown end report.faulted.items)) (frames_in report))
 
--- A session that began: what the words ask of it, what went over the line and how far it was dealt with, and its cause where it stopped. Where the
--- script is fair up to the last frame no line goes down. Databases are told where it ended. What it left of both sides is that of the session of both,
--- and the handheld stands at a front of that, as its folder did at each moment.
-pub record Talked (run : Run) (rules : List RuleValue) (device : Device) (slots : List SlotValue) (palm palm_after desk desk_after : FolderTold)
+-- A session between these sides that began: what went over the line and how far it was dealt with,
+-- and its cause where it stopped. Where the script is fair up to the last frame no line goes down.
+-- Databases are told where it ended. What it left of both sides is that of the session of both, and
+-- the handheld stands at a front of that, as its folder did at each moment.
+pub record Talked (rules : List RuleValue) (meeting : Meeting) (before after : SidesTold)
     (status : Status) (report : Report) : Type 0 where
-  pub wishes : Wishes
-  pub asked : AsksFor run wishes
-  pub line : LineRan rules device palm palm_after report
+  pub line : LineRan rules meeting.device before.palm after.palm report
   pub ends : EndsAs status report.end
   pub caused : BearsOut (cause_in status report.faulted.items) (frames_in report)
   pub fair : IsFairUpTo (length (frames_in report)) (fate_by rules) → ¬ IsLineDown status
   pub faulted : NamesFaults report
-  pub dealt : DealtWith (meeting_of device slots wishes) status report line.answered
+  pub dealt : DealtWith meeting status report line.answered
   pub stopped : report.end ≡ Stopped → report.databases.items ≡ []
-  pub left : SessionLeft (meeting_of device slots wishes) palm_after desk desk_after report
-  pub shows : StatusShows (meeting_of device slots wishes) report status
-  pub refused : IsToldRefusal (meeting_of device slots wishes) status
-  pub front : Front (meeting_of device slots wishes) report.writes report.given.items line.last
-  pub fronts : EachMomentSince (StandsAtFront (meeting_of device slots wishes)) palm.moments palm_after.moments
+  pub left : SessionLeft meeting after.palm before.desk after.desk report
+  pub shows : StatusShows meeting report status
+  pub refused : IsToldRefusal meeting status
+  pub front : Front meeting report.writes report.given.items line.last
+  pub fronts : EachMomentSince (StandsAtFront meeting) before.palm.moments after.palm.moments
+
+-- ---- how a run has it
+
+-- a session between a handheld and a desktop's slots, for which the words ask
+pub record TalkedFor (run : Run) (rules : List RuleValue) (device : Device) (slots : List SlotValue)
+    (before after : SidesTold) (status : Status) (report : Report) : Type 0 where
+  pub wishes : Wishes
+  pub asked : AsksFor run wishes
+  pub talked : Talked rules (meeting_of device slots wishes) before after status report
 
 -- memory ran out before anything was sent, and both folders are as they were
-pub record KeptSilent (palm palm_after desk desk_after : FolderTold) (status : Status) (report : Report) : Type 0 where
+pub record KeptSilent (before after : SidesTold) (status : Status) (report : Report) : Type 0 where
   pub memory : status ≡ NoMemory
   pub report_is : IsNotStarted report
-  pub handheld : palm_after ≡ palm
-  pub desktop : desk_after ≡ desk
+  pub handheld : after.palm ≡ before.palm
+  pub desktop : after.desk ≡ before.desk
 
--- What is known of a session before its trace and its lines are written. A folder that is blamed had its count rise.
-pub record IsTalk (run : Run) (rules : List RuleValue) (device : Device) (slots : List SlotValue) (palm palm_after desk desk_after : FolderTold)
-    (status : Status) (report : Report) : Type 0 where
-  pub shown : ByEnd report.end (KeptSilent palm palm_after desk desk_after status report)
-      (Talked run rules device slots palm palm_after desk desk_after status report)
-  pub changed : ChangedOnce desk desk_after report.end
-  pub unsaid : IsUnsaid status
-  pub handheld_failed : status ≡ HandheldFolder → Rose palm.faults palm_after.faults
-  pub desktop_failed : status ≡ DesktopFolder → Rose desk.faults desk_after.faults
-  pub handheld_paths : palm_after.paths ≡ palm.paths
-  pub desktop_paths : desk_after.paths ≡ desk.paths
+-- a folder that is blamed had its count rise
+pub record BlamesFolders (before after : SidesTold) (status : Status) : Type 0 where
+  pub handheld : status ≡ HandheldFolder → Rose before.palm.faults after.palm.faults
+  pub desktop : status ≡ DesktopFolder → Rose before.desk.faults after.desk.faults
+
+-- neither folder was opened at another path
+pub record SamePaths (before after : SidesTold) : Type 0 where
+  pub handheld : after.palm.paths ≡ before.palm.paths
+  pub desktop : after.desk.paths ≡ before.desk.paths
+
+-- what is known of a session, whatever is written of it
+pub record IsTalk (run : Run) (rules : List RuleValue) (device : Device) (slots : List SlotValue)
+    (before after : SidesTold) (status : Status) (report : Report) : Type 0 where
+  pub shown : ByEnd report.end (KeptSilent before after status report)
+      (TalkedFor run rules device slots before after status report)
+  pub changed : DesktopRan before.desk.contents before.desk after.desk report.end
+  pub blames : BlamesFolders before after status
+  pub paths : SamePaths before after

@@ -1,13 +1,12 @@
 -- A run that nothing disturbs: it is done whole, unless memory runs out or the line makes a packet of what it damages.
-use Rattle.std.specs.Prelude.{◌≡◌, ◌≢◌, ◌⊎◌, ◌≤◌, ℕ, false, List, length, Option, None, Some, IfSome, IsSome}
+use Rattle.std.specs.Prelude.{◌≡◌, ◌≢◌, ◌⊎◌, ◌≤◌, ℕ, false, List, length, Option, None, Some, IsSome}
 use Rattle.std.specs.FinMap as finmap
-use Rattle.std.specs.Option.{option_map}
 use Rattle.hs_folders.specs.Causes.{Rose}
 use Rattle.hs_folders.specs.FileMaps.{FileMap}
 use Rattle.pdb_values.specs.declared.slot.Slot.TheVariants.{Full, Refused}
 use Rattle.pdb_files.specs.declared.bad_kind.BadKind.{BadKind}
-use Rattle.palm_device.specs.Devices.{Device, most_databases}
-use Rattle.handheld_files.specs.Openings.{HoldsAll, IsFirstBad, database_count}
+use Rattle.palm_device.specs.Devices.{most_databases}
+use Rattle.handheld_files.specs.Openings.{IsFirstBad, database_count}
 use Rattle.trace_text.specs.Fates.{is_stop}
 use Rattle.trace_text.specs.Tallies.{IsFairUpTo}
 use Rattle.line_script.specs.Rules.{RuleValue}
@@ -15,17 +14,15 @@ use Rattle.line_script.specs.Scripts.{fate_by}
 use Rattle.line_steps.specs.declared.harm.Stop.TheVariants as stop
 use Rattle.line_world.specs.Causes.{EndsBy}
 use Rattle.desk_journal.specs.Overlays.{finished}
-use Rattle.desk_store.specs.Desks.{IsDesk, IsReadable}
-use Rattle.desk_store.specs.Shelves.{SlotValue}
+use Rattle.desk_store.specs.Desks.{IsReadable}
 use Rattle.run_words.specs.Runs.{Run}
 use Rattle.sync_session.specs.Limits.{first_over}
 use Rattle.sync_session.specs.Outcomes.{slot_in}
-use Rattle.sync_session.specs.Tasks.{Meeting, meeting_of}
-use Rattle.sync_session.specs.declared.wishes.Wishes.{Wishes}
+use Rattle.sync_session.specs.Tasks.{Meeting}
 use Rattle.hotsync_run.specs.LineRuns.{frames_in}
+use Rattle.hotsync_run.specs.Meetings.{Meets}
 use Rattle.hotsync_run.specs.Scripts.{IsScripted}
 use Rattle.hotsync_run.specs.Told.{CallTold, SinkTold}
-use Rattle.hotsync_run.specs.Wishes.{AsksFor}
 use Rattle.hotsync_run.specs.declared.report.Report.{Report}
 use Rattle.hotsync_run.specs.declared.report.SessionEnd.TheVariants.{Ended}
 use Rattle.hotsync_run.specs.declared.status.Status.{Status}
@@ -78,9 +75,7 @@ pub record IsUndisturbed (run : Run) (before after : CallTold) (out out_after : 
   pub desktop : IsGoodDesktop before.desk.contents
   pub none_failed : NoneFailed before after out out_after
   pub line : (rules : List RuleValue) → IsScripted run.script before.source.left rules → IsKindScript rules (length (frames_in report))
-  pub sides : (device : Device) (slots : List SlotValue) (wishes : Wishes)
-      → IfSome before.palm.contents (λ held. HoldsAll held device.databases device.user) → IsDesk (option_map finished before.desk.contents) slots
-      → AsksFor run wishes → MayMeet (meeting_of device slots wishes)
+  pub sides : (meeting : Meeting) → Meets run before meeting → MayMeet meeting
 
 -- ---- what follows
 

@@ -1,10 +1,8 @@
 // The top call.
-ghost use Rattle.std.specs.Prelude.{◌≡◌, map, string_bytes};
-ghost use Rattle.hotsync_run.specs.Calls.{HasSession, IsCall, IsSync, ReadsSource, WritesTrace};
+ghost use Rattle.std.specs.Prelude.{◌≡◌};
+ghost use Rattle.hotsync_run.specs.Calls.{HasSession, IsCall, IsSync, OfCall, ReadsSource, WritesTrace, task_in};
 ghost use Rattle.hotsync_run.specs.Refusals.{BlamesHandheld, BlamesScript};
 ghost use Rattle.hotsync_run.specs.Reports.{IsNotStarted};
-ghost use Rattle.hotsync_run.specs.Told.{folder_told, sink_told, source_told};
-ghost use Rattle.run_words.specs.Commands.{task_of};
 
 use crate::answer::Answer;
 use crate::look::look_at;
@@ -30,39 +28,25 @@ pub fn hotsync<H: Folder, D: Folder, S: Source, T: Sink, O: Sink>(
     trace: &mut T,
     out: &mut O,
 ) -> Answer<H, D>
-    ensures run { IsCall (task_of (map string_bytes words.now))
-        (record {
-          palm = folder_told H.contents H.moments H.paths H.faults device;
-          desk = folder_told D.contents D.moments D.paths D.faults desk;
-          source = source_told S.left S.paths S.faults source.old;
-          trace = sink_told T.taken T.paths T.faults trace.old;
-        })
-        (record {
-          palm = folder_told H.contents H.moments H.paths H.faults result.device;
-          desk = folder_told D.contents D.moments D.paths D.faults result.desk;
-          source = source_told S.left S.paths S.faults source.new;
-          trace = sink_told T.taken T.paths T.faults trace.new;
-        })
-        (sink_told O.taken O.paths O.faults out.old)
-        (sink_told O.taken O.paths O.faults out.new)
-        result.status result.report }
+    ensures run { OfCall (IsCall (task_in words.now))
+        H.Folder D.Folder S.Source T.Sink O.Sink
+        device desk source.old trace.old out.old
+        result source.new trace.new out.new }
 
     // Nothing goes over a line but in a session.
-    ensures report { ¬ HasSession (task_of (map string_bytes words.now))
-        → IsNotStarted result.report }
+    ensures report { ¬ HasSession (task_in words.now) → IsNotStarted result.report }
 
     // What is judged later is not touched: the folders where the script is blamed, the desktop's where the handheld's is.
-    ensures script_first { IsSync (task_of (map string_bytes words.now))
-        → BlamesScript result.status → (result.device ≡ device) × (result.desk ≡ desk) }
+    ensures script_first { IsSync (task_in words.now) → BlamesScript result.status
+        → (result.device ≡ device) × (result.desk ≡ desk) }
     ensures handheld_first { result.report.end ≡ SessionEnd.NotStarted
         → BlamesHandheld result.status → result.desk ≡ desk }
 
     // What the words don't name is not touched.
-    ensures device { ¬ IsSync (task_of (map string_bytes words.now)) → result.device ≡ device }
-    ensures desk { ¬ IsSync (task_of (map string_bytes words.now)) → result.desk ≡ desk }
-    ensures source { ¬ ReadsSource (task_of (map string_bytes words.now)) → source.new
-        ≡ source.old }
-    ensures trace { ¬ WritesTrace (task_of (map string_bytes words.now)) → trace.new ≡ trace.old }
+    ensures device { ¬ IsSync (task_in words.now) → result.device ≡ device }
+    ensures desk { ¬ IsSync (task_in words.now) → result.desk ≡ desk }
+    ensures source { ¬ ReadsSource (task_in words.now) → source.new ≡ source.old }
+    ensures trace { ¬ WritesTrace (task_in words.now) → trace.new ≡ trace.old }
 {
     match read_command(alloc, words) {
         Ok(Command::Run(run)) => run_folders(alloc, &run, device, desk, source, trace, out),

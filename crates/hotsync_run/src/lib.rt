@@ -10,13 +10,13 @@
 mod answer;
 mod bad_file;
 mod command;
-pub mod laws;
 mod left;
 mod look;
 mod make;
 mod packets;
 mod printing;
 mod program;
+pub mod promises;
 mod report;
 mod reporting;
 mod run;

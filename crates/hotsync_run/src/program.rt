@@ -1,15 +1,23 @@
 // What the program does with the words that it was called with.
-ghost use Rattle.std.specs.Prelude.{◌≡◌, drop, map, string_bytes};
-ghost use Rattle.hotsync_run.specs.Calls.{IsCall};
+ghost use Rattle.std.specs.Prelude.{◌≡◌, ◌↔◌, IfOk, IsErr, IsErrOf, None, drop};
+ghost use Rattle.std.specs.Process.{exit_status};
+ghost use Rattle.hotsync_run.specs.Calls.{HasSession, IsCall, IsSync, OfCall, ReadsSource, WritesTrace, task_in};
 ghost use Rattle.hotsync_run.specs.Codes.{code_of};
-ghost use Rattle.hotsync_run.specs.Told.{folder_told, sink_told, source_told};
-ghost use Rattle.run_words.specs.Commands.{task_of};
+ghost use Rattle.hotsync_run.specs.Refusals.{BlamesHandheld, BlamesScript};
+ghost use Rattle.hotsync_run.specs.Reports.{IsNotStarted};
+ghost use Rattle.hotsync_run.specs.Systems.{AreUntold, EndsProgram, IsSystemCall};
+ghost use Rattle.hotsync_run.specs.Told.{call_told, sink_told};
 
 use crate::answer::Answer;
 use crate::command::hotsync;
+use crate::printing::print_refusal;
+use crate::report::SessionEnd;
+use crate::status::Status;
 use hs_folders::{DirFolder, FileSink, FileSource, Folder, Sink, Source, StdoutSink};
+use run_clap::WordsFault;
 use std::alloc::Global;
 use std::fs::File;
+use std::io::ErrorKind;
 use std::process::ExitCode;
 use std::rt::{Env, Files};
 use std::{env, io};
@@ -34,53 +42,165 @@ pub fn run_program<H: Folder, D: Folder, S: Source, T: Sink, O: Sink>(
     out: &mut O,
 ) -> Ended<H, D>
     ensures code { result.code ≡ code_of result.answer.status }
-    ensures run { IsCall (task_of (map string_bytes (drop 1 args.now)))
-        (record {
-          palm = folder_told H.contents H.moments H.paths H.faults device;
-          desk = folder_told D.contents D.moments D.paths D.faults desk;
-          source = source_told S.left S.paths S.faults source.old;
-          trace = sink_told T.taken T.paths T.faults trace.old;
-        })
-        (record {
-          palm = folder_told H.contents H.moments H.paths H.faults result.answer.device;
-          desk = folder_told D.contents D.moments D.paths D.faults result.answer.desk;
-          source = source_told S.left S.paths S.faults source.new;
-          trace = sink_told T.taken T.paths T.faults trace.new;
-        })
-        (sink_told O.taken O.paths O.faults out.old)
-        (sink_told O.taken O.paths O.faults out.new)
-        result.answer.status result.answer.report }
+    ensures run { OfCall (IsCall (task_in (drop 1 args.now)))
+        H.Folder D.Folder S.Source T.Sink O.Sink
+        device desk source.old trace.old out.old
+        result.answer source.new trace.new out.new }
+
+    // Nothing goes over a line but in a session.
+    ensures report { ¬ HasSession (task_in (drop 1 args.now))
+        → IsNotStarted result.answer.report }
+
+    // What is judged later is not touched, and neither is what the words don't name.
+    ensures script_first { IsSync (task_in (drop 1 args.now)) → BlamesScript result.answer.status
+        → (result.answer.device ≡ device) × (result.answer.desk ≡ desk) }
+    ensures handheld_first { result.answer.report.end ≡ SessionEnd.NotStarted
+        → BlamesHandheld result.answer.status → result.answer.desk ≡ desk }
+    ensures device { ¬ IsSync (task_in (drop 1 args.now)) → result.answer.device ≡ device }
+    ensures desk { ¬ IsSync (task_in (drop 1 args.now)) → result.answer.desk ≡ desk }
+    ensures source { ¬ ReadsSource (task_in (drop 1 args.now)) → source.new ≡ source.old }
+    ensures trace { ¬ WritesTrace (task_in (drop 1 args.now)) → trace.new ≡ trace.old }
 {
-    let words = args.get(1..).unwrap_or(&[]);
-    let answer = hotsync(alloc, words, device, desk, source, trace, out);
+    let answer = hotsync(alloc, words_of(args), device, desk, source, trace, out);
     Ended {
         code: answer.status.code(),
         answer,
     }
 }
 
+// The words behind the program's name.
+fn words_of(args: &[String]) -> &[String]
+    ensures { result.now ≡ drop 1 args.now }
+{
+    args.get(1..).unwrap_or(&[])
+}
+
 /// Runs the program over the system's folders and files and its standard output.
-pub fn run_on_system<R: Env + Files<File = File> + Print + AllocGlobal>(rt: &R) -> ExitCode {
+pub fn run_on_system<R: Env + Files<File = File> + Print + AllocGlobal>(rt: &R) -> ExitCode
+    ensures { EndsProgram (exit_status result) }
+{
+    let ended = run_handed(rt, arguments(rt));
+    ExitCode::from(ended.code)
+}
+
+// The call for the words that the system handed over. Where it did not, they ask for nothing that this program does.
+fn run_handed<R: Files<File = File> + Print + AllocGlobal>(
+    rt: &R,
+    args: Result<Vec<String>, WordsFault>,
+) -> Ended<DirFolder<'_, R>, DirFolder<'_, R>>
+    ensures code { result.code ≡ code_of result.answer.status }
+    ensures words { IfOk args (λ args. IsSystemCall (task_in (drop 1 args.items))
+        result.answer.status result.answer.report) }
+    ensures none { IsErr args → IsSystemCall None result.answer.status result.answer.report }
+    ensures no_memory { IsErrOf args WordsFault.NoMemory
+        → result.answer.status ≡ Status.NoMemory }
+{
+    match args {
+        Ok(args) => run_over_files(rt, &args),
+        Err(WordsFault::Usage) => run_over_files(rt, &[]),
+        Err(WordsFault::NoMemory) => unread_call(rt),
+    }
+}
+
+// The program over the system's folders and files and its standard output.
+fn run_over_files<'r, R: Files<File = File> + Print + AllocGlobal>(
+    rt: &'r R,
+    args: &[String],
+) -> Ended<DirFolder<'r, R>, DirFolder<'r, R>>
+    ensures code { result.code ≡ code_of result.answer.status }
+    ensures call { IsSystemCall (task_in (drop 1 args.now))
+        result.answer.status result.answer.report }
+{
     let alloc = rt.alloc();
-    // Arguments that are no text, or that the system does not hand over, ask for nothing that this program does.
-    let args = arguments(rt).unwrap_or(Vec::new(alloc));
-    let ended = run_program(
+    run_untold(
         alloc,
-        &args,
+        args,
         DirFolder::new(rt, alloc),
         DirFolder::new(rt, alloc),
         &mut FileSource::new(rt),
         &mut FileSink::new(rt, alloc),
         &mut StdoutSink::new(rt),
-    );
-    ExitCode::from(ended.code)
+    )
 }
 
-// The words that the program was called with, its name first.
-fn arguments<R: Env + AllocGlobal>(rt: &R) -> io::Result<Vec<String>> {
+// The program over objects that tell nothing.
+fn run_untold<H: Folder, D: Folder, S: Source, T: Sink, O: Sink>(
+    alloc: Global,
+    args: &[String],
+    device: H,
+    desk: D,
+    source: &mut S,
+    trace: &mut T,
+    out: &mut O,
+) -> Ended<H, D>
+    requires { AreUntold
+        (call_told H.Folder D.Folder S.Source T.Sink device desk source.old trace.old)
+        (sink_told O.taken O.paths O.faults out.old) }
+    ensures code { result.code ≡ code_of result.answer.status }
+    ensures call { IsSystemCall (task_in (drop 1 args.now))
+        result.answer.status result.answer.report }
+{
+    run_program(alloc, args, device, desk, source, trace, out)
+}
+
+// A call whose words were not fetched for want of memory.
+fn unread_call<R: Files<File = File> + Print + AllocGlobal>(rt: &R) -> Ended<DirFolder<'_, R>, DirFolder<'_, R>>
+    ensures code { result.code ≡ code_of result.answer.status }
+    ensures no_memory { result.answer.status ≡ Status.NoMemory }
+    ensures call { IsSystemCall None result.answer.status result.answer.report }
+{
+    let alloc = rt.alloc();
+    say_no_memory(
+        alloc,
+        DirFolder::new(rt, alloc),
+        DirFolder::new(rt, alloc),
+        &mut StdoutSink::new(rt),
+    )
+}
+
+// Prints that there is no memory, and hands both folders back.
+fn say_no_memory<H: Folder, D: Folder, O: Sink>(
+    alloc: Global,
+    device: H,
+    desk: D,
+    out: &mut O,
+) -> Ended<H, D>
+    requires { O.taken out.old ≡ None }
+    ensures code { result.code ≡ code_of result.answer.status }
+    ensures no_memory { result.answer.status ≡ Status.NoMemory }
+    ensures call { IsSystemCall None result.answer.status result.answer.report }
+{
+    let status = print_refusal(alloc, Status::NoMemory, out);
+    Ended {
+        code: status.code(),
+        answer: Answer::not_started(alloc, status, device, desk),
+    }
+}
+
+// The words that the program was called with, its name first. Those that are no text, or that the system does not hand
+// over, are out of the form.
+fn arguments<R: Env + AllocGlobal>(rt: &R) -> Result<Vec<String>, WordsFault> {
+    match fetched(rt) {
+        Ok(args) => Ok(args),
+        Err(error) => Err(fault_of(error.kind())),
+    }
+}
+
+// The words as the system hands them over.
+fn fetched<R: Env + AllocGlobal>(rt: &R) -> io::Result<Vec<String>> {
     let mut args = Vec::new(rt.alloc());
     for arg in env::args(rt)? {
         args.push(arg)?;
     }
     Ok(args)
+}
+
+// Why there are no words.
+fn fault_of(kind: ErrorKind) -> WordsFault
+    ensures { (result ≡ WordsFault.NoMemory) ↔ (kind ≡ ErrorKind.OutOfMemory) }
+{
+    match kind {
+        ErrorKind::OutOfMemory => WordsFault::NoMemory,
+        _ => WordsFault::Usage,
+    }
 }

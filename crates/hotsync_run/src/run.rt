@@ -4,11 +4,12 @@ ghost use Rattle.desk_store.specs.Bounds.{AreBounded};
 ghost use Rattle.desk_store.specs.Shelves.{AreInOrder};
 ghost use Rattle.handheld_files.specs.Openings.{AreKept, Stands, opened_device};
 ghost use Rattle.palm_device.specs.Bounds.{IsBounded};
-ghost use Rattle.palm_device.specs.Handles.{no_handles};
+ghost use Rattle.hotsync_run.specs.Calls.{OfCall};
 ghost use Rattle.hotsync_run.specs.Refusals.{BlamesHandheld, BlamesScript};
 ghost use Rattle.hotsync_run.specs.Runs.{HasRun, IsRun};
-ghost use Rattle.hotsync_run.specs.Traces.{IsTracedTalk};
-ghost use Rattle.hotsync_run.specs.Told.{folder_told, sink_told, source_told};
+ghost use Rattle.hotsync_run.specs.Talks.{IsTalk};
+ghost use Rattle.hotsync_run.specs.Traces.{TracesReport};
+ghost use Rattle.hotsync_run.specs.Told.{call_told, sides_told, sink_told};
 ghost use Rattle.run_words.specs.Views.{run_view};
 
 use crate::answer::Answer;
@@ -36,24 +37,12 @@ pub fn run_folders<H: Folder, D: Folder, S: Source, T: Sink, O: Sink>(
     trace: &mut T,
     out: &mut O,
 ) -> Answer<H, D>
-    ensures run { IsRun (run_view words.now)
-        (record {
-          palm = folder_told H.contents H.moments H.paths H.faults device;
-          desk = folder_told D.contents D.moments D.paths D.faults desk;
-          source = source_told S.left S.paths S.faults source.old;
-          trace = sink_told T.taken T.paths T.faults trace.old;
-        })
-        (record {
-          palm = folder_told H.contents H.moments H.paths H.faults result.device;
-          desk = folder_told D.contents D.moments D.paths D.faults result.desk;
-          source = source_told S.left S.paths S.faults source.new;
-          trace = sink_told T.taken T.paths T.faults trace.new;
-        })
-        (sink_told O.taken O.paths O.faults out.old)
-        (sink_told O.taken O.paths O.faults out.new)
-        result.status result.report }
-    ensures script_first { BlamesScript result.status → (result.device ≡ device)
-        × (result.desk ≡ desk) }
+    ensures run { OfCall (IsRun (run_view words.now))
+        H.Folder D.Folder S.Source T.Sink O.Sink
+        device desk source.old trace.old out.old
+        result source.new trace.new out.new }
+    ensures script_first { BlamesScript result.status
+        → (result.device ≡ device) × (result.desk ≡ desk) }
     ensures handheld_first { result.report.end ≡ SessionEnd.NotStarted
         → BlamesHandheld result.status → result.desk ≡ desk }
     ensures source { words.now.script ≡ None → source.new ≡ source.old }
@@ -84,23 +73,12 @@ fn judged_run<H: Folder, D: Folder, S: Source, T: Sink>(
     source: &mut S,
     trace: &mut T,
 ) -> Answer<H, D>
-    ensures ran { HasRun (run_view words.now)
-        (record {
-          palm = folder_told H.contents H.moments H.paths H.faults device;
-          desk = folder_told D.contents D.moments D.paths D.faults desk;
-          source = source_told S.left S.paths S.faults source.old;
-          trace = sink_told T.taken T.paths T.faults trace.old;
-        })
-        (record {
-          palm = folder_told H.contents H.moments H.paths H.faults result.device;
-          desk = folder_told D.contents D.moments D.paths D.faults result.desk;
-          source = source_told S.left S.paths S.faults source.new;
-          trace = sink_told T.taken T.paths T.faults trace.new;
-        })
-        result.status result.report }
+    ensures ran { let told = call_told H.Folder D.Folder S.Source T.Sink in
+        HasRun (run_view words.now) (told device desk source.old trace.old)
+        (told result.device result.desk source.new trace.new) result.status result.report }
     ensures unprinted { result.status ≢ Status.OutWrite }
-    ensures script_first { BlamesScript result.status → (result.device ≡ device)
-        × (result.desk ≡ desk) }
+    ensures script_first { BlamesScript result.status
+        → (result.device ≡ device) × (result.desk ≡ desk) }
     ensures handheld_first { result.report.end ≡ SessionEnd.NotStarted
         → BlamesHandheld result.status → result.desk ≡ desk }
     ensures source { words.now.script ≡ None → source.new ≡ source.old }
@@ -143,15 +121,13 @@ fn traced_talk<H: Folder, D: Folder, T: Sink>(
     requires proper { IsBounded (opened_device store.databases store.user) }
     requires ordered { AreInOrder desk.slots }
     requires bounded { AreBounded desk.slots }
-    ensures talk { IsTracedTalk (run_view words.now) script
-        (record { databases = store.databases; user = store.user; handles = no_handles }) desk.slots
-        (folder_told H.contents H.moments H.paths H.faults store.folder)
-        (folder_told H.contents H.moments H.paths H.faults result.device)
-        (folder_told D.contents D.moments D.paths D.faults desk.folder)
-        (folder_told D.contents D.moments D.paths D.faults result.desk)
+    ensures talk { let told = sides_told H.Folder D.Folder in IsTalk (run_view words.now) script
+        (opened_device store.databases store.user) desk.slots (told store.folder desk.folder)
+        (told result.device result.desk) result.status result.report }
+    ensures unprinted { result.status ≢ Status.OutWrite }
+    ensures traced { TracesReport (run_view words.now).trace result.report
         (sink_told T.taken T.paths T.faults trace.old)
-        (sink_told T.taken T.paths T.faults trace.new)
-        result.status result.report }
+        (sink_told T.taken T.paths T.faults trace.new) result.status }
     ensures trace { words.now.trace ≡ None → trace.new ≡ trace.old }
 {
     let answer = talk(alloc, words, store, desk, script);

@@ -7,8 +7,9 @@ ghost use Rattle.line_world.specs.Logs.{no_log};
 ghost use Rattle.palm_device.specs.Bounds.{IsBounded};
 ghost use Rattle.palm_device.specs.Handles.{no_handles};
 ghost use Rattle.run_words.specs.Views.{run_view};
+ghost use Rattle.hotsync_run.specs.Causes.{IsUnsaid};
 ghost use Rattle.hotsync_run.specs.Talks.{IsTalk};
-ghost use Rattle.hotsync_run.specs.Told.{folder_told};
+ghost use Rattle.hotsync_run.specs.Told.{sides_told};
 ghost use Rattle.hotsync_run.specs.Wishes.{AsksFor};
 
 use crate::answer::Answer;
@@ -40,13 +41,10 @@ pub fn talk<H: Folder, D: Folder>(
     requires proper { IsBounded (opened_device store.databases store.user) }
     requires ordered { AreInOrder desk.slots }
     requires bounded { AreBounded desk.slots }
-    ensures { IsTalk (run_view words.now) script
-        (record { databases = store.databases; user = store.user; handles = no_handles }) desk.slots
-        (folder_told H.contents H.moments H.paths H.faults store.folder)
-        (folder_told H.contents H.moments H.paths H.faults result.device)
-        (folder_told D.contents D.moments D.paths D.faults desk.folder)
-        (folder_told D.contents D.moments D.paths D.faults result.desk)
-        result.status result.report }
+    ensures talk { let told = sides_told H.Folder D.Folder in IsTalk (run_view words.now) script
+        (opened_device store.databases store.user) desk.slots (told store.folder desk.folder)
+        (told result.device result.desk) result.status result.report }
+    ensures unsaid { IsUnsaid result.status }
 {
     let Ok(wishes) = wishes_of(alloc, words) else {
         return Answer::not_started(
@@ -87,12 +85,10 @@ fn speak<H: Folder, D: Folder>(
     requires silent { world.log ≡ no_log }
     requires begun { world.begun ≡ false }
     requires cause { world.cause ≡ None }
-    ensures { IsTalk (run_view words.now) world.script world.server.device desk.slots
-        (folder_told H.contents H.moments H.paths H.faults world.server.folder)
-        (folder_told H.contents H.moments H.paths H.faults result.device)
-        (folder_told D.contents D.moments D.paths D.faults desk.folder)
-        (folder_told D.contents D.moments D.paths D.faults result.desk)
-        result.status result.report }
+    ensures talk { let told = sides_told H.Folder D.Folder in IsTalk (run_view words.now)
+        world.script world.server.device desk.slots (told world.server.folder desk.folder)
+        (told result.device result.desk) result.status result.report }
+    ensures unsaid { IsUnsaid result.status }
 {
     let outcome = run_session(alloc, world, desk, wishes);
     let Outcome { link, folder, end } = outcome;

@@ -1,6 +1,4 @@
 use Rattle.std.proofs.Common.{refl}
-use Rattle.palm_device.specs.Devices.{Device}
-use Rattle.palm_device.specs.Handles.{no_handles}
 use Rattle.made_folders.specs.Items.{made}
 use Rattle.made_merge.proofs.MergeLaws.{made_merge}
 use Rattle.hotsync_run.proofs.MakeLaws.{made_ends, made_given, made_items, made_talk, told_alone}
@@ -11,18 +9,15 @@ returns-in-Ok-clause-made c =
     let items = made c.args.seed c.args.count in
     let sides = c.in-Ok.sides in
     let told = c.in-Ok.ensures in
-    let device : Device = record { databases = sides.store.databases; user = sides.store.user; handles = no_handles } in
-    let answer = c.talk-answer.result in
-    made_talk _ _ (made_items c.args.seed c.args.count c.requires) (made_merge c.args.seed c.args.count c.requires) told.held refl told.slots
-    (made_given items c.made_words-words.ensures told.script (told_alone told.palm) (told_alone told.desk) c.talk-answer.ensures)
+    made_talk _ (made_items c.args.seed c.args.count c.requires) (made_merge c.args.seed c.args.count c.requires) told.held refl told.slots
+    (made_given items c.made_words-words.ensures told.script (told_alone told.palm) (told_alone told.desk) c.talk-answer.ensures.talk)
 
 pub returns-in-Ok-clause-ends : goal.returns-in-Ok-clause-ends
 returns-in-Ok-clause-ends c =
     let items = made c.args.seed c.args.count in
     let sides = c.in-Ok.sides in
     let told = c.in-Ok.ensures in
-    let device : Device = record { databases = sides.store.databases; user = sides.store.user; handles = no_handles } in
-    let answer = c.talk-answer.result in
-    made_ends _ _ answer.report (made_items c.args.seed c.args.count c.requires) (made_merge c.args.seed c.args.count c.requires)
+    made_ends _ c.talk-answer.result.report (made_items c.args.seed c.args.count c.requires) (made_merge c.args.seed c.args.count c.requires)
     refl refl told.held refl told.slots
-    (made_given items c.made_words-words.ensures told.script (told_alone told.palm) (told_alone told.desk) c.talk-answer.ensures)
+    (made_given items c.made_words-words.ensures told.script (told_alone told.palm) (told_alone told.desk) c.talk-answer.ensures.talk)
+    c.talk-answer.ensures.unsaid

@@ -1,7 +1,5 @@
 use Rattle.std.proofs.Common.{ap, refl, Err}
 use Rattle.run_words.specs.Views.{run_view}
-use Rattle.palm_device.specs.Devices.{Device}
-use Rattle.palm_device.specs.Handles.{no_handles}
 use Rattle.hotsync_run.specs.Told.{CallTold, folder_told, sink_told, source_told}
 use Rattle.hotsync_run.proofs.RunLaws.{by_desktop, by_handheld, by_script, by_session, by_trace}
 use Rattle.hotsync_run.proofs.TraceLaws.{talk_not_handheld, talk_not_script}
@@ -46,10 +44,6 @@ returns-in-Ok-open_trace-clause-ran g c =
       source = source_told g.S.Source.left g.S.Source.paths g.S.Source.faults c.script_of.new.source;
       trace = sink_told g.T.Sink.taken g.T.Sink.paths g.T.Sink.faults c.traced_talk.new.trace;
     } in
-    let palm = folder_told g.H.Folder.contents g.H.Folder.moments g.H.Folder.paths g.H.Folder.faults c.in-Ok-open_handheld.store.folder in
-    let desk = folder_told g.D.Folder.contents g.D.Folder.moments g.D.Folder.paths g.D.Folder.faults c.in-Ok-open_desktop.desk.folder in
-    let trace = sink_told g.T.Sink.taken g.T.Sink.paths g.T.Sink.faults c.open_trace.new.trace in
-    let device : Device = record { databases = c.in-Ok-open_handheld.store.databases; user = c.in-Ok-open_handheld.store.user; handles = no_handles } in
     by_session before after (record {
       scripted = c.in-Ok.ensures.script;
       script_opened = c.in-Ok.ensures.opened;
@@ -68,7 +62,7 @@ returns-in-Ok-open_trace-clause-ran g c =
       trace_at_most = c.in-Ok-open_trace.ensures.path;
       trace_taken = c.in-Ok-open_trace.ensures.taken;
       trace_later = c.in-Ok-open_trace.ensures.later;
-    }) c.traced_talk.ensures.talk
+    }) c.traced_talk.ensures.talk c.traced_talk.ensures.traced
 
 pub returns-in-Err-open_trace-clause-ran : goal.returns-in-Err-open_trace-clause-ran
 returns-in-Err-open_trace-clause-ran g c =
@@ -136,23 +130,7 @@ returns-in-Err-open_handheld-clause-ran g c =
     c.in-Err-open_handheld.ensures.path refl refl)
 
 pub returns-in-Ok-open_trace-clause-script_first : goal.returns-in-Ok-open_trace-clause-script_first
-returns-in-Ok-open_trace-clause-script_first g c =
-    let device : Device = record { databases = c.in-Ok-open_handheld.store.databases; user = c.in-Ok-open_handheld.store.user; handles = no_handles } in
-    let palm = folder_told g.H.Folder.contents g.H.Folder.moments g.H.Folder.paths g.H.Folder.faults c.in-Ok-open_handheld.store.folder in
-    let palm_after = folder_told g.H.Folder.contents g.H.Folder.moments g.H.Folder.paths g.H.Folder.faults c.traced_talk.result.device in
-    let desk = folder_told g.D.Folder.contents g.D.Folder.moments g.D.Folder.paths g.D.Folder.faults c.in-Ok-open_desktop.desk.folder in
-    let desk_after = folder_told g.D.Folder.contents g.D.Folder.moments g.D.Folder.paths g.D.Folder.faults c.traced_talk.result.desk in
-    let trace = sink_told g.T.Sink.taken g.T.Sink.paths g.T.Sink.faults c.open_trace.new.trace in
-    let trace_after = sink_told g.T.Sink.taken g.T.Sink.paths g.T.Sink.faults c.traced_talk.new.trace in
-    λ blames. absurd (talk_not_script c.traced_talk.ensures.talk blames)
+returns-in-Ok-open_trace-clause-script_first g c = λ blames. absurd (talk_not_script c.traced_talk.ensures.talk blames)
 
 pub returns-in-Ok-open_trace-clause-handheld_first : goal.returns-in-Ok-open_trace-clause-handheld_first
-returns-in-Ok-open_trace-clause-handheld_first g c =
-    let device : Device = record { databases = c.in-Ok-open_handheld.store.databases; user = c.in-Ok-open_handheld.store.user; handles = no_handles } in
-    let palm = folder_told g.H.Folder.contents g.H.Folder.moments g.H.Folder.paths g.H.Folder.faults c.in-Ok-open_handheld.store.folder in
-    let palm_after = folder_told g.H.Folder.contents g.H.Folder.moments g.H.Folder.paths g.H.Folder.faults c.traced_talk.result.device in
-    let desk = folder_told g.D.Folder.contents g.D.Folder.moments g.D.Folder.paths g.D.Folder.faults c.in-Ok-open_desktop.desk.folder in
-    let desk_after = folder_told g.D.Folder.contents g.D.Folder.moments g.D.Folder.paths g.D.Folder.faults c.traced_talk.result.desk in
-    let trace = sink_told g.T.Sink.taken g.T.Sink.paths g.T.Sink.faults c.open_trace.new.trace in
-    let trace_after = sink_told g.T.Sink.taken g.T.Sink.paths g.T.Sink.faults c.traced_talk.new.trace in
-    λ is blames. absurd (talk_not_handheld c.traced_talk.ensures.talk is blames)
+returns-in-Ok-open_trace-clause-handheld_first g c = λ is blames. absurd (talk_not_handheld c.traced_talk.ensures.talk is blames)

@@ -1,5 +1,5 @@
 use Rattle.hotsync_run.proofs.AgainLaws.{end-as_one}
-use Rattle.hotsync_run.proofs.laws.stopped_runs_end_as_one.Goals as goal
+use Rattle.hotsync_run.proofs.promises.stopped_runs_end_as_one.Goals as goal
 
 pub returns : goal.returns
 returns c = end-as_one

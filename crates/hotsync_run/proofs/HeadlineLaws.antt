@@ -1,0 +1,90 @@
+-- What a run promises, from all that is known of it.
+use Rattle.std.proofs.Common.{◌≡◌, List}
+use Rattle.line_script.specs.Rules.{RuleValue}
+use Rattle.sync_session.specs.Tasks.{Meeting}
+use Rattle.hotsync_run.specs.Causes.{ByEnd, HasBegun}
+use Rattle.hotsync_run.specs.Headline.{ActsOnce, FairStaysUp, Headline, IsAnsweredRun, IsWhatItSays, LeavesTheMerge, RunCall, TellsCause}
+use Rattle.hotsync_run.specs.Meetings.{Meets}
+use Rattle.hotsync_run.specs.Runs.{SentNothing, SessionRan}
+use Rattle.hotsync_run.specs.Scripts.{IsScripted}
+use Rattle.hotsync_run.specs.declared.report.SessionEnd.{SessionEnd}
+use Rattle.hotsync_run.specs.declared.report.SessionEnd.TheVariants.{NotStarted, Ended, Stopped}
+
+begun_by : (end : SessionEnd) (Not Began : Type 0) → ByEnd end Not Began → HasBegun end → Began
+begun_by NotStarted Not Began is begun = absurd begun
+begun_by Ended Not Began is begun = is
+begun_by Stopped Not Began is begun = is
+
+silent_by : (end : SessionEnd) (Not Began : Type 0) → ByEnd end Not Began → end ≡ NotStarted → Not
+silent_by NotStarted Not Began is silent = is
+silent_by Ended Not Began is silent = cc
+silent_by Stopped Not Began is silent = cc
+
+module _ (call : RunCall) (is : IsAnsweredRun call) where
+  abbrev Silent : Type 0
+  Silent = SentNothing call.run call.before call.after call.status call.report
+
+  abbrev Session : Type 0
+  Session = SessionRan call.run call.before call.after call.status call.report
+
+  pub silent_run : call.report.end ≡ NotStarted → Silent
+  silent_run silent = silent_by call.report.end Silent Session is.ran.shown silent
+
+  session_ran : HasBegun call.report.end → Session
+  session_ran begun = begun_by call.report.end Silent Session is.ran.shown begun
+
+  pub headline : HasBegun call.report.end → (rules : List RuleValue) × (meeting : Meeting) × Headline rules meeting call
+  headline begun =
+      let ran = session_ran begun in
+      let talked = ran.talked in (
+        ran.rules,
+        ran.meeting,
+        record {
+          scripted = ran.scripted;
+          meets = ran.meets;
+          once = record {
+            answered = talked.line.answered;
+            once = talked.line.log;
+            reached = talked.line.last;
+            steps = talked.line.ran;
+            keeps = talked.line.stands;
+          };
+          line = record { trace = talked.line.proper; told = talked.line.told; written = ran.traced };
+          cause = record {
+            ends = talked.ends;
+            cause = talked.caused;
+            blames = is.ran.blames;
+            shows = talked.shows;
+            refused = talked.refused;
+          };
+          fair = talked.fair;
+          leaves = record {
+            begins = talked.left.issued;
+            ended = talked.left.ended;
+            stopped = talked.left.stopped;
+            given = talked.left.given;
+            desktop = talked.left.moments;
+            reached = talked.line.last;
+            handheld = talked.front;
+            keeps = talked.line.stands;
+            limit = talked.left.over;
+          };
+        },
+      )
+
+  pub acts-once : HasBegun call.report.end → (meeting : Meeting) × Meets call.run call.before meeting × ActsOnce meeting call
+  acts-once begun = let all = headline begun in (all.1, all.2.meets, all.2.once)
+
+  pub line-is : HasBegun call.report.end
+      → (rules : List RuleValue) × IsScripted call.run.script call.before.source.left rules × IsWhatItSays rules call
+  line-is begun = let all = headline begun in (all.0, all.2.scripted, all.2.line)
+
+  pub cause-told : HasBegun call.report.end → (meeting : Meeting) × Meets call.run call.before meeting × TellsCause meeting call
+  cause-told begun = let all = headline begun in (all.1, all.2.meets, all.2.cause)
+
+  pub stays-up : HasBegun call.report.end
+      → (rules : List RuleValue) × IsScripted call.run.script call.before.source.left rules × FairStaysUp rules call
+  stays-up begun = let all = headline begun in (all.0, all.2.scripted, all.2.fair)
+
+  pub leaves-merge : HasBegun call.report.end → (meeting : Meeting) × Meets call.run call.before meeting × LeavesTheMerge meeting call
+  leaves-merge begun = let all = headline begun in (all.1, all.2.meets, all.2.leaves)

@@ -1,0 +1,21 @@
+-- The program over the system, by what it was handed.
+use Rattle.std.proofs.Common.{◌≡◌, ℕ, [], refl}
+use Rattle.std.specs.Prelude.{Err, IfOk, IsErr, None, Ok, Result, String, drop, map, string_bytes}
+use Rattle.std.specs.Global.{Vec}
+use Rattle.std.specs.declared.alloc.Global.{Global}
+use Rattle.run_words.specs.Commands.{task_of}
+use Rattle.hotsync_run.specs.Calls.{task_in}
+use Rattle.hotsync_run.specs.Codes.{code_of}
+use Rattle.hotsync_run.specs.Systems.{EndsProgram, IsSystemCall}
+use Rattle.hotsync_run.specs.declared.report.Report.{Report}
+use Rattle.hotsync_run.specs.declared.status.Status.{Status}
+
+-- a call for the words that were handed over, or for none
+pub ends-program : {E : Type 0} (args : Result (Vec (String Global)) E) {status : Status} {report : Report} {code : ℕ}
+    → IfOk args (λ given. IsSystemCall (task_in (drop 1 given.items)) status report) → (IsErr args → IsSystemCall None status report)
+    → code ≡ code_of status → EndsProgram code
+unfolding task_of
+ends-program (Ok given) {status} {report} words none is =
+    record { words = map string_bytes (drop 1 given.items); status = status; report = report; called = words; code_is = is }
+ends-program (Err fault) {status} {report} words none is =
+    record { words = []; status = status; report = report; called = none refl; code_is = is }

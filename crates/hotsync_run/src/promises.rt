@@ -1,0 +1,111 @@
+//! The sentences of the README's "What you can rely on", as laws over what the contract of [`hotsync`](crate::hotsync) says of a
+//! call, and what else holds of calls. Each function here does nothing: its contract is the law.
+ghost use Rattle.std.specs.Prelude.{◌≡◌, ℕ, List, None, Some};
+ghost use Rattle.std.specs.List.{AllByRecursion};
+ghost use Rattle.line_script.specs.Rules.{RuleValue};
+ghost use Rattle.run_words.specs.Commands.{LookAt, Make};
+ghost use Rattle.run_words.specs.declared.command.Look.{Look};
+ghost use Rattle.run_words.specs.Runs.{Run};
+ghost use Rattle.sync_session.specs.Tasks.{Meeting};
+ghost use Rattle.session_fronts.specs.Answered.{IsAnsweredExchange};
+ghost use Rattle.hotsync_run.specs.Again.{AllRan, AreOfOneKind, AreTold, EndsAsOne};
+ghost use Rattle.hotsync_run.specs.Calls.{Call, IsAnsweredCall, IsNothing};
+ghost use Rattle.hotsync_run.specs.Causes.{HasBegun};
+ghost use Rattle.hotsync_run.specs.Clean.{GoesThrough};
+ghost use Rattle.hotsync_run.specs.Headline.{ActsOnce, FairStaysUp, Headline, IsAnsweredRun, IsWhatItSays, LeavesTheMerge, RunCall, TellsCause};
+ghost use Rattle.hotsync_run.specs.LineRuns.{exchanges_in};
+ghost use Rattle.hotsync_run.specs.Looks.{IsLook};
+ghost use Rattle.hotsync_run.specs.Meetings.{Meets};
+ghost use Rattle.hotsync_run.specs.Runs.{SentNothing};
+ghost use Rattle.hotsync_run.specs.Scripts.{IsScripted};
+ghost use Rattle.hotsync_run.specs.Told.{CallTold};
+ghost use Rattle.hotsync_run.specs.Undisturbed.{EndsWell, IsUndisturbed};
+ghost use Rattle.hotsync_run.specs.declared.report.SessionEnd.TheVariants.{NotStarted};
+
+/// What is promised of each run whose session began, on one page.
+pub fn a_run_keeps_what_it_promises()
+    ensures { (call : RunCall) → IsAnsweredRun call → HasBegun call.report.end
+        → (rules : List RuleValue) × (meeting : Meeting) × Headline rules meeting call }
+{}
+
+/// What is sent acts at most once.
+pub fn what_is_sent_acts_at_most_once()
+    ensures { (call : RunCall) → IsAnsweredRun call → HasBegun call.report.end
+        → (meeting : Meeting) × Meets call.run call.before meeting × ActsOnce meeting call }
+{}
+
+/// A line is what it says.
+pub fn a_line_is_what_it_says()
+    ensures { (call : RunCall) → IsAnsweredRun call → HasBegun call.report.end
+        → (rules : List RuleValue) × IsScripted call.run.script call.before.source.left rules
+        × IsWhatItSays rules call }
+{}
+
+/// A stop has the cause that is told.
+pub fn a_stop_has_the_cause_that_is_told()
+    ensures { (call : RunCall) → IsAnsweredRun call → HasBegun call.report.end
+        → (meeting : Meeting) × Meets call.run call.before meeting × TellsCause meeting call }
+{}
+
+/// Where a line is fair, it does not go down.
+pub fn where_a_line_is_fair_it_does_not_go_down()
+    ensures { (call : RunCall) → IsAnsweredRun call → HasBegun call.report.end
+        → (rules : List RuleValue) × IsScripted call.run.script call.before.source.left rules
+        × FairStaysUp rules call }
+{}
+
+/// A run that nothing disturbs is done.
+pub fn a_run_that_nothing_disturbs_is_done()
+    ensures { (call : RunCall) → IsAnsweredRun call
+        → IsUndisturbed call.run call.before call.after call.out call.out_after call.report
+        → EndsWell call.status call.report }
+{}
+
+/// What is refused changes nothing: a run before its session, and words that are out of the form.
+pub fn what_is_refused_changes_nothing()
+    ensures run { (call : RunCall) → IsAnsweredRun call → call.report.end ≡ NotStarted
+        → SentNothing call.run call.before call.after call.status call.report }
+    ensures words { (call : Call) → IsAnsweredCall call → call.task ≡ None
+        → IsNothing call.out call.out_after call.status }
+{}
+
+/// An ended session leaves both sides at the merge; one that stopped leaves the desktop as it was, or merged.
+pub fn an_ended_session_leaves_both_sides_at_the_merge()
+    ensures { (call : RunCall) → IsAnsweredRun call → HasBegun call.report.end
+        → (meeting : Meeting) × Meets call.run call.before meeting × LeavesTheMerge meeting call }
+{}
+
+/// Stopped and run again: any number of runs of one pair of folders, one behind another, of which each stopped but the last, leave
+/// on both sides what one whole session would have left, up to the ids of new records.
+pub fn stopped_runs_end_as_one()
+    ensures { (call : RunCall) (later : List RunCall) → AllRan call later → EndsAsOne call later }
+{}
+
+/// Every file that is looked at is read, or refused by the first rule of its format that it breaks.
+pub fn every_file_is_read_or_refused()
+    ensures { (call : Call) (look : Look) (file : List ℕ) → IsAnsweredCall call
+        → call.task ≡ Some (LookAt look file)
+        → IsLook look file call.before.source call.after.source call.out call.out_after call.status }
+{}
+
+/// Folders that are told stand for one handheld and one desktop: whatever meets them meets the same.
+pub fn folders_make_one_meeting()
+    ensures { (run : Run) (before : CallTold) (meeting other : Meeting) → AreTold before
+        → Meets run before meeting → Meets run before other → AreOfOneKind meeting other }
+{}
+
+/// A run without a script: neither end says anything twice, and the line stops nothing.
+pub fn a_line_without_harm_repeats_nothing()
+    ensures { (call : RunCall) → call.run.script ≡ None → IsAnsweredRun call
+        → GoesThrough call.status call.report }
+{}
+
+/// The handheld of a run refuses no request: each reply in the report is no error, but error 5 where the
+/// request's call has an answer of its own for it. So it is of a session between made folders.
+pub fn a_run_is_never_refused()
+    ensures run { (call : RunCall) → IsAnsweredRun call
+        → AllByRecursion IsAnsweredExchange (exchanges_in call.report) }
+    ensures made { (call : Call) (seed count : ℕ) → IsAnsweredCall call
+        → call.task ≡ Some (Make seed count)
+        → AllByRecursion IsAnsweredExchange (exchanges_in call.report) }
+{}
