@@ -8,13 +8,15 @@ use Rattle.std.proofs.lemmas.Grind.{common_steps}
 use Rattle.std.proofs.lemmas.Bool.Decides.{nat_tests}
 use Rattle.hs_folders.specs.FileMaps.{FileMap}
 use Rattle.hs_folders.specs.Moments.{EachMomentSince, Moments}
+use Rattle.hs_folders.proofs.MomentLaws.{moments_weaken}
 use Rattle.folder_files.specs.FileNames.{journal_file}
 use Rattle.desk_journal.specs.Entries.{EntryValue, IsJournal, journal_text}
 use Rattle.desk_journal.specs.Overlays.{FinishesAs, HasNoJournal, StandsAs, bad_of, finished, overlay, put_all}
 use Rattle.desk_journal.specs.Steps.{GoesThrough, commit_steps, journal_steps, replacements, with_journal, without_journal}
-use Rattle.desk_journal.proofs.OverlayLaws.{ArePending, IsPending, bad_is, commit_stands, none_after, overlaid_after, overlay_has_none, overlay_stays}
-use Rattle.desk_journal.proofs.OverlayLaws.{pending_stays, plain_overlay, told_overlaid, told_removed, told_stays, written_there}
+use Rattle.desk_journal.proofs.OverlayLaws.{ArePending, IsPending, bad_is, none_after, overlaid_after, overlay_has_none, overlay_stays}
+use Rattle.desk_journal.proofs.OverlayLaws.{pending_stays, plain_overlay, told_removed, written_there}
 use Rattle.desk_journal.proofs.ReadLaws.{journal_only}
+use Rattle.desk_journal.proofs.StandLaws.{finishes_stands}
 use Rattle.desk_journal.proofs.StepLaws.{all_and, all_weaken, each_replacement, none_put, through_each, through_either, through_last}
 
 -- ---- one folder
@@ -41,10 +43,6 @@ finished_journal entries held form none =
 
 -- ---- where contents are told or not
 
--- what is told stands for the same, and is the same once its journal is finished
-abbrev pub SameFor : Option FileMap → Option FileMap → Type 0
-SameFor before told = StandsAs before told × FinishesAs before told
-
 told_finishes : (entries : List EntryValue) (count : ℕ) (told : Option FileMap) → IsJournal entries → ArePending entries told
     → FinishesAs told (option_map (put_all (take count entries)) told)
 told_finishes entries count None form written = refl
@@ -60,65 +58,57 @@ take_front (x ∷ a) b = ap (λ (s : List _). x ∷ s) (take_front a b)
 
 -- each step of carrying a journal out
 pub journal_same : (entries : List EntryValue) (told : Option FileMap) → IsJournal entries → ArePending entries told
-    → AllByRecursion (SameFor told) (journal_steps entries told)
+    → AllByRecursion (FinishesAs told) (journal_steps entries told)
 journal_same entries told form written =
-    all_and (SameFor told) (replacements entries told) (without_journal (option_map (put_all entries) told) ∷ [])
-    (subst (λ (t : Option FileMap). AllByRecursion (SameFor told) (replacements entries t)) (sym (none_put told))
-    (each_replacement (SameFor told) [] entries told (λ a b is. front a b is)))
-    (subst (SameFor told) (sym (told_removed entries told form written)) (told_overlaid entries told form written, told_finished entries told form written), tt)
+    all_and (FinishesAs told) (replacements entries told) (without_journal (option_map (put_all entries) told) ∷ [])
+    (subst (λ (t : Option FileMap). AllByRecursion (FinishesAs told) (replacements entries t)) (sym (none_put told))
+    (each_replacement (FinishesAs told) [] entries told (λ a b is. front a b is)))
+    (subst (FinishesAs told) (sym (told_removed entries told form written)) (told_finished entries told form written), tt)
   where
-    front : (a b : List EntryValue) → entries ≡ a ++ b → SameFor told (option_map (put_all a) told)
+    front : (a b : List EntryValue) → entries ≡ a ++ b → FinishesAs told (option_map (put_all a) told)
     front a b is =
         let part : take (length a) entries ≡ a = ap (take (length a)) is ∙ take_front a b in
-        subst (λ (e : List EntryValue). SameFor told (option_map (put_all e) told)) part
-        (told_stays entries (length a) told form written, told_finishes entries (length a) told form written)
+        subst (λ (e : List EntryValue). FinishesAs told (option_map (put_all e) told)) part (told_finishes entries (length a) told form written)
 
 journal_finishes : (entries : List EntryValue) (told : Option FileMap) → IsJournal entries → IfSome told HasNoJournal
     → FinishesAs (option_map (put_all entries) told) (with_journal entries told)
 journal_finishes entries None form none = refl
 journal_finishes entries (Some held) form none = ap Some (finished_journal entries held form none)
 
-same_on : (before mid told : Option FileMap) → SameFor before mid → SameFor mid told → SameFor before told
-same_on before mid told first then = (then.0 ∙ first.0, then.1 ∙ first.1)
-
 -- each step of a commit
 pub commit_same : (entries : List EntryValue) (told : Option FileMap) → IsJournal entries → IfSome told HasNoJournal
-    → AllByRecursion (SameFor (option_map (put_all entries) told)) (commit_steps entries told)
+    → AllByRecursion (FinishesAs (option_map (put_all entries) told)) (commit_steps entries told)
 commit_same [] told form none = tt
-commit_same (entry ∷ []) told form none = ((refl, refl), tt)
+commit_same (entry ∷ []) told form none = (refl, tt)
 commit_same (entry ∷ other ∷ entries) told form none =
     let all : List EntryValue = entry ∷ other ∷ entries in
-    let after : Option FileMap = option_map (put_all all) told in
-    let here : SameFor after (with_journal all told) = (commit_stands all told form none, journal_finishes all told form none) in (
+    let here : FinishesAs (option_map (put_all all) told) (with_journal all told) = journal_finishes all told form none in (
       here,
-      all_weaken (SameFor (with_journal all told)) (SameFor after) (journal_steps all (with_journal all told)) (λ t is. same_on after (with_journal all told) t here is)
+      all_weaken (FinishesAs (with_journal all told)) (FinishesAs (option_map (put_all all) told)) (journal_steps all (with_journal all told))
+          (λ t is. is ∙ here)
           (journal_same all (with_journal all told) form (written_there told (journal_text all))),
     )
 
 -- ---- going through such steps
 
-stands_at : (before : Option FileMap) (steps : List (Option FileMap)) → AllByRecursion (SameFor before) steps → AllByRecursion (StandsAs before) steps
-stands_at before steps all = all_weaken (SameFor before) (StandsAs before) steps (λ t is. is.0) all
-
-finishes_at : (before : Option FileMap) (steps : List (Option FileMap)) → AllByRecursion (SameFor before) steps → AllByRecursion (FinishesAs before) steps
-finishes_at before steps all = all_weaken (SameFor before) (FinishesAs before) steps (λ t is. is.1) all
-
-pub each_stands : (same : Option FileMap) (steps : List (Option FileMap)) {before after : Option FileMap} {old new : Moments}
-    → AllByRecursion (SameFor same) steps → GoesThrough steps before after old new → EachMomentSince (StandsAs same) old new
-each_stands same steps all it = through_each (StandsAs same) (stands_at same steps all) it
-
 pub each_finishes : (same : Option FileMap) (steps : List (Option FileMap)) {before after : Option FileMap} {old new : Moments}
-    → AllByRecursion (SameFor same) steps → GoesThrough steps before after old new → EachMomentSince (FinishesAs same) old new
-each_finishes same steps all it = through_each (FinishesAs same) (finishes_at same steps all) it
+    → AllByRecursion (FinishesAs same) steps → GoesThrough steps before after old new → EachMomentSince (FinishesAs same) old new
+each_finishes same steps all it = through_each (FinishesAs same) all it
 
-pub last_stands : (steps : List (Option FileMap)) {before after : Option FileMap} {old new : Moments} → AllByRecursion (SameFor before) steps
-    → GoesThrough steps before after old new → SameFor before after
-last_stands steps {before} all it = through_last (SameFor before) (refl, refl) all it
+pub each_stands : (same : Option FileMap) (steps : List (Option FileMap)) {before after : Option FileMap} (old new : Moments)
+    → AllByRecursion (FinishesAs same) steps → GoesThrough steps before after old new → EachMomentSince (StandsAs same) old new
+each_stands same steps old new all it =
+    moments_weaken (FinishesAs same) (StandsAs same) old new (each_finishes same steps all it) (λ told is. finishes_stands same told is)
 
-pub either_stands : (same : Option FileMap) (steps : List (Option FileMap)) {before after : Option FileMap} {old new : Moments}
-    → AllByRecursion (SameFor same) steps → GoesThrough steps before after old new → StandsAs before after ⊎ StandsAs same after
-either_stands same steps all it = elim (through_either (SameFor same) all it) [ inl is ↦ inl (ap (option_map overlay) is) | inr is ↦ inr is.0 ]
+pub last_finishes : (steps : List (Option FileMap)) {before after : Option FileMap} {old new : Moments} → AllByRecursion (FinishesAs before) steps
+    → GoesThrough steps before after old new → FinishesAs before after
+last_finishes steps {before} all it = through_last (FinishesAs before) refl all it
 
 pub either_finishes : (same : Option FileMap) (steps : List (Option FileMap)) {before after : Option FileMap} {old new : Moments}
-    → AllByRecursion (SameFor same) steps → GoesThrough steps before after old new → FinishesAs before after ⊎ FinishesAs same after
-either_finishes same steps all it = elim (through_either (SameFor same) all it) [ inl is ↦ inl (ap (option_map finished) is) | inr is ↦ inr is.1 ]
+    → AllByRecursion (FinishesAs same) steps → GoesThrough steps before after old new → FinishesAs before after ⊎ FinishesAs same after
+either_finishes same steps all it = elim (through_either (FinishesAs same) all it) [ inl is ↦ inl (ap (option_map finished) is) | inr is ↦ inr is ]
+
+pub either_stands : (same : Option FileMap) (steps : List (Option FileMap)) {before : Option FileMap} (after : Option FileMap) {old new : Moments}
+    → AllByRecursion (FinishesAs same) steps → GoesThrough steps before after old new → StandsAs before after ⊎ StandsAs same after
+either_stands same steps {before} after all it =
+    elim (either_finishes same steps all it) [ inl is ↦ inl (finishes_stands before after is) | inr is ↦ inr (finishes_stands same after is) ]

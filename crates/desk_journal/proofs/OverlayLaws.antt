@@ -18,7 +18,7 @@ use Rattle.desk_journal.specs.declared.bad_journal.BadJournal.{BadJournal}
 use Rattle.desk_journal.specs.declared.entry.Entry.{Entry}
 use Rattle.desk_journal.specs.Entries.{AreEntries, EntryValue, IsJournal, entry_value, entry_values, journal_text}
 use Rattle.desk_journal.specs.Reading.{journal_in}
-use Rattle.desk_journal.specs.Overlays.{HasNoJournal, StandsAs, bad_of, finished, if_bad, overlay, put_all}
+use Rattle.desk_journal.specs.Overlays.{HasNoJournal, bad_of, finished, if_bad, overlay, put_all}
 use Rattle.desk_journal.proofs.ReadLaws.{journal_only}
 
 -- ---- names
@@ -166,10 +166,6 @@ overlay_has_none {held} {entries} is =
 abbrev pub ArePending : List EntryValue → Option FileMap → Type 0
 ArePending entries told = IfSome told (λ held. finmap.get held journal_file ≡ Some (journal_text entries))
 
-pub told_stays : (entries : List EntryValue) (count : ℕ) (told : Option FileMap) → IsJournal entries → ArePending entries told
-    → StandsAs told (option_map (put_all (take count entries)) told)
-told_stays entries count told form written = grind (arith, overlay_stays)
-
 pub told_there : (entries : List EntryValue) (told : Option FileMap) → IsJournal entries → ArePending entries told
     → IfSome (option_map (put_all entries) told) (λ held. IsSome (finmap.get held journal_file))
 told_there entries None form written = tt
@@ -185,9 +181,6 @@ told_there entries (Some held) form written =
 pub told_removed : (entries : List EntryValue) (told : Option FileMap) → IsJournal entries → ArePending entries told
     → option_map (λ held. finmap.remove held journal_file) (option_map (put_all entries) told) ≡ option_map overlay told
 told_removed entries told form written = grind (arith, removed)
-
-pub told_overlaid : (entries : List EntryValue) (told : Option FileMap) → IsJournal entries → ArePending entries told → StandsAs told (option_map overlay told)
-told_overlaid entries told form written = grind (arith, plain_overlay, overlay_has_none)
 
 pub told_no_journal : (entries : List EntryValue) (told : Option FileMap) → IsJournal entries → ArePending entries told
     → IfSome (option_map overlay told) HasNoJournal
@@ -274,14 +267,6 @@ none_after entries held form none = grind (arith, get-put_all, no_entry)
 pub commit_done : (entries : List EntryValue) (told : Option FileMap) → IsJournal entries → IfSome told HasNoJournal
     → option_map overlay (option_map (λ held. finmap.insert held journal_file (journal_text entries)) told) ≡ option_map (put_all entries) told
 commit_done entries told form none = grind (arith, overlaid_after)
-
-after_plain : (entries : List EntryValue) (told : Option FileMap) → IsJournal entries → IfSome told HasNoJournal
-    → option_map overlay (option_map (put_all entries) told) ≡ option_map (put_all entries) told
-after_plain entries told form none = grind (arith, plain_overlay, none_after)
-
-pub commit_stands : (entries : List EntryValue) (told : Option FileMap) → IsJournal entries → IfSome told HasNoJournal
-    → StandsAs (option_map (put_all entries) told) (option_map (λ held. finmap.insert held journal_file (journal_text entries)) told)
-commit_stands entries told form none = grind (arith, commit_done, after_plain)
 
 -- ---- of an answer
 

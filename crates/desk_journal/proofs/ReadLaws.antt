@@ -23,22 +23,22 @@ use Rattle.desk_journal.specs.Reading.{Reads, data_at, entries_at, entry_at, jou
 
 -- ---- steps that did not fail
 
-bind_some : {A B : Type 0} (o : Option A) (f : A → Option B) {y : B} → option_and_then f o ≡ Some y → (x : A) × (o ≡ Some x) × (f x ≡ Some y)
+pub bind_some : {A B : Type 0} (o : Option A) (f : A → Option B) {y : B} → option_and_then f o ≡ Some y → (x : A) × (o ≡ Some x) × (f x ≡ Some y)
 bind_some o f e = grind arith
 
-map_some : {A B : Type 0} (o : Option A) (f : A → B) {y : B} → option_map f o ≡ Some y → (x : A) × (o ≡ Some x) × (f x ≡ y)
+pub map_some : {A B : Type 0} (o : Option A) (f : A → B) {y : B} → option_map f o ≡ Some y → (x : A) × (o ≡ Some x) × (f x ≡ y)
 map_some o f e = grind arith
 
-guard_some : {A : Type 0} (b : Bool) (o : Option A) {y : A} → cond b None o ≡ Some y → (b ≡ false) × (o ≡ Some y)
+pub guard_some : {A : Type 0} (b : Bool) (o : Option A) {y : A} → cond b None o ≡ Some y → (b ≡ false) × (o ≡ Some y)
 guard_some b o e = grind arith
 
-test_some : {A : Type 0} (b : Bool) (o : Option A) {y : A} → cond b o None ≡ Some y → (b ≡ true) × (o ≡ Some y)
+pub test_some : {A : Type 0} (b : Bool) (o : Option A) {y : A} → cond b o None ≡ Some y → (b ≡ true) × (o ≡ Some y)
 test_some b o e = grind arith
 
-some_is : {A : Type 0} (x : A) {y : A} → (let o : Option A = Some x in o) ≡ Some y → x ≡ y
+pub some_is : {A : Type 0} (x : A) {y : A} → (let o : Option A = Some x in o) ≡ Some y → x ≡ y
 some_is x e = cc
 
-both_true : (a b : Bool) → (a && b) ≡ true → (a ≡ true) × (b ≡ true)
+pub both_true : (a b : Bool) → (a && b) ≡ true → (a ≡ true) × (b ≡ true)
 both_true a b e = grind arith
 
 neither : (a b : Bool) → (a || not b) ≡ false → (a ≡ false) × (b ≡ true)
@@ -175,10 +175,10 @@ entries_only (entry ∷ more) before form = grind (arith, nat_tests, common_step
 
 -- ---- journals
 
-placed_is : (bytes : List ℕ) (r : Result (List EntryValue) ℕ) {entries : List EntryValue} → placed bytes r ≡ Ok entries → r ≡ Ok entries
+pub placed_is : (bytes : List ℕ) (r : Result (List EntryValue) ℕ) {entries : List EntryValue} → placed bytes r ≡ Ok entries → r ≡ Ok entries
 placed_is bytes r e = grind arith
 
-front_is : (b : Bool) (bad : BadJournal) (r : Result (List EntryValue) BadJournal) {entries : List EntryValue} → cond b (Err bad) r ≡ Ok entries
+pub front_is : (b : Bool) (bad : BadJournal) (r : Result (List EntryValue) BadJournal) {entries : List EntryValue} → cond b (Err bad) r ≡ Ok entries
     → (b ≡ false) × (r ≡ Ok entries)
 front_is b bad r e = grind arith
 

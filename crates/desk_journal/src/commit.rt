@@ -15,9 +15,9 @@ use folder_files::JOURNAL;
 use hs_folders::{Folder, FolderFault};
 use std::alloc::{AllocError, Global};
 
-/// Makes the bytes of each entry those of its file. Files that have them already are left alone. Where more than one is left,
-/// it writes their journal, replaces each in the order of the entries, and removes the journal. After a refusal the journal may
-/// be left: opening the folder finishes it.
+/// Makes the bytes of each entry those of its file. Files that have them already are left alone. One that is left is replaced,
+/// and of more it writes the journal, replaces each in the order of the entries, and removes the journal. After a refusal the
+/// journal may be left: opening the folder finishes it.
 pub fn commit_files<F: Folder>(
     alloc: Global,
     folder: &mut F,

@@ -10,7 +10,8 @@ use Rattle.desk_journal.specs.Entries.{EntryValue, entry_values, journal_text}
 use Rattle.desk_journal.specs.Overlays.{HasNoJournal, overlay}
 use Rattle.desk_journal.specs.Reading.{Reads, journal_in}
 use Rattle.desk_journal.specs.Steps.{GoesThrough, journal_steps}
-use Rattle.desk_journal.proofs.FinishLaws.{each_finishes, each_stands, journal_same, last_stands}
+use Rattle.desk_journal.proofs.FinishLaws.{each_finishes, each_stands, journal_same, last_finishes}
+use Rattle.desk_journal.proofs.StandLaws.{finishes_stands}
 use Rattle.desk_journal.proofs.OverlayLaws.{Journals, bad_none, bad_told, finished_bad, finished_good, finished_none, good_told, told_no_journal}
 use Rattle.desk_journal.proofs.finish.finish_journal.Goals as goal
 
@@ -83,7 +84,8 @@ returns-in_err-carry_out-clause-stands g c =
     let there = subst (Journals (g.F.Folder.contents c.args.folder.now)) text c.in-Ok.ensures.bytes in
     let all = journal_same values (g.F.Folder.contents c.args.folder.now) c.in-Ok-read_journal.ensures.found.0 there in
     let gone = gone_through c.read.ensures.contents c.read.ensures.moments (ap entry_values c.deref-2.ensures.value) c.carry_out.ensures.steps in
-    (last_stands (journal_steps values (g.F.Folder.contents c.args.folder.now)) all gone).0
+    finishes_stands (g.F.Folder.contents c.args.folder.now) (g.F.Folder.contents c.carry_out.new.folder)
+    (last_finishes (journal_steps values (g.F.Folder.contents c.args.folder.now)) all gone)
 
 pub returns-in_err-carry_out-clause-left : goal.returns-in_err-carry_out-clause-left
 returns-in_err-carry_out-clause-left g c =
@@ -92,7 +94,7 @@ returns-in_err-carry_out-clause-left g c =
     let there = subst (Journals (g.F.Folder.contents c.args.folder.now)) text c.in-Ok.ensures.bytes in
     let all = journal_same values (g.F.Folder.contents c.args.folder.now) c.in-Ok-read_journal.ensures.found.0 there in
     let gone = gone_through c.read.ensures.contents c.read.ensures.moments (ap entry_values c.deref-2.ensures.value) c.carry_out.ensures.steps in
-    (last_stands (journal_steps values (g.F.Folder.contents c.args.folder.now)) all gone).1
+    last_finishes (journal_steps values (g.F.Folder.contents c.args.folder.now)) all gone
 
 pub returns-in_err-carry_out-clause-each_moment : goal.returns-in_err-carry_out-clause-each_moment
 returns-in_err-carry_out-clause-each_moment g c =
@@ -101,7 +103,8 @@ returns-in_err-carry_out-clause-each_moment g c =
     let there = subst (Journals (g.F.Folder.contents c.args.folder.now)) text c.in-Ok.ensures.bytes in
     let all = journal_same values (g.F.Folder.contents c.args.folder.now) c.in-Ok-read_journal.ensures.found.0 there in
     let gone = gone_through c.read.ensures.contents c.read.ensures.moments (ap entry_values c.deref-2.ensures.value) c.carry_out.ensures.steps in
-    each_stands (g.F.Folder.contents c.args.folder.now) (journal_steps values (g.F.Folder.contents c.args.folder.now)) all gone
+    each_stands (g.F.Folder.contents c.args.folder.now) (journal_steps values (g.F.Folder.contents c.args.folder.now)) (g.F.Folder.moments c.args.folder.now)
+    (g.F.Folder.moments c.carry_out.new.folder) all gone
 
 pub returns-in_err-carry_out-clause-each_left : goal.returns-in_err-carry_out-clause-each_left
 returns-in_err-carry_out-clause-each_left g c =
@@ -119,7 +122,8 @@ returns-clause-stands g c =
     let there = subst (Journals (g.F.Folder.contents c.args.folder.now)) text c.in-Ok.ensures.bytes in
     let all = journal_same values (g.F.Folder.contents c.args.folder.now) c.in-Ok-read_journal.ensures.found.0 there in
     let gone = gone_through c.read.ensures.contents c.read.ensures.moments (ap entry_values c.deref-2.ensures.value) c.carry_out.ensures.steps in
-    (last_stands (journal_steps values (g.F.Folder.contents c.args.folder.now)) all gone).0
+    finishes_stands (g.F.Folder.contents c.args.folder.now) (g.F.Folder.contents c.carry_out.new.folder)
+    (last_finishes (journal_steps values (g.F.Folder.contents c.args.folder.now)) all gone)
 
 pub returns-clause-left : goal.returns-clause-left
 returns-clause-left g c =
@@ -128,7 +132,7 @@ returns-clause-left g c =
     let there = subst (Journals (g.F.Folder.contents c.args.folder.now)) text c.in-Ok.ensures.bytes in
     let all = journal_same values (g.F.Folder.contents c.args.folder.now) c.in-Ok-read_journal.ensures.found.0 there in
     let gone = gone_through c.read.ensures.contents c.read.ensures.moments (ap entry_values c.deref-2.ensures.value) c.carry_out.ensures.steps in
-    (last_stands (journal_steps values (g.F.Folder.contents c.args.folder.now)) all gone).1
+    last_finishes (journal_steps values (g.F.Folder.contents c.args.folder.now)) all gone
 
 pub returns-clause-each_moment : goal.returns-clause-each_moment
 returns-clause-each_moment g c =
@@ -137,7 +141,8 @@ returns-clause-each_moment g c =
     let there = subst (Journals (g.F.Folder.contents c.args.folder.now)) text c.in-Ok.ensures.bytes in
     let all = journal_same values (g.F.Folder.contents c.args.folder.now) c.in-Ok-read_journal.ensures.found.0 there in
     let gone = gone_through c.read.ensures.contents c.read.ensures.moments (ap entry_values c.deref-2.ensures.value) c.carry_out.ensures.steps in
-    each_stands (g.F.Folder.contents c.args.folder.now) (journal_steps values (g.F.Folder.contents c.args.folder.now)) all gone
+    each_stands (g.F.Folder.contents c.args.folder.now) (journal_steps values (g.F.Folder.contents c.args.folder.now)) (g.F.Folder.moments c.args.folder.now)
+    (g.F.Folder.moments c.carry_out.new.folder) all gone
 
 pub returns-clause-each_left : goal.returns-clause-each_left
 returns-clause-each_left g c =
