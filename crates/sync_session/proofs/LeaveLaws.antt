@@ -26,6 +26,7 @@ use Rattle.sync_session.specs.Courses.{AfterCommit, AfterMeeting, AfterNews, Aft
 use Rattle.sync_session.specs.Courses.{ReadsAll, Runs, closed, jobs_met, picked_for, stopped}
 use Rattle.sync_session.specs.Leaving.{IsSlotsFile, Leaves, LeavesFolder}
 use Rattle.sync_session.specs.PlannedLimits.{over_planned}
+use Rattle.sync_session.specs.PlannedLosses.{loss_planned}
 use Rattle.sync_session.specs.PlannedReports.{reports_planned}
 use Rattle.sync_session.specs.Readings.{reads_under}
 use Rattle.sync_session.specs.Takes.{changes_of, each_of, taken_entries, taken_slots}
@@ -53,17 +54,18 @@ cause_refused commit.DeskFault is = refl
 cause_refused commit.NoMemory is = absurd cc
 
 -- the limits don't blame the folder
-not_desk : (over : Option (List ℕ)) (reports : List DbReport) (cause : Stop) → Judges over reports (Err cause) → cause ≡ stop.DeskFault → ⊥
-not_desk over reports (stop.Session fault) judged is = cc
-not_desk over reports (stop.Limit name) judged is = cc
-not_desk over reports stop.DeskFault judged is = judged
+not_desk : (over loss : Option (List ℕ)) (reports : List DbReport) (cause : Stop) → Judges over loss reports (Err cause) → cause ≡ stop.DeskFault → ⊥
+not_desk over loss reports (stop.Session fault) judged is = cc
+not_desk over loss reports (stop.Limit name) judged is = cc
+not_desk over loss reports (stop.NewHandheld name) judged is = cc
+not_desk over loss reports stop.DeskFault judged is = judged
 
-nor_reading : {F : Type 0} (heads : List DbHead) (desk : DeskValue F) (reading : Result (Vec Planned) SessionFault) (cause : Stop)
-    → AfterReading heads desk reading (Err cause) → cause ≡ stop.DeskFault → ⊥
-nor_reading heads desk (Ok planned) cause goes is =
-    not_desk (over_planned (shelves_in desk) (length heads) (all_rows desk.slots) planned.items) (reports_planned (shelves_in desk) planned.items)
-    cause goes.0 is
-nor_reading heads desk (Err fault) cause goes is = cc
+nor_reading : {F : Type 0} (heads : List DbHead) (desk : DeskValue F) (user : UserInfo) (reading : Result (Vec Planned) SessionFault) (cause : Stop)
+    → AfterReading heads desk user reading (Err cause) → cause ≡ stop.DeskFault → ⊥
+nor_reading heads desk user (Ok planned) cause goes is =
+    not_desk (over_planned (shelves_in desk) (length heads) (all_rows desk.slots) planned.items)
+    (loss_planned user (marks_in desk) (shelves_in desk) planned.items) (reports_planned (shelves_in desk) planned.items) cause goes.0 is
+nor_reading heads desk user (Err fault) cause goes is = cc
 
 -- ---- the files of a commit
 
@@ -204,13 +206,13 @@ module _ {L F : Type 0} (talk : L → Option Talk) (since : L → L → Type 0) 
         where
           -- what was prepared was all read
           read_whole : (reading : Result (Vec Planned) SessionFault) (reads : ReadsAll talk since fault downs heads wishes desk old now reading)
-              → AfterReading heads desk reading (Ok prepared)
+              → AfterReading heads desk now.user reading (Ok prepared)
               → Does talk (each_acts (reads_under (shelves_in desk)) (talk old.link) (jobs_met heads wishes desk old.user) reads.reads.stretches)
               old.link now.link
           read_whole (Ok planned) reads goes = reads.reads.does
           read_whole (Err cause) reads goes = absurd cc
-      after_preparing wishes {heads} desk (Err cause) prepares goes =
-          both_stopped prepares.reads.reads.stops goes (nor_reading heads desk prepares.reading cause prepares.goes)
+      after_preparing wishes {heads} desk {now} (Err cause) prepares goes =
+          both_stopped prepares.reads.reads.stops goes (nor_reading heads desk now.user prepares.reading cause prepares.goes)
 
       after_meeting : (users : List ℕ) (wishes : Wishes) {old : L} (desk : DeskValue F) (answer : Result (Met L) (Halted L)) {left : Outcome L F}
           → MeetsOrNot talk since fault downs users wishes.add_user old answer

@@ -9,6 +9,7 @@ pub mod IdsLaws
 pub mod LeaveLaws
 pub mod LimitLaws
 pub mod LinkWords
+pub mod LossLaws
 pub mod MeetJoins
 pub mod MeetLaws
 pub mod MeetingWords

@@ -29,9 +29,10 @@ use Rattle.sync_session.specs.Commits.{Commits}
 use Rattle.sync_session.specs.Courses.{AfterCommit, AfterNews, closed, last_acts, stopped}
 use Rattle.sync_session.specs.Endings.{Ends}
 use Rattle.sync_session.specs.Limits.{first_over}
+use Rattle.sync_session.specs.Losses.{first_loss}
 use Rattle.sync_session.specs.Merges.{merged_slots}
 use Rattle.sync_session.specs.Outcomes.{IsAtCommit, IsCommitted, IsStopOf, IsUncommitted, MergedSince, SessionEnds, StandsForSlots}
-use Rattle.sync_session.specs.Outcomes.{StopsAtLimit, StopsFor, requests_before_commit, seat_of, tellings}
+use Rattle.sync_session.specs.Outcomes.{StopsAtLimit, StopsAtLoss, StopsFor, requests_before_commit, seat_of, tellings}
 use Rattle.sync_session.specs.Reports.{reports}
 use Rattle.sync_session.specs.Stopping.{stop_of}
 use Rattle.sync_session.specs.Takes.{each_of, taken_slots}
@@ -72,24 +73,47 @@ commit_stop : {L : Type 0} (talk : L → Option Talk) (fault : L → Option Link
 commit_stop talk fault meeting old new commit.DeskFault said = said
 commit_stop talk fault meeting old new commit.NoMemory said = tt
 
--- what is said where the user has no slot, and where a limit would be passed
+-- what is said where the user has no slot, and where a limit would be passed, or a new handheld would cost live rows
 abbrev pub SaysUnseated : {L : Type 0} → (L → Option Talk) → (L → L → Type 0) → (L → Option LinkFault) → (L → ℕ) → Meeting → L → L
     → Result (Vec DbReport) Stop → Type 0
 SaysUnseated talk since fault downs meeting old new answer =
     (why : SessionFault) → seat_of meeting ≡ Err why → Stops talk since fault downs (text reading_user ∷ []) old new × StopsFor (stop.Session why) answer
 
-abbrev pub SaysLimit : Meeting → Result (Vec DbReport) Stop → Type 0
-SaysLimit meeting answer = (name : List ℕ) → first_over meeting ≡ Some name → StopsAtLimit name answer
+pub record SaysRefusal (meeting : Meeting) (answer : Result (Vec DbReport) Stop) : Type 0 where
+  pub limit : (name : List ℕ) → first_over meeting ≡ Some name → StopsAtLimit name answer
+  pub loss : (name : List ℕ) → first_over meeting ≡ None → first_loss meeting ≡ Some name → StopsAtLoss name answer
+
+-- one of both is so
+abbrev pub IsRefused : Meeting → Type 0
+IsRefused meeting = IsSome (first_over meeting) ⊎ IsSome (first_loss meeting)
+
+-- none is
+pub record IsUnrefused (meeting : Meeting) : Type 0 where
+  pub within : first_over meeting ≡ None
+  pub keeps : first_loss meeting ≡ None
 
 pub seated_says : (P : Type 0) (meeting : Meeting) (why : SessionFault) → IsOk (seat_of meeting) → seat_of meeting ≡ Err why → P
 seated_says P meeting why seated is = absurd (let no : IsOk {T = UserInfo} (Err why) = subst IsOk is seated in let never : ⊥ = cc in never)
 
-none_limit : (P : Type 0) (meeting : Meeting) (name : List ℕ) → first_over meeting ≡ None → first_over meeting ≡ Some name → P
-none_limit P meeting name none is = absurd (let never : ⊥ = cc in never)
+none_named : {A : Type 0} (P : Type 0) (found : Option A) (name : A) → found ≡ None → found ≡ Some name → P
+none_named P found name none is = absurd (let never : ⊥ = cc in never)
 
-none_over : {A : Type 0} (P : Type 0) (over : Option A) → over ≡ None → IsSome over → P
-none_over P None none some = absurd cc
-none_over P (Some a) none some = absurd cc
+none_some : {A : Type 0} (P : Type 0) (found : Option A) → found ≡ None → IsSome found → P
+none_some P None none some = absurd cc
+none_some P (Some a) none some = absurd cc
+
+not_refused : (P : Type 0) (meeting : Meeting) → IsUnrefused meeting → IsRefused meeting → P
+not_refused P meeting on (inl some) = none_some P (first_over meeting) on.within some
+not_refused P meeting on (inr some) = none_some P (first_loss meeting) on.keeps some
+
+unrefused_says : (meeting : Meeting) (answer : Result (Vec DbReport) Stop) → IsUnrefused meeting → SaysRefusal meeting answer
+unrefused_says meeting answer on = record {
+  limit = λ name is. none_named _ (first_over meeting) name on.within is;
+  loss = λ name none is. none_named _ (first_loss meeting) name on.keeps is;
+}
+
+pub cause_says : (meeting : Meeting) (cause : SessionFault) → SaysRefusal meeting (Err (stop.Session cause))
+cause_says meeting cause = record { limit = λ name is. tt; loss = λ name none is. tt }
 
 desk_stands : (told : Option FileMap) (slots : List SlotValue) → IsDesk told slots → StandsForSlots slots told
 desk_stands None slots desk = tt
@@ -110,9 +134,9 @@ module _ {L F : Type 0} (talk : L → Option Talk) (since : L → L → Type 0) 
   -- it stopped before the commit
   ends_before : {new : L} {folder : F} {cause : Stop} {left : Outcome L F} → left ≡ stopped new folder cause
       → Stops talk since fault downs (requests_before_commit meeting) old new → IsStopOf talk fault meeting old new cause
-      → (IsSome (first_over meeting) → Stops talk since fault downs (map text (before_writes meeting)) old new)
-      → SaysUnseated talk since fault downs meeting old new (Err cause) → SaysLimit meeting (Err cause) → EndsSo folder left
-  ends_before {folder} is stops why over unseated limit = rw is (record {
+      → (IsRefused meeting → Stops talk since fault downs (map text (before_writes meeting)) old new)
+      → SaysUnseated talk since fault downs meeting old new (Err cause) → SaysRefusal meeting (Err cause) → EndsSo folder left
+  ends_before {folder} is stops why unwritten unseated refusal = rw is (record {
     ended = tt;
     stopped = inl (record {
       given = [];
@@ -121,22 +145,24 @@ module _ {L F : Type 0} (talk : L → Option Talk) (since : L → L → Type 0) 
       moments = no_moment (StandsForSlots (merged_slots meeting [])) (moments folder) (moments folder) refl;
     });
     cause = why;
-    over = over;
+    over = λ some. unwritten (inl some);
     unseated = unseated;
-    limit = limit;
+    limit = refusal.limit;
+    losing = λ some. unwritten (inr some);
+    loss = refusal.loss;
   })
 
   -- while nothing was written
   pub ends_unwritten : {new : L} {folder : F} {cause : Stop} {left : Outcome L F} → left ≡ stopped new folder cause
       → Stops talk since fault downs (map text (before_writes meeting)) old new → IsStopOf talk fault meeting old new cause
-      → SaysUnseated talk since fault downs meeting old new (Err cause) → SaysLimit meeting (Err cause) → EndsSo folder left
-  ends_unwritten is stops why unseated limit =
-      ends_before is (writes_stop meeting (replicate (adds_of meeting) 0) stops) why (λ over. stops) unseated limit
+      → SaysUnseated talk since fault downs meeting old new (Err cause) → SaysRefusal meeting (Err cause) → EndsSo folder left
+  ends_unwritten is stops why unseated refusal =
+      ends_before is (writes_stop meeting (replicate (adds_of meeting) 0) stops) why (λ refused. stops) unseated refusal
 
   -- what both sides had done when the desktop committed
   record Committed (given : List ℕ) (dealt : List (List ℕ)) (between : L) (folder after : F) : Type 0 where
     news : NewsReach talk since fault downs meeting given dealt old between
-    none : first_over meeting ≡ None
+    on : IsUnrefused meeting
     seated : IsOk (seat_of meeting)
     desk : IsDesk (contents after) (merged_slots meeting given)
     each : MergedSince meeting given (moments folder) (moments after)
@@ -159,9 +185,11 @@ module _ {L F : Type 0} (talk : L → Option Talk) (since : L → L → Type 0) 
     };
     stopped = tt;
     cause = tt;
-    over = none_over _ (first_over meeting) done.none;
+    over = λ some. not_refused _ meeting done.on (inl some);
     unseated = λ why is. seated_says _ meeting why done.seated is;
-    limit = λ name is. none_limit _ meeting name done.none is;
+    limit = λ name is. none_named _ (first_over meeting) name done.on.within is;
+    losing = λ some. not_refused _ meeting done.on (inr some);
+    loss = λ name none is. none_named _ (first_loss meeting) name done.on.keeps is;
   }
   closes_ends since_more {given} prepared {between} {after} (Err halted) dated known marked are told done ends = record {
     ended = tt;
@@ -177,18 +205,20 @@ module _ {L F : Type 0} (talk : L → Option Talk) (since : L → L → Type 0) 
       moments = done.each;
     });
     cause = later_stop talk fault meeting old halted.link halted.cause ends.cause;
-    over = none_over _ (first_over meeting) done.none;
+    over = λ some. not_refused _ meeting done.on (inl some);
     unseated = λ why is. seated_says _ meeting why done.seated is;
-    limit = λ name is. none_limit _ meeting name done.none is;
+    limit = λ name is. none_named _ (first_over meeting) name done.on.within is;
+    losing = λ some. not_refused _ meeting done.on (inr some);
+    loss = λ name none is. none_named _ (first_loss meeting) name done.on.keeps is;
   }
 
   module _ (paths : F → Option (List (List ℕ))) (faults : F → ℕ) (itself : (a : L) → since a a) where
     -- the commit was refused, and stands or not
     refused_ends : {given : List ℕ} {dealt : List (List ℕ)} {entries : List EntryValue} {between : L} {desk : DeskValue F} {refusal : CommitFault × F}
-        {left : Outcome L F} → NewsReach talk since fault downs meeting given dealt old between → first_over meeting ≡ None → IsOk (seat_of meeting)
+        {left : Outcome L F} → NewsReach talk since fault downs meeting given dealt old between → IsUnrefused meeting → IsOk (seat_of meeting)
         → Commits contents moments paths faults (merged_slots meeting given) entries desk (Err refusal)
         → left ≡ stopped between refusal.1 (stop_of refusal.0) → EndsSo desk.folder left
-    refused_ends {given} {entries} {between} {desk} {refusal} news none seated commits is =
+    refused_ends {given} {entries} {between} {desk} {refusal} news on seated commits is =
         let made : Option FileMap = option_map (put_all entries) (contents desk.folder) in
         let merged : List SlotValue = merged_slots meeting given in
         let stops = rw (text-before_commit meeting given (replicate (adds_of meeting) 0)) at news.reached.stops in
@@ -227,9 +257,11 @@ module _ {L F : Type 0} (talk : L → Option Talk) (since : L → L → Type 0) 
           stopped = both;
           cause = commit_stop talk fault meeting old between refusal.0
               (record { given = given; count = news.count; free = news.free; does = news.reached.does });
-          over = none_over _ (first_over meeting) none;
+          over = λ some. not_refused _ meeting on (inl some);
           unseated = λ why is. seated_says _ meeting why seated is;
-          limit = λ name is. none_limit _ meeting name none is;
+          limit = λ name is. none_named _ (first_over meeting) name on.within is;
+          losing = λ some. not_refused _ meeting on (inr some);
+          loss = λ name none is. none_named _ (first_loss meeting) name on.keeps is;
         })
 
     module _ (since_more : (a b c : L) → since a b → since b c → since a c) where
@@ -237,24 +269,24 @@ module _ {L F : Type 0} (talk : L → Option Talk) (since : L → L → Type 0) 
           (between : SessionValue L) {desk : DeskValue F} (answer : Result (DeskValue F) (CommitFault × F)) {left : Outcome L F}
           → date ≡ meeting.wishes.date → between.user ≡ meeting.device.user → slot ≡ (slot_of meeting).marks
           → ArePlannedFor meeting prepared.planned.items → prepared.reports.items ≡ reports meeting
-          → NewsReach talk since fault downs meeting given dealt old between.link → first_over meeting ≡ None → IsOk (seat_of meeting)
+          → NewsReach talk since fault downs meeting given dealt old between.link → IsUnrefused meeting → IsOk (seat_of meeting)
           → Commits contents moments paths faults (merged_slots meeting given) entries desk answer
           → AfterCommit talk since fault downs date slot prepared between answer left → EndsSo desk.folder left
-      commit_ends {given} {dealt} prepared {entries} between {desk} (Ok after) dated known marked are told news none seated commits goes =
+      commit_ends {given} {dealt} prepared {entries} between {desk} (Ok after) dated known marked are told news on seated commits goes =
           let merged : List SlotValue = merged_slots meeting given in
           let stands : IsDesk (contents after.folder) merged = rw commits.slots at commits.stands in
           let made : IsDesk (option_map (put_all entries) (contents desk.folder)) merged = rw commits.written at stands in
           let done : Committed given dealt between.link desk.folder after.folder
           = record {
             news = news;
-            none = none;
+            on = on;
             seated = seated;
             desk = stands;
             each = moments_merged merged (option_map (put_all entries) (contents desk.folder)) (moments desk.folder) (moments after.folder) made
                 commits.each_moment;
           } in
           rw goes.is (closes_ends since_more prepared goes.answer dated known marked are told done goes.ends)
-      commit_ends prepared between (Err refusal) dated known marked are told news none seated commits goes = refused_ends news none seated commits goes
+      commit_ends prepared between (Err refusal) dated known marked are told news on seated commits goes = refused_ends news on seated commits goes
 
       -- what both sides know of each other once all is read
       pub record Known (prepared : Prepared) (now : SessionValue L) (desk : DeskValue F) (date : ℕ) : Type 0 where
@@ -265,7 +297,7 @@ module _ {L F : Type 0} (talk : L → Option Talk) (since : L → L → Type 0) 
         pub picked : desk.picked ≡ meeting.picked
         pub are : ArePlannedFor meeting prepared.planned.items
         pub told : prepared.reports.items ≡ reports meeting
-        pub none : first_over meeting ≡ None
+        pub on : IsUnrefused meeting
         pub seated : IsOk (seat_of meeting)
         pub ordered : AreInOrder meeting.slots
         pub read : Reached talk since fault downs (before_writes meeting) old now.link
@@ -285,9 +317,9 @@ module _ {L F : Type 0} (talk : L → Option Talk) (since : L → L → Type 0) 
           ≡ merged_slots meeting (flat_map (λ (one : Vec ℕ). one.items) ids.items)
           = rw (knows.dated, user, knows.picked, knows.slots)
           (taken-merged meeting prepared.planned.items dealt knows.ordered knows.are news.dealt ∙ ap (merged_slots meeting) (sym (flat-each ids.items))) in
-          commit_ends prepared then goes.answer knows.dated user marked knows.are knows.told news knows.none knows.seated (rw taken at goes.commits) goes.goes
+          commit_ends prepared then goes.answer knows.dated user marked knows.are knows.told news knows.on knows.seated (rw taken at goes.commits) goes.goes
       news_ends {then} (Err cause) knows sends goes =
           ends_before goes (news_stop since_more meeting knows.rests (λ (one : Vec ℕ). one.items) knows.user knows.are knows.read knows.tells
           (replicate (adds_of meeting) 0) sends)
-          (later_stop talk fault meeting old then.link cause sends.cause) (none_over _ (first_over meeting) knows.none)
-          (λ why is. seated_says _ meeting why knows.seated is) (λ name is. none_limit _ meeting name knows.none is)
+          (later_stop talk fault meeting old then.link cause sends.cause) (not_refused _ meeting knows.on)
+          (λ why is. seated_says _ meeting why knows.seated is) (unrefused_says meeting _ knows.on)

@@ -34,6 +34,7 @@ use Rattle.sync_session.specs.declared.wishes.Wishes.{Wishes}
 use Rattle.sync_session.specs.Causes.{IsLater}
 use Rattle.sync_session.specs.Courses.{AfterMeeting, AfterPreparing, AfterReading, GoesOn, MeetsOrNot, ReadsAll, Runs, jobs_met, picked_for, stopped}
 use Rattle.sync_session.specs.Limits.{first_over}
+use Rattle.sync_session.specs.Losses.{first_loss}
 use Rattle.sync_session.specs.Outcomes.{IsStopOf, StopsFor, seat_of, slot_in}
 use Rattle.sync_session.specs.Stopping.{Judges}
 use Rattle.sync_session.proofs.SessionJoins.{Reached, ReadsReach, meets_stop, met_reaches, reads_reach, reads_stop}
@@ -41,27 +42,42 @@ use Rattle.sync_session.proofs.StretchLaws.{Tells}
 use Rattle.sync_session.proofs.CauseLaws.{later_by, later_refused}
 use Rattle.sync_session.proofs.MeetJoins.{jobs_meet, meets_join, user_read, user_told}
 use Rattle.sync_session.proofs.MeetLaws.{greeted_slot}
+use Rattle.sync_session.proofs.LossLaws.{loss_is_first_loss}
 use Rattle.sync_session.proofs.PlannedLaws.{plans_join, over_is_first_over, reports_are}
 use Rattle.sync_session.proofs.ReadJoins.{jobs_for}
 use Rattle.sync_session.specs.Meets.{IsUnlisted}
 use Rattle.sync_session.specs.PlannedLimits.{over_planned}
+use Rattle.sync_session.specs.PlannedLosses.{loss_planned}
 use Rattle.sync_session.specs.PlannedReports.{reports_planned}
-use Rattle.sync_session.proofs.OutcomeLaws.{EndsSo, SaysLimit, ends_unwritten, later_stop, news_ends, seated_says}
+use Rattle.sync_session.proofs.OutcomeLaws.{EndsSo, SaysRefusal, cause_says, ends_unwritten, later_stop, news_ends, seated_says}
 
--- ---- what is found of the limits
+-- ---- what is found of the limits, and of what a new handheld would cost
 
-judged_stop : {L : Type 0} (talk : L → Option Talk) (fault : L → Option LinkFault) (meeting : Meeting) (old new : L) (over : Option (List ℕ))
-    (reported : List DbReport) (cause : Stop) → over ≡ first_over meeting → Does talk (before_writes meeting) old new
-    → Judges over reported (Err cause) → IsStopOf talk fault meeting old new cause
-judged_stop talk fault meeting old new over reported (stop.Limit name) is does judged = record { first = sym is ∙ judged; does = does }
-judged_stop talk fault meeting old new over reported (stop.Session session.NoMemory) is does judged = tt
-judged_stop talk fault meeting old new over reported other is does judged = absurd judged
+module _ (meeting : Meeting) (over loss : Option (List ℕ)) (reported : List DbReport) where
+  judged_stop : {L : Type 0} (talk : L → Option Talk) (fault : L → Option LinkFault) (old new : L) (cause : Stop)
+      → over ≡ first_over meeting → loss ≡ first_loss meeting → Does talk (before_writes meeting) old new
+      → Judges over loss reported (Err cause) → IsStopOf talk fault meeting old new cause
+  judged_stop talk fault old new (stop.Limit name) is costs does judged = record { first = sym is ∙ judged; does = does }
+  judged_stop talk fault old new (stop.NewHandheld name) is costs does judged =
+      record { within = sym is ∙ judged.0; first = sym costs ∙ judged.1; does = does }
+  judged_stop talk fault old new (stop.Session session.NoMemory) is costs does judged = tt
+  judged_stop talk fault old new other is costs does judged = absurd judged
 
-judged_limit : (meeting : Meeting) (over : Option (List ℕ)) (reported : List DbReport) (cause : Stop) → over ≡ first_over meeting
-    → Judges over reported (Err cause) → SaysLimit meeting (Err cause)
-judged_limit meeting over reported (stop.Limit name) is judged = λ found first. let same : name ≡ found = cc in same
-judged_limit meeting over reported stop.DeskFault is judged = absurd judged
-judged_limit meeting over reported (stop.Session cause) is judged = λ found first. tt
+  judged_says : (cause : Stop) → over ≡ first_over meeting → loss ≡ first_loss meeting → Judges over loss reported (Err cause)
+      → SaysRefusal meeting (Err cause)
+  judged_says (stop.Limit name) is costs judged = record {
+    limit = λ found first. let same : name ≡ found = cc in same;
+    loss = λ found none first. absurd (let never : ⊥ = cc in never);
+  }
+  judged_says (stop.NewHandheld name) is costs judged =
+      let within : over ≡ None = judged.0 in
+      let first_is : loss ≡ Some name = judged.1 in
+      record {
+        limit = λ found first. absurd (let never : ⊥ = cc in never);
+        loss = λ found none first. let same : name ≡ found = cc in same;
+      }
+  judged_says stop.DeskFault is costs judged = absurd judged
+  judged_says (stop.Session cause) is costs judged = cause_says meeting cause
 
 -- ---- the slot of the handheld's user
 
@@ -147,23 +163,29 @@ module _ {L F : Type 0} (talk : L → Option Talk) (since : L → L → Type 0) 
         rw (own_shelves, so.heads_are, length-map meeting.device.databases (λ (database : DatabaseValue). listed database.head), so.slots)
         (over_is_first_over meeting so.rests.proper planned are)
 
+    -- and so is what is found of a new handheld
+    own_loss : (user : UserInfo) (planned : List Planned) → user ≡ meeting.device.user → ArePlannedFor meeting planned
+        → loss_planned user (marks_in desk) (shelves_in desk) planned ≡ first_loss meeting
+    own_loss user planned same are = rw (same, so.slots, so.picked) (loss_is_first_loss meeting planned are)
+
     -- all was read, and then judged
     judged_ends : {then : SessionValue L} {planned : Vec Planned} (answer : Result Prepared Stop) {left : Outcome L F}
-        → ReadsAll talk since fault downs heads wishes desk now then (Ok planned) → AfterReading heads desk (Ok planned) answer
+        → ReadsAll talk since fault downs heads wishes desk now then (Ok planned) → AfterReading heads desk then.user (Ok planned) answer
         → AfterPreparing talk since fault downs contents moments paths faults wishes.date then desk answer left → Ends desk.folder left
     judged_ends {then} {planned} answer {left} reads judged goes =
         let reach = reads_reach since_more meeting so.rests so.starts own_shelves own_jobs so.met reads.reads in
         let are : ArePlannedFor meeting planned.items
         = plans_join meeting (shelves_in desk) (agreed now.user (marks_in desk)) (jobs_met heads wishes desk now.user)
         (map (λ (one : Planned). one.view) planned.items) planned.items own_shelves own_agree own_jobs reach.seen reads.plans in
-        step answer are (own_over planned.items are) reach judged goes
+        step answer are (own_over planned.items are) (own_loss then.user planned.items (reads.reads.user ∙ so.user) are) reach judged goes
       where
         step : (answer : Result Prepared Stop) → ArePlannedFor meeting planned.items
             → over_planned (shelves_in desk) (length heads) (all_rows desk.slots) planned.items ≡ first_over meeting
+            → loss_planned then.user (marks_in desk) (shelves_in desk) planned.items ≡ first_loss meeting
             → ReadsReach talk since fault downs meeting (map (λ (one : Planned). one.view) planned.items) old then.link
-            → AfterReading heads desk (Ok planned) answer
+            → AfterReading heads desk then.user (Ok planned) answer
             → AfterPreparing talk since fault downs contents moments paths faults wishes.date then desk answer left → Ends desk.folder left
-        step (Ok prepared) are over reach judged goes =
+        step (Ok prepared) are over loss reach judged goes =
             let same : prepared.planned ≡ planned = judged.1 in
             let none : first_over meeting ≡ None = sym over ∙ judged.0.0 in
             news_ends talk since fault downs contents moments meeting old paths faults itself since_more {date = wishes.date} {prepared = prepared}
@@ -174,27 +196,27 @@ module _ {L F : Type 0} (talk : L → Option Talk) (since : L → L → Type 0) 
               slots = so.slots;
               picked = so.picked;
               are = rw same are;
-              told = judged.0.1 ∙ ap (λ s. reports_planned s planned.items) own_shelves ∙ reports_are meeting so.rests.proper planned.items are none;
-              none = none;
+              told = judged.0.2 ∙ ap (λ s. reports_planned s planned.items) own_shelves ∙ reports_are meeting so.rests.proper planned.items are none;
+              on = record { within = none; keeps = sym loss ∙ judged.0.1 };
               seated = so.seated;
               ordered = so.ordered;
               read = reach.reached;
               tells = reach.tells;
             }) goes.sends goes.goes
-        step (Err cause) are over reach judged goes =
+        step (Err cause) are over loss reach judged goes =
             ends_unwritten talk since fault downs contents moments meeting old goes reach.reached.stops
-            (judged_stop talk fault meeting old then.link _ (reports_planned (shelves_in desk) planned.items) cause over reach.reached.does judged.0)
+            (judged_stop meeting _ _ (reports_planned (shelves_in desk) planned.items) talk fault old then.link cause over loss reach.reached.does judged.0)
             (λ why is. seated_says _ meeting why so.seated is)
-            (judged_limit meeting _ (reports_planned (shelves_in desk) planned.items) cause over judged.0)
+            (judged_says meeting _ _ (reports_planned (shelves_in desk) planned.items) cause over loss judged.0)
 
     prepared_ends : {then : SessionValue L} (answer : Result Prepared Stop) {left : Outcome L F} (reading : Result (Vec Planned) SessionFault)
-        → ReadsAll talk since fault downs heads wishes desk now then reading → AfterReading heads desk reading answer
+        → ReadsAll talk since fault downs heads wishes desk now then reading → AfterReading heads desk then.user reading answer
         → AfterPreparing talk since fault downs contents moments paths faults wishes.date then desk answer left → Ends desk.folder left
     prepared_ends answer (Ok planned) reads judged goes = judged_ends answer reads judged goes
     prepared_ends {then} answer (Err cause) reads is goes =
         ends_unwritten talk since fault downs contents moments meeting old (rw is at goes)
         (reads_stop since_more meeting so.rests so.starts own_shelves own_jobs so.met reads.reads)
-        (later_stop talk fault meeting old then.link cause reads.reads.cause) (λ why is. seated_says _ meeting why so.seated is) (λ name first. tt)
+        (later_stop talk fault meeting old then.link cause reads.reads.cause) (λ why is. seated_says _ meeting why so.seated is) (cause_says meeting cause)
 
   -- ---- both sides meet
 
@@ -256,11 +278,11 @@ module _ {L F : Type 0} (talk : L → Option Talk) (since : L → L → Type 0) 
         (λ why unseated. (
           (asks_alone unseated meets.unseated).stops,
           unmet_for meeting rests.proper tells halted.cause unseated (fault halted.link) meets.cause,
-        )) (λ name first. tt)
+        )) (cause_says meeting halted.cause)
     unmet_ends desk halted (inr none) is =
         ends_unwritten talk since fault downs contents moments meeting old is (nothing (map text (before_writes meeting)))
         (later_stop talk fault meeting old halted.link halted.cause (rw none.1 tt))
-        (λ why unseated. (nothing (text reading_user ∷ []), inr (inr (ap stop.Session none.1)))) (λ name first. tt)
+        (λ why unseated. (nothing (text reading_user ∷ []), inr (inr (ap stop.Session none.1)))) (cause_says meeting halted.cause)
       where
         nothing : (requests : List (List ℕ)) → Stops talk since fault downs requests old halted.link
         nothing requests = rw none.0 (stops_none talk since fault downs requests old old refl (itself old) (fell_none fault downs old))

@@ -41,6 +41,7 @@ use Rattle.sync_session.specs.Jobs.{jobs_of}
 use Rattle.sync_session.specs.Meets.{Meets}
 use Rattle.sync_session.specs.Phases.{gained, news_under}
 use Rattle.sync_session.specs.PlannedLimits.{over_planned}
+use Rattle.sync_session.specs.PlannedLosses.{loss_planned}
 use Rattle.sync_session.specs.PlannedReports.{reports_planned}
 use Rattle.sync_session.specs.Planning.{ArePlanned}
 use Rattle.sync_session.specs.Readings.{reads_under, shown_under}
@@ -129,20 +130,20 @@ abbrev pub reported : Result Prepared Stop → Result (Vec DbReport) Stop
 reported (Ok prepared) = Ok prepared.reports
 reported (Err cause) = Err cause
 
--- the limits were looked at, or not all was read
-abbrev pub AfterReading : {F : Type 0} → List DbHead → DeskValue F → Result (Vec Planned) SessionFault → Result Prepared Stop → Type 0
-AfterReading heads desk (Ok planned) answer =
-    Judges (over_planned (shelves_in desk) (length heads) (all_rows desk.slots) planned.items) (reports_planned (shelves_in desk) planned.items)
-    (reported answer)
+-- the limits were looked at, and what a new handheld would cost, or not all was read
+abbrev pub AfterReading : {F : Type 0} → List DbHead → DeskValue F → UserInfo → Result (Vec Planned) SessionFault → Result Prepared Stop → Type 0
+AfterReading heads desk user (Ok planned) answer =
+    Judges (over_planned (shelves_in desk) (length heads) (all_rows desk.slots) planned.items)
+    (loss_planned user (marks_in desk) (shelves_in desk) planned.items) (reports_planned (shelves_in desk) planned.items) (reported answer)
     × IfOk answer (λ prepared. prepared.planned ≡ planned)
-AfterReading heads desk (Err cause) answer = answer ≡ Err (stop.Session cause)
+AfterReading heads desk user (Err cause) answer = answer ≡ Err (stop.Session cause)
 
 -- what precedes each write was to be done
 pub record Prepares {L F : Type 0} (talk : L → Option Talk) (since : L → L → Type 0) (fault : L → Option LinkFault) (downs : L → ℕ)
     (heads : List DbHead) (wishes : Wishes) (desk : DeskValue F) (old new : SessionValue L) (answer : Result Prepared Stop) : Type 0 where
   pub reading : Result (Vec Planned) SessionFault
   pub reads : ReadsAll talk since fault downs heads wishes desk old new reading
-  pub goes : AfterReading heads desk reading answer
+  pub goes : AfterReading heads desk new.user reading answer
 
 -- it was done, or not all of it
 abbrev pub AfterPreparing : {L F : Type 0} → (L → Option Talk) → (L → L → Type 0) → (L → Option LinkFault) → (L → ℕ) → (F → Option FileMap) → (F → Moments) →

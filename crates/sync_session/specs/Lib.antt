@@ -11,12 +11,14 @@ pub mod Heads
 pub mod Jobs
 pub mod Leaving
 pub mod Limits
+pub mod Losses
 pub mod Meets
 pub mod Merges
 pub mod News
 pub mod Outcomes
 pub mod Phases
 pub mod PlannedLimits
+pub mod PlannedLosses
 pub mod PlannedReports
 pub mod PlannedTasks
 pub mod Planning

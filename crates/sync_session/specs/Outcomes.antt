@@ -26,6 +26,7 @@ use Rattle.sync_session.specs.declared.stop.Stop.{Stop}
 use Rattle.sync_session.specs.declared.stop.Stop.TheVariants as stop
 use Rattle.sync_session.specs.Given.{GetFreeIds}
 use Rattle.sync_session.specs.Limits.{first_over}
+use Rattle.sync_session.specs.Losses.{first_loss}
 use Rattle.sync_session.specs.Merges.{merged_slots}
 use Rattle.sync_session.specs.Reports.{reports as reports_of}
 use Rattle.sync_session.specs.Sessions.{adds_of, after_commit, before_commit, before_writes, session}
@@ -113,6 +114,13 @@ pub record IsLimit {L : Type 0} (talk : L → Option Talk) (meeting : Meeting) (
   pub first : first_over meeting ≡ Some name
   pub does : Does talk (before_writes meeting) old new
 
+-- no limit would be passed, the handheld never ended a session, the slot of its user did, and this database would lose live rows of the
+-- desktop first; all is read and nothing written
+pub record IsNewHandheld {L : Type 0} (talk : L → Option Talk) (meeting : Meeting) (old new : L) (name : List ℕ) : Type 0 where
+  pub within : first_over meeting ≡ None
+  pub first : first_loss meeting ≡ Some name
+  pub does : Does talk (before_writes meeting) old new
+
 -- all that precedes the commit was answered, each new record got an id that was free at its turn, and no more went out
 pub record IsAtCommit {L : Type 0} (talk : L → Option Talk) (meeting : Meeting) (old new : L) : Type 0 where
   pub given : List ℕ
@@ -131,6 +139,7 @@ IsStopOf talk fault meeting old new (stop.Session (session.OtherUser handheld de
 IsStopOf talk fault meeting old new (stop.Session session.TooManyUsers) = (slot_in meeting ≡ Full) × Does talk (reading_user ∷ []) old new
 IsStopOf talk fault meeting old new (stop.Session session.NoMemory) = Unit {0}
 IsStopOf talk fault meeting old new (stop.Limit name) = IsLimit talk meeting old new name
+IsStopOf talk fault meeting old new (stop.NewHandheld name) = IsNewHandheld talk meeting old new name
 IsStopOf talk fault meeting old new stop.DeskFault = IsAtCommit talk meeting old new
 
 -- it stopped for this, unless its link is down or memory was wanted
@@ -143,13 +152,20 @@ abbrev pub StopsAtLimit : List ℕ → Result (Vec DbReport) Stop → Type 0
 StopsAtLimit name (Ok reports) = ⊥
 StopsAtLimit name (Err (stop.Session cause)) = Unit {0}
 StopsAtLimit name (Err (stop.Limit other)) = other ≡ name
-StopsAtLimit name (Err stop.DeskFault) = ⊥
+StopsAtLimit name (Err other) = ⊥
+
+-- it stopped for a new handheld, by which this database would lose live rows, unless what it said or memory stopped it before
+abbrev pub StopsAtLoss : List ℕ → Result (Vec DbReport) Stop → Type 0
+StopsAtLoss name (Ok reports) = ⊥
+StopsAtLoss name (Err (stop.Session cause)) = Unit {0}
+StopsAtLoss name (Err (stop.NewHandheld other)) = other ≡ name
+StopsAtLoss name (Err other) = ⊥
 
 -- ---- both
 
 -- A session of these two sides ended, or it stopped: before the desktop's commit or behind it, and by its cause. Where the handheld's user
 -- has no slot, nothing but the user is asked for, and it stops for that; where a limit would be passed, nothing is written, and it stops for
--- that or before.
+-- that or before; and else where a new handheld would cost the desktop live rows.
 pub record SessionEnds {L : Type 0} (talk : L → Option Talk) (since : L → L → Type 0) (fault : L → Option LinkFault) (downs : L → ℕ)
     (meeting : Meeting) (old new : L) (folder : Tellings) (answer : Result (Vec DbReport) Stop) : Type 0 where
   pub ended : IfOk answer (λ reports. IsEnded talk meeting old new folder reports.items)
@@ -159,3 +175,5 @@ pub record SessionEnds {L : Type 0} (talk : L → Option Talk) (since : L → L 
       → Stops talk since fault downs (text reading_user ∷ []) old new × StopsFor (stop.Session why) answer
   pub over : IsSome (first_over meeting) → Stops talk since fault downs (map text (before_writes meeting)) old new
   pub limit : (name : List ℕ) → first_over meeting ≡ Some name → StopsAtLimit name answer
+  pub losing : IsSome (first_loss meeting) → Stops talk since fault downs (map text (before_writes meeting)) old new
+  pub loss : (name : List ℕ) → first_over meeting ≡ None → first_loss meeting ≡ Some name → StopsAtLoss name answer

@@ -13,10 +13,11 @@ abbrev pub stop_of : CommitFault → Stop
 stop_of commit.DeskFault = stop.DeskFault
 stop_of commit.NoMemory = stop.Session session.NoMemory
 
--- what is told where the limits were looked at: the reports where none would be passed, else the name of the first database that would
--- pass one, unless memory ran out
-abbrev pub Judges : Option (List ℕ) → List DbReport → Result (Vec DbReport) Stop → Type 0
-Judges over reports (Ok made) = (over ≡ None) × (made.items ≡ reports)
-Judges over reports (Err (stop.Limit name)) = over ≡ Some name
-Judges over reports (Err (stop.Session session.NoMemory)) = Unit {0}
-Judges over reports (Err other) = ⊥
+-- what is told where the limits were looked at, and then what a new handheld would cost the desktop: the name of the first database that
+-- would pass a limit; else of the first one that would lose live rows; else the reports; unless memory ran out
+abbrev pub Judges : Option (List ℕ) → Option (List ℕ) → List DbReport → Result (Vec DbReport) Stop → Type 0
+Judges over loss reports (Ok made) = (over ≡ None) × (loss ≡ None) × (made.items ≡ reports)
+Judges over loss reports (Err (stop.Limit name)) = over ≡ Some name
+Judges over loss reports (Err (stop.NewHandheld name)) = (over ≡ None) × (loss ≡ Some name)
+Judges over loss reports (Err (stop.Session session.NoMemory)) = Unit {0}
+Judges over loss reports (Err other) = ⊥

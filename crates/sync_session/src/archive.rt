@@ -11,7 +11,7 @@ use std::alloc::{AllocError, Global};
 
 // Whether two contents are equal.
 #[tactic(auto, unfolding(conduit_rules::specs::Contents::same_content))]
-fn is_same(one: &Content, other: &Content) -> bool
+pub(crate) fn is_same(one: &Content, other: &Content) -> bool
     ensures { result ≡ same_content one.now other.now }
 {
     one.category() == other.category()

@@ -7,7 +7,9 @@ ghost use Rattle.desk_store.specs.Desks.{all_rows};
 ghost use Rattle.desktop_session.specs.Acts.{text};
 ghost use Rattle.desktop_session.specs.Tellings.{IsProper, device_after};
 ghost use Rattle.sync_session.specs.Limits.{first_over};
+ghost use Rattle.sync_session.specs.Losses.{first_loss};
 ghost use Rattle.sync_session.specs.PlannedLimits.{over_planned};
+ghost use Rattle.sync_session.specs.PlannedLosses.{loss_planned};
 ghost use Rattle.sync_session.specs.PlannedReports.{reports_planned};
 ghost use Rattle.sync_session.specs.PlannedTasks.{ArePlannedFor};
 ghost use Rattle.sync_session.specs.Quiet.{AreQuiet};
@@ -55,6 +57,13 @@ pub fn the_first_over_is_the_meetings()
         → over_planned (slot_of meeting).shelves (length meeting.device.databases)
         (all_rows meeting.slots) planned
         ≡ first_over meeting }
+{}
+
+/// The first planned database by which a new handheld would cost the desktop live rows is the first one of the meeting.
+pub fn the_first_loss_is_the_meetings()
+    ensures { (meeting : Meeting) (planned : List Planned) → ArePlannedFor meeting planned
+        → loss_planned meeting.device.user (slot_of meeting).marks (slot_of meeting).shelves planned
+        ≡ first_loss meeting }
 {}
 
 /// Where none would pass a limit, what is told of the planned databases is what is told of the meeting.

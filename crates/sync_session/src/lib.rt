@@ -14,6 +14,7 @@ mod jobs;
 mod judge;
 mod laws;
 mod limits;
+mod losses;
 mod marking;
 mod meeting;
 mod names;
@@ -46,9 +47,11 @@ pub use jobs::jobs_of;
 pub use judge::{action_of, skip_of};
 pub use laws::{
     nothing_is_written_before_the_mark, planned_rows_are_merged, readings_leave_the_handheld,
-    requests_bear_no_given_id, the_first_over_is_the_meetings, what_is_told_is_the_meetings,
+    requests_bear_no_given_id, the_first_loss_is_the_meetings, the_first_over_is_the_meetings,
+    what_is_told_is_the_meetings,
 };
 pub use limits::{first_over, is_over};
+pub use losses::{first_loss, is_new_to};
 pub use marking::{begin, finish};
 pub use meeting::{Met, meet};
 pub use names::put_name;

@@ -1,14 +1,16 @@
 // What a session does before it writes.
-ghost use Rattle.std.specs.Prelude.{◌≡◌, OnOk, false};
+ghost use Rattle.std.specs.Prelude.{◌≡◌, None, OnOk, false};
 ghost use Rattle.desk_store.specs.Desks.{all_rows};
-ghost use Rattle.desk_store.specs.Views.{shelves_in};
+ghost use Rattle.desk_store.specs.Views.{marks_in, shelves_in};
 ghost use Rattle.sync_session.specs.Courses.{Prepares, ReadsAll};
 ghost use Rattle.sync_session.specs.PlannedLimits.{over_planned};
+ghost use Rattle.sync_session.specs.PlannedLosses.{loss_planned};
 ghost use Rattle.sync_session.specs.PlannedReports.{reports_planned};
 ghost use Rattle.sync_session.specs.Stopping.{Judges};
 
 use crate::jobs::jobs_of;
 use crate::limits::first_over;
+use crate::losses::first_loss;
 use crate::planned::Planned;
 use crate::planning::plan_all;
 use crate::reading::read_all;
@@ -21,7 +23,7 @@ use desktop_session::{Linked, SessionFault};
 use dlp_commands::Link;
 use fast_mirror::agree;
 use hs_folders::Folder;
-use pdb_values::DbHead;
+use pdb_values::{DbHead, UserInfo};
 use std::alloc::Global;
 
 /// The databases of a session once they are read and planned, and what is told of them once it has ended.
@@ -50,24 +52,43 @@ pub fn read_and_plan<L: Link, D: Folder>(
     Ok(plan_all(alloc, desk, agree, jobs, views)?)
 }
 
-// Looks at the limits of both sides, and tells what will have been done. `listed` is how many databases the handheld listed.
+// Looks at what a handheld would cost the desktop that never ended a session, and tells what will have been done.
+fn judge_losses<D: Folder>(
+    alloc: Global,
+    desk: &Desk<D>,
+    handheld: &UserInfo,
+    planned: &[Planned],
+) -> Result<Vec<DbReport>, Stop>
+    ensures { Judges None
+        (loss_planned handheld.now (marks_in desk.now) (shelves_in desk.now) planned.now)
+        (reports_planned (shelves_in desk.now) planned.now) result }
+{
+    match first_loss(desk, handheld, planned) {
+        Some(name) => Err(Stop::NewHandheld(name)),
+        None => Ok(reports_of(alloc, desk, planned)?),
+    }
+}
+
+// Looks at the limits of both sides, then at what a new handheld would cost. `listed` is how many databases the handheld listed.
 fn judge<D: Folder>(
     alloc: Global,
     desk: &Desk<D>,
+    handheld: &UserInfo,
     listed: usize,
     planned: &[Planned],
 ) -> Result<Vec<DbReport>, Stop>
     ensures { Judges (over_planned (shelves_in desk.now) listed
         (all_rows desk.now.slots) planned.now)
+        (loss_planned handheld.now (marks_in desk.now) (shelves_in desk.now) planned.now)
         (reports_planned (shelves_in desk.now) planned.now) result }
 {
     match first_over(alloc, desk, listed, planned)? {
         Some(name) => Err(Stop::Limit(name)),
-        None => Ok(reports_of(alloc, desk, planned)?),
+        None => judge_losses(alloc, desk, handheld, planned),
     }
 }
 
-/// Reads and plans each database of a session, and looks at the limits of both sides.
+/// Reads and plans each database of a session, and looks at the limits of both sides, and at what a new handheld would cost the desktop.
 pub fn prepare<L: Link, D: Folder>(
     alloc: Global,
     linked: &mut Linked<L>,
@@ -82,6 +103,6 @@ pub fn prepare<L: Link, D: Folder>(
     ensures open { OnOk result (linked.new.abandoned ≡ false) }
 {
     let planned = read_and_plan(alloc, linked, desk, heads, wishes)?;
-    let reports = judge(alloc, desk, heads.len(), &planned)?;
+    let reports = judge(alloc, desk, linked.user(), heads.len(), &planned)?;
     Ok(Prepared { planned, reports })
 }

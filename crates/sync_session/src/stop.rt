@@ -16,6 +16,9 @@ pub enum Stop {
     Session(SessionFault),
     /// The database of this name would pass a limit of a side. Nothing was written.
     Limit(DbName),
+    /// The handheld never ended a session and the desktop did, and the database of this name would lose live rows of the desktop.
+    /// Nothing was written.
+    NewHandheld(DbName),
     /// The desktop's folder failed.
     DeskFault,
 }
