@@ -249,7 +249,7 @@ fits-behind a {x} given ws read got are =
 
 module _ (a : Action) (x : Found) (given : List ℕ) (n : ℕ) (looks : LooksAtRows a) (read : IsRead x) (got : GotIds a x given)
     (then_read : IsRead (left_behind_commit a x given n)) where
-  chosen-commit : (chosen a (left_behind_commit a x given n) ≡ kept_alone (row_under (chosen a x) given)) ×
+  pub chosen-commit : (chosen a (left_behind_commit a x given n) ≡ kept_alone (row_under (chosen a x) given)) ×
       ((i : ℕ) → Fits (row_under (chosen a x) given i) (shown x i) (shown (left_behind_commit a x given n) i))
   chosen-commit =
       let ch = chosen a x in
@@ -282,16 +282,21 @@ module _ (a : Action) (x : Found) (given : List ℕ) (n : ℕ) (looks : LooksAtR
   pub commit-adds : (chosen a (left_behind_commit a x given n)).adds ≡ []
   commit-adds = ap (λ c. Choice.adds c) (chosen-commit).0
 
-pub end-adds : (a : Action) (x : Found) (given : List ℕ) (view : List Seen) (g : Bool) → IsRead x → GotIds a x given
-    → IsRead (left_at_end a x given view g) → (chosen a (left_at_end a x given view g)).adds ≡ []
-end-adds a x given view g read got then_read =
+-- what is merged on both sides is kept, and nothing else
+pub chosen-end : (a : Action) (x : Found) (given : List ℕ) (view : List Seen) (g : Bool) → IsRead x → GotIds a x given
+    → IsRead (left_at_end a x given view g) → chosen a (left_at_end a x given view g) ≡ kept_alone (row_under (chosen a x) given)
+chosen-end a x given view g read got then_read =
     let ch = chosen a x in
     let differ = differ-ids x.records read.ids in
     let all = whole-is ch (shown x) given x.records differ read.bounded read.shows got in
-    ap (λ c. Choice.adds c) (choice-merged_for a ch (shown x) given x.records view g differ read.bounded read.shows got (no_zero a given read got)
-    (λ i. then_read.shows i ∙ ap (λ rs. held rs i) (sym all)))
+    choice-merged_for a ch (shown x) given x.records view g differ read.bounded read.shows got (no_zero a given read got)
+    (λ i. then_read.shows i ∙ ap (λ rs. held rs i) (sym all))
 
--- what is merged on both sides, whichever way it is read then
+pub end-adds : (a : Action) (x : Found) (given : List ℕ) (view : List Seen) (g : Bool) → IsRead x → GotIds a x given
+    → IsRead (left_at_end a x given view g) → (chosen a (left_at_end a x given view g)).adds ≡ []
+end-adds a x given view g read got then_read = ap (λ c. Choice.adds c) (chosen-end a x given view g read got then_read)
+
+-- how that ends, whichever way it is read then
 pub at-end : (a : Action) (x : Found) (given later : List ℕ) (view : List Seen) (g : Bool) → IsRead x → GotIds a x given
     → IsRead (left_at_end a x given view g) → EndAlike (ended a (left_at_end a x given view g) later) (ended a x given)
 at-end a x given later view g read got then_read =

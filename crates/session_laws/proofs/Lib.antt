@@ -4,6 +4,7 @@ pub mod DesktopLaws
 pub mod FirstLaws
 pub mod GivenLaws
 pub mod HandheldLaws
+pub mod LossLaws
 pub mod MeetingLaws
 pub mod MergedLaws
 pub mod NewsLaws

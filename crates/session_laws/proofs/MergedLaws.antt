@@ -41,7 +41,7 @@ pub record PutsOwn (m : Meeting) (put : Task → List ℕ → List DatabaseValue
   pub here : (t : Task) (ids : List ℕ) (databases : List DatabaseValue) → t ≡ task_of m t.name
       → database_of t.name (put t ids databases) ≡ own t ids (database_of t.name databases)
 
-others-stay : {m : Meeting} {put : Task → List ℕ → List DatabaseValue → List DatabaseValue} {own : Task → List ℕ → Option DatabaseValue → Option DatabaseValue}
+pub others-stay : {m : Meeting} {put : Task → List ℕ → List DatabaseValue → List DatabaseValue} {own : Task → List ℕ → Option DatabaseValue → Option DatabaseValue}
     → PutsOwn m put own → (ts : List Task) (given : List ℕ) (databases : List DatabaseValue) (name : List ℕ) → AreTasks m ts → NotNamed name ts
     → database_of name (puts m put ts given databases) ≡ database_of name databases
 others-stay is [] given databases name are unnamed = refl

@@ -87,7 +87,7 @@ row_add : (ch : Choice) (g : ℕ) {a : ContentValue} (gs : List ℕ) (i : ℕ) �
 row_add ch g gs i none next = grind arith
 
 -- nothing is kept under an id that has no base row and that nothing holds
-not_kept : {b : Based} {h : Held} (d : Held) → b ≡ no_base → h ≡ nothing → (fate b h d).keep ≡ None
+pub not_kept : {b : Based} {h : Held} (d : Held) → b ≡ no_base → h ≡ nothing → (fate b h d).keep ≡ None
 not_kept d none bare = ap {A = Based × Held} (λ p. Fate.keep (fate p.0 p.1 d)) (λ k. (none k, bare k))
 
 -- ---- the first of the writes

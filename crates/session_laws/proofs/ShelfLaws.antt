@@ -14,7 +14,7 @@ use Rattle.sync_session.specs.Merges.{rows_before, archive_of, Merged, merged_of
 use Rattle.sync_session.specs.News.{add_count}
 use Rattle.sync_session.specs.Tasks.{Meeting, Task, task_of, slot_of, records_of}
 use Rattle.session_laws.specs.Meetings.{ids_dealt}
-use Rattle.session_laws.proofs.MergedLaws.{AreTasks, IsTask, PutsOwn, puts, own-changes}
+use Rattle.session_laws.proofs.MergedLaws.{AreTasks, IsTask, NotNamed, PutsOwn, others-stay, puts, own-changes}
 
 -- ---- one role of a merged database
 
@@ -131,6 +131,13 @@ shelf-merged g f is head m ts given shelves t are there before =
       own-changes (role-own f head m) ts given (g shelves) t are there,
       own_role f m t (ids_dealt m ts given t.name),
     )
+
+-- what the session doesn't take stays
+pub shelf-others : (g : ShelvesValue → List DatabaseValue) (f : Merged → Option DatabaseValue) → IsShelf g f → HasHead f
+    → (m : Meeting) (ts : List Task) (given : List ℕ) (shelves : ShelvesValue) (name : List ℕ) → AreTasks m ts → NotNamed name ts
+    → database_of name (g (merged_shelves m ts given shelves)) ≡ database_of name (g shelves)
+shelf-others g f is head m ts given shelves name are unnamed =
+    ap (database_of name) (shelf-puts g f is m ts given shelves) ∙ others-stay (role-own f head m) ts given (g shelves) name are unnamed
 
 -- ---- an archive that is written, or left as it is
 

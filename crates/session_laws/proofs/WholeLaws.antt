@@ -17,8 +17,8 @@ use Rattle.session_laws.specs.Meetings.{LeftMerged, AllFollow, last_of, places_o
 use Rattle.session_laws.specs.Renaming.{AreUnknown, SameEnds}
 use Rattle.session_laws.specs.Repeats.{IsRead, ended, chosen, shown, GotAllIds, Place, AreStops, all_ids}
 use Rattle.session_laws.proofs.MeetingLaws.{meetings-same}
-use Rattle.session_laws.proofs.MergedLaws.{handheld-merged}
-use Rattle.session_laws.proofs.ShelfLaws.{shelf-merged, rows_in, base_in, archive_in, rows-head, base-head, archive-head, archive-entries}
+use Rattle.session_laws.proofs.MergedLaws.{NotNamed, handheld-merged}
+use Rattle.session_laws.proofs.ShelfLaws.{shelf-merged, shelf-others, rows_in, base_in, archive_in, rows-head, base-head, archive-head, archive-entries}
 use Rattle.session_laws.proofs.TaskLaws.{are-active, is-active, on_a_side, rows-name}
 use Rattle.session_laws.proofs.SkipLaws.{handheld-like, rows-like, kept-stays}
 
@@ -51,6 +51,22 @@ slot_shelves m given = refl
 device_databases : (m : Meeting) (given : List ℕ) → (merged_device m given).databases ≡ merged_databases m (active m) given m.device.databases
 unfolding merged_device
 device_databases m given = refl
+
+-- what the session doesn't take stays as it was on the desktop
+pub record IsUntouched (m next : Meeting) (name : List ℕ) : Type 0 where
+  pub rows : (task_of next name).rows ≡ (task_of m name).rows
+  pub base : (task_of next name).base ≡ (task_of m name).base
+
+pub untouched-at : (m next : Meeting) (given : List ℕ) (name : List ℕ) → slot_of next ≡ merged_slot m given → NotNamed name (active m)
+    → IsUntouched m next name
+untouched-at m next given name slot unnamed =
+    let shelves = ap (λ (s : SlotValue). s.shelves) slot ∙ slot_shelves m given in
+    record {
+      rows = ap (λ s. database_of name s.rows) shelves
+          ∙ shelf-others (λ s. s.rows) rows_in (λ x s. refl) rows-head m (active m) given (slot_of m).shelves name (are-active m) unnamed;
+      base = ap (λ s. database_of name s.bases) shelves
+          ∙ shelf-others (λ s. s.bases) base_in (λ x s. refl) base-head m (active m) given (slot_of m).shelves name (are-active m) unnamed;
+    }
 
 pub merged-at : (m next : Meeting) (given : List ℕ) (name : List ℕ) → slot_of next ≡ merged_slot m given → IsActive m name
     → IsMergedAt next name (ended (action_at m name) (found_of m name) (ids_dealt m (active m) given name))

@@ -1,3 +1,4 @@
+pub mod Losses
 pub mod Meetings
 pub mod Renaming
 pub mod Repeats

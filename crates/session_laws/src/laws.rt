@@ -1,9 +1,10 @@
 //! What holds of a database between sessions that stopped and the next one. Each function here does
 //! nothing: its contract is the law.
-ghost use Rattle.std.specs.Prelude.{◌≡◌, ◌++◌, ℕ, List, Bool};
+ghost use Rattle.std.specs.Prelude.{◌≡◌, ◌++◌, ℕ, List, Bool, false};
 ghost use Rattle.conduit_rules.specs.declared.action.Action.{Action};
 ghost use Rattle.conduit_rules.specs.declared.action.Action.TheVariants.{Sync, Handheld, Desktop};
 ghost use Rattle.conduit_rules.specs.declared.view.Seen.{Seen};
+ghost use Rattle.session_laws.specs.Losses.{loses_rows};
 ghost use Rattle.session_laws.specs.Repeats.{Found, IsRead, EndAlike, GotIds, ended, Place};
 ghost use Rattle.session_laws.specs.Repeats.{StopsAmongNews, left_among_news, left_behind_commit};
 ghost use Rattle.session_laws.specs.Renaming.{AreUnknown, SameEnds};
@@ -42,6 +43,20 @@ pub fn purges_are_taken_up()
     ensures { (a : Action) (x : Found) (given later : List ℕ) (n : ℕ) → IsRead x → GotIds a x given
         → let y = left_behind_commit a x given n in
         EndAlike (ended a y later) (ended a x given) }
+{}
+
+/// A session that costs the desktop no live row of a database costs it none where it is run again, wherever
+/// it stopped; and behind the desktop's commit it costs it none, whatever the one that stopped did.
+pub fn a_stop_costs_no_row()
+    ensures news { (x : Found) (given : List ℕ) (n : ℕ) → StopsAmongNews Sync x given n
+        → loses_rows x ≡ false
+        → loses_rows (left_among_news Sync x given n) ≡ false }
+    ensures commit { (x : Found) (given : List ℕ) (n : ℕ) → IsRead x → GotIds Sync x given
+        → loses_rows (left_behind_commit Sync x given n) ≡ false }
+    ensures end { (x : Found) (given : List ℕ) (view : List Seen) (gone_counts : Bool) → IsRead x
+        → GotIds Sync x given
+        → let y = left_at_end Sync x given view gone_counts in
+        IsRead y → loses_rows y ≡ false }
 {}
 
 /// What is merged on both sides stays as it is, whichever sides the sessions go by, and whichever way the
