@@ -6,6 +6,7 @@ pub mod CutActs
 pub mod EachLaws
 pub mod FitLaws
 pub mod FrontLaws
+pub mod LossLaws
 pub mod ManyLaws
 pub mod MergeActs
 pub mod NameLaws

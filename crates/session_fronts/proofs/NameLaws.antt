@@ -44,7 +44,7 @@ active_in : (m : Meeting) (ns : List (List ℕ)) → AllByRecursion (IsIn (names
 active_in m [] all = tt
 active_in m (n ∷ ns) all = grind (arith, is_none (skip_of (task_of m n)), active_in m ns all.1)
 
-active_names : (m : Meeting) → AllByRecursion (λ (t : Task). IsActive m t.name) (active m)
+pub active_names : (m : Meeting) → AllByRecursion (λ (t : Task). IsActive m t.name) (active m)
 unfolding active tasks
 active_names m = active_in m (names m) (are_in (names m))
 

@@ -262,7 +262,7 @@ step-among {meeting} {next} {given} {name} stands is asks slot number read fresh
     ]
 
 -- behind a whole session the handheld is honest against the new base
-honest-then : {meeting : Meeting} (next : Meeting) (given : List ℕ) (name : List ℕ) → IsRead (found_of meeting name)
+pub honest-then : {meeting : Meeting} (next : Meeting) (given : List ℕ) (name : List ℕ) → IsRead (found_of meeting name)
     → GotIds (action_at meeting name) (found_of meeting name) (ids_at meeting given name) → LeftAtEnd meeting next (ids_at meeting given) name
     → IsRead (found_of next name)
 honest-then {meeting} next given name read got left =

@@ -11,6 +11,7 @@ ghost use Rattle.desktop_session.specs.Requests.{ending};
 ghost use Rattle.desktop_session.specs.Tellings.{AreSayable, device_after, exchanges};
 ghost use Rattle.sync_session.specs.Fronts.{Front};
 ghost use Rattle.sync_session.specs.Limits.{first_over};
+ghost use Rattle.sync_session.specs.Losses.{first_loss};
 ghost use Rattle.sync_session.specs.Merges.{merged_device};
 ghost use Rattle.sync_session.specs.Sessions.{adds_of, after_commit, before_commit, before_writes, session};
 ghost use Rattle.sync_session.specs.Sessions.{requests, writes_before_commit};
@@ -143,6 +144,17 @@ pub fn a_stopped_session_is_run_again()
         → GotAllIds a x (ids_at meeting new name) → AreUnknown x (ids_at meeting new name)
         → IsActive next name
         × SameEnds x (holding_after next later name) (holding_after meeting new name) }
+{}
+
+/// A session that is run again behind one that stopped meets no new handheld that would cost the desktop
+/// live rows, where the one that stopped met none: not among its news, and not behind the desktop's commit,
+/// where the desktop has the date of a session that the handheld never ended.
+pub fn a_stopped_session_makes_no_new_handheld()
+    ensures { (meeting next : Meeting) (writes : ℕ) (given later : List ℕ) → IsSoundMeeting meeting
+        → first_over meeting ≡ None → first_loss meeting ≡ None
+        → RunsAgain meeting next writes given
+        → ((name : List ℕ) → IsActive meeting name → IsFresh meeting next given later name)
+        → first_loss next ≡ None }
 {}
 
 /// After any number of sessions that stopped, wherever each did, the one that ends leaves what the first
