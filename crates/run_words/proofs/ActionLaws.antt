@@ -1,6 +1,6 @@
 -- The text of actions, and the test of it.
 use Rattle.std.proofs.lemmas.Grind.{common_steps}
-use Rattle.std.proofs.Common.{◌≡◌, ℕ, suc, ◌+◌, ◌*◌, ◌/◌, ◌%◌, ◌<◌, ◌==◌, ◌&&◌, Bool, true, false, cond, List, [], ◌∷◌, ◌++◌, length, map, refl, sym, ap, ◌∙◌}
+use Rattle.std.proofs.Common.{◌≡◌, ℕ, suc, ◌+◌, ◌*◌, ◌/◌, ◌%◌, ◌<◌, ◌==◌, ◌&&◌, Bool, true, false, cond, List, [], ◌∷◌, ◌++◌, length, map, refl, subst, sym, ap, ◌∙◌}
 use Rattle.std.proofs.Common.{arith, Option, Some, None, option_map, codes, bytes_eq, take, drop}
 use Rattle.std.specs.Prelude.{is_none, is_some, option_and_then, nat_lt, not, ◌↔◌}
 use Rattle.std.specs.List.{AllByRecursion, before_first, after_first, position_or_len, filter_map, slice_split}
@@ -11,13 +11,14 @@ use Rattle.std.proofs.lemmas.List.Splits.{join_with_byte-slice_split, slice_spli
 use Rattle.std.proofs.lemmas.Slice.Eq.{bytes_eq-Decides}
 use Rattle.pdb_values.specs.Names.{name_fault}
 use Rattle.pdb_values.specs.Stems.{hex_digit, is_plain, stem_byte, stem_of}
-use Rattle.pdb_values.proofs.StemLaws.{stem_of_injective}
-use Rattle.run_words.specs.Actions.{AreActions, AreApart, IsActionsText, IsNameOfBytes, action_of_word, action_text, actions_in, actions_text, are_items}
-use Rattle.run_words.specs.Actions.{has_stem, is_actions_text, is_colon, is_comma, item_of, item_text, named, stem_in}
+use Rattle.run_words.specs.Actions.{AreActions, AreApart, IsActionsText, IsNameOfBytes, IsTarget, action_of_word, action_text, actions_in, actions_text}
+use Rattle.run_words.specs.Actions.{aimed, are_items, has_stem, is_actions_text, is_colon, is_comma, item_of, item_text, stem_in, target_of, target_text}
 use Rattle.run_words.specs.StemNames.{as_name, bytes_of_stem, digit_number, escaped, first_of, name_of, onto}
 use Rattle.run_words.specs.declared.action.ActionWord.{ActionWord}
 use Rattle.run_words.specs.declared.action.ActionWord.TheVariants.{Sync, Handheld, Desktop, Nothing}
 use Rattle.run_words.specs.declared.action.NamedAction.{NamedAction}
+use Rattle.run_words.specs.declared.action.Target.{Target}
+use Rattle.run_words.specs.declared.action.Target.TheVariants.{Others, One}
 use Rattle.run_words.proofs.StemLaws.{bytes_of_stem-first, from_first}
 
 -- ---- stems
@@ -129,6 +130,48 @@ record IsNamed (stem name : List ℕ) : Type 0 where
 name_of-is : (stem : List ℕ) {name : List ℕ} → name_of stem ≡ Some name → IsNamed stem name
 name_of-is stem {name} e = grind (arith, bytes_of_stem-is stem (fault_free (bytes_of_stem stem) e).0)
 
+-- ---- targets
+
+false_from : (b : Bool) → ¬ (b ≡ true) → b ≡ false
+false_from b h = grind arith
+
+-- a text that is read is that of a target
+record IsTargeted (text : List ℕ) (target : Target) : Type 0 where
+  pub written : text ≡ target_text target
+  pub valid : IsTarget target
+
+targeted_by : (star : Bool) (text : List ℕ) (o : Option (List ℕ)) {target : Target} → cond star (Some Others) (option_map One o) ≡ Some target
+    → (star ≡ true → text ≡ codes "*") → ((name : List ℕ) → o ≡ Some name → IsNamed text name) → IsTargeted text target
+targeted_by true text o {target} e star named =
+    let is : Others ≡ target = cc in subst (IsTargeted text) is (record { written = star refl; valid = tt })
+targeted_by false text None {target} e star named = cc
+targeted_by false text (Some name) {target} e star named =
+    let here = named name refl in
+    let is : One name ≡ target = cc in subst (IsTargeted text) is (record { written = here.written; valid = here.valid })
+
+target_of-is : (text : List ℕ) {target : Target} → target_of text ≡ Some target → IsTargeted text target
+target_of-is text e =
+    targeted_by (bytes_eq text (codes "*")) text (name_of text) e (bytes_eq-Decides text (codes "*")).0 (λ name. name_of-is text)
+
+no_star : bytes_of_stem (codes "*") ≡ None
+unfolding bytes_of_stem
+no_star = refl
+
+-- `*` is no stem
+stem_of-star : {name : List ℕ} → IsNameOfBytes name → ¬ (stem_of name ≡ codes "*")
+stem_of-star {name} h e = let read : Some name ≡ None = sym (bytes_of_stem-stem_of name h.bytes) ∙ ap bytes_of_stem e ∙ no_star in cc
+
+target_of-target_text : (target : Target) → IsTarget target → target_of (target_text target) ≡ Some target
+target_of-target_text Others h = refl
+target_of-target_text (One name) h =
+    let test : bytes_eq (stem_of name) (codes "*") ≡ false =
+    false_from (bytes_eq (stem_of name) (codes "*")) (λ e. stem_of-star h ((bytes_eq-Decides (stem_of name) (codes "*")).0 e)) in
+    rw test (ap (option_map One) (name_of-stem_of h))
+
+target_text-injective : (one other : Target) → IsTarget one → IsTarget other → target_text one ≡ target_text other → one ≡ other
+target_text-injective one other h k e =
+    let read : Some one ≡ Some other = sym (target_of-target_text one h) ∙ ap target_of e ∙ target_of-target_text other k in cc
+
 -- ---- one item
 
 action_parts : (a b c d : Bool) {action : ActionWord}
@@ -157,26 +200,27 @@ around_colon : (text : List ℕ) → 0 < length (after_first is_colon text) → 
 around_colon [] long = absurd (omega (arith, long))
 around_colon (x ∷ xs) long = colon_cut (is_colon x) (position_or_len is_colon xs) x xs refl long (around_colon xs)
 
-item_parts : (o : Option (List ℕ)) (a : Option ActionWord) {item : NamedAction} → option_and_then (λ name. option_map (named name) a) o ≡ Some item
-    → (o ≡ Some item.name) × (a ≡ Some item.action)
+item_parts : (o : Option Target) (a : Option ActionWord) {item : NamedAction} → option_and_then (λ target. option_map (aimed target) a) o ≡ Some item
+    → (o ≡ Some item.target) × (a ≡ Some item.action)
 item_parts o a e = grind arith
 
 record IsItem (text : List ℕ) (item : NamedAction) : Type 0 where
   pub written : text ≡ item_text item
-  pub stem : stem_in text ≡ stem_of item.name
-  pub valid : IsNameOfBytes item.name
+  pub stem : stem_in text ≡ target_text item.target
+  pub valid : IsTarget item.target
 
 item_of-is : (text : List ℕ) {item : NamedAction} → item_of text ≡ Some item → IsItem text item
 unfolding item_of
 item_of-is text {item} e =
-    let parts = item_parts (name_of (before_first is_colon text)) (action_of_word (after_first is_colon text)) e in
-    let name = name_of-is (before_first is_colon text) parts.0 in
+    let parts = item_parts (target_of (before_first is_colon text)) (action_of_word (after_first is_colon text)) e in
+    let target = target_of-is (before_first is_colon text) parts.0 in
     let word = action_of_word-is (after_first is_colon text) parts.1 in
     let long : 0 < length (after_first is_colon text) = rw word (long_word item.action) in
     record {
-      written = around_colon text long ∙ ap (λ stem. stem ++ 58 ∷ after_first is_colon text) name.written ∙ ap (λ rest. stem_of item.name ++ 58 ∷ rest) word;
-      stem = name.written;
-      valid = name.valid;
+      written = around_colon text long ∙ ap (λ stem. stem ++ 58 ∷ after_first is_colon text) target.written
+          ∙ ap (λ rest. target_text item.target ++ 58 ∷ rest) word;
+      stem = target.written;
+      valid = target.valid;
     }
 
 -- ---- neither a comma nor a colon stands in a stem
@@ -203,6 +247,11 @@ unfolding stem_byte
 stem_of-others [] = tt
 stem_of-others (x ∷ xs) = others_of (is_plain x) x (stem_of xs) refl (stem_of-others xs)
 
+target_text-others : (target : Target) → AllByRecursion IsOther (target_text target)
+unfolding IsOther
+target_text-others Others = ((refl, refl), tt)
+target_text-others (One name) = stem_of-others name
+
 action_text-others : (action : ActionWord) → AllByRecursion (λ byte. is_comma byte ≡ false) (action_text action)
 action_text-others action = grind arith
 
@@ -213,7 +262,7 @@ no_commas [] text h t = (refl, t)
 no_commas (x ∷ xs) text h t = (h.0.0, no_commas xs text h.1 t)
 
 item_text-no_commas : (item : NamedAction) → AllByRecursion (λ byte. is_comma byte ≡ false) (item_text item)
-item_text-no_commas item = no_commas (stem_of item.name) (action_text item.action) (stem_of-others item.name) (action_text-others item.action)
+item_text-no_commas item = no_commas (target_text item.target) (action_text item.action) (target_text-others item.target) (action_text-others item.action)
 
 position_colon : (stem text : List ℕ) → AllByRecursion IsOther stem → position_or_len is_colon (stem ++ 58 ∷ text) ≡ length stem
 unfolding IsOther
@@ -224,20 +273,20 @@ drop_stem : (stem text : List ℕ) → drop (length stem + 1) (stem ++ 58 ∷ te
 drop_stem [] text = refl
 drop_stem (x ∷ xs) text = grind (arith, drop_stem xs text)
 
-stem_in-item_text : (item : NamedAction) → stem_in (item_text item) ≡ stem_of item.name
-stem_in-item_text item = grind (arith, nat_tests, common_steps, position_colon (stem_of item.name) (action_text item.action) (stem_of-others item.name))
+stem_in-item_text : (item : NamedAction) → stem_in (item_text item) ≡ target_text item.target
+stem_in-item_text item = grind (arith, nat_tests, common_steps, position_colon (target_text item.target) (action_text item.action) (target_text-others item.target))
 
 word_in-item_text : (item : NamedAction) → after_first is_colon (item_text item) ≡ action_text item.action
 word_in-item_text item =
     grind (
       arith,
-      position_colon (stem_of item.name) (action_text item.action) (stem_of-others item.name),
-      drop_stem (stem_of item.name) (action_text item.action),
+      position_colon (target_text item.target) (action_text item.action) (target_text-others item.target),
+      drop_stem (target_text item.target) (action_text item.action),
     )
 
-item_of-item_text : (item : NamedAction) → IsNameOfBytes item.name → item_of (item_text item) ≡ Some item
+item_of-item_text : (item : NamedAction) → IsTarget item.target → item_of (item_text item) ≡ Some item
 unfolding item_of
-item_of-item_text item h = grind (arith, nat_tests, common_steps, word_in-item_text item, name_of-stem_of h)
+item_of-item_text item h = grind (arith, nat_tests, common_steps, word_in-item_text item, stem_in-item_text item, target_of-target_text item.target h)
 
 -- ---- all items
 
@@ -252,25 +301,25 @@ are_items-parts item items e =
 some_item : (o : Option NamedAction) → is_some o ≡ true → (item : NamedAction) × (o ≡ Some item)
 some_item o e = grind arith
 
--- no item behind is of this name
-apart_behind : (items : List (List ℕ)) {stem : List ℕ} (name : List ℕ) → stem ≡ stem_of name → are_items items ≡ true → has_stem stem items ≡ false
-    → AllByRecursion (λ other. ¬ (other.name ≡ name)) (filter_map item_of items)
-apart_behind [] name is all apart = tt
-apart_behind (item ∷ items) {stem} name is all apart =
+-- no item behind is of this target
+apart_behind : (items : List (List ℕ)) {stem : List ℕ} (target : Target) → stem ≡ target_text target → are_items items ≡ true → has_stem stem items ≡ false
+    → AllByRecursion (λ other. ¬ (other.target ≡ target)) (filter_map item_of items)
+apart_behind [] target is all apart = tt
+apart_behind (item ∷ items) {stem} target is all apart =
     grind (
       arith,
       item_of-is item (some_item (item_of item) (are_items-parts item items all).0).1,
       bytes_eq-Decides (stem_in item) stem,
-      apart_behind items name is (are_items-parts item items all).2 (or_parts (bytes_eq (stem_in item) stem) (has_stem stem items) apart).1,
+      apart_behind items target is (are_items-parts item items all).2 (or_parts (bytes_eq (stem_in item) stem) (has_stem stem items) apart).1,
     )
 
 record AreRead (items : List (List ℕ)) (actions : List NamedAction) : Type 0 where
   pub written : map item_text actions ≡ items
-  pub names : AllByRecursion (λ action. IsNameOfBytes action.name) actions
+  pub targets : AllByRecursion (λ action. IsTarget action.target) actions
   pub apart : AreApart actions
 
 are_read : (items : List (List ℕ)) → are_items items ≡ true → AreRead items (filter_map item_of items)
-are_read [] e = record { written = refl; names = tt; apart = tt }
+are_read [] e = record { written = refl; targets = tt; apart = tt }
 are_read (item ∷ items) e =
     let parts = are_items-parts item items e in
     let some = some_item (item_of item) parts.0 in
@@ -279,8 +328,8 @@ are_read (item ∷ items) e =
     let says = some.1 in
     rw says (record {
       written = ap (λ text. text ∷ map item_text (filter_map item_of items)) (sym here.written) ∙ ap (λ more. item ∷ more) rest.written;
-      names = (here.valid, rest.names);
-      apart = (apart_behind items some.0.name here.stem parts.2 parts.1, rest.apart);
+      targets = (here.valid, rest.targets);
+      apart = (apart_behind items some.0.target here.stem parts.2 parts.1, rest.apart);
     })
 
 length-map : (actions : List NamedAction) → length (map item_text actions) ≡ length actions
@@ -301,38 +350,37 @@ slice_split-actions_text first (next ∷ rest) =
     (item_text-no_commas first)) refl
     ∙ ap (λ items. item_text first ∷ items) (slice_split-actions_text next rest)
 
-false_from : (b : Bool) → ¬ (b ≡ true) → b ≡ false
-false_from b h = grind arith
-
-has_stem-apart : (name : List ℕ) (actions : List NamedAction) → AllByRecursion (λ other. ¬ (other.name ≡ name)) actions
-    → has_stem (stem_of name) (map item_text actions) ≡ false
-has_stem-apart name [] h = refl
-has_stem-apart name (x ∷ xs) h =
+has_stem-apart : (target : Target) (actions : List NamedAction) → IsTarget target → AllByRecursion (λ action. IsTarget action.target) actions
+    → AllByRecursion (λ other. ¬ (other.target ≡ target)) actions → has_stem (target_text target) (map item_text actions) ≡ false
+has_stem-apart target [] valid targets h = refl
+has_stem-apart target (x ∷ xs) valid targets h =
     let stem = stem_in-item_text x in
-    let test : bytes_eq (stem_of x.name) (stem_of name) ≡ false =
-    false_from (bytes_eq (stem_of x.name) (stem_of name)) (λ e. h.0 (stem_of_injective x.name name ((bytes_eq-Decides (stem_of x.name) (stem_of name)).0 e))) in
-    rw (stem, test) (has_stem-apart name xs h.1)
+    let one = target_text x.target in
+    let test : bytes_eq one (target_text target) ≡ false =
+    false_from (bytes_eq one (target_text target))
+    (λ e. h.0 (target_text-injective x.target target targets.0 valid ((bytes_eq-Decides one (target_text target)).0 e))) in
+    rw (stem, test) (has_stem-apart target xs valid targets.1 h.1)
 
-items_pass : (actions : List NamedAction) → AllByRecursion (λ action. IsNameOfBytes action.name) actions → AreApart actions
+items_pass : (actions : List NamedAction) → AllByRecursion (λ action. IsTarget action.target) actions → AreApart actions
     → are_items (map item_text actions) ≡ true
 unfolding are_items
-items_pass [] names apart = refl
-items_pass (x ∷ xs) names apart =
-    grind (arith, item_of-item_text x names.0, stem_in-item_text x, has_stem-apart x.name xs apart.0, items_pass xs names.1 apart.1)
+items_pass [] targets apart = refl
+items_pass (x ∷ xs) targets apart =
+    grind (arith, item_of-item_text x targets.0, stem_in-item_text x, has_stem-apart x.target xs targets.0 targets.1 apart.0, items_pass xs targets.1 apart.1)
 
 actions_pass : (actions : List NamedAction) → AreActions actions → is_actions_text (actions_text actions) ≡ true
 actions_pass [] h = absurd (omega (arith, h.some))
-actions_pass (x ∷ xs) h = ap are_items (slice_split-actions_text x xs) ∙ items_pass (x ∷ xs) h.names h.apart
+actions_pass (x ∷ xs) h = ap are_items (slice_split-actions_text x xs) ∙ items_pass (x ∷ xs) h.targets h.apart
 
-items_read : (actions : List NamedAction) → AllByRecursion (λ action. IsNameOfBytes action.name) actions
+items_read : (actions : List NamedAction) → AllByRecursion (λ action. IsTarget action.target) actions
     → filter_map item_of (map item_text actions) ≡ actions
-items_read [] names = refl
-items_read (x ∷ xs) names = grind (arith, item_of-item_text x names.0, items_read xs names.1)
+items_read [] targets = refl
+items_read (x ∷ xs) targets = grind (arith, item_of-item_text x targets.0, items_read xs targets.1)
 
 -- the text of actions has no others
 pub actions_in-actions_text : (actions : List NamedAction) → AreActions actions → actions_in (actions_text actions) ≡ actions
 actions_in-actions_text [] h = absurd (omega (arith, h.some))
-actions_in-actions_text (x ∷ xs) h = ap (filter_map item_of) (slice_split-actions_text x xs) ∙ items_read (x ∷ xs) h.names
+actions_in-actions_text (x ∷ xs) h = ap (filter_map item_of) (slice_split-actions_text x xs) ∙ items_read (x ∷ xs) h.targets
 
 -- the test and its meaning
 pub is_actions-means : (text : List ℕ) → (is_actions_text text ≡ true) ↔ IsActionsText text

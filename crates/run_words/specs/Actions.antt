@@ -1,6 +1,6 @@
--- The actions of `--actions=L`: items `STEM:WORD` with one comma between them, no stem twice.
+-- The actions of `--actions=L`: items `STEM:WORD` or `*:WORD` with one comma between them, no stem and no `*` twice.
 use Rattle.std.specs.Prelude.{◌≡◌, ◌<◌, ℕ, Bool, not, ◌==◌, ◌&&◌, List, [], ◌∷◌, ◌++◌, length, map, Option, Some, None, codes, bytes_eq, is_some, option_map}
-use Rattle.std.specs.Prelude.{option_and_then, true, if◌then◌else◌}
+use Rattle.std.specs.Prelude.{option_and_then, true, false, if◌then◌else◌}
 use Rattle.std.specs.List.{AllByRecursion, list_any, filter_map, find, join_with_byte, slice_split, before_first, after_first}
 use Rattle.pdb_values.specs.Names.{IsName}
 use Rattle.pdb_values.specs.Stems.{stem_of}
@@ -8,6 +8,8 @@ use Rattle.run_words.specs.StemNames.{name_of}
 use Rattle.run_words.specs.declared.action.ActionWord.{ActionWord}
 use Rattle.run_words.specs.declared.action.ActionWord.TheVariants.{Sync, Handheld, Desktop, Nothing}
 use Rattle.run_words.specs.declared.action.NamedAction.{NamedAction}
+use Rattle.run_words.specs.declared.action.Target.{Target}
+use Rattle.run_words.specs.declared.action.Target.TheVariants.{Others, One}
 
 -- ---- the text of actions
 
@@ -17,9 +19,14 @@ action_text Handheld = codes "handheld"
 action_text Desktop = codes "desktop"
 action_text Nothing = codes "nothing"
 
--- `STEM:WORD`
+-- `*` for the databases that no other item names, or the stem of one database's name
+abbrev pub target_text : Target → List ℕ
+target_text Others = codes "*"
+target_text (One name) = stem_of name
+
+-- `STEM:WORD` or `*:WORD`
 abbrev pub item_text : NamedAction → List ℕ
-item_text item = stem_of item.name ++ 58 ∷ action_text item.action
+item_text item = target_text item.target ++ 58 ∷ action_text item.action
 
 -- the items, with one comma between them
 abbrev pub actions_text : List NamedAction → List ℕ
@@ -30,15 +37,20 @@ pub record IsNameOfBytes (name : List ℕ) : Type 0 where
   pub valid : IsName name
   pub bytes : AllByRecursion (λ byte. byte < 256) name
 
--- no two of them are of one database
+-- the other databases, or one that has such a name
+abbrev pub IsTarget : Target → Type 0
+IsTarget Others = Unit {0}
+IsTarget (One name) = IsNameOfBytes name
+
+-- no two of them are of one database, and at most one is of the others
 abbrev pub AreApart : List NamedAction → Type 0
 AreApart [] = Unit {0}
-AreApart (first ∷ rest) = AllByRecursion (λ other. ¬ (other.name ≡ first.name)) rest × AreApart rest
+AreApart (first ∷ rest) = AllByRecursion (λ other. ¬ (other.target ≡ first.target)) rest × AreApart rest
 
--- at least one action, each of a database of its own
+-- at least one action, each of a database of its own or of the others
 pub record AreActions (actions : List NamedAction) : Type 0 where
   pub some : 0 < length actions
-  pub names : AllByRecursion (λ action. IsNameOfBytes action.name) actions
+  pub targets : AllByRecursion (λ action. IsTarget action.target) actions
   pub apart : AreApart actions
 
 -- a text is that of some actions
@@ -61,16 +73,20 @@ action_of_word word =
     else (if bytes_eq word (codes "desktop") then Some Desktop
     else (if bytes_eq word (codes "nothing") then Some Nothing else None)))
 
--- an action for a name
-abbrev pub named : List ℕ → ActionWord → NamedAction
-named name action = record { name = name; action = action }
+-- an action for a target
+abbrev pub aimed : Target → ActionWord → NamedAction
+aimed target action = record { target = target; action = action }
 
--- what an item says: the name of the stem before its first colon, and the word behind that
+-- what `*` or a stem speaks of
+abbrev pub target_of : List ℕ → Option Target
+target_of text = if bytes_eq text (codes "*") then Some Others else option_map One (name_of text)
+
+-- what an item says: the target before its first colon, and the word behind that
 unfoldable pub item_of : List ℕ → Option NamedAction
 item_of item =
-    option_and_then (λ name. option_map (named name) (action_of_word (after_first is_colon item))) (name_of (before_first is_colon item))
+    option_and_then (λ target. option_map (aimed target) (action_of_word (after_first is_colon item))) (target_of (before_first is_colon item))
 
--- the stem before the first colon
+-- the stem, or `*`, before the first colon
 abbrev pub stem_in : List ℕ → List ℕ
 stem_in item = before_first is_colon item
 
@@ -100,13 +116,31 @@ is_actions_text text = are_items (items_of (Some text))
 abbrev pub actions_in : List ℕ → List NamedAction
 actions_in text = filter_map item_of (items_of (Some text))
 
+abbrev pub is_one : List ℕ → Target → Bool
+is_one name Others = false
+is_one name (One other) = bytes_eq other name
+
+abbrev pub is_others : Target → Bool
+is_others Others = true
+is_others (One name) = false
+
+-- an action names this database
 abbrev pub is_of : List ℕ → NamedAction → Bool
-is_of name action = bytes_eq action.name name
+is_of name action = is_one name action.target
 
-abbrev pub action_or_sync : Option NamedAction → ActionWord
-action_or_sync None = Sync
-action_or_sync (Some found) = found.action
+-- an action is of the databases that no item names
+abbrev pub is_of_others : NamedAction → Bool
+is_of_others action = is_others action.target
 
--- the action for a name: a database without an item has `sync`
+-- that of an item, where there is one
+abbrev pub action_or : ActionWord → Option NamedAction → ActionWord
+action_or other None = other
+action_or other (Some found) = found.action
+
+-- the action for the databases that no item names: that of `*`, and `sync` without one
+abbrev pub action_for_others : List NamedAction → ActionWord
+action_for_others actions = action_or Sync (find is_of_others actions)
+
+-- the action for a name: that of the item that names it, wherever it stands, or else that of the others
 abbrev pub action_for : List ℕ → List NamedAction → ActionWord
-action_for name actions = action_or_sync (find (is_of name) actions)
+action_for name actions = action_or (action_for_others actions) (find (is_of name) actions)

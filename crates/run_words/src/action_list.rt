@@ -52,7 +52,7 @@ fn is_next(item: &str, more: Option<&str>) -> bool
     !has_stem(more, stem_in(item))
 }
 
-/// Whether a text is that of some actions: items `STEM:WORD` with one comma between them, no stem twice.
+/// Whether a text is that of some actions: items `STEM:WORD` or `*:WORD` with one comma between them, no stem and no `*` twice.
 pub fn is_actions(text: &str) -> bool
     ensures test { result ≡ is_actions_text text.now }
     ensures meaning { (result ≡ true) ↔ IsActionsText text.now }

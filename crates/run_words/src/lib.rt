@@ -14,7 +14,7 @@ mod run;
 mod stem;
 mod word;
 
-pub use action::{ActionWord, NamedAction, action_of};
+pub use action::{ActionWord, NamedAction, Target, action_of};
 pub use action_list::{is_actions, read_actions};
 pub use command::{Command, Look, LookWords, MakeWords, PacketWords, command_of};
 pub use number::{count_in, number_in};
