@@ -1,6 +1,6 @@
 -- Words in the form are taken by the command of what they ask for, and its matches hold that.
 use Rattle.std.proofs.lemmas.Grind.{common_steps}
-use Rattle.std.proofs.Common.{◌≡◌, ℕ, suc, ◌<◌, ◌==◌, ◌&&◌, Bool, true, false, cond, List, [], ◌∷◌, length, refl, ap, ◌∙◌, arith, Option, Some, None}
+use Rattle.std.proofs.Common.{◌≡◌, ℕ, ◌<◌, ◌==◌, ◌&&◌, Bool, true, cond, List, length, refl, ap, ◌∙◌, arith, Option, Some, None}
 use Rattle.std.specs.Prelude.{option_and_then, not}
 use Rattle.std.specs.Char.{is_ascii_digit}
 use Rattle.std.specs.List.{list_all}
@@ -60,25 +60,25 @@ task_is_simple (LookAt look file) = refl
 task_is_simple (Scan bytes) = refl
 task_is_simple (Make seed count) = refl
 
-asked_takes : (words : List Text) (task : Task) → Asks words task → takes (task_app task) words ≡ true
-asked_takes words (Sync run) a = ap (takes run_app) a.2 ∙ takes_run a.0 a.1 a.3
-asked_takes words (LookAt look file) a = ap (takes file_app) a.1 ∙ file_takes a.0 file a.2
-asked_takes words (Scan bytes) a = ap (takes packet_app) a.2 ∙ packet_takes a.0 a.1 (hex_is_plain a.1 a.3)
-asked_takes words (Make seed count) a = ap (takes make_app) a.3 ∙ make_takes a.0 a.1 a.2 (number_is_plain a.1 a.4) (count_is_plain a.2 a.5)
+asked_takes : (now : Option ℕ) (words : List Text) (task : Task) → Asks now words task → takes (task_app task) words ≡ true
+asked_takes now words (Sync run) a = ap (takes run_app) a.2 ∙ takes_run now a.0 a.1 a.3
+asked_takes now words (LookAt look file) a = ap (takes file_app) a.1 ∙ file_takes a.0 file a.2
+asked_takes now words (Scan bytes) a = ap (takes packet_app) a.2 ∙ packet_takes a.0 a.1 (hex_is_plain a.1 a.3)
+asked_takes now words (Make seed count) a = ap (takes make_app) a.3 ∙ make_takes a.0 a.1 a.2 (number_is_plain a.1 a.4) (count_is_plain a.2 a.5)
 
-asked_matches : (words : List Text) (task : Task) (found : Found) → Asks words task → rows_of found ≡ matches_of (task_app task) words
-    → HoldsTask found task
-asked_matches words (Sync run) found a rows = matches_run a.0 a.1 run found a.3 (rows ∙ ap (matches_of run_app) a.2)
-asked_matches words (LookAt look file) found a rows = file_matches a.0 file found a.2 (rows ∙ ap (matches_of file_app) a.1)
-asked_matches words (Scan bytes) found a rows =
+asked_matches : (now : Option ℕ) (words : List Text) (task : Task) (found : Found) → Asks now words task → rows_of found ≡ matches_of (task_app task) words
+    → HoldsTask now found task
+asked_matches now words (Sync run) found a rows = matches_run now a.0 a.1 run found a.3 (rows ∙ ap (matches_of run_app) a.2)
+asked_matches now words (LookAt look file) found a rows = file_matches a.0 file found a.2 (rows ∙ ap (matches_of file_app) a.1)
+asked_matches now words (Scan bytes) found a rows =
     record { hex = a.1; held = packet_matches a.0 a.1 found (hex_is_plain a.1 a.3) (rows ∙ ap (matches_of packet_app) a.2); stands = a.4 }
-asked_matches words (Make seed count) found a rows =
+asked_matches now words (Make seed count) found a rows =
     let matches = make_matches a.0 a.1 a.2 found (number_is_plain a.1 a.4) (count_is_plain a.2 a.5) (rows ∙ ap (matches_of make_app) a.3) in
     record { one = a.1; two = a.2; held = matches.0; held_too = matches.1; number = a.4; counted = a.5 }
 
-pub task_takes : (words : List Text) (task : Task) → task_of words ≡ Some task → takes (task_app task) words ≡ true
-task_takes words task e = asked_takes words task (words_ask words e)
+pub task_takes : (now : Option ℕ) (words : List Text) (task : Task) → task_of now words ≡ Some task → takes (task_app task) words ≡ true
+task_takes now words task e = asked_takes now words task (words_ask now words e)
 
-pub task_matches : (words : List Text) (task : Task) (found : Found) → task_of words ≡ Some task → rows_of found ≡ matches_of (task_app task) words
-    → HoldsTask found task
-task_matches words task found e rows = asked_matches words task found (words_ask words e) rows
+pub task_matches : (now : Option ℕ) (words : List Text) (task : Task) (found : Found) → task_of now words ≡ Some task
+    → rows_of found ≡ matches_of (task_app task) words → HoldsTask now found task
+task_matches now words task found e rows = asked_matches now words task found (words_ask now words e) rows

@@ -1,6 +1,5 @@
 -- Words that ask for a run are taken by `clap`, which gives the same run.
-use Rattle.std.proofs.lemmas.Grind.{common_steps}
-use Rattle.std.proofs.Common.{◌≡◌, ℕ, ◌==◌, Bool, true, false, List, [], ◌∷◌, ◌++◌, ◌||◌, length, subst, cond, refl, sym, ap, ◌∙◌, codes, Option, Some, None}
+use Rattle.std.proofs.Common.{◌≡◌, ℕ, ◌==◌, Bool, true, false, List, [], ◌∷◌, ◌++◌, subst, cond, refl, sym, ap, ◌∙◌, codes, Option, Some, None}
 use Rattle.std.proofs.Common.{option_map, arith}
 use Rattle.clap.specs.Walk.{row_text, rows_of}
 use Rattle.clap.specs.Simple.{matches_of, is_simple}
@@ -15,15 +14,12 @@ use Rattle.clap.specs.Walk.{Held, Row, Text, walked, nothing_held, settled, fini
 use Rattle.clap.specs.declared.parser.matches.ValueSource.TheVariants.{DefaultValue}
 use Rattle.clap.specs.declared.builder.value_parser.Reading.TheVariants.{AsWritten}
 use Rattle.clap.specs.Takes.{takes, walk_passes}
-use Rattle.pdb_values.specs.PalmDates.{date_text, read_text}
-use Rattle.pdb_values.proofs.DateLaws.{text_is_date_text}
-use Rattle.run_words.specs.Actions.{is_actions_text}
-use Rattle.run_words.specs.Runs.{Given, Run, whole, whole_of, run_of, nothing, once, actions_once, date_once, with_plain, with_word, with_words}
+use Rattle.run_words.specs.Runs.{Given, Run, date_at, whole, whole_of, run_of, nothing, once, actions_once, with_plain, with_word, with_words}
 use Rattle.run_words.specs.Words.{after, Kind, plain_word, date_value, script_value, trace_value, actions_value, slow_word, add_user_word, unknown_word}
 use Rattle.run_words.specs.Words.{or_kind, is_plain, kind_of}
 use Rattle.run_clap.specs.Apps.{run_app}
-use Rattle.run_clap.proofs.WalkLaws.{find_row, row_for, flag_row, find-append, or_none, at_row-none, Argument, of_handheld, of_desktop, of_date, of_script}
-use Rattle.run_clap.proofs.WalkLaws.{of_trace, of_actions, of_slow, of_add_user, id_of, row_in, Fits, Turns, at, shape, rules, named_turns, date_turns}
+use Rattle.run_clap.proofs.WalkLaws.{find_row, row_for, flag_row, find-append, at_row-none, Argument, of_handheld, of_desktop, of_date, of_script}
+use Rattle.run_clap.proofs.WalkLaws.{of_trace, of_actions, of_slow, of_add_user, id_of, row_in, Fits, Turns, at, shape, rules, named_turns}
 use Rattle.run_clap.proofs.WalkLaws.{handheld_turns, desktop_turns}
 
 kept : (b : Bool) (o : Option Text) {rest : Text} → cond b o None ≡ Some rest → (b ≡ true) × (o ≡ Some rest)
@@ -93,10 +89,6 @@ actions-is : (slot : Option Text) (value : Text) (f : Option Text → Given) {mo
     → (slot ≡ None) × (f (Some value) ≡ more)
 actions-is slot value f e = grind arith
 
-date-is : (slot : Option ℕ) (value : Text) (f : Option ℕ → Given) {more : Given} → option_map f (date_once slot value) ≡ Some more
-    → (slot ≡ None) × ((seconds : ℕ) × (read_text value ≡ Some seconds) × (f (Some seconds) ≡ more))
-date-is slot value f e = grind arith
-
 -- ---- one word
 
 module _ {given more : Given} (word : Text) {place : ℕ} {h : Held} (f : Fits given place h) where
@@ -114,9 +106,8 @@ module _ {given more : Given} (word : Text) {place : ℕ} {h : Held} (f : Fits g
   unfolding with_word
   kind_turns (plain_word same) is e = plain_turns given.handheld given.desktop is.1 refl refl (rw is.0 at e)
   kind_turns (date_value value) is e =
-      let parts = date-is given.date value (λ slot. record given { date = slot }) e in
-      let text = text_is_date_text value parts.1.0 parts.1.1 in
-      turned (is ∙ ap (λ t. codes "--date=" ++ t) text.0) parts.1.2 (date_turns parts.1.0 f parts.0 (ap read_text (sym text.0) ∙ parts.1.1))
+      let parts = once-is given.date value (λ slot. record given { date = slot }) e in
+      turned is parts.1 (named_turns of_date value refl f (ap (row_for (codes "date")) parts.0))
   kind_turns (script_value value) is e =
       let parts = once-is given.script value (λ slot. record given { script = slot }) e in
       turned is parts.1 (named_turns of_script value refl f (ap (row_for (codes "script")) parts.0))
@@ -174,7 +165,6 @@ fits_nothing = record {
   holds = record { each = elim [ of_handheld ↦ refl | argument ↦ refl ] };
   position = refl;
   order = λ e. refl;
-  dated = λ seconds e. cc;
 }
 
 -- ---- the defaults
@@ -225,36 +215,47 @@ find_finished id h slow add_user = ap (find_row id) (finished-is h) ∙ find_bot
 
 -- ---- all of it
 
+-- the date word that is given has this date
+record IsDated (now : Option ℕ) (given : Given) (date : ℕ) : Type 0 where
+  pub word : Text
+  pub given_word : given.date ≡ Some word
+  pub is : date_at now word ≡ Some date
+
 -- what is given is a run
-record IsRun (given : Given) (run : Run) : Type 0 where
+record IsRun (now : Option ℕ) (given : Given) (run : Run) : Type 0 where
   pub handheld : given.handheld ≡ Some run.handheld
   pub desktop : given.desktop ≡ Some run.desktop
-  pub date : given.date ≡ Some run.date
+  pub date : IsDated now given run.date
   pub script : given.script ≡ run.script
   pub trace : given.trace ≡ run.trace
   pub actions : given.actions ≡ run.actions
   pub slow : given.slow ≡ run.slow
   pub add_user : given.add_user ≡ run.add_user
 
-whole-is : (given : Given) (a b : Option Text) (d : Option ℕ) {run : Run} → given.handheld ≡ a → given.desktop ≡ b → given.date ≡ d
-    → whole_of given a b d ≡ Some run → IsRun given run
-whole-is given (Some a) (Some b) (Some d) ea eb ed e = record {
+dated_by : (now : Option ℕ) (given : Given) (word : Option Text) {date : ℕ} → given.date ≡ word → option_and_then (date_at now) word ≡ Some date
+    → IsDated now given date
+dated_by now given None g e = cc
+dated_by now given (Some word) g e = record { word = word; given_word = g; is = e }
+
+whole-is : (now : Option ℕ) (given : Given) (a b : Option Text) (d : Option ℕ) {run : Run} → given.handheld ≡ a → given.desktop ≡ b
+    → option_and_then (date_at now) given.date ≡ d → whole_of given a b d ≡ Some run → IsRun now given run
+whole-is now given (Some a) (Some b) (Some d) ea eb ed e = record {
   handheld = ea ∙ cc;
   desktop = eb ∙ cc;
-  date = ed ∙ cc;
+  date = dated_by now given given.date refl (ed ∙ cc);
   script = cc;
   trace = cc;
   actions = cc;
   slow = cc;
   add_user = cc;
 }
-whole-is given None b d ea eb ed e = cc
-whole-is given (Some a) None d ea eb ed e = cc
-whole-is given (Some a) (Some b) None ea eb ed e = cc
+whole-is now given None b d ea eb ed e = cc
+whole-is now given (Some a) None d ea eb ed e = cc
+whole-is now given (Some a) (Some b) None ea eb ed e = cc
 
 -- `clap` takes the words of a run
-takes_given : (first : Text) (words : List Text) {given : Given} {run : Run} → with_words nothing words ≡ Some given → IsRun given run
-    → takes run_app (first ∷ words) ≡ true
+takes_given : {now : Option ℕ} (first : Text) (words : List Text) {given : Given} {run : Run} → with_words nothing words ≡ Some given
+    → IsRun now given run → takes run_app (first ∷ words) ≡ true
 unfolding run_app
 takes_given first words e is =
     let end = words_end words fits_nothing e in
@@ -264,7 +265,7 @@ takes_given first words e is =
     let holds = end.fits.holds in
     let handheld = find_finished (codes "handheld") end.next_held refl refl ∙ holds.each of_handheld ∙ ap (row_for (codes "handheld")) is.handheld in
     let desktop = find_finished (codes "desktop") end.next_held refl refl ∙ holds.each of_desktop ∙ ap (row_for (codes "desktop")) is.desktop in
-    let date = find_finished (codes "date") end.next_held refl refl ∙ holds.each of_date ∙ ap (λ o. row_for (codes "date") (option_map date_text o)) is.date in
+    let date = find_finished (codes "date") end.next_held refl refl ∙ holds.each of_date ∙ ap (row_for (codes "date")) is.date.given_word in
     rw (goes, passes, settles, handheld, desktop, date) refl
 
 -- and gives the run
@@ -301,8 +302,8 @@ add_user_in b rows e =
     flag_in (codes "add-user") b (has_row (codes "add-user") (with_slow rows)) (with_slow rows) refl
     (find_default (codes "slow") (codes "add-user") (has_row (codes "slow") rows) rows refl refl ∙ e) refl
 
-matches_given : (first : Text) (words : List Text) {given : Given} (run : Run) (found : Found) → with_words nothing words ≡ Some given → IsRun given run
-    → rows_of found ≡ matches_of run_app (first ∷ words) → HoldsRun found run
+matches_given : {now : Option ℕ} (first : Text) (words : List Text) {given : Given} (run : Run) (found : Found) → with_words nothing words ≡ Some given
+    → IsRun now given run → rows_of found ≡ matches_of run_app (first ∷ words) → HoldsRun now found run
 unfolding run_app
 matches_given first words {given} run found e is rows =
     let end = words_end words fits_nothing e in
@@ -319,8 +320,11 @@ matches_given first words {given} run found e is rows =
     record {
       handheld = value of_handheld refl refl ∙ in_row (codes "handheld") given.handheld ∙ is.handheld;
       desktop = value of_desktop refl refl ∙ in_row (codes "desktop") given.desktop ∙ is.desktop;
-      dated = end.fits.dated run.date is.date;
-      date = value of_date refl refl ∙ in_row (codes "date") (option_map date_text given.date) ∙ ap (option_map date_text) is.date;
+      date = record {
+        word = is.date.word;
+        held = value of_date refl refl ∙ in_row (codes "date") given.date ∙ is.date.given_word;
+        is = is.date.is;
+      };
       script = value of_script refl refl ∙ in_row (codes "script") given.script ∙ is.script;
       trace = value of_trace refl refl ∙ in_row (codes "trace") given.trace ∙ is.trace;
       actions = value of_actions refl refl ∙ in_row (codes "actions") given.actions ∙ is.actions;
@@ -330,24 +334,27 @@ matches_given first words {given} run found e is rows =
     }
 
 -- the same of the words as a whole
-given_is : (o : Option Given) {run : Run} → option_and_then whole o ≡ Some run → (given : Given) × (o ≡ Some given) × (whole given ≡ Some run)
-given_is o e = grind arith
+given_is : (now : Option ℕ) (o : Option Given) {run : Run} → option_and_then (whole now) o ≡ Some run
+    → (given : Given) × (o ≡ Some given) × (whole now given ≡ Some run)
+given_is now o e = grind arith
 
-run_parts : (words : List Text) {run : Run} → run_of words ≡ Some run → (given : Given) × (with_words nothing words ≡ Some given) × IsRun given run
+run_parts : (now : Option ℕ) (words : List Text) {run : Run} → run_of now words ≡ Some run
+    → (given : Given) × (with_words nothing words ≡ Some given) × IsRun now given run
 unfolding run_of whole
-run_parts words e =
-    let given = given_is (with_words nothing words) e in
-    (given.0, given.1, whole-is given.0 given.0.handheld given.0.desktop given.0.date refl refl refl given.2)
+run_parts now words e =
+    let given = given_is now (with_words nothing words) e in
+    let date = option_and_then (date_at now) given.0.date in
+    (given.0, given.1, whole-is now given.0 given.0.handheld given.0.desktop date refl refl refl given.2)
 
-pub takes_run : (first : Text) (words : List Text) {run : Run} → run_of words ≡ Some run → takes run_app (first ∷ words) ≡ true
-takes_run first words e =
-    let parts = run_parts words e in
+pub takes_run : (now : Option ℕ) (first : Text) (words : List Text) {run : Run} → run_of now words ≡ Some run → takes run_app (first ∷ words) ≡ true
+takes_run now first words e =
+    let parts = run_parts now words e in
     takes_given first words parts.1 parts.2
 
-pub matches_run : (first : Text) (words : List Text) (run : Run) (found : Found) → run_of words ≡ Some run
-    → rows_of found ≡ matches_of run_app (first ∷ words) → HoldsRun found run
-matches_run first words run found e rows =
-    let parts = run_parts words e in
+pub matches_run : (now : Option ℕ) (first : Text) (words : List Text) (run : Run) (found : Found) → run_of now words ≡ Some run
+    → rows_of found ≡ matches_of run_app (first ∷ words) → HoldsRun now found run
+matches_run now first words run found e rows =
+    let parts = run_parts now words e in
     matches_given first words run found parts.1 parts.2 rows
 
 pub run_is_simple : is_simple run_app ≡ true

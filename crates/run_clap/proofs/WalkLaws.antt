@@ -1,6 +1,4 @@
 -- What `clap` makes of the words of a run.
-use Rattle.std.proofs.lemmas.Grind.{common_steps}
-use Rattle.std.proofs.lemmas.Bool.Decides.{nat_tests}
 use Rattle.std.proofs.Common.{arith, ◌≡◌, ℕ, ◌==◌, Bool, true, false, List, [], ◌∷◌, ◌++◌, ◌||◌, ◌&&◌, subst, cond, append-nil, refl, sym, ap, ◌∙◌, codes}
 use Rattle.std.proofs.Common.{Option, Some, None, option_map}
 use Rattle.std.specs.Prelude.{find}
@@ -11,7 +9,6 @@ use Rattle.std.specs.Str.{bytes_eq}
 use Rattle.clap.specs.Walk.{Held, Row, Rule, Text, Walk, idle, reacted, walked, settled, at_row, more_values, without, with_values, has_row, pushed, is_pending}
 use Rattle.clap.specs.Simple.{Shape, built, filled, with_index}
 use Rattle.clap.specs.Takes.{turn_passes, settle_passes}
-use Rattle.pdb_values.specs.PalmDates.{date_text, read_text}
 use Rattle.run_words.specs.Runs.{Given}
 use Rattle.run_clap.specs.Apps.{run_app, handheld_rule, desktop_rule, date_rule, script_rule, trace_rule, actions_rule, slow_rule, add_user_rule}
 
@@ -91,7 +88,7 @@ flag_row id given = cond given (Some (row id (codes "true" ∷ []))) None
 abbrev pub row_in : Given → Argument → Option Row
 row_in given of_handheld = row_for (codes "handheld") given.handheld
 row_in given of_desktop = row_for (codes "desktop") given.desktop
-row_in given of_date = row_for (codes "date") (option_map date_text given.date)
+row_in given of_date = row_for (codes "date") given.date
 row_in given of_script = row_for (codes "script") given.script
 row_in given of_trace = row_for (codes "trace") given.trace
 row_in given of_actions = row_for (codes "actions") given.actions
@@ -111,7 +108,6 @@ pub record Fits (given : Given) (place : ℕ) (h : Held) : Type 0 where
   pub holds : Holds given (settled rules h).rows
   pub position : place ≡ position_of given.handheld given.desktop
   pub order : given.handheld ≡ None → given.desktop ≡ None
-  pub dated : (seconds : ℕ) → given.date ≡ Some seconds → read_text (date_text seconds) ≡ Some seconds
 
 abbrev pub at : ℕ → Held → Walk
 at position h = record { held = h; waiting = idle; position = position; is_trailing = false; stopped = None }
@@ -155,14 +151,14 @@ pub record Turns (word : Text) (more : Given) (place : ℕ) (h : Held) : Type 0 
   pub goes : walked rules [] (at place h) word ≡ at next_place next_held
   pub fits : Fits more next_place next_held
 
--- arguments that are given by their names, but for the date: the word, what it gives, its rule, and the values of its row
+-- arguments that are given by their names: the word, what it gives, its rule, and the values of its row
 abbrev is_named : Argument → Bool
 is_named of_handheld = false
 is_named of_desktop = false
-is_named of_date = false
 is_named argument = true
 
 abbrev pub word_for : Argument → Text → Text
+word_for of_date value = codes "--date=" ++ value
 word_for of_script value = codes "--script=" ++ value
 word_for of_trace value = codes "--trace=" ++ value
 word_for of_actions value = codes "--actions=" ++ value
@@ -171,6 +167,7 @@ word_for of_add_user value = codes "--add-user"
 word_for argument value = value
 
 abbrev pub with_named : Argument → Text → Given → Given
+with_named of_date value given = record given { date = Some value }
 with_named of_script value given = record given { script = Some value }
 with_named of_trace value given = record given { trace = Some value }
 with_named of_actions value given = record given { actions = Some value }
@@ -179,6 +176,7 @@ with_named of_add_user value given = record given { add_user = true }
 with_named argument value given = given
 
 abbrev rule_for : Argument → Rule
+rule_for of_date = date_rule
 rule_for of_trace = trace_rule
 rule_for of_actions = actions_rule
 rule_for of_slow = slow_rule
@@ -198,7 +196,6 @@ pub named_turns : (argument : Argument) (value : Text) {given : Given} {place : 
 unfolding run_app walked
 named_turns of_handheld value is f none = cc
 named_turns of_desktop value is f none = cc
-named_turns of_date value is f none = cc
 named_turns argument value {given} {place} {h} is f none =
     let settles = f.settles in
     let no = missing argument f.holds none in
@@ -212,29 +209,7 @@ named_turns argument value {given} {place} {h} is f none =
       next_held = reacted rules (filled (rule_for argument)) (cond (is_flag argument) [] (value ∷ [])) h;
       passes = rw (settles, no) refl;
       goes = refl;
-      fits = record { settles = refl; holds = holds_more f.holds new; position = f.position; order = f.order; dated = f.dated };
-    }
-
-pub date_turns : {given : Given} (seconds : ℕ) {place : ℕ} {h : Held} → Fits given place h → given.date ≡ None
-    → read_text (date_text seconds) ≡ Some seconds → Turns (codes "--date=" ++ date_text seconds) (record given { date = Some seconds }) place h
-unfolding run_app walked
-date_turns {given} seconds {place} {h} f e reads =
-    let settles = f.settles in
-    let new : IsNew given (record given { date = Some seconds }) of_date (date_text seconds ∷ []) =
-    record { none = rw e refl; adds = elim [ of_date ↦ rw e refl | other ↦ or_none (row_in given other) ] } in
-    let no = missing of_date f.holds new.none in
-    record {
-      next_place = place;
-      next_held = reacted rules (filled date_rule) (date_text seconds ∷ []) h;
-      passes = rw (settles, no) refl;
-      goes = refl;
-      fits = record {
-        settles = refl;
-        holds = holds_more f.holds new;
-        position = f.position;
-        order = f.order;
-        dated = λ s same. let is : seconds ≡ s = cc in subst (λ n. read_text (date_text n) ≡ Some n) is reads;
-      };
+      fits = record { settles = refl; holds = holds_more f.holds new; position = f.position; order = f.order };
     }
 
 pub handheld_turns : {given : Given} (x : ℕ) (xs : Text) {place : ℕ} {h : Held} → Fits given place h → (x == 45) ≡ false → given.handheld ≡ None
@@ -252,7 +227,7 @@ handheld_turns {given} x xs {place} {h} f apart e =
       next_held = pushed (codes "handheld") (x ∷ xs) (settled rules h);
       passes = rw (first, apart, apart, settles, and_false (is_pending handheld_in h.pending)) refl;
       goes = rw (first, apart, apart, and_false (is_pending handheld_in h.pending)) refl;
-      fits = record { settles = rw no refl; holds = holds_more f.holds new; position = rw desktop refl; order = λ other. cc; dated = f.dated };
+      fits = record { settles = rw no refl; holds = holds_more f.holds new; position = rw desktop refl; order = λ other. cc };
     }
 
 pub desktop_turns : {given : Given} {first : Text} (x : ℕ) (xs : Text) {place : ℕ} {h : Held} → Fits given place h → (x == 45) ≡ false
@@ -269,5 +244,5 @@ desktop_turns {given} x xs {place} {h} f apart handheld e =
       next_held = pushed (codes "desktop") (x ∷ xs) (settled rules h);
       passes = rw (second, apart, apart, settles, and_false (is_pending desktop_in h.pending)) refl;
       goes = rw (second, apart, apart, and_false (is_pending desktop_in h.pending)) refl;
-      fits = record { settles = rw no refl; holds = holds_more f.holds new; position = rw handheld refl; order = λ absent. cc; dated = f.dated };
+      fits = record { settles = rw no refl; holds = holds_more f.holds new; position = rw handheld refl; order = λ absent. cc };
     }

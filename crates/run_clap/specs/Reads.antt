@@ -1,21 +1,25 @@
 -- What the matches of words hold.
-use Rattle.std.specs.Prelude.{◌≡◌, ℕ, List, Some, codes, if◌then◌else◌}
+use Rattle.std.specs.Prelude.{◌≡◌, ℕ, List, Option, Some, codes, if◌then◌else◌}
 use Rattle.clap.specs.Matches.{first_value, one_text}
 use Rattle.clap.specs.Words.{App}
 use Rattle.clap.specs.declared.parser.matches.Found.{Found}
-use Rattle.pdb_values.specs.PalmDates.{date_text, read_text}
 use Rattle.run_words.specs.Commands.{Task, Sync, LookAt, Scan, Make}
 use Rattle.run_words.specs.Numbers.{number_of, count_of}
-use Rattle.run_words.specs.Runs.{Run}
+use Rattle.run_words.specs.Runs.{Run, date_at}
 use Rattle.run_words.specs.Words.{bytes_of}
 use Rattle.run_clap.specs.Apps.{run_app, file_app, packet_app, make_app}
 
+-- they have a date word, which has this date where the date now is this
+pub record HoldsDate (now : Option ℕ) (found : Found) (date : ℕ) : Type 0 where
+  pub word : List ℕ
+  pub held : first_value found (codes "date") ≡ Some word
+  pub is : date_at now word ≡ Some date
+
 -- the matches have the values of the run
-pub record HoldsRun (found : Found) (run : Run) : Type 0 where
+pub record HoldsRun (now : Option ℕ) (found : Found) (run : Run) : Type 0 where
   pub handheld : first_value found (codes "handheld") ≡ Some run.handheld
   pub desktop : first_value found (codes "desktop") ≡ Some run.desktop
-  pub date : first_value found (codes "date") ≡ Some (date_text run.date)
-  pub dated : read_text (date_text run.date) ≡ Some run.date
+  pub date : HoldsDate now found run.date
   pub script : first_value found (codes "script") ≡ run.script
   pub trace : first_value found (codes "trace") ≡ run.trace
   pub actions : first_value found (codes "actions") ≡ run.actions
@@ -38,11 +42,11 @@ pub record HoldsNumbers (found : Found) (seed count : ℕ) : Type 0 where
   pub counted : count_of two ≡ Some count
 
 -- they have what is asked for
-abbrev pub HoldsTask : Found → Task → Type 0
-HoldsTask found (Sync run) = HoldsRun found run
-HoldsTask found (LookAt look file) = first_value found (codes "file") ≡ Some file
-HoldsTask found (Scan bytes) = HoldsBytes found bytes
-HoldsTask found (Make seed count) = HoldsNumbers found seed count
+abbrev pub HoldsTask : Option ℕ → Found → Task → Type 0
+HoldsTask now found (Sync run) = HoldsRun now found run
+HoldsTask now found (LookAt look file) = first_value found (codes "file") ≡ Some file
+HoldsTask now found (Scan bytes) = HoldsBytes found bytes
+HoldsTask now found (Make seed count) = HoldsNumbers found seed count
 
 -- the command of a task
 abbrev pub task_app : Task → App

@@ -37,24 +37,30 @@ fn reader_of<'a>(alloc: Global, form: &Command<'a>) -> Result<Reader<'a>, AllocE
 // The matches of words in the form. They are refused only for want of memory.
 fn matches_of<'a>(
     alloc: Global,
+    now: Option<u32>,
     form: &Command<'a>,
     words: &'a [String],
 ) -> Result<ArgMatches<'a>, Error>
-    requires { task_of (map string_bytes words.now) ≡ Some (task_view form.now) }
+    requires { task_of now (map string_bytes words.now) ≡ Some (task_view form.now) }
     ensures taken { IfErr result (λ error. kind_of error ≡ ErrorKind.OutOfMemory) }
-    ensures read { IfOk result (λ matches. HoldsTask (found_of matches) (task_view form.now)) }
+    ensures read { IfOk result (λ matches.
+        HoldsTask now (found_of matches) (task_view form.now)) }
 {
     let reader = reader_of(alloc, form)?;
     reader.try_get_matches_from(words)
 }
 
 // The command that matches hold.
-fn command_in<'a>(form: &Command<'a>, matches: &ArgMatches<'a>) -> Option<Command<'a>>
-    ensures { HoldsTask (found_of matches.now) (task_view form.now)
+fn command_in<'a>(
+    now: Option<u32>,
+    form: &Command<'a>,
+    matches: &ArgMatches<'a>,
+) -> Option<Command<'a>>
+    ensures { HoldsTask now (found_of matches.now) (task_view form.now)
         → option_map task_view result ≡ Some (task_view form.now) }
 {
     match form {
-        Command::Run(_) => match run_in(matches) {
+        Command::Run(_) => match run_in(now, matches) {
             Some(run) => Some(Command::Run(run)),
             None => None,
         },
@@ -76,20 +82,24 @@ fn command_in<'a>(form: &Command<'a>, matches: &ArgMatches<'a>) -> Option<Comman
     }
 }
 
-/// What these words ask for, read by `clap`.
-pub fn read_command<'a>(alloc: Global, words: &'a [String]) -> Result<Command<'a>, WordsFault>
+/// What these words ask for, read by `clap`. `now` is the date now in seconds, if it can be told.
+pub fn read_command<'a>(
+    alloc: Global,
+    now: Option<u32>,
+    words: &'a [String],
+) -> Result<Command<'a>, WordsFault>
     ensures command { IfOk result (λ command.
-        task_of (map string_bytes words.entry.now) ≡ Some (task_view command)) }
+        task_of now (map string_bytes words.entry.now) ≡ Some (task_view command)) }
     ensures usage { IsErrOf result WordsFault.Usage
-        ↔ (task_of (map string_bytes words.entry.now) ≡ None) }
+        ↔ (task_of now (map string_bytes words.entry.now) ≡ None) }
 {
-    let Some(form) = command_of(words) else {
+    let Some(form) = command_of(now, words) else {
         return Err(WordsFault::Usage);
     };
-    let Ok(matches) = matches_of(alloc, &form, words) else {
+    let Ok(matches) = matches_of(alloc, now, &form, words) else {
         return Err(WordsFault::NoMemory);
     };
-    match command_in(&form, &matches) {
+    match command_in(now, &form, &matches) {
         Some(command) => Ok(command),
         None => unreachable!(),
     }

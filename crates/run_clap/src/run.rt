@@ -8,8 +8,7 @@ ghost use Rattle.run_words.specs.Views.{run_view};
 
 use crate::argument::{empty_command, flag_arg, option_arg, plain_arg, required_arg, with_arg};
 use clap::{ArgMatches, Command};
-use pdb_values::PalmDate;
-use run_words::RunWords;
+use run_words::{RunWords, date_in};
 use std::alloc::{AllocError, Global};
 
 // `run`, with its two folders and its options.
@@ -28,17 +27,14 @@ pub fn run_command<'a>(alloc: Global) -> Result<Command<'a>, AllocError>
     Ok(eight)
 }
 
-// The run that matches hold.
-pub fn run_in<'a>(matches: &ArgMatches<'a>) -> Option<RunWords<'a>>
-    ensures { (run : Run) → HoldsRun (found_of matches.now) run
+// The run that matches hold, at the date now.
+pub fn run_in<'a>(now: Option<u32>, matches: &ArgMatches<'a>) -> Option<RunWords<'a>>
+    ensures { (run : Run) → HoldsRun now (found_of matches.now) run
         → option_map run_view result ≡ Some run }
 {
     let handheld = matches.get_str("handheld")?;
     let desktop = matches.get_str("desktop")?;
-    let date = matches.get_str("date")?;
-    let Ok(date) = PalmDate::read_text(date) else {
-        return None;
-    };
+    let date = date_in(now, matches.get_str("date")?)?;
     Some(RunWords {
         handheld,
         desktop,

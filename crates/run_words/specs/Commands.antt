@@ -28,16 +28,16 @@ unfoldable pub make_of : List (List ℕ) → Option Task
 make_of (seed ∷ count ∷ []) = option_and_then (λ number. option_map (Make number) (count_of count)) (number_of seed)
 make_of _ = None
 
--- what the words behind a command ask for
-abbrev pub task_behind : List ℕ → List (List ℕ) → Option Task
-task_behind command words =
-    if bytes_eq command (codes "run") then option_map Sync (run_of words)
+-- what the words behind a command ask for, at the date now
+abbrev pub task_behind : Option ℕ → List ℕ → List (List ℕ) → Option Task
+task_behind now command words =
+    if bytes_eq command (codes "run") then option_map Sync (run_of now words)
     else (if bytes_eq command (codes "check") then option_map (LookAt Check) (file_of words)
     else (if bytes_eq command (codes "show") then option_map (LookAt Show) (file_of words)
     else (if bytes_eq command (codes "packet") then option_map Scan (packet_of words)
     else (if bytes_eq command (codes "make") then make_of words else None))))
 
--- what these words ask for
-unfoldable pub task_of : List (List ℕ) → Option Task
-task_of [] = None
-task_of (command ∷ words) = task_behind command words
+-- what these words ask for, where the date now is this, if it can be told
+unfoldable pub task_of : Option ℕ → List (List ℕ) → Option Task
+task_of now [] = None
+task_of now (command ∷ words) = task_behind now command words

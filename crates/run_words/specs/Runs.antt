@@ -1,14 +1,18 @@
 -- Which words ask for a run, and what they give.
-use Rattle.std.specs.Prelude.{ℕ, Bool, true, false, ◌==◌, List, [], ◌∷◌, Option, Some, None, length, option_map, option_and_then, if◌then◌else◌}
-use Rattle.pdb_values.specs.PalmDates.{read_text}
+use Rattle.std.specs.Prelude.{ℕ, Bool, true, false, ◌==◌, List, [], ◌∷◌, Option, Some, None, codes, bytes_eq, length, option_map, option_and_then, if◌then◌else◌}
+use Rattle.pdb_values.specs.PalmDates.{if_later, read_text}
 use Rattle.run_words.specs.Actions.{is_actions_text}
 use Rattle.run_words.specs.Words.{Kind, plain_word, date_value, script_value, trace_value, actions_value, slow_word, add_user_word, unknown_word, kind_of}
+
+-- the seconds of a date word, where these are the seconds of the date now: `now`, unless they are 0, or a date that is written
+abbrev pub date_at : Option ℕ → List ℕ → Option ℕ
+date_at now word = if bytes_eq word (codes "now") then if_later now else read_text word
 
 -- what the words before gave
 pub record Given : Type 0 where
   pub handheld : Option (List ℕ)
   pub desktop : Option (List ℕ)
-  pub date : Option ℕ
+  pub date : Option (List ℕ)
   pub script : Option (List ℕ)
   pub trace : Option (List ℕ)
   pub actions : Option (List ℕ)
@@ -28,11 +32,6 @@ abbrev pub actions_once : Option (List ℕ) → List ℕ → Option (Option (Lis
 actions_once None value = if is_actions_text value then Some (Some value) else None
 actions_once (Some _) value = None
 
--- a date, where there was none before
-abbrev pub date_once : Option ℕ → List ℕ → Option (Option ℕ)
-date_once None value = option_map (λ seconds. Some seconds) (read_text value)
-date_once (Some _) value = None
-
 -- with one more plain word, of two in all
 abbrev pub with_plain : Given → Option (List ℕ) → Option (List ℕ) → List ℕ → Option Given
 with_plain given None desktop word = Some (record given { handheld = Some word })
@@ -42,7 +41,7 @@ with_plain given (Some _) (Some _) word = None
 -- with one more word
 unfoldable pub with_word : Given → Kind → Option Given
 with_word given (plain_word word) = with_plain given given.handheld given.desktop word
-with_word given (date_value value) = option_map (λ slot. record given { date = slot }) (date_once given.date value)
+with_word given (date_value value) = option_map (λ slot. record given { date = slot }) (once given.date value)
 with_word given (script_value value) = option_map (λ slot. record given { script = slot }) (once given.script value)
 with_word given (trace_value value) = option_map (λ slot. record given { trace = slot }) (once given.trace value)
 with_word given (actions_value value) = option_map (λ slot. record given { actions = slot }) (actions_once given.actions value)
@@ -80,10 +79,10 @@ whole_of given (Some handheld) (Some desktop) (Some date) =
     })
 whole_of given _ _ _ = None
 
--- the run that is given, where nothing is missing
-unfoldable pub whole : Given → Option Run
-whole given = whole_of given given.handheld given.desktop given.date
+-- the run that is given, where nothing is missing and the date word has a date
+unfoldable pub whole : Option ℕ → Given → Option Run
+whole now given = whole_of given given.handheld given.desktop (option_and_then (date_at now) given.date)
 
--- the run that the words behind `run` ask for, in any order
-unfoldable pub run_of : List (List ℕ) → Option Run
-run_of words = option_and_then whole (with_words nothing words)
+-- the run that the words behind `run` ask for, in any order, at the date now
+unfoldable pub run_of : Option ℕ → List (List ℕ) → Option Run
+run_of now words = option_and_then (whole now) (with_words nothing words)

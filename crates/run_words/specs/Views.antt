@@ -24,7 +24,7 @@ abbrev pub given_view : GivenWords → Given
 given_view given = record {
   handheld = option_copied given.handheld;
   desktop = option_copied given.desktop;
-  date = given.date;
+  date = option_copied given.date;
   script = option_copied given.script;
   trace = option_copied given.trace;
   actions = option_copied given.actions;

@@ -56,16 +56,17 @@ pub enum Command<'a> {
     Make(MakeWords),
 }
 
-/// What these words ask for, by the first of them, or `None` exactly where they are not in the form.
+/// What these words ask for, by the first of them, or `None` exactly where they are not in the form. `now` is the
+/// date now in seconds, if it can be told.
 #[tactic(auto, unfolding(crate::specs::Commands::task_of))]
-pub fn command_of<'a>(words: &'a [String]) -> Option<Command<'a>>
-    ensures { option_map task_view result ≡ task_of (map string_bytes words.entry.now) }
+pub fn command_of<'a>(now: Option<u32>, words: &'a [String]) -> Option<Command<'a>>
+    ensures { option_map task_view result ≡ task_of now (map string_bytes words.entry.now) }
 {
     let [command, words @ ..] = words else {
         return None;
     };
     if command.as_str() == "run" {
-        run_command(words)
+        run_command(now, words)
     } else if command.as_str() == "check" {
         look_command(Look::Check, words)
     } else if command.as_str() == "show" {
@@ -80,11 +81,11 @@ pub fn command_of<'a>(words: &'a [String]) -> Option<Command<'a>>
 }
 
 // The run that the words behind `run` ask for.
-fn run_command<'a>(words: &'a [String]) -> Option<Command<'a>>
+fn run_command<'a>(now: Option<u32>, words: &'a [String]) -> Option<Command<'a>>
     ensures { option_map task_view result
-        ≡ option_map Sync (run_of (map string_bytes words.entry.now)) }
+        ≡ option_map Sync (run_of now (map string_bytes words.entry.now)) }
 {
-    match run_words(words) {
+    match run_words(now, words) {
         Some(run) => Some(Command::Run(run)),
         None => None,
     }

@@ -1,7 +1,8 @@
 // The words of a run.
 ghost use Rattle.std.specs.Prelude.{◌≡◌, map, string_bytes, option_map, option_copied};
+ghost use Rattle.pdb_values.specs.PalmDates.{if_later};
 ghost use Rattle.run_words.specs.Views.{kind_view, given_view, run_view};
-ghost use Rattle.run_words.specs.Runs.{with_words, run_of, nothing, once as once_value, actions_once as actions_value, date_once as date_value, with_plain as with_plain_word, with_word as with_one_word, whole as whole_run};
+ghost use Rattle.run_words.specs.Runs.{with_words, run_of, nothing, once as once_value, actions_once as actions_value, date_at, with_plain as with_plain_word, with_word as with_one_word, whole as whole_run};
 
 use crate::action_list::is_actions;
 use crate::word::{Word, word_of};
@@ -33,7 +34,7 @@ pub struct RunWords<'a> {
 struct GivenWords<'a> {
     handheld: Option<&'a str>,
     desktop: Option<&'a str>,
-    date: Option<u32>,
+    date: Option<&'a str>,
     script: Option<&'a str>,
     trace: Option<&'a str>,
     actions: Option<&'a str>,
@@ -65,16 +66,26 @@ fn actions_once<'a>(slot: Option<&'a str>, value: &'a str) -> Option<Option<&'a 
     }
 }
 
-// The seconds of a date, where there was none before.
-fn date_once(slot: Option<u32>, value: &str) -> Option<Option<u32>>
-    ensures { result ≡ date_value slot value.now }
+/// The date of a date word. `now` is the date now, whose seconds are given where it can be told and which is later than 0 seconds.
+pub fn date_in(now: Option<u32>, word: &str) -> Option<PalmDate>
+    ensures { result ≡ date_at now word.now }
 {
-    if slot.is_some() {
-        return None;
+    if word == "now" {
+        return later_date(now);
     }
-    match PalmDate::read_text(value) {
-        Ok(date) => Some(Some(date.seconds())),
+    match PalmDate::read_text(word) {
+        Ok(date) => Some(date),
         Err(_) => None,
+    }
+}
+
+// The date of some seconds. 0 seconds stand for none.
+fn later_date(seconds: Option<u32>) -> Option<PalmDate>
+    ensures { result ≡ if_later seconds }
+{
+    match seconds {
+        Some(seconds) if seconds > 0 => Some(PalmDate::of_seconds(seconds)),
+        _ => None,
     }
 }
 
@@ -102,7 +113,7 @@ fn with_word<'a>(mut given: GivenWords<'a>, word: Word<'a>) -> Option<GivenWords
 {
     match word {
         Word::Plain(word) => return with_plain(given, word),
-        Word::Date(value) => given.date = date_once(given.date, value)?,
+        Word::Date(value) => given.date = once(given.date, value)?,
         Word::Script(value) => given.script = once(given.script, value)?,
         Word::Trace(value) => given.trace = once(given.trace, value)?,
         Word::Actions(value) => given.actions = actions_once(given.actions, value)?,
@@ -123,24 +134,24 @@ fn with_word<'a>(mut given: GivenWords<'a>, word: Word<'a>) -> Option<GivenWords
     Some(given)
 }
 
-// The run that is given, where nothing is missing.
+// The run that is given, where nothing is missing and the date word has a date.
 #[tactic(auto, unfolding(crate::specs::Runs::whole))]
-fn whole<'a>(given: GivenWords<'a>) -> Option<RunWords<'a>>
-    ensures { option_map run_view result ≡ whole_run (given_view given.entry) }
+fn whole<'a>(now: Option<u32>, given: GivenWords<'a>) -> Option<RunWords<'a>>
+    ensures { option_map run_view result ≡ whole_run now (given_view given.entry) }
 {
-    match (given.handheld, given.desktop, given.date) {
-        (Some(handheld), Some(desktop), Some(seconds)) => Some(RunWords {
-            handheld,
-            desktop,
-            date: PalmDate::of_seconds(seconds),
-            script: given.script,
-            trace: given.trace,
-            actions: given.actions,
-            slow: given.slow,
-            add_user: given.add_user,
-        }),
-        _ => None,
-    }
+    let handheld = given.handheld?;
+    let desktop = given.desktop?;
+    let date = date_in(now, given.date?)?;
+    Some(RunWords {
+        handheld,
+        desktop,
+        date,
+        script: given.script,
+        trace: given.trace,
+        actions: given.actions,
+        slow: given.slow,
+        add_user: given.add_user,
+    })
 }
 
 // What words give, one after another.
@@ -167,13 +178,13 @@ fn given_by<'a>(words: &'a [String]) -> Option<GivenWords<'a>>
     Some(given)
 }
 
-/// The run that the words behind `run` ask for, in any order.
+/// The run that the words behind `run` ask for, in any order, at the date now.
 #[tactic(auto, unfolding(crate::specs::Runs::run_of))]
-pub fn run_words<'a>(words: &'a [String]) -> Option<RunWords<'a>>
-    ensures { option_map run_view result ≡ run_of (map string_bytes words.entry.now) }
+pub fn run_words<'a>(now: Option<u32>, words: &'a [String]) -> Option<RunWords<'a>>
+    ensures { option_map run_view result ≡ run_of now (map string_bytes words.entry.now) }
 {
     match given_by(words) {
-        Some(given) => whole(given),
+        Some(given) => whole(now, given),
         None => None,
     }
 }

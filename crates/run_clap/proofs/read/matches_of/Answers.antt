@@ -12,7 +12,7 @@ returns-clause-taken c =
     let words = map string_bytes c.args.words.now in
     let task = task_view c.args.form.now in
     let parse = c.try_get_matches_from in
-    IfErr-weaker parse.result _ _ (λ e h. h (ap (λ app. takes app words) c.in_ok-reader.ensures ∙ task_takes words task c.requires)) parse.ensures.passes
+    IfErr-weaker parse.result _ _ (λ e h. h (ap (λ app. takes app words) c.in_ok-reader.ensures ∙ task_takes c.args.now words task c.requires)) parse.ensures.passes
 
 pub returns-clause-read : goal.returns-clause-read
 returns-clause-read c =
@@ -20,6 +20,6 @@ returns-clause-read c =
     let task = task_view c.args.form.now in
     let parse = c.try_get_matches_from in
     IfOk-weaker parse.result _ _
-    (λ m h. task_matches words task (found_of m) c.requires
+    (λ m h. task_matches c.args.now words task (found_of m) c.requires
     ((h (ap is_simple c.in_ok-reader.ensures ∙ task_is_simple task)).0 ∙ ap (λ app. matches_of app words) c.in_ok-reader.ensures))
     parse.ensures.matches
