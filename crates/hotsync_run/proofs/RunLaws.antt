@@ -1,8 +1,9 @@
 -- What is known of a run at each of its ends.
 use Rattle.std.proofs.lemmas.Grind.{common_steps}
-use Rattle.std.proofs.Common.{◌≡◌, ◌≢◌, ◌⊎◌, ◌∙◌, ◌+◌, ◌-◌, ◌^◌, ◌≤◌, ℕ, List, inl, inr, refl, sym, subst, ap, arith}
+use Rattle.std.proofs.Common.{◌≡◌, ◌≢◌, ◌⊎◌, ◌∙◌, ◌+◌, ◌-◌, ◌^◌, ◌≤◌, ℕ, List, ◌++◌, inl, inr, refl, sym, subst, ap, arith}
 use Rattle.std.specs.Prelude.{IfSome, Option, min}
 use Rattle.std.specs.Option.{option_map}
+use Rattle.hs_folders.specs.Appends.{AppendsPrefix}
 use Rattle.hs_folders.specs.Causes.{Rose}
 use Rattle.hs_folders.specs.FileMaps.{FileMap}
 use Rattle.hs_folders.specs.Moments.{EachMomentSince, Moments}
@@ -289,7 +290,15 @@ talked_from {rules} {meeting} {first} before {after} {report} stays stood talked
 
 traced_from : {path : Option (List ℕ)} {text : List ℕ} (first : SinkTold) {before after : SinkTold} {status : Status} → before.taken ≡ first.taken
     → first.faults ≤ before.faults → IsTraced path text before after status → IsTraced path text first after status
-traced_from {text} first {before} {after} same later traced = grind (arith, rose_earlier (2 ^ 64 - 1) first.faults before.faults after.faults later)
+traced_from {text} first {before} {after} same later traced =
+    let whole : option_map (λ taken. taken ++ text) before.taken ≡ option_map (λ taken. taken ++ text) first.taken =
+    ap (λ (told : Option (List ℕ)). option_map (λ taken. taken ++ text) told) same in
+    record {
+      part = subst (λ (told : Option (List ℕ)). AppendsPrefix told after.taken text) same traced.part;
+      done = λ named done. traced.done named done ∙ whole;
+      whole = λ named calm is.
+          traced.whole named (λ rose. calm (rose_earlier (2 ^ 64 - 1) first.faults before.faults after.faults later rose)) is ∙ whole;
+    }
 
 -- the desktop's folder, from before its journal was finished on
 desktop_ran : {first : FolderTold} (before : FolderTold) {after : FolderTold} {end : SessionEnd} → before.contents ≡ option_map finished first.contents
@@ -397,8 +406,13 @@ module _ {run : Run} (before after : CallTold) {palm desk : FolderTold} {trace :
 -- ---- printing
 
 traced_as : {path : Option (List ℕ)} {text : List ℕ} {before after : SinkTold} {status : Status} (other : Status)
-    → (other ≢ NoMemory → status ≢ NoMemory) → IsTraced path text before after status → IsTraced path text before after other
-traced_as other served traced = grind arith
+    → (other ≡ Done → status ≡ Done) → (other ≢ NoMemory → status ≢ NoMemory) → IsTraced path text before after status
+    → IsTraced path text before after other
+traced_as other was_done served traced = record {
+  part = traced.part;
+  done = λ named done. traced.done named (was_done done);
+  whole = λ named calm other_is. traced.whole named calm (served other_is);
+}
 
 module _ {run : Run} {before after : CallTold} {status : Status} {report : Report} where
   sent_memory : SentNothing run before after status report → SentNothing run before after NoMemory report
@@ -406,16 +420,16 @@ module _ {run : Run} {before after : CallTold} {status : Status} {report : Repor
       record { judged = inl refl; report_is = sent.report_is; handheld = sent.handheld; desktop = sent.desktop; trace = sent.trace }
 
   ran_as : {other : Status} (ran : SessionRan run before after status report)
-      → Talked ran.rules ran.meeting (sides_of before) (sides_of after) other report → (other ≢ NoMemory → status ≢ NoMemory)
-      → SessionRan run before after other report
-  ran_as {other} ran talked served = record {
+      → Talked ran.rules ran.meeting (sides_of before) (sides_of after) other report → (other ≡ Done → status ≡ Done)
+      → (other ≢ NoMemory → status ≢ NoMemory) → SessionRan run before after other report
+  ran_as {other} ran talked was_done served = record {
     rules = ran.rules;
     scripted = ran.scripted;
     meeting = ran.meeting;
     meets = ran.meets;
     changed = ran.changed;
     talked = talked;
-    traced = traced_as other served ran.traced;
+    traced = traced_as other was_done served ran.traced;
   }
 
   -- a run whose status can't be said for want of memory
@@ -423,7 +437,7 @@ module _ {run : Run} {before after : CallTold} {status : Status} {report : Repor
   run_memory has = record {
     shown = by_end_then report.end {A = SentNothing run before after status report} {B = SessionRan run before after status report}
         {C = SentNothing run before after NoMemory report} {D = SessionRan run before after NoMemory report} sent_memory (λ ran. ran_as ran
-        (talked_memory ran.talked) (λ served. absurd (served refl))) has.shown;
+        (talked_memory ran.talked) (λ e. cc) (λ served. absurd (served refl))) has.shown;
     blames = record { source = λ e. cc; folders = record { handheld = λ e. cc; desktop = λ e. cc }; trace = λ e. cc };
     opened = has.opened;
   }
@@ -463,7 +477,7 @@ module _ {run : Run} {before after : CallTold} {status : Status} {report : Repor
   run_unsaid done = record {
     shown = by_end_then report.end {A = SentNothing run before after status report} {B = SessionRan run before after status report}
         {C = SentNothing run before after OutWrite report} {D = SessionRan run before after OutWrite report}
-        (λ sent. absurd (sent_not_done run before status sent.judged done)) (λ ran. ran_as ran (talked_unsaid ran.talked done) (λ served e. cc))
+        (λ sent. absurd (sent_not_done run before status sent.judged done)) (λ ran. ran_as ran (talked_unsaid ran.talked done) (λ e. cc) (λ served e. cc))
         has.shown;
     blames = record { source = λ e. cc; folders = record { handheld = λ e. cc; desktop = λ e. cc }; trace = λ e. cc };
     opened = has.opened;

@@ -9,13 +9,17 @@ use Rattle.hotsync_run.specs.LineRuns.{frames_in}
 use Rattle.hotsync_run.specs.Told.{SinkTold}
 use Rattle.hotsync_run.specs.declared.report.Report.{Report}
 use Rattle.hotsync_run.specs.declared.status.Status.{Status}
-use Rattle.hotsync_run.specs.declared.status.Status.TheVariants.{TraceWrite, NoMemory}
+use Rattle.hotsync_run.specs.declared.status.Status.TheVariants.{Done, TraceWrite, NoMemory}
 
--- What a trace took: the text, unless it failed or memory ran out; else a first part of it. Where
--- none is named it took nothing of it.
-pub record IsTraced (path : Option (List ℕ)) (text : List ℕ) (before after : SinkTold) (status : Status) : Type 0 where
+-- What a trace took: the text, wherever the run is told as done, and else unless the trace failed or
+-- memory ran out; or else a first part of it. Where none is named it took nothing of it.
+pub record IsTraced (path : Option (List ℕ)) (text : List ℕ) (before after : SinkTold)
+    (status : Status) : Type 0 where
   pub part : AppendsPrefix before.taken after.taken text
-  pub whole : path ≢ None → ¬ Rose before.faults after.faults → status ≢ NoMemory → after.taken ≡ option_map (λ taken. taken ++ text) before.taken
+  pub done : path ≢ None → status ≡ Done
+      → after.taken ≡ option_map (λ taken. taken ++ text) before.taken
+  pub whole : path ≢ None → ¬ Rose before.faults after.faults → status ≢ NoMemory
+      → after.taken ≡ option_map (λ taken. taken ++ text) before.taken
 
 -- what is known of a status once the trace was to be written
 pub record StandsTraced (before after : SinkTold) (status traced : Status) : Type 0 where
@@ -25,10 +29,13 @@ pub record StandsTraced (before after : SinkTold) (status traced : Status) : Typ
   pub later : before.faults ≤ after.faults
 
 -- a text was to be written
-pub record TracesText (text : List ℕ) (before after : SinkTold) (status traced : Status) : Type 0 where
+pub record TracesText (text : List ℕ) (before after : SinkTold) (status traced : Status)
+    : Type 0 where
   pub stands : StandsTraced before after status traced
   pub part : AppendsPrefix before.taken after.taken text
-  pub whole : ¬ Rose before.faults after.faults → traced ≢ NoMemory → after.taken ≡ option_map (λ taken. taken ++ text) before.taken
+  pub done : traced ≡ Done → after.taken ≡ option_map (λ taken. taken ++ text) before.taken
+  pub whole : ¬ Rose before.faults after.faults → traced ≢ NoMemory
+      → after.taken ≡ option_map (λ taken. taken ++ text) before.taken
 
 -- likewise where a path is named
 pub record TracesFrames (path : Option (List ℕ)) (text : List ℕ) (before after : SinkTold) (status traced : Status) : Type 0 where
