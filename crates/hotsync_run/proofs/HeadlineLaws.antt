@@ -68,6 +68,7 @@ module _ (call : RunCall) (is : IsAnsweredRun call) where
             handheld = talked.front;
             keeps = talked.line.stands;
             limit = talked.left.over;
+            loss = talked.left.losing;
           };
         },
       )

@@ -31,6 +31,7 @@ use Rattle.line_world.specs.Logs.{LogValue, no_log}
 use Rattle.line_world.specs.Worlds.{IsLog, WorldSince, WorldValue, world_talk}
 use Rattle.sync_session.proofs.IdsLaws.{text-before_commit, text-session}
 use Rattle.sync_session.specs.Limits.{first_over}
+use Rattle.sync_session.specs.Losses.{first_loss}
 use Rattle.sync_session.specs.Given.{GetFreeIds}
 use Rattle.sync_session.specs.News.{all_news}
 use Rattle.sync_session.specs.Skips.{active}
@@ -178,6 +179,15 @@ limit-prefix : {F : Type 0} (contents : F → Option FileMap) (moments : F → M
 limit-prefix contents moments paths faults fault downs meeting old new desk desk_after answer silent is ends some =
     issued_begins old new (map text (before_writes meeting)) silent is (ends.over some).only
 
+-- and so does a new handheld
+loss-prefix : {F : Type 0} (contents : F → Option FileMap) (moments : F → Moments) (paths : F → Option (List (List ℕ))) (faults : F → ℕ)
+    (fault : WorldValue F → Option LinkFault) (downs : WorldValue F → ℕ) (meeting : Meeting) (old new : WorldValue F) (desk desk_after : FolderTold)
+    (answer : Result (Vec DbReport) Stop)
+    → old.log ≡ no_log → IsLog new.log new.answered → EndsOver contents moments paths faults fault downs meeting old new desk desk_after answer
+    → IsSome (first_loss meeting) → IsPrefix new.log.issued (map text (before_writes meeting))
+loss-prefix contents moments paths faults fault downs meeting old new desk desk_after answer silent is ends some =
+    issued_begins old new (map text (before_writes meeting)) silent is (ends.losing some).only
+
 -- a user without a slot is all that is asked for
 unseated-prefix : {F : Type 0} (contents : F → Option FileMap) (moments : F → Moments) (paths : F → Option (List (List ℕ))) (faults : F → ℕ)
     (fault : WorldValue F → Option LinkFault) (downs : WorldValue F → ℕ) (meeting : Meeting) (old new : WorldValue F) (desk desk_after : FolderTold)
@@ -208,6 +218,7 @@ session_left contents moments paths faults fault downs {meeting} old new desk de
       arith,
       logged_all tells.silent tells.is_log (ends.ended).does,
       limit-prefix contents moments paths faults fault downs meeting old new desk desk_after (Ok made) tells.silent tells.is_log ends,
+      loss-prefix contents moments paths faults fault downs meeting old new desk desk_after (Ok made) tells.silent tells.is_log ends,
       text-session meeting (ends.ended).given,
       parts-are meeting (ends.ended).given,
       length-append (map text (before_commit meeting (ends.ended).given)) (map text (after_commit meeting)),
@@ -219,6 +230,7 @@ session_left contents moments paths faults fault downs {meeting} old new desk de
     )
 session_left contents moments paths faults fault downs {meeting} old new desk desk_after report (Err why) sound device tells end databases ends =
     let over = limit-prefix contents moments paths faults fault downs meeting old new desk desk_after (Err why) tells.silent tells.is_log ends in
+    let losing = loss-prefix contents moments paths faults fault downs meeting old new desk desk_after (Err why) tells.silent tells.is_log ends in
     let same : (log_in report).issued ≡ new.log.issued = ap (λ (l : LogValue). l.issued) tells.said in
     elim ends.stopped [
       | inl b ↦
@@ -229,6 +241,7 @@ session_left contents moments paths faults fault downs {meeting} old new desk de
                 (subst (λ (l : List (List ℕ)). IsPrefix new.log.issued l) (parts-are meeting (replicate (adds_of meeting) 0))
                 (prefix-more (map text (after_commit meeting)) prefix));
             over = λ some. subst (λ (l : List (List ℕ)). IsPrefix l (map text (before_writes meeting))) (sym same) (over some);
+            losing = λ some. subst (λ (l : List (List ℕ)). IsPrefix l (map text (before_writes meeting))) (sym same) (losing some);
             unseated = unseated-prefix contents moments paths faults fault downs meeting old new desk desk_after report
                 (Err why) tells.silent tells.is_log same ends;
             ended = λ is. cc;
@@ -246,6 +259,7 @@ session_left contents moments paths faults fault downs {meeting} old new desk de
             issued = subst (λ (l : List (List ℕ)). IsPrefix l (requests meeting)) (sym same)
                 (subst (λ (l : List (List ℕ)). IsPrefix new.log.issued l) (parts-are meeting b.given) began.issued_begins);
             over = λ some. subst (λ (l : List (List ℕ)). IsPrefix l (map text (before_writes meeting))) (sym same) (over some);
+            losing = λ some. subst (λ (l : List (List ℕ)). IsPrefix l (map text (before_writes meeting))) (sym same) (losing some);
             unseated = unseated-prefix contents moments paths faults fault downs meeting old new desk desk_after report
                 (Err why) tells.silent tells.is_log same ends;
             ended = λ is. cc;

@@ -1,4 +1,4 @@
--- A session between made folders passes no limit.
+-- A session between made folders passes no limit, and meets no new handheld.
 use Rattle.std.proofs.lemmas.Grind.{common_steps}
 use Rattle.std.proofs.Common.{◌≡◌, ◌∙◌, ◌+◌, ◌<◌, ◌≤◌, ◌||◌, ℕ, Bool, false, refl, ap, arith, le-ltb, List, [], ◌∷◌, ◌++◌, length, length-append}
 use Rattle.std.specs.Prelude.{Option, None, nat_lt}
@@ -12,6 +12,7 @@ use Rattle.conduit_rules.specs.States.{first}
 use Rattle.conduit_merge.specs.Merging.{merged_archive, new_under, one_copy_behind}
 use Rattle.sync_session.specs.Choosing.{choice, seen_held}
 use Rattle.sync_session.specs.Limits.{first_behind, first_over, gone_count, new_count, row_count, sizes_of}
+use Rattle.sync_session.specs.Losses.{first_loss}
 use Rattle.sync_session.specs.Sizes.{is_over}
 use Rattle.sync_session.specs.Skips.{active}
 use Rattle.sync_session.specs.declared.wishes.Wishes.{Wishes}
@@ -117,3 +118,8 @@ pub none_over : {items : List Item} {wishes : Wishes} → AreItems items → Ask
 unfolding first_over first_behind active made_task made_meeting made_device made_slot
 none_over {items} {wishes} are asks merged =
     grind (arith, made_meeting items wishes, tasks_are items asks, made_task items, [], not_skipped items, not_over are asks merged)
+
+-- the desktop of a made folder was never synchronised
+pub none_lost : (items : List Item) (wishes : Wishes) → first_loss (made_meeting items wishes) ≡ None
+unfolding first_loss made_meeting made_slot made_device
+none_lost items wishes = refl

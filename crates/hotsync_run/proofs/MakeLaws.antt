@@ -38,9 +38,9 @@ use Rattle.hotsync_run.specs.declared.report.Report.{Report}
 use Rattle.hotsync_run.specs.declared.status.Status.{Status}
 use Rattle.hotsync_run.specs.declared.status.Status.TheVariants.{Done, Usage, BadScript, TooLong, BadFile, TooMany, HandheldFolder, DesktopFolder, SourceRead}
 use Rattle.hotsync_run.specs.declared.status.Status.TheVariants.{TraceWrite, OutWrite, NoMemory, LineDown, Unplugged, Aborted, Undetected, OtherUser}
-use Rattle.hotsync_run.specs.declared.status.Status.TheVariants.{TooManyUsers, Limit}
+use Rattle.hotsync_run.specs.declared.status.Status.TheVariants.{TooManyUsers, Limit, NewHandheld}
 use Rattle.hotsync_run.proofs.MadeItems.{drawn_short}
-use Rattle.hotsync_run.proofs.MadeLimits.{none_over}
+use Rattle.hotsync_run.proofs.MadeLimits.{none_lost, none_over}
 use Rattle.hotsync_run.proofs.MadeReports.{AsksNothing, made_device, made_meeting, made_meets, made_slot, reports_are}
 use Rattle.hotsync_run.proofs.MadeSides.{AreItems, made_desktop, made_finished, made_handheld, made_user_is}
 use Rattle.hotsync_run.proofs.MakeLines.{made_fair, never_stops}
@@ -153,6 +153,8 @@ module _ {items : List Item} (after : SidesTold) (report : Report) (are : AreIte
   by_status {wishes} TooManyUsers asks ends unsaid up caused numbered shows palm desk = absurd (not_full items wishes shows.0)
   by_status (Limit name) asks ends unsaid up caused numbered shows palm desk =
       let none = none_over are asks merged in let some = shows.0 in absurd cc
+  by_status {wishes} (NewHandheld name) asks ends unsaid up caused numbered shows palm desk =
+      let none = none_lost items wishes in let some = shows.1 in absurd cc
 
   pub made_ends : {device : Device} {slots : List SlotValue} {status : Status} → HoldsAll (handheld_files items) device.databases device.user
       → device.handles ≡ no_handles → IsDesk (Some (desktop_files items)) slots

@@ -256,6 +256,7 @@ left_from {meeting} {first} {before} {after} stood left =
       sound = left.sound;
       issued = left.issued;
       over = left.over;
+      losing = left.losing;
       unseated = left.unseated;
       ended = left.ended;
       stopped = λ is. elim (left.stopped is) [

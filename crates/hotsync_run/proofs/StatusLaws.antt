@@ -19,7 +19,8 @@ use Rattle.line_world.specs.declared.down.Down.{Down}
 use Rattle.line_world.specs.Worlds.{WorldValue, world_talk}
 use Rattle.sync_session.proofs.IdsLaws.{text-before_commit}
 use Rattle.sync_session.specs.Limits.{first_over}
-use Rattle.sync_session.specs.Outcomes.{IsStopOf, StopsAtLimit, StopsFor, seat_of, slot_in}
+use Rattle.sync_session.specs.Losses.{first_loss}
+use Rattle.sync_session.specs.Outcomes.{IsStopOf, StopsAtLimit, StopsAtLoss, StopsFor, seat_of, slot_in}
 use Rattle.sync_session.specs.Sessions.{adds_of}
 use Rattle.sync_session.specs.Tasks.{Meeting}
 use Rattle.sync_session.specs.declared.report.DbReport.{DbReport}
@@ -31,7 +32,7 @@ use Rattle.hotsync_run.specs.Talks.{left_status}
 use Rattle.hotsync_run.specs.Told.{FolderTold}
 use Rattle.hotsync_run.specs.declared.report.Report.{Report}
 use Rattle.hotsync_run.specs.declared.status.Status.{Status}
-use Rattle.hotsync_run.specs.declared.status.Status.TheVariants.{Limit, NoMemory}
+use Rattle.hotsync_run.specs.declared.status.Status.TheVariants.{Limit, NewHandheld, NoMemory}
 use Rattle.hotsync_run.proofs.EndLaws.{logged_all}
 use Rattle.hotsync_run.proofs.LeftLaws.{EndsOver, Tells}
 
@@ -55,6 +56,7 @@ module _ (meeting : Meeting) {palm_after : FolderTold} {report : Report} (cause 
   stop_shows fault (stop.Session session_fault.TooManyUsers) tells is = (is.0, said_all tells is.1)
   stop_shows fault (stop.Session session_fault.NoMemory) tells is = tt
   stop_shows fault (stop.Limit name) tells is = (is.first, said_all tells is.does)
+  stop_shows fault (stop.NewHandheld name) tells is = (is.within, is.first, said_all tells is.does)
   stop_shows fault stop.DeskFault tells is =
       grind (
         arith,
@@ -98,18 +100,30 @@ module _ (meeting : Meeting) (cause : Option Down) {status : Status} where
       → (status ≡ Limit name) ⊎ IsCutShort status
   limit_told fault old new answer name e seated why stops = grind (arith, common_steps)
 
+  loss_told : {F : Type 0} (fault : WorldValue F → Option LinkFault) (old new : WorldValue F) (answer : Result (Vec DbReport) Stop) (name : List ℕ)
+      → (status ≡ left_status cause answer) ⊎ (status ≡ NoMemory) → IsOk (seat_of meeting)
+      → IfErr answer (IsStopOf (λ (world : WorldValue F). Some (world_talk world)) fault meeting old new) → StopsAtLoss name answer
+      → (status ≡ NewHandheld name) ⊎ IsCutShort status
+  loss_told fault old new answer name e seated why stops = grind (arith, common_steps)
+
   pub refusal_told : {F : Type 0} (contents : F → Option FileMap) (moments : F → Moments) (paths : F → Option (List (List ℕ))) (faults : F → ℕ)
       (fault : WorldValue F → Option LinkFault) (downs : WorldValue F → ℕ) (old new : WorldValue F) (desk desk_after : FolderTold)
       (answer : Result (Vec DbReport) Stop) → (status ≡ left_status cause answer) ⊎ (status ≡ NoMemory)
       → EndsOver contents moments paths faults fault downs meeting old new desk desk_after answer → IsToldRefusal meeting status
   refusal_told contents moments paths faults fault downs old new desk desk_after answer is ends =
-      step (seat_of meeting) (first_over meeting) (λ why unseated. unseated_told answer is unseated (ends.unseated why unseated).1)
-      (λ seated name first. limit_told fault old new answer name is seated ends.cause (ends.limit name first)) refl refl
+      step (seat_of meeting) (first_over meeting) (first_loss meeting)
+      (λ why unseated. unseated_told answer is unseated (ends.unseated why unseated).1)
+      (λ seated name first. limit_told fault old new answer name is seated ends.cause (ends.limit name first))
+      (λ seated name none first. loss_told fault old new answer name is seated ends.cause (ends.loss name none first)) refl refl refl
     where
-      step : (seat : Result UserInfo SessionFault) (over : Option (List ℕ))
+      step : (seat : Result UserInfo SessionFault) (over loss : Option (List ℕ))
           → ((why : SessionFault) → seat_of meeting ≡ Err why → (status ≡ fault_status None why) ⊎ IsCutShort status)
           → (IsOk (seat_of meeting) → (name : List ℕ) → first_over meeting ≡ Some name → (status ≡ Limit name) ⊎ IsCutShort status)
-          → seat_of meeting ≡ seat → first_over meeting ≡ over → IfSome (status_refused seat over) (λ refused. (status ≡ refused) ⊎ IsCutShort status)
-      step (Err why) over unseated limit here there = unseated why here
-      step (Ok user) None unseated limit here there = tt
-      step (Ok user) (Some name) unseated limit here there = limit (subst IsOk (sym here) refl) name there
+          → (IsOk (seat_of meeting) → (name : List ℕ) → first_over meeting ≡ None → first_loss meeting ≡ Some name
+          → (status ≡ NewHandheld name) ⊎ IsCutShort status)
+          → seat_of meeting ≡ seat → first_over meeting ≡ over → first_loss meeting ≡ loss
+          → IfSome (status_refused seat over loss) (λ refused. (status ≡ refused) ⊎ IsCutShort status)
+      step (Err why) over loss unseated limit costs here there then = unseated why here
+      step (Ok user) None None unseated limit costs here there then = tt
+      step (Ok user) None (Some name) unseated limit costs here there then = costs (subst IsOk (sym here) refl) name there then
+      step (Ok user) (Some name) loss unseated limit costs here there then = limit (subst IsOk (sym here) refl) name there

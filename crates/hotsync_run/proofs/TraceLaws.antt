@@ -12,6 +12,7 @@ use Rattle.line_world.specs.Causes.{BearsOut}
 use Rattle.desk_store.specs.Shelves.{SlotValue}
 use Rattle.run_words.specs.Runs.{Run}
 use Rattle.sync_session.specs.Limits.{first_over}
+use Rattle.sync_session.specs.Losses.{first_loss}
 use Rattle.sync_session.specs.Outcomes.{seat_of}
 use Rattle.sync_session.specs.Tasks.{Meeting}
 use Rattle.hotsync_run.specs.Causes.{ByEnd, EndsAs, IsFallen, IsLineDown, IsTracedStatus, IsUnsaid, cause_in}
@@ -62,16 +63,16 @@ talked_as talked ends caused up stands free over shows refused = record {
 memory_refused : (refused : Option Status) → IfSome refused (λ status. (NoMemory ≡ status) ⊎ IsCutShort NoMemory)
 memory_refused refused = grind (arith, common_steps)
 
-done_refused : (seat : Result UserInfo SessionFault) (over : Option (List ℕ)) (other : Status)
-    → IfSome (status_refused seat over) (λ refused. (Done ≡ refused) ⊎ IsCutShort Done)
-    → IfSome (status_refused seat over) (λ refused. (other ≡ refused) ⊎ IsCutShort other)
-done_refused seat over other is = grind (arith, common_steps)
+done_refused : (seat : Result UserInfo SessionFault) (over loss : Option (List ℕ)) (other : Status)
+    → IfSome (status_refused seat over loss) (λ refused. (Done ≡ refused) ⊎ IsCutShort Done)
+    → IfSome (status_refused seat over loss) (λ refused. (other ≡ refused) ⊎ IsCutShort other)
+done_refused seat over loss other is = grind (arith, common_steps)
 
 module _ {rules : List RuleValue} {meeting : Meeting} {before after : SidesTold} {status : Status} {report : Report}
     (talked : Talked rules meeting before after status report) where
   pub talked_memory : Talked rules meeting before after NoMemory report
   talked_memory =
-      talked_as talked tt tt (λ is. is) (λ is. is) (λ is. is) (inr refl) tt (memory_refused (status_refused (seat_of meeting) (first_over meeting)))
+      talked_as talked tt tt (λ is. is) (λ is. is) (λ is. is) (inr refl) tt (memory_refused (status_refused (seat_of meeting) (first_over meeting) (first_loss meeting)))
 
   talked_done : status ≡ Done → report.end ≡ Ended
   talked_done done = subst (λ (s : Status). EndsAs s report.end) done talked.ends
@@ -80,13 +81,13 @@ module _ {rules : List RuleValue} {meeting : Meeting} {before after : SidesTold}
   talked_untold done =
       let ended = talked_done done in
       talked_as talked ended tt (λ is. is) (λ is. is) (λ is. is) (inl ended) tt
-      (done_refused (seat_of meeting) (first_over meeting) TraceWrite (subst (IsToldRefusal meeting) done talked.refused))
+      (done_refused (seat_of meeting) (first_over meeting) (first_loss meeting) TraceWrite (subst (IsToldRefusal meeting) done talked.refused))
 
   pub talked_unsaid : status ≡ Done → Talked rules meeting before after OutWrite report
   talked_unsaid done =
       let ended = talked_done done in
       talked_as talked ended tt (λ is. is) (λ is. is) (λ is. is) (inl ended) tt
-      (done_refused (seat_of meeting) (first_over meeting) OutWrite (subst (IsToldRefusal meeting) done talked.refused))
+      (done_refused (seat_of meeting) (first_over meeting) (first_loss meeting) OutWrite (subst (IsToldRefusal meeting) done talked.refused))
 
   talked_traced : (traced : Status) → IsTracedStatus status traced → Talked rules meeting before after traced report
   talked_traced traced (inl same) = grind arith

@@ -52,7 +52,7 @@ use Rattle.hotsync_run.specs.declared.report.SessionEnd.TheVariants.{Ended}
 use Rattle.hotsync_run.specs.declared.status.Status.{Status}
 use Rattle.hotsync_run.specs.declared.status.Status.TheVariants.{Done, Usage, BadScript, TooLong, BadFile, TooMany, HandheldFolder, DesktopFolder, SourceRead}
 use Rattle.hotsync_run.specs.declared.status.Status.TheVariants.{TraceWrite, OutWrite, NoMemory, LineDown, Unplugged, Aborted, Undetected, OtherUser}
-use Rattle.hotsync_run.specs.declared.status.Status.TheVariants.{TooManyUsers, Limit}
+use Rattle.hotsync_run.specs.declared.status.Status.TheVariants.{TooManyUsers, Limit, NewHandheld}
 
 -- ---- the frames tell one story
 
@@ -152,6 +152,7 @@ module _ (meeting : Meeting) (cause : Option Down) where
   stop_said fault old new (stop.Session (session_fault.BadReply broken)) stops is = absurd is
   stop_said fault old new (stop.Session session_fault.NoMemory) stops is = absurd is
   stop_said fault old new (stop.Limit name) stops is = grind (arith, more-requests meeting)
+  stop_said fault old new (stop.NewHandheld name) stops is = grind (arith, more-requests meeting)
   stop_said fault old new stop.DeskFault stops is = grind (arith, before-all meeting stops.given)
 
   -- by what its call answered
@@ -232,6 +233,7 @@ module _ (meeting : Meeting) where
   whole_over (OtherUser handheld desktop) over short whole = absurd (stopped_short whole (short tt))
   whole_over TooManyUsers over short whole = absurd (stopped_short whole (short tt))
   whole_over (Limit name) over short whole = absurd (stopped_short whole (short tt))
+  whole_over (NewHandheld name) over short whole = absurd (stopped_short whole (short tt))
   whole_over DesktopFolder over short whole = absurd (stopped_short whole (short tt))
   whole_over (LineDown end) {report} {answered} over short whole = absurd (fell (LineDown end) report answered meeting over whole tt tt)
   whole_over (Unplugged number) over short whole = absurd (goes_on over.caused.1 whole.acked.acked)

@@ -11,7 +11,7 @@ use Rattle.hotsync_run.specs.declared.report.SessionEnd.TheVariants.{NotStarted,
 use Rattle.hotsync_run.specs.declared.status.Status.{Status}
 use Rattle.hotsync_run.specs.declared.status.Status.TheVariants.{Done, Usage, BadScript, TooLong, BadFile, TooMany, HandheldFolder, DesktopFolder, SourceRead}
 use Rattle.hotsync_run.specs.declared.status.Status.TheVariants.{TraceWrite, OutWrite, NoMemory, LineDown, Unplugged, Aborted, Undetected, OtherUser}
-use Rattle.hotsync_run.specs.declared.status.Status.TheVariants.{TooManyUsers, Limit}
+use Rattle.hotsync_run.specs.declared.status.Status.TheVariants.{TooManyUsers, Limit, NewHandheld}
 
 -- ---- the status of a session
 
@@ -35,6 +35,7 @@ fault_status cause other = NoMemory
 abbrev pub stop_status : Option Down → Stop → Status
 stop_status cause (stop.Session fault) = fault_status cause fault
 stop_status cause (stop.Limit name) = Limit name
+stop_status cause (stop.NewHandheld name) = NewHandheld name
 stop_status cause stop.DeskFault = DesktopFolder
 
 -- the frames that a cause names

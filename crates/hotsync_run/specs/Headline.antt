@@ -21,6 +21,7 @@ use Rattle.desktop_session.specs.Says.{IsPrefix}
 use Rattle.run_words.specs.Runs.{Run}
 use Rattle.sync_session.specs.Fronts.{Front}
 use Rattle.sync_session.specs.Limits.{first_over}
+use Rattle.sync_session.specs.Losses.{first_loss}
 use Rattle.sync_session.specs.Merges.{merged_slots}
 use Rattle.sync_session.specs.Outcomes.{StandsForSlots}
 use Rattle.sync_session.specs.Sessions.{before_writes, requests}
@@ -75,8 +76,8 @@ pub record IsWhatItSays (rules : List RuleValue) (call : RunCall) : Type 0 where
       call.after.trace call.status
 
 -- A stop has the cause that is told: the status says whether it ended, the frames bear the cause
--- out, an object is blamed only where it failed, and another user and a limit are those that both
--- sides show.
+-- out, an object is blamed only where it failed, and another user, a limit and a new handheld are
+-- those that both sides show.
 pub record TellsCause (meeting : Meeting) (call : RunCall) : Type 0 where
   pub ends : EndsAs call.status call.report.end
   pub cause : BearsOut (cause_in call.status call.report.faulted.items) (frames_in call.report)
@@ -91,7 +92,8 @@ FairStaysUp rules call =
 
 -- An ended session leaves both sides at the merge, and what was sent begins that session. One that
 -- stopped left the desktop as it was, or merged, as it was at each moment, and the handheld behind
--- the first of the session's writes. Where a limit would be passed nothing was written.
+-- the first of the session's writes. Where a limit would be passed nothing was written,
+-- nor where a new handheld would cost the desktop live rows.
 pub record LeavesTheMerge (meeting : Meeting) (call : RunCall) : Type 0 where
   pub begins : IsPrefix (log_in call.report).issued (requests meeting)
   pub ended : call.report.end ≡ Ended
@@ -108,6 +110,8 @@ pub record LeavesTheMerge (meeting : Meeting) (call : RunCall) : Type 0 where
   pub handheld : Front meeting call.report.writes call.report.given.items reached
   pub keeps : Stands call.after.palm.contents reached.databases reached.user
   pub limit : IsSome (first_over meeting)
+      → IsPrefix (log_in call.report).issued (map text (before_writes meeting))
+  pub loss : IsSome (first_loss meeting)
       → IsPrefix (log_in call.report).issued (map text (before_writes meeting))
 
 -- ---- all of them

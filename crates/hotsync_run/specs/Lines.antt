@@ -13,7 +13,7 @@ use Rattle.hotsync_run.specs.declared.status.FileSide.TheVariants.{Handheld, Des
 use Rattle.hotsync_run.specs.declared.status.Status.{Status}
 use Rattle.hotsync_run.specs.declared.status.Status.TheVariants.{Done, Usage, BadScript, TooLong, BadFile, TooMany, HandheldFolder, DesktopFolder, SourceRead}
 use Rattle.hotsync_run.specs.declared.status.Status.TheVariants.{TraceWrite, OutWrite, NoMemory, LineDown, Unplugged, Aborted, Undetected, OtherUser}
-use Rattle.hotsync_run.specs.declared.status.Status.TheVariants.{TooManyUsers, Limit}
+use Rattle.hotsync_run.specs.declared.status.Status.TheVariants.{TooManyUsers, Limit, NewHandheld}
 use Rattle.sync_session.specs.declared.report.Counts.{Counts}
 use Rattle.sync_session.specs.declared.report.DbReport.{DbReport}
 use Rattle.sync_session.specs.declared.report.Did.{Did}
@@ -90,6 +90,7 @@ refusal_line (Undetected number) = number_line (codes "undetected ") number
 refusal_line (OtherUser handheld desktop) = users_line handheld desktop
 refusal_line TooManyUsers = codes "too many users" ++ line_feed
 refusal_line (Limit name) = word_line (codes "limit ") (stem_of name)
+refusal_line (NewHandheld name) = word_line (codes "new handheld ") (stem_of name)
 
 -- how the handheld's database was read
 abbrev pub mode_word : Bool → List ℕ

@@ -17,6 +17,7 @@ use Rattle.desk_journal.specs.Overlays.{finished}
 use Rattle.desk_store.specs.Desks.{IsReadable}
 use Rattle.run_words.specs.Runs.{Run}
 use Rattle.sync_session.specs.Limits.{first_over}
+use Rattle.sync_session.specs.Losses.{first_loss}
 use Rattle.sync_session.specs.Outcomes.{slot_in}
 use Rattle.sync_session.specs.Tasks.{Meeting}
 use Rattle.hotsync_run.specs.LineRuns.{frames_in}
@@ -62,11 +63,12 @@ pub record IsKindScript (rules : List RuleValue) (frames : ℕ) : Type 0 where
   pub fair : IsFairUpTo frames (fate_by rules)
   pub goes_on : (number : ℕ) → is_stop (fate_by rules number) ≡ false
 
--- the desktop has a slot for the handheld's user, or may add one, and no limit would be passed
+-- the desktop has a slot for the handheld's user, or may add one, no limit would be passed, and no new handheld would cost it live rows
 pub record MayMeet (meeting : Meeting) : Type 0 where
   pub known : slot_in meeting ≢ Refused
   pub room : slot_in meeting ≢ Full
   pub within : first_over meeting ≡ None
+  pub keeps : first_loss meeting ≡ None
 
 -- Good files on both sides and a good script, no object that failed, a kind line, and two sides that may meet.
 pub record IsUndisturbed (run : Run) (before after : CallTold) (out out_after : SinkTold) (report : Report) : Type 0 where

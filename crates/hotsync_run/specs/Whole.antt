@@ -15,6 +15,7 @@ use Rattle.hotsync_run.specs.declared.report.Report.{Report}
 use Rattle.hotsync_run.specs.declared.report.SessionEnd.TheVariants.{Ended}
 use Rattle.hotsync_run.specs.declared.status.Status.{Status}
 use Rattle.hotsync_run.specs.declared.status.Status.TheVariants.{HandheldFolder, DesktopFolder, NoMemory, OtherUser, TooManyUsers, Limit}
+use Rattle.hotsync_run.specs.declared.status.Status.TheVariants.{NewHandheld}
 
 -- Behind the greetings the frames tell the handheld the requests that it performed, or one request more, and the desktop the replies that were answered, or
 -- one reply more: the one more only where it was not dealt with, and no end had spent its tries.
@@ -26,11 +27,12 @@ pub record TellsDone (status : Status) (log : LogValue) (answered : ℕ) (frames
       IsStory Handheld frames (told_from 0 (bytes_of wake ∷ take answered log.replies))
       ⊎ (¬ IsLineDown status × (answered < length log.replies) × IsStory Handheld frames (told_from 0 (bytes_of wake ∷ log.replies)))
 
--- it stopped for its user, for a limit or for the desktop's folder, behind the answer to all that was issued
+-- it stopped for its user, for a limit, for a new handheld or for the desktop's folder, behind the answer to all that was issued
 abbrev pub StopsAnswered : Status → Type 0
 StopsAnswered (OtherUser handheld desktop) = ⊤
 StopsAnswered TooManyUsers = ⊤
 StopsAnswered (Limit name) = ⊤
+StopsAnswered (NewHandheld name) = ⊤
 StopsAnswered DesktopFolder = ⊤
 StopsAnswered other = ⊥
 

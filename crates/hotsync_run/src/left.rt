@@ -85,6 +85,7 @@ fn stop_status(stop: Stop, cause: Option<&Down>) -> Status
     match stop {
         Stop::Session(fault) => fault_status(fault, cause),
         Stop::Limit(name) => Status::Limit(name),
+        Stop::NewHandheld(name) => Status::NewHandheld(name),
         Stop::DeskFault => Status::DesktopFolder,
     }
 }

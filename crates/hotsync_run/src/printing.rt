@@ -245,6 +245,7 @@ fn refusal_line(alloc: Global, refusal: &Status) -> Result<String, AllocError>
         Status::OtherUser { handheld, desktop } => users_line(alloc, *handheld, *desktop),
         Status::TooManyUsers => String::from_str(alloc, "too many users\n"),
         Status::Limit(name) => limit_line(alloc, name),
+        Status::NewHandheld(name) => new_handheld_line(alloc, name),
     }
 }
 
@@ -300,6 +301,15 @@ fn limit_line(alloc: Global, name: &DbName) -> Result<String, AllocError>
 {
     let stem = name.file_stem(alloc)?;
     word_line(alloc, "limit ", stem.as_str())
+}
+
+// The line of a database by which a new handheld would cost the desktop live rows.
+fn new_handheld_line(alloc: Global, name: &DbName) -> Result<String, AllocError>
+    ensures { IfOk result (λ line. string_bytes line
+        ≡ line_of_refusal (Status.NewHandheld name.now)) }
+{
+    let stem = name.file_stem(alloc)?;
+    word_line(alloc, "new handheld ", stem.as_str())
 }
 
 #[tactic(auto, unfolding(crate::specs::Lines::bad_file_line))]

@@ -68,6 +68,8 @@ pub enum Status {
     TooManyUsers,
     /// The session would make more of this database than a side can hold.
     Limit(DbName),
+    /// The handheld never ended a session and the desktop did, and the session would cost the desktop live rows of this database.
+    NewHandheld(DbName),
 }
 
 impl From<AllocError> for Status {
@@ -153,7 +155,10 @@ impl Status {
             | Status::Unplugged(_)
             | Status::Aborted(_)
             | Status::Undetected(_) => 6,
-            Status::OtherUser { .. } | Status::TooManyUsers | Status::Limit(_) => 7,
+            Status::OtherUser { .. }
+            | Status::TooManyUsers
+            | Status::Limit(_)
+            | Status::NewHandheld(_) => 7,
         }
     }
 }
