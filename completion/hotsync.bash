@@ -10,8 +10,8 @@ _hotsync() {
     run)
         case $word in
         -*)
-            COMPREPLY=($(compgen -W '--date= --script= --trace= --slow --actions= --add-user' -- "$word"))
-            if [ "${#COMPREPLY[@]}" -eq 1 ] && [ "${COMPREPLY[0]%=}" != "${COMPREPLY[0]}" ]; then
+            COMPREPLY=($(compgen -W '--date=now --date= --script= --trace= --slow --actions= --actions=*: --add-user' -- "$word"))
+            if [ "${#COMPREPLY[@]}" -eq 1 ] && [ "${COMPREPLY[0]%[=:]}" != "${COMPREPLY[0]}" ]; then
                 compopt -o nospace
             fi
             ;;

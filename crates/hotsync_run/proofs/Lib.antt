@@ -21,8 +21,10 @@ pub mod OneLaws
 pub mod OverLaws
 pub mod PickLaws
 pub mod PrintedLaws
+pub mod PrintedNameLaws
 pub mod QuietRuns
 pub mod RunLaws
+pub mod SideLaws
 pub mod SlotLaws
 pub mod StatusLaws
 pub mod SystemLaws

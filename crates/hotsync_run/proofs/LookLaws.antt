@@ -15,7 +15,7 @@ use Rattle.hotsync_run.specs.declared.status.FileSide.TheVariants.{Source}
 use Rattle.hotsync_run.specs.declared.status.Status.{Status}
 use Rattle.hotsync_run.specs.declared.status.Status.TheVariants.{Done, Usage, BadScript, TooLong, BadFile, TooMany, HandheldFolder, DesktopFolder, SourceRead}
 use Rattle.hotsync_run.specs.declared.status.Status.TheVariants.{TraceWrite, OutWrite, NoMemory, LineDown, Unplugged, Aborted, Undetected, OtherUser}
-use Rattle.hotsync_run.specs.declared.status.Status.TheVariants.{TooManyUsers, Limit, NewHandheld}
+use Rattle.hotsync_run.specs.declared.status.Status.TheVariants.{TooManyUsers, Limit, NewHandheld, WrongSide, InUse}
 
 -- a database's file breaks no rule
 readable_not_broken : {bytes : List ℕ} {kind : BadKind} {place : ℕ} → IsReadable bytes → IsBroken bytes kind place → ⊥
@@ -53,6 +53,8 @@ module _ (file bytes : List ℕ) where
   look_bad_file TooManyUsers Failed shows failed broken none = shows
   look_bad_file (Limit _) Failed shows failed broken none = shows
   look_bad_file (NewHandheld _) Failed shows failed broken none = shows
+  look_bad_file (WrongSide _) Failed shows failed broken none = shows
+  look_bad_file (InUse _) Failed shows failed broken none = shows
 
   look_complete : (status : Status) (Failed Out : Type 0) → SourceShows file status bytes → (status ≡ SourceRead → Failed) → (status ≡ OutWrite → Out)
       → IsReadable bytes → ¬ Failed → ¬ Out → (status ≡ Done) ⊎ (status ≡ NoMemory)
@@ -77,6 +79,8 @@ module _ (file bytes : List ℕ) where
   look_complete TooManyUsers Failed Out shows failed out readable none free = absurd shows
   look_complete (Limit _) Failed Out shows failed out readable none free = absurd shows
   look_complete (NewHandheld _) Failed Out shows failed out readable none free = absurd shows
+  look_complete (WrongSide _) Failed Out shows failed out readable none free = absurd shows
+  look_complete (InUse _) Failed Out shows failed out readable none free = absurd shows
 
 some_weaken : (P Q : List ℕ → Type 0) (left : Option (List ℕ)) → ((bytes : List ℕ) → P bytes → Q bytes) → IfSome left P → IfSome left Q
 some_weaken P Q left leads p = grind (arith, common_steps)

@@ -30,18 +30,18 @@ few_made (seed ∷ []) = tt
 few_made (seed ∷ count ∷ []) = few_seeded count (number_of seed)
 few_made (seed ∷ count ∷ more ∷ later) = tt
 
-few_behind : (command : List ℕ) (words : List (List ℕ)) → IsFew (task_behind command words)
-few_behind command words =
-    few_if (bytes_eq command (codes "run")) _ _ (few_map Sync (run_of words) (λ run. tt))
+few_behind : (now : Option ℕ) (command : List ℕ) (words : List (List ℕ)) → IsFew (task_behind now command words)
+few_behind now command words =
+    few_if (bytes_eq command (codes "run")) _ _ (few_map Sync (run_of now words) (λ run. tt))
     (few_if (bytes_eq command (codes "check")) _ _ (few_map (LookAt _) (file_of words) (λ file. tt))
     (few_if (bytes_eq command (codes "show")) _ _ (few_map (LookAt _) (file_of words) (λ file. tt))
     (few_if (bytes_eq command (codes "packet")) _ _ (few_map Scan (packet_of words) (λ bytes. tt))
     (few_if (bytes_eq command (codes "make")) _ _ (few_made words) tt))))
 
-few_words : (words : List (List ℕ)) → IsFew (task_of words)
+few_words : (now : Option ℕ) (words : List (List ℕ)) → IsFew (task_of now words)
 unfolding task_of
-few_words [] = tt
-few_words (command ∷ words) = few_behind command words
+few_words now [] = tt
+few_words now (command ∷ words) = few_behind now command words
 
-pub few_asked : (words : List (List ℕ)) {seed count : ℕ} → task_of words ≡ Some (Make seed count) → count ≤ 5000
-few_asked words is = subst IsFew is (few_words words)
+pub few_asked : (now : Option ℕ) (words : List (List ℕ)) {seed count : ℕ} → task_of now words ≡ Some (Make seed count) → count ≤ 5000
+few_asked now words is = subst IsFew is (few_words now words)

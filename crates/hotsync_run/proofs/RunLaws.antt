@@ -3,7 +3,6 @@ use Rattle.std.proofs.lemmas.Grind.{common_steps}
 use Rattle.std.proofs.Common.{◌≡◌, ◌≢◌, ◌⊎◌, ◌∙◌, ◌+◌, ◌-◌, ◌^◌, ◌≤◌, ℕ, List, ◌++◌, inl, inr, refl, sym, subst, ap, arith}
 use Rattle.std.specs.Prelude.{IfSome, Option, min}
 use Rattle.std.specs.Option.{option_map}
-use Rattle.hs_folders.specs.Appends.{AppendsPrefix}
 use Rattle.hs_folders.specs.Causes.{Rose}
 use Rattle.hs_folders.specs.FileMaps.{FileMap}
 use Rattle.hs_folders.specs.Moments.{EachMomentSince, Moments}
@@ -22,13 +21,16 @@ use Rattle.run_words.specs.Runs.{Run}
 use Rattle.sync_session.specs.Merges.{merged_slots}
 use Rattle.sync_session.specs.Outcomes.{StandsForSlots}
 use Rattle.sync_session.specs.Tasks.{Meeting, meeting_of}
+use Rattle.trace_text.specs.declared.frame.End.{End}
+use Rattle.trace_text.specs.declared.frame.End.TheVariants as line_end
 use Rattle.hotsync_run.specs.Causes.{ByEnd, HasBegun}
 use Rattle.hotsync_run.specs.Clean.{IsLineStop}
 use Rattle.hotsync_run.specs.Ends.{SessionLeft, StandsAtFront}
 use Rattle.hotsync_run.specs.LineRuns.{LineRan, exchanges_in}
 use Rattle.hotsync_run.specs.Opening.{Opens, OpensAtMost, OpensGiven, OpensGivenAtMost}
 use Rattle.hotsync_run.specs.Printed.{IsPrintedStatus}
-use Rattle.hotsync_run.specs.Refusals.{BlamesHandheld, BlamesScript, DesktopRefuses, HandheldRefuses, HasDesktop, HasHandheld, IsRefused, IsTraceRefusal}
+use Rattle.hotsync_run.specs.Refusals.{BlamesHandheld, BlamesScript, DesktopRefuses, HandheldRefuses, HasDesktop, HasHandheld, IsDesktopFailure, IsHandheldFailure}
+use Rattle.hotsync_run.specs.Refusals.{IsRefused, IsTraceRefusal, LeavesDesktopUnread}
 use Rattle.hotsync_run.specs.Refusals.{TraceRefuses, desktop_status, handheld_status}
 use Rattle.hotsync_run.specs.Reports.{IsNotStarted}
 use Rattle.hotsync_run.specs.Runs.{HasRun, OpensNamed, SentNothing, SessionRan, StandsAsItDid, StaysAsItWas}
@@ -36,12 +38,12 @@ use Rattle.hotsync_run.specs.Scripts.{HasScript, IsScriptRefusal, IsScripted, Sc
 use Rattle.hotsync_run.specs.Talks.{DesktopRan, IsTalk, KeptSilent, Talked, TalkedFor}
 use Rattle.hotsync_run.specs.Told.{CallTold, FolderTold, SidesTold, SinkTold, SourceTold, sides_of}
 use Rattle.hotsync_run.specs.Traces.{IsTraced, TracesReport}
-use Rattle.hotsync_run.proofs.TraceLaws.{by_end_then, talk_not_script, talked_memory, talked_unsaid}
+use Rattle.hotsync_run.proofs.TraceLaws.{by_end_then, talk_not_in_use, talk_not_script, talked_memory, talked_unsaid}
 use Rattle.hotsync_run.specs.declared.report.Report.{Report}
 use Rattle.hotsync_run.specs.declared.report.SessionEnd.{SessionEnd}
 use Rattle.hotsync_run.specs.declared.status.Status.{Status}
 use Rattle.hotsync_run.specs.declared.status.Status.TheVariants.{Done, HandheldFolder, DesktopFolder, SourceRead, TraceWrite, OutWrite}
-use Rattle.hotsync_run.specs.declared.status.Status.TheVariants.{NoMemory}
+use Rattle.hotsync_run.specs.declared.status.Status.TheVariants.{NoMemory, WrongSide, InUse}
 
 -- a refusal of a script is no other one
 pub record IsScriptAlone (refusal : Status) : Type 0 where
@@ -50,6 +52,8 @@ pub record IsScriptAlone (refusal : Status) : Type 0 where
   pub trace : refusal ≡ TraceWrite → ⊥
   pub done : refusal ≡ Done → ⊥
   pub out : refusal ≡ OutWrite → ⊥
+  pub in_use : (end : End) → refusal ≡ InUse end → ⊥
+  pub unread : LeavesDesktopUnread refusal → ⊥
 
 pub script_alone : (refusal : Status) → IsScriptRefusal refusal → IsScriptAlone refusal
 script_alone refusal is = grind arith
@@ -62,12 +66,22 @@ pub record IsHandheldAlone (refusal : Status) : Type 0 where
   pub done : refusal ≡ Done → ⊥
   pub out : refusal ≡ OutWrite → ⊥
   pub script : BlamesScript refusal → ⊥
+  pub in_use : refusal ≡ InUse line_end.Desktop → ⊥
+  pub unread : LeavesDesktopUnread refusal → ⊥
 
 handheld_cases : (fault : OpenFault) → IsHandheldAlone (handheld_status fault)
 handheld_cases fault = grind (arith, common_steps)
 
+handheld_failed : (refusal : Status) → IsHandheldFailure refusal → IsHandheldAlone refusal
+handheld_failed refusal is = grind (arith, common_steps)
+
+handheld_wrong : IsHandheldAlone (WrongSide line_end.Handheld)
+handheld_wrong = grind (arith, common_steps)
+
 pub handheld_alone : {held : Option FileMap} {refusal : Status} → HandheldRefuses held refusal → IsHandheldAlone refusal
-handheld_alone refuses = subst IsHandheldAlone (sym refuses.is) (handheld_cases refuses.fault)
+handheld_alone {refusal = refusal} (inl failed) = handheld_failed refusal failed
+handheld_alone (inr (inl wrong)) = subst IsHandheldAlone (sym wrong.is) handheld_wrong
+handheld_alone (inr (inr refuses)) = subst IsHandheldAlone (sym refuses.is) (handheld_cases refuses.fault)
 
 -- a refusal of the desktop's folder is no other one
 pub record IsDesktopAlone (refusal : Status) : Type 0 where
@@ -78,12 +92,21 @@ pub record IsDesktopAlone (refusal : Status) : Type 0 where
   pub out : refusal ≡ OutWrite → ⊥
   pub script : BlamesScript refusal → ⊥
   pub palm : BlamesHandheld refusal → ⊥
+  pub in_use : refusal ≡ InUse line_end.Handheld → ⊥
 
 desktop_cases : (fault : DeskOpenFault) → IsDesktopAlone (desktop_status fault)
 desktop_cases fault = grind (arith, common_steps)
 
+desktop_failed : (refusal : Status) → IsDesktopFailure refusal → IsDesktopAlone refusal
+desktop_failed refusal is = grind (arith, common_steps)
+
+desktop_wrong : IsDesktopAlone (WrongSide line_end.Desktop)
+desktop_wrong = grind (arith, common_steps)
+
 pub desktop_alone : {kept : Option FileMap} {refusal : Status} → DesktopRefuses kept refusal → IsDesktopAlone refusal
-desktop_alone refuses = subst IsDesktopAlone (sym refuses.is) (desktop_cases refuses.fault)
+desktop_alone {refusal = refusal} (inl failed) = desktop_failed refusal failed
+desktop_alone (inr (inl wrong)) = subst IsDesktopAlone (sym wrong.is) desktop_wrong
+desktop_alone (inr (inr refuses)) = subst IsDesktopAlone (sym refuses.is) (desktop_cases refuses.fault)
 
 -- a refusal of the trace is no other one
 pub record IsTraceAlone (refusal : Status) : Type 0 where
@@ -94,6 +117,8 @@ pub record IsTraceAlone (refusal : Status) : Type 0 where
   pub out : refusal ≡ OutWrite → ⊥
   pub script : BlamesScript refusal → ⊥
   pub palm : BlamesHandheld refusal → ⊥
+  pub in_use : (end : End) → refusal ≡ InUse end → ⊥
+  pub unread : LeavesDesktopUnread refusal → ⊥
 
 pub trace_alone : (refusal : Status) → IsTraceRefusal refusal → IsTraceAlone refusal
 trace_alone refusal e = grind (arith, common_steps)
@@ -140,11 +165,14 @@ module _ (run : Run) (before after : CallTold) {report : Report} (is : IsNotStar
           report_is = is;
           handheld = stays_same palm;
           desktop = stands_same desk;
+          unread = λ unread. stays_same desk;
           trace = ap (λ told. told.taken) trace;
         });
         blames = record {
           source = failed;
           folders = record { handheld = λ e. absurd (alone.handheld e); desktop = λ e. absurd (alone.desktop e) };
+          handheld_in_use = λ e. absurd (alone.in_use line_end.Handheld e);
+          desktop_in_use = λ e. absurd (alone.in_use line_end.Desktop e);
           trace = λ e. absurd (alone.trace e);
         };
         opened = opens_refused (inl (ap (λ told. told.paths) palm)) (inl (ap (λ told. told.paths) desk)) opened (inl (ap (λ told. told.paths) trace));
@@ -152,10 +180,11 @@ module _ (run : Run) (before after : CallTold) {report : Report} (is : IsNotStar
 
   -- a run whose handheld refuses it
   pub by_handheld : {refusal : Status} → HasScript run.script before.source.left → HandheldRefuses before.palm.contents refusal
-      → (refusal ≡ HandheldFolder → Rose before.palm.faults after.palm.faults) → OpensGivenAtMost run.script before.source.paths after.source.paths
+      → (refusal ≡ HandheldFolder → Rose before.palm.faults after.palm.faults)
+      → (refusal ≡ InUse line_end.Handheld → Rose before.palm.faults after.palm.faults) → OpensGivenAtMost run.script before.source.paths after.source.paths
       → StaysAsItWas before.palm after.palm → OpensAtMost run.handheld before.palm.paths after.palm.paths → after.desk ≡ before.desk
       → after.trace ≡ before.trace → HasRun run before after refusal report
-  by_handheld {refusal} script refuses failed opened stays path desk trace =
+  by_handheld {refusal} script refuses failed in_use opened stays path desk trace =
       let alone = handheld_alone refuses in
       record {
         shown = shows_refused refusal (record {
@@ -163,11 +192,14 @@ module _ (run : Run) (before after : CallTold) {report : Report} (is : IsNotStar
           report_is = is;
           handheld = stays;
           desktop = stands_same desk;
+          unread = λ unread. stays_same desk;
           trace = ap (λ told. told.taken) trace;
         });
         blames = record {
           source = λ e. absurd (alone.source e);
           folders = record { handheld = failed; desktop = λ e. absurd (alone.desktop e) };
+          handheld_in_use = in_use;
+          desktop_in_use = λ e. absurd (alone.in_use e);
           trace = λ e. absurd (alone.trace e);
         };
         opened = opens_refused path (inl (ap (λ told. told.paths) desk)) opened (inl (ap (λ told. told.paths) trace));
@@ -176,10 +208,11 @@ module _ (run : Run) (before after : CallTold) {report : Report} (is : IsNotStar
   -- a run whose desktop refuses it
   pub by_desktop : {refusal : Status} → HasScript run.script before.source.left → HasHandheld before.palm.contents
       → DesktopRefuses before.desk.contents refusal → (refusal ≡ DesktopFolder → Rose before.desk.faults after.desk.faults)
+      → (refusal ≡ InUse line_end.Desktop → Rose before.desk.faults after.desk.faults) → (LeavesDesktopUnread refusal → StaysAsItWas before.desk after.desk)
       → OpensGivenAtMost run.script before.source.paths after.source.paths → StaysAsItWas before.palm after.palm
       → OpensAtMost run.handheld before.palm.paths after.palm.paths → StandsAsItDid before.desk after.desk
       → OpensAtMost run.desktop before.desk.paths after.desk.paths → after.trace ≡ before.trace → HasRun run before after refusal report
-  by_desktop {refusal} script handheld refuses failed opened stays path stands desk_path trace =
+  by_desktop {refusal} script handheld refuses failed in_use unread opened stays path stands desk_path trace =
       let alone = desktop_alone refuses in
       record {
         shown = shows_refused refusal (record {
@@ -187,11 +220,14 @@ module _ (run : Run) (before after : CallTold) {report : Report} (is : IsNotStar
           report_is = is;
           handheld = stays;
           desktop = stands;
+          unread = unread;
           trace = ap (λ told. told.taken) trace;
         });
         blames = record {
           source = λ e. absurd (alone.source e);
           folders = record { handheld = λ e. absurd (alone.handheld e); desktop = failed };
+          handheld_in_use = λ e. absurd (alone.in_use e);
+          desktop_in_use = in_use;
           trace = λ e. absurd (alone.trace e);
         };
         opened = opens_refused path desk_path opened (inl (ap (λ told. told.paths) trace));
@@ -212,11 +248,14 @@ module _ (run : Run) (before after : CallTold) {report : Report} (is : IsNotStar
           report_is = is;
           handheld = stays;
           desktop = stands;
+          unread = λ unread. absurd (alone.unread unread);
           trace = taken;
         });
         blames = record {
           source = λ e. absurd (alone.source e);
           folders = record { handheld = λ e. absurd (alone.handheld e); desktop = λ e. absurd (alone.desktop e) };
+          handheld_in_use = λ e. absurd (alone.in_use line_end.Handheld e);
+          desktop_in_use = λ e. absurd (alone.in_use line_end.Desktop e);
           trace = failed;
         };
         opened = opens_refused path desk_path opened trace_path;
@@ -356,6 +395,7 @@ module _ {run : Run} (before after : CallTold) {palm desk : FolderTold} {trace :
     report_is = silent.report_is;
     handheld = subst (StaysAsItWas before.palm) (sym silent.handheld) opened.stays;
     desktop = subst (StandsAsItDid before.desk) (sym silent.desktop) opened.stands;
+    unread = λ unread. absurd (subst LeavesDesktopUnread silent.memory unread);
     trace = traced.silent silent.report_is.frames ∙ opened.trace_taken;
   }
 
@@ -390,6 +430,8 @@ module _ {run : Run} (before after : CallTold) {palm desk : FolderTold} {trace :
         handheld = λ e. rose_earlier (2 ^ 64 - 1) before.palm.faults palm.faults after.palm.faults opened.palm_later (talk.blames.handheld e);
         desktop = λ e. rose_earlier (2 ^ 64 - 1) before.desk.faults desk.faults after.desk.faults opened.desk_later (talk.blames.desktop e);
       };
+      handheld_in_use = λ e. absurd (talk_not_in_use talk line_end.Handheld e);
+      desktop_in_use = λ e. absurd (talk_not_in_use talk line_end.Desktop e);
       trace = λ e. rose_earlier (2 ^ 64 - 1) before.trace.faults trace.faults after.trace.faults opened.trace_later (traced.failed e);
     };
     opened = record {
@@ -418,7 +460,14 @@ traced_as other was_done served traced = record {
 module _ {run : Run} {before after : CallTold} {status : Status} {report : Report} where
   sent_memory : SentNothing run before after status report → SentNothing run before after NoMemory report
   sent_memory sent =
-      record { judged = inl refl; report_is = sent.report_is; handheld = sent.handheld; desktop = sent.desktop; trace = sent.trace }
+      record {
+        judged = inl refl;
+        report_is = sent.report_is;
+        handheld = sent.handheld;
+        desktop = sent.desktop;
+        unread = λ unread. absurd unread;
+        trace = sent.trace;
+      }
 
   ran_as : {other : Status} (ran : SessionRan run before after status report)
       → Talked ran.rules ran.meeting (sides_of before) (sides_of after) other report → (other ≡ Done → status ≡ Done)
@@ -439,7 +488,13 @@ module _ {run : Run} {before after : CallTold} {status : Status} {report : Repor
     shown = by_end_then report.end {A = SentNothing run before after status report} {B = SessionRan run before after status report}
         {C = SentNothing run before after NoMemory report} {D = SessionRan run before after NoMemory report} sent_memory (λ ran. ran_as ran
         (talked_memory ran.talked) (λ e. cc) (λ served. absurd (served refl))) has.shown;
-    blames = record { source = λ e. cc; folders = record { handheld = λ e. cc; desktop = λ e. cc }; trace = λ e. cc };
+    blames = record {
+      source = λ e. cc;
+      folders = record { handheld = λ e. cc; desktop = λ e. cc };
+      handheld_in_use = λ e. cc;
+      desktop_in_use = λ e. cc;
+      trace = λ e. cc;
+    };
     opened = has.opened;
   }
 
@@ -453,14 +508,25 @@ script_not_stopped refusal is = grind (arith, common_steps)
 handheld_not_stopped : (fault : OpenFault) → ¬ IsLineStop (handheld_status fault)
 handheld_not_stopped fault = grind (arith, common_steps)
 
+handheld_failed_not_stopped : (refusal : Status) → IsHandheldFailure refusal → ¬ IsLineStop refusal
+handheld_failed_not_stopped refusal is = grind (arith, common_steps)
+
+desktop_failed_not_stopped : (refusal : Status) → IsDesktopFailure refusal → ¬ IsLineStop refusal
+desktop_failed_not_stopped refusal is = grind (arith, common_steps)
+
 desktop_not_stopped : (fault : DeskOpenFault) → ¬ IsLineStop (desktop_status fault)
 desktop_not_stopped fault = grind (arith, common_steps)
 
 module _ (run : Run) (before : CallTold) (status : Status) where
   pub refused_not_stopped : IsRefused run before status → ¬ IsLineStop status
   refused_not_stopped (inl script) = script_not_stopped status script.is
-  refused_not_stopped (inr (_, inl handheld)) = subst (λ (s : Status). ¬ IsLineStop s) (sym handheld.is) (handheld_not_stopped handheld.fault)
-  refused_not_stopped (inr (_, inr (_, inl desktop))) =
+  refused_not_stopped (inr (_, inl (inl failed))) = handheld_failed_not_stopped status failed
+  refused_not_stopped (inr (_, inl (inr (inl wrong)))) = subst (λ (s : Status). ¬ IsLineStop s) (sym wrong.is) (λ no. no)
+  refused_not_stopped (inr (_, inl (inr (inr handheld)))) =
+      subst (λ (s : Status). ¬ IsLineStop s) (sym handheld.is) (handheld_not_stopped handheld.fault)
+  refused_not_stopped (inr (_, inr (_, inl (inl failed)))) = desktop_failed_not_stopped status failed
+  refused_not_stopped (inr (_, inr (_, inl (inr (inl wrong))))) = subst (λ (s : Status). ¬ IsLineStop s) (sym wrong.is) (λ no. no)
+  refused_not_stopped (inr (_, inr (_, inl (inr (inr desktop))))) =
       subst (λ (s : Status). ¬ IsLineStop s) (sym desktop.is) (desktop_not_stopped desktop.fault)
   refused_not_stopped (inr (_, inr (_, inr (_, trace)))) =
       elim trace.is [
@@ -480,7 +546,13 @@ module _ {run : Run} {before after : CallTold} {status : Status} {report : Repor
         {C = SentNothing run before after OutWrite report} {D = SessionRan run before after OutWrite report}
         (λ sent. absurd (sent_not_done run before status sent.judged done)) (λ ran. ran_as ran (talked_unsaid ran.talked done) (λ e. cc) (λ served e. cc))
         has.shown;
-    blames = record { source = λ e. cc; folders = record { handheld = λ e. cc; desktop = λ e. cc }; trace = λ e. cc };
+    blames = record {
+      source = λ e. cc;
+      folders = record { handheld = λ e. cc; desktop = λ e. cc };
+      handheld_in_use = λ e. cc;
+      desktop_in_use = λ e. cc;
+      trace = λ e. cc;
+    };
     opened = has.opened;
   }
 

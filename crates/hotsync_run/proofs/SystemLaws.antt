@@ -1,6 +1,6 @@
 -- The program over the system, by what it was handed.
 use Rattle.std.proofs.Common.{◌≡◌, ℕ, [], refl}
-use Rattle.std.specs.Prelude.{Err, IfOk, IsErr, None, Ok, Result, String, drop, map, string_bytes}
+use Rattle.std.specs.Prelude.{Err, IfOk, IsErr, None, Ok, Option, Result, String, drop, map, string_bytes}
 use Rattle.std.specs.Global.{Vec}
 use Rattle.std.specs.declared.alloc.Global.{Global}
 use Rattle.run_words.specs.Commands.{task_of}
@@ -11,11 +11,11 @@ use Rattle.hotsync_run.specs.declared.report.Report.{Report}
 use Rattle.hotsync_run.specs.declared.status.Status.{Status}
 
 -- a call for the words that were handed over, or for none
-pub ends-program : {E : Type 0} (args : Result (Vec (String Global)) E) {status : Status} {report : Report} {code : ℕ}
-    → IfOk args (λ given. IsSystemCall (task_in (drop 1 given.items)) status report) → (IsErr args → IsSystemCall None status report)
+pub ends-program : {E : Type 0} (now : Option ℕ) (args : Result (Vec (String Global)) E) {status : Status} {report : Report} {code : ℕ}
+    → IfOk args (λ given. IsSystemCall (task_in now (drop 1 given.items)) status report) → (IsErr args → IsSystemCall None status report)
     → code ≡ code_of status → EndsProgram code
 unfolding task_of
-ends-program (Ok given) {status} {report} words none is =
-    record { words = map string_bytes (drop 1 given.items); status = status; report = report; called = words; code_is = is }
-ends-program (Err fault) {status} {report} words none is =
-    record { words = []; status = status; report = report; called = none refl; code_is = is }
+ends-program now (Ok given) {status} {report} words none is =
+    record { now = now; words = map string_bytes (drop 1 given.items); status = status; report = report; called = words; code_is = is }
+ends-program now (Err fault) {status} {report} words none is =
+    record { now = now; words = []; status = status; report = report; called = none refl; code_is = is }

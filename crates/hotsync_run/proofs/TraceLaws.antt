@@ -15,6 +15,7 @@ use Rattle.sync_session.specs.Limits.{first_over}
 use Rattle.sync_session.specs.Losses.{first_loss}
 use Rattle.sync_session.specs.Outcomes.{seat_of}
 use Rattle.sync_session.specs.Tasks.{Meeting}
+use Rattle.trace_text.specs.declared.frame.End.{End}
 use Rattle.hotsync_run.specs.Causes.{ByEnd, EndsAs, IsFallen, IsLineDown, IsTracedStatus, IsUnsaid, cause_in}
 use Rattle.hotsync_run.specs.Ends.{IsCutShort, IsToldRefusal, StatusShows, status_refused}
 use Rattle.hotsync_run.specs.LineRuns.{frames_in}
@@ -28,7 +29,7 @@ use Rattle.hotsync_run.specs.declared.report.Report.{Report}
 use Rattle.hotsync_run.specs.declared.report.SessionEnd.{SessionEnd}
 use Rattle.hotsync_run.specs.declared.report.SessionEnd.TheVariants.{NotStarted, Ended}
 use Rattle.hotsync_run.specs.declared.status.Status.{Status}
-use Rattle.hotsync_run.specs.declared.status.Status.TheVariants.{Done, TraceWrite, OutWrite, NoMemory}
+use Rattle.hotsync_run.specs.declared.status.Status.TheVariants.{Done, TraceWrite, OutWrite, NoMemory, InUse}
 
 -- by how far a session came, what follows
 pub by_end_then : (end : SessionEnd) {A B C D : Type 0} → (A → C) → (B → D) → ByEnd end A B → ByEnd end C D
@@ -148,6 +149,11 @@ module _ {run : Run} {rules : List RuleValue} {device : Device} {slots : List Sl
   talk_not_script blames =
       by_end_both report.end {A = KeptSilent before after status report} {B = TalkedFor run rules device slots before after status report} {C = ⊥}
       (λ kept. memory_not_script status kept.memory blames) (λ had. ends_not_script status report.end had.talked.ends blames) talk.shown
+
+  pub talk_not_in_use : (end : End) → status ≡ InUse end → ⊥
+  talk_not_in_use end is =
+      by_end_both report.end {A = KeptSilent before after status report} {B = TalkedFor run rules device slots before after status report} {C = ⊥}
+      (λ kept. cc) (λ had. subst (λ (s : Status). EndsAs s report.end) is had.talked.ends) talk.shown
 
   pub talk_not_handheld : report.end ≡ NotStarted → BlamesHandheld status → ⊥
   talk_not_handheld is blames = grind (arith, memory_not_handheld status)

@@ -1,7 +1,7 @@
 -- A run that nothing disturbs is done whole.
 use Rattle.std.proofs.lemmas.Grind.{common_steps}
-use Rattle.std.proofs.Common.{◌≡◌, ◌⊎◌, ◌+◌, ℕ, List, [], ◌∷◌, ◌++◌, inl, inr, refl, subst, arith, Ok, Err}
-use Rattle.std.specs.Prelude.{false, IfSome, IsSome, Option, None, Some, string_bytes}
+use Rattle.std.proofs.Common.{◌≡◌, ◌⊎◌, ◌∙◌, ◌+◌, ℕ, List, [], ◌∷◌, ◌++◌, inl, inr, refl, subst, arith, Ok, Err}
+use Rattle.std.specs.Prelude.{false, true, IfSome, IsSome, Option, None, Some, string_bytes}
 use Rattle.std.specs.declared.alloc.Global.{Global}
 use Rattle.hs_folders.specs.FileMaps.{FileMap}
 use Rattle.handheld_files.specs.Openings as handheld
@@ -21,11 +21,13 @@ use Rattle.desk_store.specs.Desks as desktop
 use Rattle.desk_store.specs.declared.fault.DeskOpenFault.{DeskOpenFault}
 use Rattle.run_words.specs.Runs.{Run}
 use Rattle.sync_session.specs.Tasks.{Meeting}
+use Rattle.trace_text.specs.declared.frame.End.TheVariants as line_end
 use Rattle.hotsync_run.specs.Causes.{ByEnd, EndsAs, IsLineDown, cause_in}
 use Rattle.hotsync_run.specs.Ends.{StatusShows}
 use Rattle.hotsync_run.specs.LineRuns.{frames_in}
 use Rattle.hotsync_run.specs.Printed.{IsPrinted}
-use Rattle.hotsync_run.specs.Refusals.{DesktopRefuses, HandheldRefuses, IsRefused, desktop_status, handheld_status}
+use Rattle.hotsync_run.specs.Refusals.{DesktopRefuses, HandheldRefuses, IsDesktopFailure, IsHandheldFailure, IsRefused, desktop_status, handheld_status}
+use Rattle.hotsync_run.specs.Refusals.{is_desktop, is_handheld}
 use Rattle.hotsync_run.specs.Runs.{HasRun, SentNothing, SessionRan}
 use Rattle.hotsync_run.specs.Scripts.{IsScript, IsScriptRefusal, ScriptRefuses, ScriptShows}
 use Rattle.hotsync_run.specs.Told.{CallTold, SinkTold}
@@ -35,6 +37,7 @@ use Rattle.hotsync_run.specs.declared.report.SessionEnd.{SessionEnd}
 use Rattle.hotsync_run.specs.declared.status.Status.{Status}
 use Rattle.hotsync_run.specs.declared.status.Status.TheVariants.{BadScript, TooLong, HandheldFolder, DesktopFolder, SourceRead}
 use Rattle.hotsync_run.specs.declared.status.Status.TheVariants.{TraceWrite, OutWrite, NoMemory}
+use Rattle.hotsync_run.specs.declared.status.Status.TheVariants.{InUse}
 
 none_holds : (A : Type 0) → IsSome {T = A} None → ⊥
 none_holds A e = cc
@@ -73,33 +76,61 @@ unshown_handheld (opening.BadFile name kind place) good shown =
     let bad = subst (λ (t : Option FileMap). IfSome t (handheld.Shows (opening.BadFile name kind place))) good.is shown in
     absurd (good.good (string_bytes {Z = Global} name) kind place bad.1)
 
-judged_handheld : {told : Option FileMap} {refusal : Status} → IsGoodHandheld told → HandheldRefuses told refusal
-    → (refusal ≡ HandheldFolder) ⊎ (refusal ≡ NoMemory)
-judged_handheld good refuses = grind (arith, unshown_handheld refuses.fault good refuses.shown)
+right_handheld : {told : Option FileMap} → IsGoodHandheld told → IfSome told (λ files. is_desktop files ≡ true) → ⊥
+right_handheld good wrong = let both = subst (λ (t : Option FileMap). IfSome t (λ files. is_desktop files ≡ true)) good.is wrong in
+    let right = good.side in cc
+
+judged_handheld : {told : Option FileMap} {refusal : Status} → IsGoodHandheld told → HandheldRefuses told refusal → IsHandheldFailure refusal
+judged_handheld good (inl failed) = failed
+judged_handheld good (inr (inl wrong)) = absurd (right_handheld good wrong.side)
+judged_handheld good (inr (inr refuses)) = elim (unshown_handheld refuses.fault good refuses.shown) [
+  | inl e ↦ inl (refuses.is ∙ e)
+  | inr e ↦ inr (inr (refuses.is ∙ e))
+]
 
 -- nor do those of a desktop
 unshown_desktop : {told : Option FileMap} (fault : DeskOpenFault) → IsGoodDesktop told → IfSome told (λ files. desktop.Shows (finished files) fault)
     → (desktop_status fault ≡ DesktopFolder) ⊎ (desktop_status fault ≡ NoMemory)
 unshown_desktop fault good shown = grind (arith, common_steps)
 
-judged_desktop : {told : Option FileMap} {refusal : Status} → IsGoodDesktop told → DesktopRefuses told refusal
-    → (refusal ≡ DesktopFolder) ⊎ (refusal ≡ NoMemory)
-judged_desktop good refuses = grind (arith, unshown_desktop refuses.fault good refuses.shown)
+right_desktop : {told : Option FileMap} → IsGoodDesktop told → IfSome told (λ files. is_handheld files ≡ true) → ⊥
+right_desktop good wrong = let both = subst (λ (t : Option FileMap). IfSome t (λ files. is_handheld files ≡ true)) good.is wrong in
+    let right = good.side in cc
+
+judged_desktop : {told : Option FileMap} {refusal : Status} → IsGoodDesktop told → DesktopRefuses told refusal → IsDesktopFailure refusal
+judged_desktop good (inl failed) = failed
+judged_desktop good (inr (inl wrong)) = absurd (right_desktop good wrong.side)
+judged_desktop good (inr (inr refuses)) = elim (unshown_desktop refuses.fault good refuses.shown) [
+  | inl e ↦ inl (refuses.is ∙ e)
+  | inr e ↦ inr (inr (refuses.is ∙ e))
+]
 
 -- no object is blamed
 record BlamesNone (status : Status) : Type 0 where
   pub source : status ≡ SourceRead → ⊥
   pub handheld : status ≡ HandheldFolder → ⊥
   pub desktop : status ≡ DesktopFolder → ⊥
+  pub handheld_in_use : status ≡ InUse line_end.Handheld → ⊥
+  pub desktop_in_use : status ≡ InUse line_end.Desktop → ⊥
   pub trace : status ≡ TraceWrite → ⊥
   pub out : status ≡ OutWrite → ⊥
+
+failed_handheld : {status : Status} → BlamesNone status → IsHandheldFailure status → status ≡ NoMemory
+failed_handheld blames (inl e) = absurd (blames.handheld e)
+failed_handheld blames (inr (inl e)) = absurd (blames.handheld_in_use e)
+failed_handheld blames (inr (inr e)) = e
+
+failed_desktop : {status : Status} → BlamesNone status → IsDesktopFailure status → status ≡ NoMemory
+failed_desktop blames (inl e) = absurd (blames.desktop e)
+failed_desktop blames (inr (inl e)) = absurd (blames.desktop_in_use e)
+failed_desktop blames (inr (inr e)) = e
 
 -- so it isn't refused
 judged : {run : Run} {before after : CallTold} {out out_after : SinkTold} {status : Status} {report : Report}
     → IsUndisturbed run before after out out_after report → BlamesNone status → IsRefused run before status → status ≡ NoMemory
 judged {run} {before} calm blames (inl refuses) = grind (arith, judged_script run.script before.source.left calm.script refuses)
-judged calm blames (inr (_, inl refuses)) = grind (arith, judged_handheld calm.handheld refuses)
-judged calm blames (inr (_, inr (_, inl refuses))) = grind (arith, judged_desktop calm.desktop refuses)
+judged calm blames (inr (_, inl refuses)) = failed_handheld blames (judged_handheld calm.handheld refuses)
+judged calm blames (inr (_, inr (_, inl refuses))) = failed_desktop blames (judged_desktop calm.desktop refuses)
 judged calm blames (inr (_, inr (_, inr (_, refuses)))) = elim refuses.is [ inl e ↦ absurd (blames.trace e) | inr e ↦ e ]
 
 -- ---- a session
@@ -169,6 +200,8 @@ module _ (run : Run) (before after : CallTold) (out out_after : SinkTold) (statu
         source = λ e. failed.reading (has.blames.source e);
         handheld = λ e. failed.handheld (has.blames.folders.handheld e);
         desktop = λ e. failed.desktop (has.blames.folders.desktop e);
+        handheld_in_use = λ e. failed.handheld (has.blames.handheld_in_use e);
+        desktop_in_use = λ e. failed.desktop (has.blames.desktop_in_use e);
         trace = λ e. failed.tracing (has.blames.trace e);
         out = λ e. failed.printing (printed.failed e);
       } in

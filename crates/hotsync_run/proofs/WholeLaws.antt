@@ -52,7 +52,7 @@ use Rattle.hotsync_run.specs.declared.report.SessionEnd.TheVariants.{Ended}
 use Rattle.hotsync_run.specs.declared.status.Status.{Status}
 use Rattle.hotsync_run.specs.declared.status.Status.TheVariants.{Done, Usage, BadScript, TooLong, BadFile, TooMany, HandheldFolder, DesktopFolder, SourceRead}
 use Rattle.hotsync_run.specs.declared.status.Status.TheVariants.{TraceWrite, OutWrite, NoMemory, LineDown, Unplugged, Aborted, Undetected, OtherUser}
-use Rattle.hotsync_run.specs.declared.status.Status.TheVariants.{TooManyUsers, Limit, NewHandheld}
+use Rattle.hotsync_run.specs.declared.status.Status.TheVariants.{TooManyUsers, Limit, NewHandheld, WrongSide, InUse}
 
 -- ---- the frames tell one story
 
@@ -229,6 +229,8 @@ module _ (meeting : Meeting) where
   whole_over TooLong over short whole = absurd over.ends
   whole_over (BadFile a b c d) over short whole = absurd over.ends
   whole_over (TooMany side) over short whole = absurd over.ends
+  whole_over (WrongSide side) over short whole = absurd over.ends
+  whole_over (InUse side) over short whole = absurd over.ends
   whole_over SourceRead over short whole = absurd over.ends
   whole_over (OtherUser handheld desktop) over short whole = absurd (stopped_short whole (short tt))
   whole_over TooManyUsers over short whole = absurd (stopped_short whole (short tt))

@@ -1,5 +1,5 @@
 -- What holds of every call, by what its words ask for.
-use Rattle.std.specs.Prelude.{◌≡◌, ◌⊎◌, ⊤, IsSome, List, Option, None, Some, String, map, string_bytes}
+use Rattle.std.specs.Prelude.{◌≡◌, ◌⊎◌, ⊤, ℕ, IsSome, List, Option, None, Some, String, map, string_bytes}
 use Rattle.std.specs.declared.alloc.Global.{Global}
 use Rattle.hs_folders.specs.declared.folder.Folder.{Ghosts as FolderMembers}
 use Rattle.hs_folders.specs.declared.sink.Sink.{Ghosts as SinkMembers}
@@ -16,9 +16,9 @@ use Rattle.hotsync_run.specs.declared.report.Report.{Report}
 use Rattle.hotsync_run.specs.declared.status.Status.{Status}
 use Rattle.hotsync_run.specs.declared.status.Status.TheVariants.{Usage, NoMemory}
 
--- what words ask for
-abbrev pub task_in : List (String Global) → Option Task
-task_in words = task_of (map string_bytes words)
+-- what words ask for, where the seconds of the date now are these, if it can be told
+abbrev pub task_in : Option ℕ → List (String Global) → Option Task
+task_in now words = task_of now (map string_bytes words)
 
 -- a call that does nothing ends with the usage line
 pub record IsNothing (out out_after : SinkTold) (status : Status) : Type 0 where

@@ -11,7 +11,7 @@ use Rattle.hotsync_run.specs.declared.report.SessionEnd.TheVariants.{NotStarted,
 use Rattle.hotsync_run.specs.declared.status.Status.{Status}
 use Rattle.hotsync_run.specs.declared.status.Status.TheVariants.{Done, Usage, BadScript, TooLong, BadFile, TooMany, HandheldFolder, DesktopFolder, SourceRead}
 use Rattle.hotsync_run.specs.declared.status.Status.TheVariants.{TraceWrite, OutWrite, NoMemory, LineDown, Unplugged, Aborted, Undetected, OtherUser}
-use Rattle.hotsync_run.specs.declared.status.Status.TheVariants.{TooManyUsers, Limit, NewHandheld}
+use Rattle.hotsync_run.specs.declared.status.Status.TheVariants.{TooManyUsers, Limit, NewHandheld, WrongSide, InUse}
 
 -- ---- the status of a session
 
@@ -61,6 +61,8 @@ EndsAs (BadScript _) end = ⊥
 EndsAs TooLong end = ⊥
 EndsAs (BadFile _ _ _ _) end = ⊥
 EndsAs (TooMany _) end = ⊥
+EndsAs (WrongSide _) end = ⊥
+EndsAs (InUse _) end = ⊥
 EndsAs SourceRead end = ⊥
 EndsAs other end = end ≡ Stopped
 

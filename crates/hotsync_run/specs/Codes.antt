@@ -3,7 +3,7 @@ use Rattle.std.specs.Prelude.{ℕ}
 use Rattle.hotsync_run.specs.declared.status.Status.{Status}
 use Rattle.hotsync_run.specs.declared.status.Status.TheVariants.{Done, Usage, BadScript, TooLong, BadFile, TooMany, HandheldFolder, DesktopFolder, SourceRead}
 use Rattle.hotsync_run.specs.declared.status.Status.TheVariants.{TraceWrite, OutWrite, NoMemory, LineDown, Unplugged, Aborted, Undetected, OtherUser}
-use Rattle.hotsync_run.specs.declared.status.Status.TheVariants.{TooManyUsers, Limit, NewHandheld}
+use Rattle.hotsync_run.specs.declared.status.Status.TheVariants.{TooManyUsers, Limit, NewHandheld, WrongSide, InUse}
 
 -- the exit status for each status of a call
 abbrev pub code_of : Status → ℕ
@@ -15,6 +15,7 @@ code_of (BadFile _ _ _ _) = 3
 code_of (TooMany _) = 3
 code_of HandheldFolder = 4
 code_of DesktopFolder = 4
+code_of (InUse _) = 4
 code_of SourceRead = 4
 code_of TraceWrite = 4
 code_of OutWrite = 4
@@ -27,3 +28,4 @@ code_of (OtherUser _ _) = 7
 code_of TooManyUsers = 7
 code_of (Limit _) = 7
 code_of (NewHandheld _) = 7
+code_of (WrongSide _) = 7

@@ -3,6 +3,7 @@ pub mod BadFiles
 pub mod Calls
 pub mod Causes
 pub mod Clean
+pub mod Clocks
 pub mod Codes
 pub mod Ends
 pub mod Headline
@@ -13,6 +14,7 @@ pub mod Makes
 pub mod Meetings
 pub mod Opening
 pub mod Printed
+pub mod PrintedNames
 pub mod Refusals
 pub mod Reports
 pub mod Runs

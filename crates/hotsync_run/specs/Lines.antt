@@ -8,12 +8,13 @@ use Rattle.hex.specs.Hex.{encode_lower}
 use Rattle.pdb_values.specs.Stems.{stem_of}
 use Rattle.pdb_files.specs.BadKinds.{word_of}
 use Rattle.pdb_files.specs.declared.bad_kind.BadKind.{BadKind}
+use Rattle.hotsync_run.specs.PrintedNames.{printed_name}
 use Rattle.hotsync_run.specs.declared.status.FileSide.{FileSide}
 use Rattle.hotsync_run.specs.declared.status.FileSide.TheVariants.{Handheld, Desktop, Source}
 use Rattle.hotsync_run.specs.declared.status.Status.{Status}
 use Rattle.hotsync_run.specs.declared.status.Status.TheVariants.{Done, Usage, BadScript, TooLong, BadFile, TooMany, HandheldFolder, DesktopFolder, SourceRead}
 use Rattle.hotsync_run.specs.declared.status.Status.TheVariants.{TraceWrite, OutWrite, NoMemory, LineDown, Unplugged, Aborted, Undetected, OtherUser}
-use Rattle.hotsync_run.specs.declared.status.Status.TheVariants.{TooManyUsers, Limit, NewHandheld}
+use Rattle.hotsync_run.specs.declared.status.Status.TheVariants.{TooManyUsers, Limit, NewHandheld, WrongSide, InUse}
 use Rattle.sync_session.specs.declared.report.Counts.{Counts}
 use Rattle.sync_session.specs.declared.report.DbReport.{DbReport}
 use Rattle.sync_session.specs.declared.report.Did.{Did}
@@ -43,15 +44,20 @@ side_word Handheld = codes "handheld"
 side_word Desktop = codes "desktop"
 side_word Source = codes "source"
 
--- `bad file SIDE NAME KIND PLACE`
+-- `bad file SIDE NAME KIND PLACE`, with the name as it is printed
 unfoldable pub bad_file_line : FileSide → List ℕ → BadKind → ℕ → List ℕ
 bad_file_line side name kind place =
-    codes "bad file " ++ side_word side ++ codes " " ++ name ++ codes " " ++ word_of kind ++ (codes " " ++ (decimal place ++ line_feed))
+    codes "bad file " ++ side_word side ++ codes " " ++ printed_name name ++ codes " " ++ word_of kind ++ (codes " " ++ (decimal place ++ line_feed))
 
 -- the word of an end of the line
 abbrev pub end_word : End → List ℕ
 end_word end.Handheld = codes "handheld"
 end_word end.Desktop = codes "desktop"
+
+-- the word that stands for the folder of an end where a run is called
+abbrev pub folder_word : End → List ℕ
+folder_word end.Handheld = codes "HANDHELD"
+folder_word end.Desktop = codes "DESKTOP"
 
 -- a user in eight digits of lower-case hexadecimal
 abbrev pub user_text : ℕ → List ℕ
@@ -77,8 +83,10 @@ refusal_line (BadScript line) = number_line (codes "bad script line ") line
 refusal_line TooLong = codes "source too long" ++ line_feed
 refusal_line (BadFile side name kind place) = bad_file_line side (string_bytes {Z = Global} name) kind place
 refusal_line (TooMany end) = word_line (codes "too many databases ") (end_word end)
+refusal_line (WrongSide end) = word_line (codes "wrong side ") (folder_word end)
 refusal_line HandheldFolder = codes "handheld folder failed" ++ line_feed
 refusal_line DesktopFolder = codes "desktop folder failed" ++ line_feed
+refusal_line (InUse end) = word_line (end_word end) (codes " folder in use")
 refusal_line SourceRead = codes "source read failed" ++ line_feed
 refusal_line TraceWrite = codes "trace write failed" ++ line_feed
 refusal_line OutWrite = []

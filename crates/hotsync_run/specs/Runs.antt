@@ -4,6 +4,7 @@ use Rattle.std.specs.Option.{option_map}
 use Rattle.hs_folders.specs.Causes.{Rose}
 use Rattle.hs_folders.specs.Moments.{EachMomentSince}
 use Rattle.trace_text.specs.TraceLines.{trace_text}
+use Rattle.trace_text.specs.declared.frame.End.TheVariants as end
 use Rattle.line_script.specs.Rules.{RuleValue}
 use Rattle.desk_journal.specs.Overlays.{StandsAs, finished}
 use Rattle.run_words.specs.Runs.{Run}
@@ -14,7 +15,7 @@ use Rattle.hotsync_run.specs.Lines.{done_lines}
 use Rattle.hotsync_run.specs.Meetings.{Meets}
 use Rattle.hotsync_run.specs.Opening.{Opens, OpensAtMost, OpensGiven, OpensGivenAtMost}
 use Rattle.hotsync_run.specs.Printed.{IsPrinted}
-use Rattle.hotsync_run.specs.Refusals.{IsRefused}
+use Rattle.hotsync_run.specs.Refusals.{IsRefused, LeavesDesktopUnread}
 use Rattle.hotsync_run.specs.Reports.{IsNotStarted}
 use Rattle.hotsync_run.specs.Scripts.{IsScripted}
 use Rattle.hotsync_run.specs.Talks.{BlamesFolders, DesktopRan, Talked}
@@ -24,7 +25,7 @@ use Rattle.hotsync_run.specs.Undisturbed.{EndsWell, IsUndisturbed}
 use Rattle.hotsync_run.specs.declared.report.Report.{Report}
 use Rattle.hotsync_run.specs.declared.report.SessionEnd.{SessionEnd}
 use Rattle.hotsync_run.specs.declared.status.Status.{Status}
-use Rattle.hotsync_run.specs.declared.status.Status.TheVariants.{SourceRead, TraceWrite, NoMemory}
+use Rattle.hotsync_run.specs.declared.status.Status.TheVariants.{SourceRead, TraceWrite, NoMemory, InUse}
 
 -- ---- a run that sent nothing
 
@@ -40,12 +41,13 @@ pub record StandsAsItDid (before after : FolderTold) : Type 0 where
   pub each_moment : EachMomentSince (StandsAs before.contents) before.moments after.moments
 
 -- Memory ran out, or what is judged before a session refuses the run. Both sides stand for what
--- they stood for, and the trace took nothing.
+-- they stood for, a desktop's folder that was not read is as it was, and the trace took nothing.
 pub record SentNothing (run : Run) (before after : CallTold) (status : Status) (report : Report) : Type 0 where
   pub judged : (status ≡ NoMemory) ⊎ IsRefused run before status
   pub report_is : IsNotStarted report
   pub handheld : StaysAsItWas before.palm after.palm
   pub desktop : StandsAsItDid before.desk after.desk
+  pub unread : LeavesDesktopUnread status → StaysAsItWas before.desk after.desk
   pub trace : after.trace.taken ≡ before.trace.taken
 
 -- ---- a run with a session
@@ -69,6 +71,8 @@ pub record SessionRan (run : Run) (before after : CallTold) (status : Status) (r
 pub record BlamesByCount (before after : CallTold) (status : Status) : Type 0 where
   pub source : status ≡ SourceRead → Rose before.source.faults after.source.faults
   pub folders : BlamesFolders (sides_of before) (sides_of after) status
+  pub handheld_in_use : status ≡ InUse end.Handheld → Rose before.palm.faults after.palm.faults
+  pub desktop_in_use : status ≡ InUse end.Desktop → Rose before.desk.faults after.desk.faults
   pub trace : status ≡ TraceWrite → Rose before.trace.faults after.trace.faults
 
 -- Each object was opened at the path that the words give it, or not at all, and where a session

@@ -24,11 +24,12 @@ pub record IsSystemCall (task : Option Task) (status : Status) (report : Report)
   pub untold : AreUntold before out
   pub called : IsCall task before after out out_after status report
 
--- The program ended with the exit status of such a call, for the words that it was called with.
--- Nothing says which words the system hands over.
+-- The program ended with the exit status of such a call, for the words that it was called with and
+-- the date now. Nothing says which words the system hands over, and which date it tells.
 pub record EndsProgram (code : ℕ) : Type 0 where
+  pub now : Option ℕ
   pub words : List (List ℕ)
   pub status : Status
   pub report : Report
-  pub called : IsSystemCall (task_of words) status report
+  pub called : IsSystemCall (task_of now words) status report
   pub code_is : code ≡ code_of status

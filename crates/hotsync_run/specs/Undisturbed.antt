@@ -22,6 +22,7 @@ use Rattle.sync_session.specs.Outcomes.{slot_in}
 use Rattle.sync_session.specs.Tasks.{Meeting}
 use Rattle.hotsync_run.specs.LineRuns.{frames_in}
 use Rattle.hotsync_run.specs.Meetings.{Meets}
+use Rattle.hotsync_run.specs.Refusals.{is_desktop, is_handheld}
 use Rattle.hotsync_run.specs.Scripts.{IsScripted}
 use Rattle.hotsync_run.specs.Told.{CallTold, SinkTold}
 use Rattle.hotsync_run.specs.declared.report.Report.{Report}
@@ -37,17 +38,19 @@ pub record IsGoodScript (path left : Option (List ℕ)) : Type 0 where
   pub rules : List RuleValue
   pub scripted : IsScripted path left rules
 
--- the handheld's folder tells its files: there are not too many of databases, and none is bad
+-- the handheld's folder tells its files: none is a desktop's information file, there are not too many of databases, and none is bad
 pub record IsGoodHandheld (told : Option FileMap) : Type 0 where
   pub held : FileMap
   pub is : told ≡ Some held
+  pub side : is_desktop held ≡ false
   pub few : database_count held ≤ most_databases
   pub good : (name : List ℕ) (kind : BadKind) (place : ℕ) → ¬ (IsFirstBad (finmap.keys held) held name kind place)
 
--- the desktop's folder does, and so it is once a journal that was left is finished
+-- the desktop's folder does: none is a handheld's information file, and all are good once a journal that was left is finished
 pub record IsGoodDesktop (told : Option FileMap) : Type 0 where
   pub held : FileMap
   pub is : told ≡ Some held
+  pub side : is_handheld held ≡ false
   pub readable : IsReadable (finished held)
 
 -- no count of faults rose in the call

@@ -18,9 +18,10 @@ use std::alloc::Global;
 
 /// Does what the words ask for, and prints the lines of its status on `out`.
 ///
-/// `words` are those after the program's name. Both folders are handed back with every status.
+/// `now` are the seconds of the date now, if it can be told, and `words` those after the program's name. Both folders are handed back with every status.
 pub fn hotsync<H: Folder, D: Folder, S: Source, T: Sink, O: Sink>(
     alloc: Global,
+    now: Option<u32>,
     words: &[String],
     device: H,
     desk: D,
@@ -28,27 +29,27 @@ pub fn hotsync<H: Folder, D: Folder, S: Source, T: Sink, O: Sink>(
     trace: &mut T,
     out: &mut O,
 ) -> Answer<H, D>
-    ensures run { OfCall (IsCall (task_in words.now))
+    ensures run { OfCall (IsCall (task_in now words.now))
         H.Folder D.Folder S.Source T.Sink O.Sink
         device desk source.old trace.old out.old
         result source.new trace.new out.new }
 
     // Nothing goes over a line but in a session.
-    ensures report { ¬ HasSession (task_in words.now) → IsNotStarted result.report }
+    ensures report { ¬ HasSession (task_in now words.now) → IsNotStarted result.report }
 
     // What is judged later is not touched: the folders where the script is blamed, the desktop's where the handheld's is.
-    ensures script_first { IsSync (task_in words.now) → BlamesScript result.status
+    ensures script_first { IsSync (task_in now words.now) → BlamesScript result.status
         → (result.device ≡ device) × (result.desk ≡ desk) }
     ensures handheld_first { result.report.end ≡ SessionEnd.NotStarted
         → BlamesHandheld result.status → result.desk ≡ desk }
 
     // What the words don't name is not touched.
-    ensures device { ¬ IsSync (task_in words.now) → result.device ≡ device }
-    ensures desk { ¬ IsSync (task_in words.now) → result.desk ≡ desk }
-    ensures source { ¬ ReadsSource (task_in words.now) → source.new ≡ source.old }
-    ensures trace { ¬ WritesTrace (task_in words.now) → trace.new ≡ trace.old }
+    ensures device { ¬ IsSync (task_in now words.now) → result.device ≡ device }
+    ensures desk { ¬ IsSync (task_in now words.now) → result.desk ≡ desk }
+    ensures source { ¬ ReadsSource (task_in now words.now) → source.new ≡ source.old }
+    ensures trace { ¬ WritesTrace (task_in now words.now) → trace.new ≡ trace.old }
 {
-    match read_command(alloc, words) {
+    match read_command(alloc, now, words) {
         Ok(Command::Run(run)) => run_folders(alloc, &run, device, desk, source, trace, out),
         Ok(Command::Look(look)) => {
             let status = look_at(alloc, look, source, out);

@@ -9,11 +9,13 @@
 
 mod answer;
 mod bad_file;
+mod clock;
 mod command;
 mod left;
 mod look;
 mod make;
 mod packets;
+mod printed_name;
 mod printing;
 mod program;
 pub mod promises;

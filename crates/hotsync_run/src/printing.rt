@@ -1,9 +1,10 @@
 // The lines that a call prints, and the status that stands once they are printed.
 ghost use Rattle.std.specs.Prelude.{◌≡◌, ◌≢◌, ◌⊎◌, ◌≤◌, ◌++◌, IfOk, OnOk, string_bytes};
-ghost use Rattle.hotsync_run.specs.Lines.{bad_file_line as line_of_bad_file, count_text, counts_text as text_of_counts, database_line as line_of_database, did_text as text_of_did, done_lines as lines_of_done, end_word as word_of_end, mode_word as word_of_mode, no_memory_line, number_line as line_of_number, refusal_line as line_of_refusal, skip_word, users_line as line_of_users, word_line as line_of_word};
+ghost use Rattle.hotsync_run.specs.Lines.{bad_file_line as line_of_bad_file, count_text, counts_text as text_of_counts, database_line as line_of_database, did_text as text_of_did, done_lines as lines_of_done, end_word as word_of_end, folder_word as word_of_folder, mode_word as word_of_mode, no_memory_line, number_line as line_of_number, refusal_line as line_of_refusal, skip_word, users_line as line_of_users, word_line as line_of_word};
 ghost use Rattle.hotsync_run.specs.Printed.{IsPrinted, IsPrintedStatus, IsRefusal};
 ghost use Rattle.hs_folders.specs.Appends.{AppendsPrefix};
 
+use crate::printed_name::push_name;
 use crate::status::{FileSide, Status};
 use hs_folders::{Sink, SinkFault};
 use pdb_files::BadKind;
@@ -232,8 +233,10 @@ fn refusal_line(alloc: Global, refusal: &Status) -> Result<String, AllocError>
             place,
         } => bad_file_line(alloc, *side, name.as_str(), *kind, *place),
         Status::TooMany(end) => word_line(alloc, "too many databases ", end_word(*end)),
+        Status::WrongSide(end) => word_line(alloc, "wrong side ", folder_word(*end)),
         Status::HandheldFolder => String::from_str(alloc, "handheld folder failed\n"),
         Status::DesktopFolder => String::from_str(alloc, "desktop folder failed\n"),
+        Status::InUse(end) => word_line(alloc, end_word(*end), " folder in use"),
         Status::SourceRead => String::from_str(alloc, "source read failed\n"),
         Status::TraceWrite => String::from_str(alloc, "trace write failed\n"),
         Status::OutWrite => Ok(String::new(alloc)),
@@ -256,6 +259,16 @@ fn end_word(end: End) -> &'static str
     match end {
         End::Handheld => "handheld",
         End::Desktop => "desktop",
+    }
+}
+
+// The word that stands for the folder of an end where a run is called.
+fn folder_word(end: End) -> &'static str
+    ensures { result.now ≡ word_of_folder end }
+{
+    match end {
+        End::Handheld => "HANDHELD",
+        End::Desktop => "DESKTOP",
     }
 }
 
@@ -312,6 +325,7 @@ fn new_handheld_line(alloc: Global, name: &DbName) -> Result<String, AllocError>
     word_line(alloc, "new handheld ", stem.as_str())
 }
 
+// The line of a bad file.
 #[tactic(auto, unfolding(crate::specs::Lines::bad_file_line))]
 fn bad_file_line(
     alloc: Global,
@@ -325,7 +339,7 @@ fn bad_file_line(
     let mut line = String::from_str(alloc, "bad file ")?;
     line.push_str(side.word())?;
     line.push_str(" ")?;
-    line.push_str(name)?;
+    push_name(&mut line, name)?;
     line.push_str(" ")?;
     line.push_str(kind.word())?;
     write!(line, " {place}\n")?;

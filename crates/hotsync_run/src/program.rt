@@ -9,6 +9,7 @@ ghost use Rattle.hotsync_run.specs.Systems.{AreUntold, EndsProgram, IsSystemCall
 ghost use Rattle.hotsync_run.specs.Told.{call_told, sink_told};
 
 use crate::answer::Answer;
+use crate::clock::seconds_now;
 use crate::command::hotsync;
 use crate::printing::print_refusal;
 use crate::report::SessionEnd;
@@ -20,6 +21,7 @@ use std::fs::File;
 use std::io::ErrorKind;
 use std::process::ExitCode;
 use std::rt::{Env, Files};
+use std::time::Clock;
 use std::{env, io};
 
 /// The exit status of the program, and what the call handed back.
@@ -31,9 +33,10 @@ pub struct Ended<H, D> {
 
 /// Calls [`hotsync`] with the words behind the program's name, and gives the exit status of what it answers.
 ///
-/// `args` begin with the program's name. Without any there are no words.
+/// `args` begin with the program's name. Without any there are no words. `now` are the seconds of the date now, if it can be told.
 pub fn run_program<H: Folder, D: Folder, S: Source, T: Sink, O: Sink>(
     alloc: Global,
+    now: Option<u32>,
     args: &[String],
     device: H,
     desk: D,
@@ -42,26 +45,26 @@ pub fn run_program<H: Folder, D: Folder, S: Source, T: Sink, O: Sink>(
     out: &mut O,
 ) -> Ended<H, D>
     ensures code { result.code ≡ code_of result.answer.status }
-    ensures run { OfCall (IsCall (task_in (drop 1 args.now)))
+    ensures run { OfCall (IsCall (task_in now (drop 1 args.now)))
         H.Folder D.Folder S.Source T.Sink O.Sink
         device desk source.old trace.old out.old
         result.answer source.new trace.new out.new }
 
     // Nothing goes over a line but in a session.
-    ensures report { ¬ HasSession (task_in (drop 1 args.now))
+    ensures report { ¬ HasSession (task_in now (drop 1 args.now))
         → IsNotStarted result.answer.report }
 
     // What is judged later is not touched, and neither is what the words don't name.
-    ensures script_first { IsSync (task_in (drop 1 args.now)) → BlamesScript result.answer.status
+    ensures script_first { IsSync (task_in now (drop 1 args.now)) → BlamesScript result.answer.status
         → (result.answer.device ≡ device) × (result.answer.desk ≡ desk) }
     ensures handheld_first { result.answer.report.end ≡ SessionEnd.NotStarted
         → BlamesHandheld result.answer.status → result.answer.desk ≡ desk }
-    ensures device { ¬ IsSync (task_in (drop 1 args.now)) → result.answer.device ≡ device }
-    ensures desk { ¬ IsSync (task_in (drop 1 args.now)) → result.answer.desk ≡ desk }
-    ensures source { ¬ ReadsSource (task_in (drop 1 args.now)) → source.new ≡ source.old }
-    ensures trace { ¬ WritesTrace (task_in (drop 1 args.now)) → trace.new ≡ trace.old }
+    ensures device { ¬ IsSync (task_in now (drop 1 args.now)) → result.answer.device ≡ device }
+    ensures desk { ¬ IsSync (task_in now (drop 1 args.now)) → result.answer.desk ≡ desk }
+    ensures source { ¬ ReadsSource (task_in now (drop 1 args.now)) → source.new ≡ source.old }
+    ensures trace { ¬ WritesTrace (task_in now (drop 1 args.now)) → trace.new ≡ trace.old }
 {
-    let answer = hotsync(alloc, words_of(args), device, desk, source, trace, out);
+    let answer = hotsync(alloc, now, words_of(args), device, desk, source, trace, out);
     Ended {
         code: answer.status.code(),
         answer,
@@ -76,28 +79,29 @@ fn words_of(args: &[String]) -> &[String]
 }
 
 /// Runs the program over the system's folders and files and its standard output.
-pub fn run_on_system<R: Env + Files<File = File> + Print + AllocGlobal>(rt: &R) -> ExitCode
+pub fn run_on_system<R: Clock + Env + Files<File = File> + Print + AllocGlobal>(rt: &R) -> ExitCode
     ensures { EndsProgram (exit_status result) }
 {
-    let ended = run_handed(rt, arguments(rt));
+    let ended = run_handed(rt, seconds_now(rt), arguments(rt));
     ExitCode::from(ended.code)
 }
 
 // The call for the words that the system handed over. Where it did not, they ask for nothing that this program does.
 fn run_handed<R: Files<File = File> + Print + AllocGlobal>(
     rt: &R,
+    now: Option<u32>,
     args: Result<Vec<String>, WordsFault>,
 ) -> Ended<DirFolder<'_, R>, DirFolder<'_, R>>
     ensures code { result.code ≡ code_of result.answer.status }
-    ensures words { IfOk args (λ args. IsSystemCall (task_in (drop 1 args.items))
+    ensures words { IfOk args (λ args. IsSystemCall (task_in now (drop 1 args.items))
         result.answer.status result.answer.report) }
     ensures none { IsErr args → IsSystemCall None result.answer.status result.answer.report }
     ensures no_memory { IsErrOf args WordsFault.NoMemory
         → result.answer.status ≡ Status.NoMemory }
 {
     match args {
-        Ok(args) => run_over_files(rt, &args),
-        Err(WordsFault::Usage) => run_over_files(rt, &[]),
+        Ok(args) => run_over_files(rt, now, &args),
+        Err(WordsFault::Usage) => run_over_files(rt, now, &[]),
         Err(WordsFault::NoMemory) => unread_call(rt),
     }
 }
@@ -105,15 +109,17 @@ fn run_handed<R: Files<File = File> + Print + AllocGlobal>(
 // The program over the system's folders and files and its standard output.
 fn run_over_files<'r, R: Files<File = File> + Print + AllocGlobal>(
     rt: &'r R,
+    now: Option<u32>,
     args: &[String],
 ) -> Ended<DirFolder<'r, R>, DirFolder<'r, R>>
     ensures code { result.code ≡ code_of result.answer.status }
-    ensures call { IsSystemCall (task_in (drop 1 args.now))
+    ensures call { IsSystemCall (task_in now (drop 1 args.now))
         result.answer.status result.answer.report }
 {
     let alloc = rt.alloc();
     run_untold(
         alloc,
+        now,
         args,
         DirFolder::new(rt, alloc),
         DirFolder::new(rt, alloc),
@@ -126,6 +132,7 @@ fn run_over_files<'r, R: Files<File = File> + Print + AllocGlobal>(
 // The program over objects that tell nothing.
 fn run_untold<H: Folder, D: Folder, S: Source, T: Sink, O: Sink>(
     alloc: Global,
+    now: Option<u32>,
     args: &[String],
     device: H,
     desk: D,
@@ -137,14 +144,16 @@ fn run_untold<H: Folder, D: Folder, S: Source, T: Sink, O: Sink>(
         (call_told H.Folder D.Folder S.Source T.Sink device desk source.old trace.old)
         (sink_told O.taken O.paths O.faults out.old) }
     ensures code { result.code ≡ code_of result.answer.status }
-    ensures call { IsSystemCall (task_in (drop 1 args.now))
+    ensures call { IsSystemCall (task_in now (drop 1 args.now))
         result.answer.status result.answer.report }
 {
-    run_program(alloc, args, device, desk, source, trace, out)
+    run_program(alloc, now, args, device, desk, source, trace, out)
 }
 
 // A call whose words were not fetched for want of memory.
-fn unread_call<R: Files<File = File> + Print + AllocGlobal>(rt: &R) -> Ended<DirFolder<'_, R>, DirFolder<'_, R>>
+fn unread_call<R: Files<File = File> + Print + AllocGlobal>(
+    rt: &R,
+) -> Ended<DirFolder<'_, R>, DirFolder<'_, R>>
     ensures code { result.code ≡ code_of result.answer.status }
     ensures no_memory { result.answer.status ≡ Status.NoMemory }
     ensures call { IsSystemCall None result.answer.status result.answer.report }

@@ -1,6 +1,6 @@
 //! The sentences of the README's "What you can rely on", as laws over what the contract of [`hotsync`](crate::hotsync) says of a
 //! call, and what else holds of calls. Each function here does nothing: its contract is the law.
-ghost use Rattle.std.specs.Prelude.{◌≡◌, ℕ, List, None, Some};
+ghost use Rattle.std.specs.Prelude.{◌≡◌, ◌<◌, ℕ, List, None, Some, true};
 ghost use Rattle.std.specs.List.{AllByRecursion};
 ghost use Rattle.line_script.specs.Rules.{RuleValue};
 ghost use Rattle.run_words.specs.Commands.{LookAt, Make};
@@ -16,6 +16,7 @@ ghost use Rattle.hotsync_run.specs.Headline.{ActsOnce, FairStaysUp, Headline, Is
 ghost use Rattle.hotsync_run.specs.LineRuns.{exchanges_in};
 ghost use Rattle.hotsync_run.specs.Looks.{IsLook};
 ghost use Rattle.hotsync_run.specs.Meetings.{Meets};
+ghost use Rattle.hotsync_run.specs.PrintedNames.{is_printable, printed_name};
 ghost use Rattle.hotsync_run.specs.Runs.{SentNothing};
 ghost use Rattle.hotsync_run.specs.Scripts.{IsScripted};
 ghost use Rattle.hotsync_run.specs.Told.{CallTold};
@@ -108,4 +109,13 @@ pub fn a_run_is_never_refused()
     ensures made { (call : Call) (seed count : ℕ) → IsAnsweredCall call
         → call.task ≡ Some (Make seed count)
         → AllByRecursion IsAnsweredExchange (exchanges_in call.report) }
+{}
+
+/// No two names of files are printed alike, and each is printed in ASCII from the space to `~`.
+pub fn no_two_names_are_printed_alike()
+    ensures apart { (name other : List ℕ) → AllByRecursion (λ byte. byte < 256) name
+        → AllByRecursion (λ byte. byte < 256) other → printed_name name ≡ printed_name other
+        → name ≡ other }
+    ensures printable { (name : List ℕ) → AllByRecursion (λ byte. byte < 256) name
+        → AllByRecursion (λ byte. is_printable byte ≡ true) (printed_name name) }
 {}

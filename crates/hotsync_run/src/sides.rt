@@ -1,7 +1,9 @@
 // Both sides of a run, opened.
-ghost use Rattle.std.specs.Prelude.{◌≡◌, ◌⊎◌, ◌≤◌, IfErr, IfOk, IfSome, OnErr, OnOk, true};
+ghost use Rattle.std.specs.Prelude.{◌≡◌, ◌≢◌, ◌⊎◌, ◌≤◌, IfErr, IfOk, IfSome, IsErrOf, OnErr, OnOk, bytes_eq, false, string_bytes, true};
+ghost use Rattle.std.specs.FinMap as finmap;
+ghost use Rattle.std.specs.List.{list_any};
 ghost use Rattle.std.specs.Option.{option_map};
-ghost use Rattle.hs_folders.specs.Causes.{Rose};
+ghost use Rattle.hs_folders.specs.Causes.{HasCause, Rose};
 ghost use Rattle.hs_folders.specs.Moments.{EachMomentSince};
 ghost use Rattle.handheld_files.specs.Openings.{AreKept, HoldsAll, opened_device};
 ghost use Rattle.palm_device.specs.Bounds.{IsBounded};
@@ -10,14 +12,16 @@ ghost use Rattle.desk_store.specs.Bounds.{AreBounded};
 ghost use Rattle.desk_store.specs.Desks.{IsDesk};
 ghost use Rattle.desk_store.specs.Views.{folder_in as desk_in};
 ghost use Rattle.hotsync_run.specs.Opening.{Opens, OpensAtMost};
-ghost use Rattle.hotsync_run.specs.Refusals.{DesktopRefuses, HandheldRefuses, HasDesktop};
+ghost use Rattle.hotsync_run.specs.Refusals.{DesktopRefuses, DesktopShows, HandheldRefuses, HandheldShows, HasDesktop, LeavesDesktopUnread, is_desktop, is_handheld};
 ghost use Rattle.hotsync_run.specs.Views.{device_in};
 
 use crate::status::Status;
 use desk_store::Desk;
+use folder_files::{DESKTOP_INFO, DEVICE_INFO};
 use handheld_store::Store;
 use hs_folders::{Folder, FolderOpenFault};
 use std::alloc::Global;
+use trace_text::End;
 
 /// Opens the handheld's folder at this path, and reads all that it holds. A refusal hands it back.
 pub fn open_handheld<H: Folder>(
@@ -31,8 +35,11 @@ pub fn open_handheld<H: Folder>(
     ensures bounded { IfOk result (λ store. IsBounded (opened_device store.databases
         store.user)) }
     ensures sound { IfOk result (λ store. store.sound ≡ true) }
+    ensures side { OnOk result (IfSome (H.contents device) (λ files. is_desktop files ≡ false)) }
     ensures refused { IfErr result (λ refused. HandheldRefuses (H.contents device) refused.0) }
     ensures failed { IfErr result (λ refused. refused.0 ≡ Status.HandheldFolder
+        → Rose (H.faults device) (H.faults refused.1)) }
+    ensures in_use { IfErr result (λ refused. refused.0 ≡ Status.InUse End.Handheld
         → Rose (H.faults device) (H.faults refused.1)) }
 
     ensures contents { H.contents (device_in result) ≡ H.contents device }
@@ -43,23 +50,51 @@ pub fn open_handheld<H: Folder>(
 {
     let mut device = device;
     match device.open(path) {
-        Ok(()) => open_store(alloc, device),
-        Err(FolderOpenFault::InUse | FolderOpenFault::Failed) => {
-            Err((Status::HandheldFolder, device))
-        }
+        Ok(()) => judge_handheld(alloc, device),
+        Err(FolderOpenFault::InUse) => Err((Status::InUse(End::Handheld), device)),
+        Err(FolderOpenFault::Failed) => Err((Status::HandheldFolder, device)),
         Err(FolderOpenFault::NoMemory) => Err((Status::NoMemory, device)),
     }
 }
 
-// Reads all that the handheld's folder holds.
-fn open_store<H: Folder>(alloc: Global, device: H) -> Result<Store<H>, (Status, H)>
+// Reads all that the handheld's folder holds, unless it is a desktop's.
+fn judge_handheld<H: Folder>(alloc: Global, device: H) -> Result<Store<H>, (Status, H)>
     ensures held { IfOk result (λ store. IfSome (H.contents device) (λ files.
         HoldsAll files store.databases store.user)) }
     ensures kept { IfOk result (λ store. AreKept store.databases) }
     ensures bounded { IfOk result (λ store. IsBounded (opened_device store.databases
         store.user)) }
     ensures sound { IfOk result (λ store. store.sound ≡ true) }
+    ensures side { OnOk result (IfSome (H.contents device) (λ files. is_desktop files ≡ false)) }
     ensures refused { IfErr result (λ refused. HandheldRefuses (H.contents device) refused.0) }
+    ensures failed { IfErr result (λ refused. refused.0 ≡ Status.HandheldFolder
+        → Rose (H.faults device) (H.faults refused.1)) }
+    ensures free { IfErr result (λ refused. refused.0 ≢ Status.InUse End.Handheld) }
+
+    ensures contents { H.contents (device_in result) ≡ H.contents device }
+    ensures moments { H.moments (device_in result) ≡ H.moments device }
+    ensures later { H.faults device ≤ H.faults (device_in result) }
+    ensures paths { H.paths (device_in result) ≡ H.paths device }
+{
+    let mut device = device;
+    match has_file(alloc, &mut device, DESKTOP_INFO) {
+        Ok(false) => open_store(alloc, device),
+        Ok(true) => Err((Status::WrongSide(End::Handheld), device)),
+        Err(FolderFault::Failed) => Err((Status::HandheldFolder, device)),
+        Err(FolderFault::Missing | FolderFault::NoMemory) => Err((Status::NoMemory, device)),
+    }
+}
+
+// Reads all that the handheld's folder holds, which is no desktop's.
+fn open_store<H: Folder>(alloc: Global, device: H) -> Result<Store<H>, (Status, H)>
+    requires { IfSome (H.contents device) (λ files. is_desktop files ≡ false) }
+    ensures held { IfOk result (λ store. IfSome (H.contents device) (λ files.
+        HoldsAll files store.databases store.user)) }
+    ensures kept { IfOk result (λ store. AreKept store.databases) }
+    ensures bounded { IfOk result (λ store. IsBounded (opened_device store.databases
+        store.user)) }
+    ensures sound { IfOk result (λ store. store.sound ≡ true) }
+    ensures refused { IfErr result (λ refused. HandheldShows (H.contents device) refused.0) }
     ensures failed { IfErr result (λ refused. refused.0 ≡ Status.HandheldFolder
         → Rose (H.faults device) (H.faults refused.1)) }
 
@@ -86,6 +121,10 @@ pub fn open_desktop<D: Folder>(alloc: Global, desk: D, path: &str) -> Result<Des
     ensures refused { IfErr result (λ refused. DesktopRefuses (D.contents desk) refused.0) }
     ensures failed { IfErr result (λ refused. refused.0 ≡ Status.DesktopFolder
         → Rose (D.faults desk) (D.faults refused.1)) }
+    ensures in_use { IfErr result (λ refused. refused.0 ≡ Status.InUse End.Desktop
+        → Rose (D.faults desk) (D.faults refused.1)) }
+    ensures unread { IfErr result (λ refused. LeavesDesktopUnread refused.0
+        → (D.contents refused.1 ≡ D.contents desk) × (D.moments refused.1 ≡ D.moments desk)) }
 
     ensures stands { StandsAs (D.contents desk) (D.contents (desk_in result)) }
     ensures each_moment { EachMomentSince (StandsAs (D.contents desk)) (D.moments desk)
@@ -96,16 +135,15 @@ pub fn open_desktop<D: Folder>(alloc: Global, desk: D, path: &str) -> Result<Des
 {
     let mut desk = desk;
     match desk.open(path) {
-        Ok(()) => open_desk(alloc, desk),
-        Err(FolderOpenFault::InUse | FolderOpenFault::Failed) => {
-            Err((Status::DesktopFolder, desk))
-        }
+        Ok(()) => judge_desktop(alloc, desk),
+        Err(FolderOpenFault::InUse) => Err((Status::InUse(End::Desktop), desk)),
+        Err(FolderOpenFault::Failed) => Err((Status::DesktopFolder, desk)),
         Err(FolderOpenFault::NoMemory) => Err((Status::NoMemory, desk)),
     }
 }
 
-// Finishes a journal that was left in the desktop's folder, and reads all that it holds.
-fn open_desk<D: Folder>(alloc: Global, desk: D) -> Result<Desk<D>, (Status, D)>
+// Opens what the desktop's folder holds, unless it is a handheld's, in which nothing is finished.
+fn judge_desktop<D: Folder>(alloc: Global, desk: D) -> Result<Desk<D>, (Status, D)>
     ensures desktop { OnOk result (HasDesktop (D.contents desk)) }
     ensures finished { IfOk result (λ opened. D.contents opened.folder
         ≡ option_map finished (D.contents desk)) }
@@ -113,6 +151,37 @@ fn open_desk<D: Folder>(alloc: Global, desk: D) -> Result<Desk<D>, (Status, D)>
         (option_map finished (D.contents desk)) opened.slots) }
     ensures bounded { IfOk result (λ opened. AreBounded opened.slots) }
     ensures refused { IfErr result (λ refused. DesktopRefuses (D.contents desk) refused.0) }
+    ensures failed { IfErr result (λ refused. refused.0 ≡ Status.DesktopFolder
+        → Rose (D.faults desk) (D.faults refused.1)) }
+    ensures free { IfErr result (λ refused. refused.0 ≢ Status.InUse End.Desktop) }
+    ensures unread { IfErr result (λ refused. LeavesDesktopUnread refused.0
+        → (D.contents refused.1 ≡ D.contents desk) × (D.moments refused.1 ≡ D.moments desk)) }
+
+    ensures stands { StandsAs (D.contents desk) (D.contents (desk_in result)) }
+    ensures each_moment { EachMomentSince (StandsAs (D.contents desk)) (D.moments desk)
+        (D.moments (desk_in result)) }
+    ensures later { D.faults desk ≤ D.faults (desk_in result) }
+    ensures paths { D.paths (desk_in result) ≡ D.paths desk }
+{
+    let mut desk = desk;
+    match has_file(alloc, &mut desk, DEVICE_INFO) {
+        Ok(false) => open_desk(alloc, desk),
+        Ok(true) => Err((Status::WrongSide(End::Desktop), desk)),
+        Err(FolderFault::Failed) => Err((Status::DesktopFolder, desk)),
+        Err(FolderFault::Missing | FolderFault::NoMemory) => Err((Status::NoMemory, desk)),
+    }
+}
+
+// Finishes a journal that was left in the desktop's folder, which is no handheld's, and reads all that it holds.
+fn open_desk<D: Folder>(alloc: Global, desk: D) -> Result<Desk<D>, (Status, D)>
+    requires { IfSome (D.contents desk) (λ files. is_handheld files ≡ false) }
+    ensures desktop { OnOk result (HasDesktop (D.contents desk)) }
+    ensures finished { IfOk result (λ opened. D.contents opened.folder
+        ≡ option_map finished (D.contents desk)) }
+    ensures slots { IfOk result (λ opened. IsDesk
+        (option_map finished (D.contents desk)) opened.slots) }
+    ensures bounded { IfOk result (λ opened. AreBounded opened.slots) }
+    ensures refused { IfErr result (λ refused. DesktopShows (D.contents desk) refused.0) }
     ensures failed { IfErr result (λ refused. refused.0 ≡ Status.DesktopFolder
         → Rose (D.faults desk) (D.faults refused.1)) }
 
@@ -126,4 +195,25 @@ fn open_desk<D: Folder>(alloc: Global, desk: D) -> Result<Desk<D>, (Status, D)>
         Ok(desk) => Ok(desk),
         Err((fault, desk)) => Err((Status::from(fault), desk)),
     }
+}
+
+// Whether the folder lists a file of this name.
+fn has_file<F: Folder>(alloc: Global, folder: &mut F, name: &str) -> Result<bool, FolderFault>
+    ensures listed { IfOk result (λ found. IfSome (F.contents folder.old) (λ files.
+        finmap.contains_key files name.now ≡ found)) }
+    ensures contents { F.contents folder.new ≡ F.contents folder.old }
+    ensures moments { F.moments folder.new ≡ F.moments folder.old }
+    ensures paths { F.paths folder.new ≡ F.paths folder.old }
+    ensures cause { HasCause (F.faults folder.old) (F.faults folder.new)
+        (IsErrOf result FolderFault.Failed) }
+{
+    let names = folder.list(alloc)?;
+    Ok(is_among(&names, name))
+}
+
+// Whether one of these is this name.
+fn is_among(names: &[String], name: &str) -> bool
+    ensures { result ≡ list_any (λ other. bytes_eq name.now (string_bytes other)) names.now }
+{
+    names.iter().any(|other| name == other.as_str())
 }

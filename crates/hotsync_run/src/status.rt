@@ -43,6 +43,8 @@ pub enum Status {
     HandheldFolder,
     /// The desktop's folder failed.
     DesktopFolder,
+    /// Somebody else has the folder of this end open.
+    InUse(End),
     /// The source failed.
     SourceRead,
     /// The trace failed.
@@ -70,6 +72,8 @@ pub enum Status {
     Limit(DbName),
     /// The handheld never ended a session and the desktop did, and the session would cost the desktop live rows of this database.
     NewHandheld(DbName),
+    /// The folder of this end has the information file of the other one.
+    WrongSide(End),
 }
 
 impl From<AllocError> for Status {
@@ -147,6 +151,7 @@ impl Status {
                 3,
             Status::HandheldFolder
             | Status::DesktopFolder
+            | Status::InUse(_)
             | Status::SourceRead
             | Status::TraceWrite
             | Status::OutWrite => 4,
@@ -158,7 +163,8 @@ impl Status {
             Status::OtherUser { .. }
             | Status::TooManyUsers
             | Status::Limit(_)
-            | Status::NewHandheld(_) => 7,
+            | Status::NewHandheld(_)
+            | Status::WrongSide(_) => 7,
         }
     }
 }

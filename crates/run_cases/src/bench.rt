@@ -10,6 +10,7 @@ use std::{io, mem};
 #[derive(Drop)]
 pub struct Bench {
     alloc: Global,
+    now: Option<u32>,
     bytes: Vec<u8>,
     palm: MemFolder,
     desk: MemFolder,
@@ -24,6 +25,7 @@ impl Bench {
     pub fn new(alloc: Global) -> Bench {
         Bench {
             alloc,
+            now: None,
             bytes: Vec::new(alloc),
             palm: recording_folder(alloc),
             desk: recording_folder(alloc),
@@ -48,7 +50,7 @@ impl Bench {
             "names" => return self.shown(false),
             "files" => return self.shown(true),
             "trace" => return Ok(trace_lines(self.alloc, &self.trace, rest)?),
-            "words" => return Ok(words_text(self.alloc, rest)?),
+            "words" => return Ok(words_text(self.alloc, self.now, rest)?),
             "moments" => return Ok(self.moments()?),
             _ => self.prepare(word, rest)?,
         }
@@ -66,6 +68,7 @@ impl Bench {
                 self.bytes = Vec::from_slice(self.alloc, text.as_bytes())?;
                 self.bytes.push(b'\n')?;
             }
+            "now" => self.now = Some(number_in(rest)),
             "set" => self.set(rest),
             "palm" => self.palm.put(rest, &self.bytes)?,
             "desk" => self.desk.put(rest, &self.bytes)?,
@@ -162,7 +165,9 @@ impl Bench {
         let alloc = self.alloc;
         let palm = mem::replace(&mut self.palm, MemFolder::new(alloc));
         let desk = mem::replace(&mut self.desk, MemFolder::new(alloc));
-        let Ended { code, answer } = run_program(alloc, args, palm, desk, source, trace, out);
+        let Ended { code, answer } = run_program(
+            alloc, self.now, args, palm, desk, source, trace, out,
+        );
         let Answer {
             device,
             desk,

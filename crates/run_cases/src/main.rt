@@ -3,6 +3,7 @@
 //! - `case TEXT` begins anew, and is printed.
 //! - `zeros N`, `feeds N`, `hex H` and `lines A, B` give bytes: zeros, line feeds, those of the hexadecimal, or a line for each
 //!   text. `set PLACE H` changes some of them.
+//! - `now N` makes N seconds since 1904 the date now, which can't be told before.
 //! - `palm NAME` and `desk NAME` make the bytes a file of a folder, `source` what is left in the source. `many palm N` gives the
 //!   folder N files `N1000.pdb`, `N1001.pdb` and so on without a byte.
 //! - `fail palm N` makes the folder's Nth call fail, up to the end of the next call, and `desk` likewise. `fail source N` does it
@@ -58,6 +59,7 @@ fn call_on_system(rt: &HostRuntime, words: &str) -> io::Result<()> {
     let args = args_of(alloc, words)?;
     run_program(
         alloc,
+        None,
         &args,
         DirFolder::new(rt, alloc),
         DirFolder::new(rt, alloc),

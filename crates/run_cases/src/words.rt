@@ -1,18 +1,18 @@
 // What words say.
 use pdb_values::DbName;
 use run_clap::{Command, Look, RunWords, WordsFault, read_command};
-use run_words::{ActionWord, action_of, command_of, read_actions};
+use run_words::{ActionWord, Target, action_of, command_of, read_actions};
 use std::alloc::{AllocError, Global};
 use std::fmt::Write;
 
 /// What the words of a line are read as.
-pub fn words_text(alloc: Global, line: &str) -> Result<String, AllocError> {
+pub fn words_text(alloc: Global, now: Option<u32>, line: &str) -> Result<String, AllocError> {
     let mut words = Vec::new(alloc);
     for word in line.split(' ') {
         words.push(String::from_str(alloc, word)?)?;
     }
-    let in_form = command_of(&words).is_some();
-    match read_command(alloc, &words) {
+    let in_form = command_of(now, &words).is_some();
+    match read_command(alloc, now, &words) {
         Ok(Command::Run(run)) => run_text(alloc, &run),
         Ok(Command::Look(look)) => {
             let word = match look.look {
@@ -53,14 +53,22 @@ fn actions_text(alloc: Global, text: Option<&str>) -> Result<String, AllocError>
     };
     let actions = read_actions(alloc, text)?;
     for item in &actions {
-        let stem = item.name.file_stem(alloc)?;
-        write!(said, " {stem} {}", action_word(item.action))?;
+        let target = target_text(alloc, &item.target)?;
+        write!(said, " {target} {}", action_word(item.action))?;
     }
     if let Ok(name) = DbName::new(b"MemoDB") {
         let memos = action_word(action_of(&actions, &name));
         write!(said, "; MemoDB {memos}")?;
     }
     Ok(said)
+}
+
+// `*`, or the stem of a name.
+fn target_text(alloc: Global, target: &Target) -> Result<String, AllocError> {
+    match target {
+        Target::Others => String::from_str(alloc, "*"),
+        Target::One(name) => name.file_stem(alloc),
+    }
 }
 
 fn action_word(action: ActionWord) -> &'static str {

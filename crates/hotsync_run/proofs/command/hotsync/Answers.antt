@@ -10,7 +10,7 @@ use Rattle.hotsync_run.proofs.command.hotsync.Goals as goal
 
 pub make-status-requires : goal.make-status-requires
 make-status-requires g c =
-    few_asked (map string_bytes c.args.words.now)
+    few_asked c.args.now (map string_bytes c.args.words.now)
     (c.in-Ok-Make.ensures.command ∙ ap (λ (command : Command). Some (task_view command)) c.in-Ok-Make.field-0-is)
 
 pub returns-in-Err-NoMemory-clause-run : goal.returns-in-Err-NoMemory-clause-run
@@ -27,4 +27,4 @@ returns-in-Err-NoMemory-clause-run g c =
     let end = c.not_started-in-Err-NoMemory in
     let memory = only_memory said.ensures.status in
     rw (end.ensures.status, end.ensures.device, end.ensures.desk, memory)
-    (unread_call (task_of (map string_bytes c.args.words.now)) before end.ensures.report (rw memory at said.ensures.printed))
+    (unread_call (task_of c.args.now (map string_bytes c.args.words.now)) before end.ensures.report (rw memory at said.ensures.printed))

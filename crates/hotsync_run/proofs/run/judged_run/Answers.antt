@@ -23,8 +23,9 @@ returns-in-Err-open_desktop-clause-ran g c =
     let end = c.not_started-in-Err-open_desktop.ensures in
     rw (end.status, end.device, end.desk, c.into_folder.ensures)
     (by_desktop run before after end.report (record { rules = c.in-Ok.script; scripted = c.in-Ok.ensures.script })
-    (record { databases = c.in-Ok-open_handheld.store.databases; user = c.in-Ok-open_handheld.store.user; holds = c.in-Ok-open_handheld.ensures.held })
-    c.in-Err-open_desktop.ensures.refused c.in-Err-open_desktop.ensures.failed c.in-Ok.ensures.path
+    (record { databases = c.in-Ok-open_handheld.store.databases; user = c.in-Ok-open_handheld.store.user; holds = c.in-Ok-open_handheld.ensures.held; side = c.in-Ok-open_handheld.ensures.side })
+    c.in-Err-open_desktop.ensures.refused c.in-Err-open_desktop.ensures.failed c.in-Err-open_desktop.ensures.in_use
+    (λ unread. let same = c.in-Err-open_desktop.ensures.unread unread in record { contents = same.0; moments = same.1 }) c.in-Ok.ensures.path
     (record { contents = c.in-Ok-open_handheld.ensures.contents; moments = c.in-Ok-open_handheld.ensures.moments }) c.in-Ok-open_handheld.ensures.path
     (record { stands = c.in-Err-open_desktop.ensures.stands; each_moment = c.in-Err-open_desktop.ensures.each_moment })
     c.in-Err-open_desktop.ensures.path refl)
@@ -82,7 +83,7 @@ returns-in-Err-open_trace-clause-ran g c =
     let end = c.not_started-in-Err-open_trace.ensures in
     rw (end.status, end.device, end.desk, c.into_folder-in-Err-open_trace.ensures, c.into_folder-in-Err-open_trace-2.ensures)
     (by_trace run before after end.report (record { rules = c.in-Ok.script; scripted = c.in-Ok.ensures.script })
-    (record { databases = c.in-Ok-open_handheld.store.databases; user = c.in-Ok-open_handheld.store.user; holds = c.in-Ok-open_handheld.ensures.held })
+    (record { databases = c.in-Ok-open_handheld.store.databases; user = c.in-Ok-open_handheld.store.user; holds = c.in-Ok-open_handheld.ensures.held; side = c.in-Ok-open_handheld.ensures.side })
     c.in-Ok-open_desktop.ensures.desktop c.in-Err-open_trace.ensures.refused (λ e. c.in-Err-open_trace.ensures.failed (ap Err e)) c.in-Ok.ensures.path
     (record { contents = c.in-Ok-open_handheld.ensures.contents; moments = c.in-Ok-open_handheld.ensures.moments }) c.in-Ok-open_handheld.ensures.path
     (record { stands = c.in-Ok-open_desktop.ensures.stands; each_moment = c.in-Ok-open_desktop.ensures.each_moment }) c.in-Ok-open_desktop.ensures.path
@@ -125,7 +126,7 @@ returns-in-Err-open_handheld-clause-ran g c =
     let end = c.not_started-in-Err-open_handheld.ensures in
     rw (end.status, end.device, end.desk)
     (by_handheld run before after end.report (record { rules = c.in-Ok.script; scripted = c.in-Ok.ensures.script }) c.in-Err-open_handheld.ensures.refused
-    c.in-Err-open_handheld.ensures.failed c.in-Ok.ensures.path
+    c.in-Err-open_handheld.ensures.failed c.in-Err-open_handheld.ensures.in_use c.in-Ok.ensures.path
     (record { contents = c.in-Err-open_handheld.ensures.contents; moments = c.in-Err-open_handheld.ensures.moments })
     c.in-Err-open_handheld.ensures.path refl refl)
 
