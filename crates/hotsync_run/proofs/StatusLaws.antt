@@ -1,6 +1,6 @@
 -- What the status of a session says of it, and which status a session has that both sides refuse.
 use Rattle.std.proofs.lemmas.Grind.{common_steps}
-use Rattle.std.proofs.Common.{arith, ◌≡◌, ◌⊎◌, refl, sym, subst, inl, inr, ℕ, List}
+use Rattle.std.proofs.Common.{arith, ◌≡◌, ◌∙◌, ◌⊎◌, ap, refl, sym, subst, inl, inr, ℕ, List}
 use Rattle.std.specs.Prelude.{Option, Some, None, IfErr, IfSome, IsOk, Result, Ok, Err, map, replicate}
 use Rattle.std.specs.Global.{Vec}
 use Rattle.hs_folders.specs.FileMaps.{FileMap}
@@ -13,6 +13,7 @@ use Rattle.desktop_session.specs.declared.fault.SessionFault.TheVariants as sess
 use Rattle.folder_files.specs.Slots.{users_of}
 use Rattle.desk_store.specs.Shelves.{marks_of}
 use Rattle.pdb_values.specs.declared.slot.Slot.{Slot}
+use Rattle.pdb_values.specs.declared.slot.Slot.TheVariants.{Full}
 use Rattle.pdb_values.specs.declared.user.UserInfo.{UserInfo}
 use Rattle.desktop_session.specs.Stops.{Does}
 use Rattle.line_world.specs.declared.down.Down.{Down}
@@ -20,7 +21,7 @@ use Rattle.line_world.specs.Worlds.{WorldValue, world_talk}
 use Rattle.sync_session.proofs.IdsLaws.{text-before_commit}
 use Rattle.sync_session.specs.Limits.{first_over}
 use Rattle.sync_session.specs.Losses.{first_loss}
-use Rattle.sync_session.specs.Outcomes.{IsStopOf, StopsAtLimit, StopsAtLoss, StopsFor, seat_of, slot_in}
+use Rattle.sync_session.specs.Outcomes.{IsOtherUser, IsStopOf, StopsAtLimit, StopsAtLoss, StopsFor, seat_of, slot_in}
 use Rattle.sync_session.specs.Sessions.{adds_of}
 use Rattle.sync_session.specs.Tasks.{Meeting}
 use Rattle.sync_session.specs.declared.report.DbReport.{DbReport}
@@ -86,6 +87,12 @@ unseated_status : (users : List ℕ) (user : UserInfo) (found : Slot) (cause : O
     → fault_status cause why ≡ fault_status None why
 unseated_status users user found cause is = grind (arith, common_steps)
 
+other_unseated : (meeting : Meeting) (handheld desktop : ℕ) → IsOtherUser meeting handheld desktop → IsOk (seat_of meeting) → ⊥
+other_unseated meeting handheld desktop other seated = grind (arith, common_steps)
+
+full_unseated : (meeting : Meeting) → slot_in meeting ≡ Full → IsOk (seat_of meeting) → ⊥
+full_unseated meeting full seated = grind (arith, common_steps)
+
 module _ (meeting : Meeting) (cause : Option Down) {status : Status} where
   unseated_told : (answer : Result (Vec DbReport) Stop) {why : SessionFault} → (status ≡ left_status cause answer) ⊎ (status ≡ NoMemory)
       → seat_of meeting ≡ Err why → StopsFor (stop.Session why) answer → (status ≡ fault_status None why) ⊎ IsCutShort status
@@ -94,17 +101,37 @@ module _ (meeting : Meeting) (cause : Option Down) {status : Status} where
   unseated_told (Err stopped) (inl is) unseated stops =
       grind (arith, unseated_status (users_of (marks_of meeting.slots)) meeting.device.user (slot_in meeting) cause unseated, down_cut cause)
 
+  -- where the user has a slot, a call of the session stops it for the line, the handheld's folder or memory alone
+  session_cut : {F : Type 0} (fault : WorldValue F → Option LinkFault) (old new : WorldValue F) (why : SessionFault) → status ≡ fault_status cause why
+      → IsOk (seat_of meeting) → IsStopOf (λ (world : WorldValue F). Some (world_talk world)) fault meeting old new (stop.Session why) → IsCutShort status
+  session_cut fault old new session_fault.Down is seated why = subst IsCutShort (sym is) (down_cut cause)
+  session_cut fault old new (session_fault.Refused code) is seated why = subst IsCutShort (sym is) tt
+  session_cut fault old new (session_fault.BadReply broken) is seated why = subst IsCutShort (sym is) tt
+  session_cut fault old new (session_fault.OtherUser handheld desktop) is seated why = absurd (other_unseated meeting handheld desktop why.0 seated)
+  session_cut fault old new session_fault.TooManyUsers is seated why = absurd (full_unseated meeting why.0 seated)
+  session_cut fault old new session_fault.NoMemory is seated why = subst IsCutShort (sym is) tt
+
   limit_told : {F : Type 0} (fault : WorldValue F → Option LinkFault) (old new : WorldValue F) (answer : Result (Vec DbReport) Stop) (name : List ℕ)
       → (status ≡ left_status cause answer) ⊎ (status ≡ NoMemory) → IsOk (seat_of meeting)
       → IfErr answer (IsStopOf (λ (world : WorldValue F). Some (world_talk world)) fault meeting old new) → StopsAtLimit name answer
       → (status ≡ Limit name) ⊎ IsCutShort status
-  limit_told fault old new answer name e seated why stops = grind (arith, common_steps)
+  limit_told fault old new answer name (inr memory) seated why stops = inr (subst IsCutShort (sym memory) tt)
+  limit_told fault old new (Ok made) name (inl is) seated why stops = absurd stops
+  limit_told fault old new (Err (stop.Session cut)) name (inl is) seated why stops = inr (session_cut fault old new cut is seated why)
+  limit_told fault old new (Err (stop.Limit other)) name (inl is) seated why stops = inl (is ∙ ap Limit stops)
+  limit_told fault old new (Err (stop.NewHandheld other)) name (inl is) seated why stops = absurd stops
+  limit_told fault old new (Err stop.DeskFault) name (inl is) seated why stops = absurd stops
 
   loss_told : {F : Type 0} (fault : WorldValue F → Option LinkFault) (old new : WorldValue F) (answer : Result (Vec DbReport) Stop) (name : List ℕ)
       → (status ≡ left_status cause answer) ⊎ (status ≡ NoMemory) → IsOk (seat_of meeting)
       → IfErr answer (IsStopOf (λ (world : WorldValue F). Some (world_talk world)) fault meeting old new) → StopsAtLoss name answer
       → (status ≡ NewHandheld name) ⊎ IsCutShort status
-  loss_told fault old new answer name e seated why stops = grind (arith, common_steps)
+  loss_told fault old new answer name (inr memory) seated why stops = inr (subst IsCutShort (sym memory) tt)
+  loss_told fault old new (Ok made) name (inl is) seated why stops = absurd stops
+  loss_told fault old new (Err (stop.Session cut)) name (inl is) seated why stops = inr (session_cut fault old new cut is seated why)
+  loss_told fault old new (Err (stop.Limit other)) name (inl is) seated why stops = absurd stops
+  loss_told fault old new (Err (stop.NewHandheld other)) name (inl is) seated why stops = inl (is ∙ ap NewHandheld stops)
+  loss_told fault old new (Err stop.DeskFault) name (inl is) seated why stops = absurd stops
 
   pub refusal_told : {F : Type 0} (contents : F → Option FileMap) (moments : F → Moments) (paths : F → Option (List (List ℕ))) (faults : F → ℕ)
       (fault : WorldValue F → Option LinkFault) (downs : WorldValue F → ℕ) (old new : WorldValue F) (desk desk_after : FolderTold)

@@ -11,6 +11,7 @@ mod answer;
 mod bad_file;
 mod clock;
 mod command;
+mod hints;
 mod left;
 mod look;
 mod make;

@@ -11,6 +11,7 @@ ghost use Rattle.hotsync_run.specs.Told.{call_told, sink_told};
 use crate::answer::Answer;
 use crate::clock::seconds_now;
 use crate::command::hotsync;
+use crate::hints::{hint_folders, hint_words};
 use crate::printing::print_refusal;
 use crate::report::SessionEnd;
 use crate::status::Status;
@@ -78,16 +79,20 @@ fn words_of(args: &[String]) -> &[String]
     args.get(1..).unwrap_or(&[])
 }
 
-/// Runs the program over the system's folders and files and its standard output.
-pub fn run_on_system<R: Clock + Env + Files<File = File> + Print + AllocGlobal>(rt: &R) -> ExitCode
+/// Runs the program over the system's folders and files and its standard output, with hints on standard error.
+pub fn run_on_system<R: Clock + Env + Files<File = File> + Print + Eprint + AllocGlobal>(
+    rt: &R,
+) -> ExitCode
     ensures { EndsProgram (exit_status result) }
 {
     let ended = run_handed(rt, seconds_now(rt), arguments(rt));
-    ExitCode::from(ended.code)
+    let code = ended.code;
+    hint_folders(rt, ended.answer);
+    ExitCode::from(code)
 }
 
 // The call for the words that the system handed over. Where it did not, they ask for nothing that this program does.
-fn run_handed<R: Files<File = File> + Print + AllocGlobal>(
+fn run_handed<R: Files<File = File> + Print + Eprint + AllocGlobal>(
     rt: &R,
     now: Option<u32>,
     args: Result<Vec<String>, WordsFault>,
@@ -107,7 +112,7 @@ fn run_handed<R: Files<File = File> + Print + AllocGlobal>(
 }
 
 // The program over the system's folders and files and its standard output.
-fn run_over_files<'r, R: Files<File = File> + Print + AllocGlobal>(
+fn run_over_files<'r, R: Files<File = File> + Print + Eprint + AllocGlobal>(
     rt: &'r R,
     now: Option<u32>,
     args: &[String],
@@ -117,7 +122,7 @@ fn run_over_files<'r, R: Files<File = File> + Print + AllocGlobal>(
         result.answer.status result.answer.report }
 {
     let alloc = rt.alloc();
-    run_untold(
+    let ended = run_untold(
         alloc,
         now,
         args,
@@ -126,7 +131,15 @@ fn run_over_files<'r, R: Files<File = File> + Print + AllocGlobal>(
         &mut FileSource::new(rt),
         &mut FileSink::new(rt, alloc),
         &mut StdoutSink::new(rt),
-    )
+    );
+    hint_words(
+        rt,
+        now,
+        words_of(args),
+        &ended.answer.status,
+        &ended.answer.report,
+    );
+    ended
 }
 
 // The program over objects that tell nothing.
@@ -151,7 +164,7 @@ fn run_untold<H: Folder, D: Folder, S: Source, T: Sink, O: Sink>(
 }
 
 // A call whose words were not fetched for want of memory.
-fn unread_call<R: Files<File = File> + Print + AllocGlobal>(
+fn unread_call<R: Files<File = File> + Print + Eprint + AllocGlobal>(
     rt: &R,
 ) -> Ended<DirFolder<'_, R>, DirFolder<'_, R>>
     ensures code { result.code ≡ code_of result.answer.status }

@@ -19,7 +19,7 @@ use crate::status::Status;
 use desk_store::Desk;
 use folder_files::{DESKTOP_INFO, DEVICE_INFO};
 use handheld_store::Store;
-use hs_folders::{Folder, FolderOpenFault};
+use hs_folders::{Folder, FolderFault, FolderOpenFault};
 use std::alloc::Global;
 use trace_text::End;
 

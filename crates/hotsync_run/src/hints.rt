@@ -1,0 +1,167 @@
+// Hints for whoever called, on standard error. Nothing is promised of them: what can't be said is left out.
+use crate::answer::Answer;
+use crate::printed_name::push_name;
+use crate::report::Report;
+use crate::status::Status;
+use dlp_replies::{Reply, read_reply};
+use folder_files::JOURNAL;
+use hs_folders::Folder;
+use pdb_values::DbName;
+use run_clap::{Command, RunWords, read_command};
+use run_words::{NamedAction, Target, read_actions};
+use std::alloc::{AllocError, Global};
+use sync_session::{DbReport, Did, Skip};
+
+// The function whose reply tells when the handheld was synchronised last.
+const READ_USER_INFO: u8 = 0x10;
+
+/// Says what may help with the words of a run that was done.
+pub fn hint_words<R: Eprint + AllocGlobal>(
+    rt: &R,
+    now: Option<u32>,
+    words: &[String],
+    status: &Status,
+    report: &Report,
+) {
+    let Status::Done = status else {
+        return;
+    };
+    if let Ok(Command::Run(run)) = read_command(rt.alloc(), now, words) {
+        hint_date(rt, &run, report);
+        hint_actions(rt, run.actions, report);
+    }
+}
+
+// Agreement of both sides hangs on the dates of their sessions.
+fn hint_date<R: Eprint>(rt: &R, run: &RunWords<'_>, report: &Report) {
+    let Some(reply) = report.replies.first() else {
+        return;
+    };
+    if run.date.seconds() <= seconds_of_last(reply.bytes()) {
+        let _ = eprintln!(rt;
+            "hint: the date is not behind that of the last session; --slow reads every record"
+        );
+    }
+}
+
+// The seconds of the handheld's last session, as it told them, or 0.
+fn seconds_of_last(reply: &[u8]) -> u32 {
+    match &read_reply(READ_USER_INFO, reply) {
+        Ok(Reply::ReadUserInfo { last, .. }) => last.seconds(),
+        _ => 0,
+    }
+}
+
+// Items whose name no database has.
+fn hint_actions<R: Eprint + AllocGlobal>(rt: &R, actions: Option<&str>, report: &Report) {
+    let Some(text) = actions else {
+        return;
+    };
+    let Ok(items) = read_actions(rt.alloc(), text) else {
+        return;
+    };
+    for item in &items {
+        hint_action(rt, item, &report.databases);
+    }
+}
+
+fn hint_action<R: Eprint + AllocGlobal>(rt: &R, item: &NamedAction, databases: &[DbReport]) {
+    let Target::One(name) = &item.target else {
+        return;
+    };
+    if is_told(name, databases) {
+        return;
+    }
+    if let Ok(stem) = name.file_stem(rt.alloc()) {
+        let _ = eprintln!(rt;
+            "hint: no database is called {stem}, so its item of --actions did nothing"
+        );
+    }
+}
+
+fn is_told(name: &DbName, databases: &[DbReport]) -> bool {
+    databases
+        .iter()
+        .any(|database| database.name.as_bytes() == name.as_bytes())
+}
+
+/// Says what may help with the folders of an answer.
+pub fn hint_folders<R: Eprint + AllocGlobal, H: Folder + Drop, D: Folder + Drop>(
+    rt: &R,
+    answer: Answer<H, D>,
+) {
+    let Answer {
+        status,
+        report,
+        mut device,
+        mut desk,
+    } = answer;
+    match status {
+        Status::Done => {
+            for database in &report.databases {
+                hint_missing(rt, database);
+            }
+            hint_names(rt, &mut device);
+            hint_names(rt, &mut desk);
+        }
+        Status::DesktopFolder => hint_journal(rt, &mut desk),
+        _ => {}
+    }
+}
+
+// The word that brings back a database that the handheld lost.
+fn hint_missing<R: Eprint + AllocGlobal>(rt: &R, database: &DbReport) {
+    let Did::Skipped(Skip::Missing) = database.did else {
+        return;
+    };
+    if let Ok(stem) = database.name.file_stem(rt.alloc()) {
+        let _ = eprintln!(rt; "hint: --actions={stem}:desktop brings {stem} back to the handheld");
+    }
+}
+
+// Files that would be databases were their endings in lower case.
+fn hint_names<R: Eprint + AllocGlobal, F: Folder>(rt: &R, folder: &mut F) {
+    let alloc = rt.alloc();
+    let Ok(names) = folder.list(alloc) else {
+        return;
+    };
+    for name in &names {
+        if is_passed_over(name.as_str()) {
+            hint_name(rt, alloc, name.as_str());
+        }
+    }
+}
+
+fn hint_name<R: Eprint>(rt: &R, alloc: Global, name: &str) {
+    if let Ok(name) = printed(alloc, name) {
+        let _ = eprintln!(rt; "hint: {name} was passed over: its ending has to be in lower case");
+    }
+}
+
+// Whether a name ends as that of a database does, but not in lower case.
+fn is_passed_over(name: &str) -> bool {
+    match name.rsplit_once('.') {
+        Some((_, ending)) => is_other_case(ending, "pdb") || is_other_case(ending, "prc"),
+        None => false,
+    }
+}
+
+fn is_other_case(ending: &str, lower: &str) -> bool {
+    ending != lower && ending.eq_ignore_ascii_case(lower)
+}
+
+fn printed(alloc: Global, name: &str) -> Result<String, AllocError> {
+    let mut text = String::new(alloc);
+    push_name(&mut text, name)?;
+    Ok(text)
+}
+
+// The journal that can't be carried out, where there is one.
+fn hint_journal<R: Eprint + AllocGlobal, F: Folder>(rt: &R, folder: &mut F) {
+    let Ok(names) = folder.list(rt.alloc()) else {
+        return;
+    };
+    if names.iter().any(|name| name.as_str() == JOURNAL) {
+        let _ = eprintln!(rt; "hint: {JOURNAL} in the desktop's folder can't be carried out");
+    }
+}
