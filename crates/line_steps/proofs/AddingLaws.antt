@@ -1,7 +1,7 @@
 -- What a step adds has the fates of the script.
-use Rattle.line_steps.proofs.Names.{rules, Result, Ok, Err, OnOk, IfErr, ◌≡◌, ℕ, ◌+◌, List, [], ◌∷◌, ◌++◌, length, None, refl, sym, ap, subst, ◌∙◌, arith, inl}
+use Rattle.line_steps.proofs.Names.{rules, Result, Ok, Err, OnOk, IfErr, ◌≡◌, ℕ, ◌+◌, List, [], ◌∷◌, ◌++◌, length, append_assoc, None, refl, sym, ap, subst, ◌∙◌, arith, inl}
 use Rattle.line_steps.proofs.Names.{inr, FragmentValue, End, Frame, FateValue, fate_value, RuleValue, fate_by, Half, Wire, Halt, NoMemory, Stopped, Down, Added}
-use Rattle.line_steps.proofs.Names.{AddsOne, AddsTwo, AllBy, Sends, Halts, SendsAgain}
+use Rattle.line_steps.proofs.Names.{AddsOne, AddsTwo, AllBy, IsFirst, StartsWith, Sends, Halts, SendsAgain}
 
 added : {old new : List Frame} {from : End} {id : ℕ} {fragment : FragmentValue} {given : FateValue} {stop : _} → Sends old from id fragment given stop new
     → Added given old new
@@ -19,6 +19,27 @@ pub adds_two : {wire new : Wire} {half later : Half} {given other : FateValue} {
     → AddsOne other new.frames.items last → AddsTwo given other wire.frames.items last
 adds_two {wire} {given} sent (inl same) = inl (inr (subst (λ l. Added given wire.frames.items l) (sym same) (added sent.sends)))
 adds_two {new} sent (inr more) = inr (new.frames.items, added sent.sends, more)
+
+-- ---- of an end
+
+first_of : {old new : List Frame} {from : End} {id : ℕ} {fragment : FragmentValue} {given : FateValue} {stop : _} → Sends old from id fragment given stop new
+    → StartsWith from old new
+first_of sends = record { first = sends.frame; later = []; is = sends.is; from_is = sends.from_is }
+
+pub first_again : {wire new : Wire} {half later : Half} {given : FateValue} → SendsAgain wire half given new later
+    → IsFirst half.end wire.frames.items new.frames.items
+first_again sent = inr (first_of sent.sends)
+
+-- before the second frame of a tick
+pub first_two : {wire new : Wire} {half later : Half} {given other : FateValue} {last : List Frame} → SendsAgain wire half given new later
+    → AddsOne other new.frames.items last → IsFirst half.end wire.frames.items last
+first_two {wire} {half = half} sent (inl same) = inr (subst (λ l. StartsWith half.end wire.frames.items l) (sym same) (first_of sent.sends))
+first_two {wire} sent (inr more) = inr (record {
+  first = sent.sends.frame;
+  later = more.frame ∷ [];
+  is = more.is ∙ ap (λ l. l ++ more.frame ∷ []) sent.sends.is ∙ append_assoc wire.frames.items (sent.sends.frame ∷ []) (more.frame ∷ []);
+  from_is = sent.sends.from_is;
+})
 
 -- ---- by a script
 

@@ -68,6 +68,7 @@ ends_with {old} {id} {fragment} {given} {stop} plain go sends =
       stops = subst (λ g. StopsBy g sends.frame.bytes.items (Some stop)) (sym sends.fate_is) (stops_any stop id fragment given sends.bytes_are sends.stops);
       bears = it.bears;
       aborts = ap (λ f. is_abort f.kind) it.fragment_is ∙ abort_stands stop fragment plain;
+      abort_is = λ is. it.fragment_is ∙ ap (λ s. in_place (Some s) fragment) is;
     }
 
 pub halts_by : (old new : List Frame) (from : End) (id : ℕ) (fragment : FragmentValue) (given : FateValue) (halt : Halt) (cursor : End → ℕ)

@@ -34,7 +34,7 @@ pub use Rattle.line_laws.specs.Trace.{AcksFollow, NoAck}
 pub use Rattle.line_script.specs.Rules.{RuleValue}
 pub use Rattle.line_script.specs.Scripts.{fate_by}
 pub use Rattle.line_steps.specs.Acknowledging.{EndsAcknowledging, last_key}
-pub use Rattle.line_steps.specs.Adding.{Added, AddsOne, AddsTwo, AllBy}
+pub use Rattle.line_steps.specs.Adding.{Added, AddsOne, AddsTwo, AllBy, IsFirst, StartsWith}
 pub use Rattle.line_steps.specs.Advancing.{Advances, FallsShort, IsUp, StandsStill, WhereDown, piece_total, took_count}
 pub use Rattle.line_steps.specs.Carrying.{Carried, Reaches, SameMessage, StepTo, makes_whole}
 pub use Rattle.line_steps.specs.Counting.{Counted, Lands, counts, landed}

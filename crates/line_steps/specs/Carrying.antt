@@ -1,5 +1,5 @@
 -- A message goes over to the other end, step by step.
-use Rattle.std.specs.Prelude.{◌≡◌, ◌⊎◌, ◌<◌, Bool, true, false, Some, map}
+use Rattle.std.specs.Prelude.{◌≡◌, ◌⊎◌, ◌<◌, ◌≤◌, Bool, true, false, Some, map}
 use Rattle.padp_link.specs.Receivers.{whole_of}
 use Rattle.padp_link.specs.Senders.{Waits}
 use Rattle.padp_link.specs.declared.receiver.Taken.TheVariants.{Whole}
@@ -56,5 +56,5 @@ makes_whole heard = false
 -- the lower of the two heads that aren't held
 abbrev pub IsNext : Wire → Half → Half → Next → Type 0
 IsNext wire x y Own = Delivers x.end wire x.taken × (Blocked y.end (past_now wire.frames.items) y.taken wire.released ⊎ (x.taken < y.taken))
-IsNext wire x y Other = Delivers y.end wire y.taken
+IsNext wire x y Other = Delivers y.end wire y.taken × (Blocked x.end (past_now wire.frames.items) x.taken wire.released ⊎ (y.taken ≤ x.taken))
 IsNext wire x y Nothing = Blocked x.end (past_now wire.frames.items) x.taken wire.released × Blocked y.end (past_now wire.frames.items) y.taken wire.released

@@ -21,7 +21,7 @@ use Rattle.line_steps.specs.declared.harm.Stop.TheVariants.{Unplugged, Aborted, 
 use Rattle.line_steps.specs.declared.sending.Halt.{Halt}
 use Rattle.line_steps.specs.declared.sending.Halt.TheVariants.{NoMemory, Stopped, Down}
 use Rattle.line_steps.specs.Running.{AllGo, past_now, side_of}
-use Rattle.line_steps.specs.Sending.{StopsBy, Halts}
+use Rattle.line_steps.specs.Sending.{StopsBy, Halts, abort_fragment}
 use Rattle.line_steps.specs.Stories.{TookMessages}
 use Rattle.line_steps.specs.Telling.{cursor_of, Talks}
 
@@ -46,7 +46,7 @@ is_aborted Unplugged = false
 is_aborted Aborted = true
 is_aborted Undetected = false
 
--- The run ends with the last of these frames for this reason, and with none before it. An abort stands in its place where it was aborted.
+-- The run ends with the last of these frames for this reason, and with none before it. Where it was aborted, the abort packet stands in its place.
 pub record EndsWith (stop : Stop) (frames : List Frame) : Type 0 where
   pub before : List Frame
   pub last : Frame
@@ -56,6 +56,7 @@ pub record EndsWith (stop : Stop) (frames : List Frame) : Type 0 where
   pub stops : StopsBy (fate_value last.fate) last.bytes.items (Some stop)
   pub bears : BearsFragment (frame_value last)
   pub aborts : is_abort (fragment_in (frame_value last)).kind ≡ is_aborted stop
+  pub abort_is : stop ≡ Aborted → fragment_in (frame_value last) ≡ abort_fragment
 
 -- why a run halted, by its frames
 abbrev pub HaltsBy : Halt → (End → ℕ) → List Frame → Type 0

@@ -6,7 +6,8 @@ ghost use Rattle.line_laws.specs.Progress.{Blocked};
 ghost use Rattle.line_script.specs.Scripts.{fate_by};
 ghost use Rattle.trace_text.specs.Fates.{fate_value};
 ghost use Rattle.trace_text.specs.Talks.{Talk};
-ghost use Rattle.line_steps.specs.Adding.{AddsTwo};
+ghost use Rattle.trace_text.specs.declared.frame.End.TheVariants.{Desktop};
+ghost use Rattle.line_steps.specs.Adding.{AddsTwo, IsFirst};
 ghost use Rattle.line_steps.specs.Advancing.{Advances, FallsShort, StandsStill};
 ghost use Rattle.line_steps.specs.Carrying.{Carried, SameMessage, StepTo, IsNext, makes_whole};
 ghost use Rattle.line_steps.specs.Counting.{Counted};
@@ -175,6 +176,11 @@ fn wait(wire: &mut Wire, x: &mut Half, y: &mut Half, fate: Fate, other: Fate) ->
         (past_now wire.old.frames.items) y.old.taken wire.old.released }
     ensures adds { AddsTwo (fate_value fate) (fate_value other)
         wire.old.frames.items wire.new.frames.items }
+    // The first frame more is the desktop's where it waits.
+    ensures own_first { x.old.end ≡ Desktop →
+        IsFirst Desktop wire.old.frames.items wire.new.frames.items }
+    ensures other_first { y.old.end ≡ Desktop → Waits y.old.sender →
+        IsFirst Desktop wire.old.frames.items wire.new.frames.items }
     ensures x_place { SamePlace x.old x.new }
     ensures y_place { SamePlace y.old y.new }
     ensures x_reader { x.new.reader ≡ x.old.reader }

@@ -2,7 +2,7 @@
 ghost use Rattle.std.specs.Prelude.{◌≡◌, ◌⊎◌, ◌<◌, OnOk, IfErr, IsTrue, false, length};
 ghost use Rattle.padp_link.specs.Senders.{Waits};
 ghost use Rattle.line_laws.specs.Progress.{Blocked};
-ghost use Rattle.line_steps.specs.Adding.{AddsOne, AddsTwo};
+ghost use Rattle.line_steps.specs.Adding.{AddsOne, AddsTwo, IsFirst};
 ghost use Rattle.line_steps.specs.Halting.{Halted, NotAgain};
 ghost use Rattle.line_steps.specs.Running.{AllGo, AtHead, Holds, IsHalf, Stays, past_now};
 ghost use Rattle.line_steps.specs.Taking.{Delivers};
@@ -53,6 +53,8 @@ pub fn tick(
     ensures less { OnOk result (work_left wire.new x.new y.new < work_left wire.old x.old y.old) }
     ensures adds { AddsTwo (fate_value fate) (fate_value other)
         wire.old.frames.items wire.new.frames.items }
+    ensures first { Waits x.old.sender →
+        IsFirst x.old.end wire.old.frames.items wire.new.frames.items }
     ensures halted { IfErr result
         (λ halt. Halted halt wire.old x.old y.old wire.new x.new y.new) }
     ensures x_stays { Stays x.old x.new }
@@ -78,6 +80,7 @@ fn send_again(wire: &mut Wire, half: &mut Half, fate: Fate) -> Result<(), Halt>
     requires waits { Waits half.old.sender }
     requires half { IsHalf half.old }
     ensures adds { AddsOne (fate_value fate) wire.old.frames.items wire.new.frames.items }
+    ensures first { IsFirst half.old.end wire.old.frames.items wire.new.frames.items }
     ensures halts { IfErr result
         (λ halt. NotAgain halt (fate_value fate) half.old wire.old wire.new) }
     ensures stays { Stays half.old half.new }

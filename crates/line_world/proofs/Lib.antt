@@ -5,6 +5,7 @@ pub mod WentLaws
 pub mod WorldLaws
 pub mod OverLaws
 pub mod CauseLaws
+pub mod StopLaws
 pub mod FaultLaws
 pub mod TallyLaws
 pub mod Names

@@ -14,7 +14,7 @@ pub use Rattle.hs_folders.specs.Causes.{Rose}
 pub use Rattle.hs_folders.specs.FileMaps.{FileMap}
 pub use Rattle.hs_folders.specs.Moments.{Moments}
 pub use Rattle.line_laws.proofs.CameLaws.{same_end}
-pub use Rattle.line_laws.specs.Framing.{CameByCursor}
+pub use Rattle.line_laws.specs.Framing.{CameByCursor, RunsOn}
 pub use Rattle.line_script.specs.Rules.{RuleValue}
 pub use Rattle.line_script.specs.Scripts.{fate_by}
 pub use Rattle.line_steps.proofs.FairLaws.{count_at, fair_is_never_down}
@@ -28,10 +28,11 @@ pub use Rattle.line_steps.specs.Acknowledging.{EndsAcknowledging, last_key}
 pub use Rattle.line_steps.specs.Adding.{AllBy}
 pub use Rattle.line_steps.specs.Advancing.{IsUp}
 pub use Rattle.line_steps.specs.Counting.{counts, landed}
-pub use Rattle.line_steps.specs.Halting.{HaltsBy, TenFaults}
+pub use Rattle.line_steps.specs.Halting.{EndsWith, HaltsBy, TenFaults}
 pub use Rattle.line_steps.specs.Promising.{TellsOf}
 pub use Rattle.line_steps.specs.Resting.{IsNew}
 pub use Rattle.line_steps.specs.Running.{AllGo, past_now}
+pub use Rattle.line_steps.specs.Sending.{StopsBy}
 pub use Rattle.line_steps.specs.Stories.{told_from}
 pub use Rattle.line_steps.specs.Telling.{cursor_of, cursors, no_talk}
 pub use Rattle.line_steps.specs.Turning.{Turn}
@@ -44,7 +45,7 @@ pub use Rattle.line_talk.proofs.ToldLaws.{cursor-inside, told-answers, told-asks
 pub use Rattle.line_talk.specs.Halting.{HaltsWithin, LineEnds}
 pub use Rattle.line_talk.specs.Rests.{AreEnds, MayAnswer, MayAsk, MayGreet}
 pub use Rattle.line_talk.specs.Telling.{HasSaid, LineCounts, LineRecords, LineTells, LineTold, bytes_of, greeted, init, wake}
-pub use Rattle.line_world.specs.Causes.{AreLastTen, AreTenFaults, BearsOut, EndsBy, IsCause, IsCauseOf, IsHaltOf, KeeperOnly, NamesLast, down_end, faults_in}
+pub use Rattle.line_world.specs.Causes.{AreLastTen, AreTenFaults, BearsOut, IsCause, IsCauseOf, IsHaltOf, KeeperOnly, NamesLast, down_end, faults_in}
 pub use Rattle.line_world.specs.Causes.{halt_of, link_fault}
 pub use Rattle.line_world.specs.Conversing.{Answers, Breaks, Sent, Served, Unsent, Went, WentTo}
 pub use Rattle.line_world.specs.Counts.{AgreesWith, CountsOf, capped, land_to_last}
@@ -52,6 +53,7 @@ pub use Rattle.line_world.specs.Folders.{ServedSince}
 pub use Rattle.line_world.specs.Logs.{LogValue, log_value, no_log, said_in, texts, with_issued, with_performed}
 pub use Rattle.line_world.specs.Serving.{Performs}
 pub use Rattle.line_world.specs.SinceLaws.{served-itself, served-once, since_itself}
+pub use Rattle.line_world.specs.Stops.{AllRunOn, EndsBy, EndsInAbort, stop_cause}
 pub use Rattle.line_world.specs.Worlds.{EndsAcknowledged, IsAtRest, IsHeard, IsLog, IsTold, IsWorld, LeavesOff, TellAll, TellBoth, TellDone, WorldSince}
 pub use Rattle.line_world.specs.Worlds.{WorldValue, world_talk}
 pub use Rattle.line_world.specs.declared.down.Down.{Down}
@@ -69,7 +71,7 @@ pub use Rattle.std.proofs.lemmas.Option.{slice_get_past}
 pub use Rattle.std.proofs.lemmas.Result.{err_from_is_err_and}
 pub use Rattle.std.specs.List.{AllByRecursion}
 pub use Rattle.std.specs.Prelude.{IfSome, IsErrOf, OnOk, if◌then◌else◌, slice_get, unwrap_or}
-pub use Rattle.trace_text.specs.Fates.{arrives, is_fault, landing}
+pub use Rattle.trace_text.specs.Fates.{FateValue, arrives, ends_run, is_fault, landing}
 pub use Rattle.trace_text.specs.Faults.{count, faulted}
 pub use Rattle.trace_text.specs.Past.{at, is_end}
 pub use Rattle.trace_text.specs.Proper.{IsProper}

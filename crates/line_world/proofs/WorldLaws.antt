@@ -113,7 +113,7 @@ world-new {line} {script} is_sound quiet turn handheld desktop tells counted fra
         halt = NoMemory;
         ends = subst (λ l. LineEnds NoMemory (said_in l) line) (sym quiet)
             (greets-ends greets tells);
-        halt_is = tt;
+        halt_is = refl;
         names = tt;
       };
       heard = λ first. absurd cc;
@@ -143,7 +143,7 @@ world-greeted {new} {log} {begun} {fault} {cause} world none first by counted as
       told = record {
         halt = NoMemory;
         ends = asks-ends asks says;
-        halt_is = no-halt fault cause (length new.wire.frames.items) NoMemory world.caused none;
+        halt_is = no-halt fault cause (length new.wire.frames.items) world.caused none;
         names = no-names fault cause (map frame_value new.wire.frames.items) world.caused none;
       };
       heard = λ is. heard-rest (replies-all world.is_log running.all) (omega (arith, running.all, replies-all world.is_log running.all)) (told-asks asks says);
@@ -177,7 +177,7 @@ module _ {line new : Line} {script : List RuleValue} {log : LogValue} {answered 
         told = record {
           halt = NoMemory;
           ends = asks-ends answers.asks tells;
-          halt_is = no-halt fault cause (length new.wire.frames.items) NoMemory world.caused
+          halt_is = no-halt fault cause (length new.wire.frames.items) world.caused
               none;
           names = no-names fault cause (map frame_value new.wire.frames.items) world.caused none;
         };

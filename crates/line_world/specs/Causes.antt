@@ -11,9 +11,8 @@ use Rattle.trace_text.specs.Fates.{is_fault}
 use Rattle.trace_text.specs.Frames.{past_of}
 use Rattle.trace_text.specs.TraceLines.{FrameValue}
 use Rattle.line_laws.specs.Framing.{CameByCursor}
-use Rattle.line_steps.specs.declared.harm.Stop.{Stop}
 use Rattle.line_steps.specs.Halting.{IsSpent}
-use Rattle.line_steps.specs.Sending.{StopsBy}
+use Rattle.line_world.specs.Stops.{AllRunOn, EndsBy, EndsInAbort}
 use Rattle.line_world.specs.declared.down.Down.{Down}
 use Rattle.line_world.specs.declared.down.Down.TheVariants as down
 use Rattle.line_world.specs.declared.stop.Break.{Break}
@@ -55,19 +54,13 @@ IsCause None cause = cause ≡ None
 IsCause (Some link.Down) cause = IsSome cause
 IsCause (Some link.NoMemory) cause = cause ≡ None
 
--- the run ends with the last of these frames, for this reason
-pub record EndsBy (stop : Stop) (frames : List FrameValue) : Type 0 where
-  pub before : List FrameValue
-  pub last : FrameValue
-  pub is : frames ≡ before ++ last ∷ []
-  pub stops : StopsBy last.fate last.bytes (Some stop)
-
 -- This end has spent its tries: its last ten data frames bear one key, no acknowledgement of it behind the first of them came, and ten faults stand
--- among the last frames.
+-- among the last frames, none of which ends the run.
 pub record SpentIn (end : End) (frames : List FrameValue) : Type 0 where
   pub cursor : End → ℕ
   pub came : CameByCursor 1 cursor frames
   pub spent : IsSpent end cursor (past_of frames)
+  pub go : AllRunOn frames
 
 -- the numbers of the frames that the line did harm, in order
 abbrev pub faults_in : List FrameValue → List ℕ
@@ -90,20 +83,20 @@ pub record AreTenFaults (numbers : List ℕ) (frames : List FrameValue) : Type 0
   pub ten : length numbers ≡ 10
   pub near : AllByRecursion (λ number. length frames < number + 64) numbers
 
--- the frames bear a cause out
+-- The frames bear a cause out: where an end has spent its tries, or the folder failed, none of them ends the run.
 abbrev pub BearsOut : Option Down → List FrameValue → Type 0
 BearsOut None frames = ⊤
 BearsOut (Some (down.LineDown end numbers)) frames = SpentIn end frames × AreTenFaults numbers frames
 BearsOut (Some (down.Unplugged number)) frames = (number ≡ length frames) × EndsBy stop.Unplugged frames
-BearsOut (Some (down.Aborted number)) frames = (number ≡ length frames) × EndsBy stop.Aborted frames
+BearsOut (Some (down.Aborted number)) frames = (number ≡ length frames) × EndsBy stop.Aborted frames × EndsInAbort frames
 BearsOut (Some (down.Undetected number)) frames = (number ≡ length frames) × EndsBy stop.Undetected frames
-BearsOut (Some down.Keeper) frames = ⊤
+BearsOut (Some down.Keeper) frames = AllRunOn frames
 
--- why it is over with the line, by the cause and how many frames there are
+-- why it is over with the line, by the cause and how many frames there are; where the folder failed, or there is no cause, it is at rest
 abbrev pub IsHaltOf : Option Down → ℕ → Halt → Type 0
-IsHaltOf None count ended = ⊤
+IsHaltOf None count ended = ended ≡ halt.NoMemory
 IsHaltOf (Some (down.LineDown end numbers)) count ended = ended ≡ halt.Down end
 IsHaltOf (Some (down.Unplugged number)) count ended = (number ≡ count) × (ended ≡ halt.Stopped stop.Unplugged)
 IsHaltOf (Some (down.Aborted number)) count ended = (number ≡ count) × (ended ≡ halt.Stopped stop.Aborted)
 IsHaltOf (Some (down.Undetected number)) count ended = (number ≡ count) × (ended ≡ halt.Stopped stop.Undetected)
-IsHaltOf (Some down.Keeper) count ended = ⊤
+IsHaltOf (Some down.Keeper) count ended = ended ≡ halt.NoMemory

@@ -2,6 +2,7 @@ pub mod Logs
 pub mod Folders
 pub mod FileLaws
 pub mod Causes
+pub mod Stops
 pub mod Serving
 pub mod Conversing
 pub mod Worlds

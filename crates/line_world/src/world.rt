@@ -1,14 +1,16 @@
 //! The world of a line.
-ghost use Rattle.std.specs.Prelude.{◌≡◌, ◌<◌, None, IfErr, IfOk, false, true, length, map, []};
+ghost use Rattle.std.specs.Prelude.{◌≡◌, ◌<◌, None, Some, IfErr, IfOk, false, true, length, map, []};
 ghost use Rattle.trace_text.specs.TraceLines.{frame_value};
 ghost use Rattle.std.specs.Option.{option_copied};
 ghost use Rattle.line_script.specs.Scripts.{fate_by};
 ghost use Rattle.trace_text.specs.declared.frame.End.TheVariants.{Handheld, Desktop};
 ghost use Rattle.trace_text.specs.Proper.{IsProper};
 ghost use Rattle.trace_text.specs.Tallies.{IsFairUpTo};
+ghost use Rattle.line_steps.specs.declared.harm.Stop.{Stop};
 ghost use Rattle.line_world.specs.Causes.{BearsOut, IsCause, down_end};
 ghost use Rattle.line_world.specs.Counts.{CountsOf};
 ghost use Rattle.line_world.specs.Logs.{no_log, said_in, texts};
+ghost use Rattle.line_world.specs.Stops.{EndsBy, stop_cause};
 ghost use Rattle.line_world.specs.Worlds.{EndsAcknowledged, IsLog, LeavesOff, TellAll, TellBoth, TellDone};
 
 use crate::down::Down;
@@ -103,8 +105,11 @@ impl<F: Folder> World<F> {
         ensures cause { option_copied result ≡ self.now.cause }
         // It is there exactly where the link answers that it is down.
         ensures caused { IsCause self.now.fault self.now.cause }
-        // The frames bear it out, and where the script is fair up to the last of them no end has spent its tries.
+        // The frames bear it out, and where the last of them ends the run that is the cause. Where the script is fair up to it
+        // no end has spent its tries.
         ensures borne_out { BearsOut self.now.cause self.now.frames }
+        ensures stops { (why : Stop) → EndsBy why self.now.frames →
+            self.now.cause ≡ Some (stop_cause why (length self.now.frames)) }
         ensures fair { IsFairUpTo (length self.now.frames) (fate_by self.now.script) →
             down_end self.now.cause ≡ None }
     {

@@ -40,14 +40,14 @@ pub returns-in_err-take_next-in-Other-clause-recorded : goal.returns-in_err-take
 returns-in_err-take_next-in-Other-clause-recorded c =
     let size : c.len.result ≡ length c.args.wire.now.frames.items = omega (arith, c.len.ensures) in
     let took = c.take_next-in-Other.ensures in
-    recorded_other (holds_turned c.requires.holds) c.in-Other.ensures
+    recorded_other (holds_turned c.requires.holds) c.in-Other.ensures.0
     (c.in_ok-fate.ensures ∙ ap (λ n. fate_by c.args.script.now (n + 1)) size) took.adds took.moved took.stays
 
 pub returns-in_ok-take_next-in-Other-clause-recorded : goal.returns-in_ok-take_next-in-Other-clause-recorded
 returns-in_ok-take_next-in-Other-clause-recorded c =
     let size : c.len.result ≡ length c.args.wire.now.frames.items = omega (arith, c.len.ensures) in
     let took = c.take_next-in-Other.ensures in
-    recorded_other (holds_turned c.requires.holds) c.in-Other.ensures
+    recorded_other (holds_turned c.requires.holds) c.in-Other.ensures.0
     (c.in_ok-fate.ensures ∙ ap (λ n. fate_by c.args.script.now (n + 1)) size) took.adds took.moved took.stays
 
 pub returns-in_err-wait-in-Nothing-clause-recorded : goal.returns-in_err-wait-in-Nothing-clause-recorded
@@ -111,13 +111,13 @@ returns-in_ok-heard-in-Own-clause-counted c =
 pub returns-in_err-take_next-in-Other-clause-counted : goal.returns-in_err-take_next-in-Other-clause-counted
 returns-in_err-take_next-in-Other-clause-counted c =
     let took = c.take_next-in-Other.ensures in
-    counted_other (holds_turned c.requires.holds) c.in-Other.ensures
+    counted_other (holds_turned c.requires.holds) c.in-Other.ensures.0
     took.adds took.moved took.stays took.lands
 
 pub returns-in_ok-take_next-in-Other-clause-counted : goal.returns-in_ok-take_next-in-Other-clause-counted
 returns-in_ok-take_next-in-Other-clause-counted c =
     let took = c.take_next-in-Other.ensures in
-    counted_other (holds_turned c.requires.holds) c.in-Other.ensures
+    counted_other (holds_turned c.requires.holds) c.in-Other.ensures.0
     took.adds took.moved took.stays took.lands
 
 pub returns-in_err-wait-in-Nothing-clause-counted : goal.returns-in_err-wait-in-Nothing-clause-counted
@@ -149,12 +149,12 @@ returns-in_ok-heard-in-Own-clause-advances c =
 pub returns-in_err-take_next-in-Other-clause-advances : goal.returns-in_err-take_next-in-Other-clause-advances
 returns-in_err-take_next-in-Other-clause-advances c =
     let took = c.take_next-in-Other.ensures in
-    advances_turned (advances_own (holds_turned c.requires.holds) c.in-Other.ensures took.adds took.moved took.stays)
+    advances_turned (advances_own (holds_turned c.requires.holds) c.in-Other.ensures.0 took.adds took.moved took.stays)
 
 pub returns-in_ok-take_next-in-Other-clause-advances : goal.returns-in_ok-take_next-in-Other-clause-advances
 returns-in_ok-take_next-in-Other-clause-advances c =
     let took = c.take_next-in-Other.ensures in
-    advances_turned (advances_own (holds_turned c.requires.holds) c.in-Other.ensures took.adds took.moved took.stays)
+    advances_turned (advances_own (holds_turned c.requires.holds) c.in-Other.ensures.0 took.adds took.moved took.stays)
 
 pub returns-in_err-wait-in-Nothing-clause-advances : goal.returns-in_err-wait-in-Nothing-clause-advances
 returns-in_err-wait-in-Nothing-clause-advances c =

@@ -1,6 +1,7 @@
 use Rattle.line_steps.proofs.CarryingLaws.{of_five, fine, still_apart, tick_step, tick_back}
 use Rattle.line_steps.proofs.HaltedLaws.{halted_turned}
 use Rattle.line_steps.proofs.HaltingLaws.{err_weaker}
+use Rattle.line_steps.proofs.Names.{IsFirst, subst}
 use Rattle.line_steps.proofs.TurnLaws.{apart_turned}
 use Rattle.line_steps.proofs.StartingLaws.{waits_now}
 use Rattle.line_steps.proofs.carrying.wait.Goals as goal
@@ -39,3 +40,11 @@ returns-in-Handheld-clause-halted c =
     let apart = apart_turned c.requires.holds.apart in
     err_weaker c.tick-in-Handheld.result
     (λ halt it. halted_turned apart (still_apart y x later_y later_x done.x_stays.end_is done.y_stays.end_is apart) it) done.halted
+
+pub returns-in-Desktop-clause-own_first : goal.returns-in-Desktop-clause-own_first
+returns-in-Desktop-clause-own_first c is = subst (λ X. IsFirst X c.args.wire.now.frames.items c.tick.new.wire.frames.items) is
+    (c.tick.ensures.first c.requires.waits)
+
+pub returns-in-Handheld-clause-other_first : goal.returns-in-Handheld-clause-other_first
+returns-in-Handheld-clause-other_first c is waits = subst
+    (λ X. IsFirst X c.args.wire.now.frames.items c.tick-in-Handheld.new.wire.frames.items) is (c.tick-in-Handheld.ensures.first waits)

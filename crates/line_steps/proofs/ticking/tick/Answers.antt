@@ -2,7 +2,7 @@ use Rattle.line_steps.proofs.Names.{◌≡◌, length, arith, sym, ap, ◌∙◌
 use Rattle.line_steps.proofs.TakingLaws.{some_waits, waits_not}
 use Rattle.line_steps.proofs.WorkLaws.{other_waits, tick_one-less, tick_other-less, tick_two-less}
 use Rattle.line_steps.proofs.UnderwayLaws.{tick_one-underway, tick_other-underway, tick_two-underway}
-use Rattle.line_steps.proofs.AddingLaws.{adds_two}
+use Rattle.line_steps.proofs.AddingLaws.{adds_two, first_again, first_two}
 use Rattle.line_steps.proofs.HaltingLaws.{err_weaker}
 use Rattle.line_steps.proofs.HaltedLaws.{first_halts, second_halts, halted_there, halted_turned}
 use Rattle.line_steps.proofs.CarryingLaws.{stays_refl}
@@ -98,3 +98,13 @@ returns-in_err-send_again-clause-halted c =
     rw (p.1, p.2) (halted_there c.send_again-2.ensures.stays stays_refl
     (first_halts c.len-wire.result (fate_value c.args.fate) c.in_err-send_again.field-0.0 c.requires.holds c.requires.x_blocked c.requires.y_blocked waits
     c.in_err-send_again.ensures.halts))
+
+pub returns-then-is_none-clause-first : goal.returns-then-is_none-clause-first
+returns-then-is_none-clause-first c waits =
+    absurd (waits_not c.args.x.now.sender (ap is_some (sym c.current.ensures.piece) ∙ c.if-is_none.ensures) waits)
+
+pub returns-then-is_none-2-clause-first : goal.returns-then-is_none-2-clause-first
+returns-then-is_none-2-clause-first c waits = first_again c.in_ok-send_again.ensures.again
+
+pub returns-clause-first : goal.returns-clause-first
+returns-clause-first c waits = first_two c.in_ok-send_again.ensures.again c.send_again-3.ensures.adds
