@@ -32,10 +32,10 @@ use Rattle.session_fronts.specs.Stops.{StandsAmongNews, StandsBehindCommit}
 use Rattle.session_fronts.proofs.FrontLaws.{front-among, front-behind}
 use Rattle.session_fronts.proofs.ManyLaws.{all-run_again}
 use Rattle.session_fronts.proofs.StopLaws.{active-among, active-behind}
-use Rattle.hotsync_run.specs.Again.{AllMeet, AllRan, AreTold, DidRun, EndsAsOne, TakesUp, last_call}
+use Rattle.hotsync_run.specs.Again.{AllMeet, AllRan, AreTold, EndsAsOne, TakesUp, last_call}
 use Rattle.hotsync_run.specs.Causes.{ByEnd}
 use Rattle.hotsync_run.specs.Ends.{EndedSession, SessionLeft, StoppedBefore, StoppedBehind}
-use Rattle.hotsync_run.specs.Headline.{RunCall}
+use Rattle.hotsync_run.specs.Headline.{IsAnsweredRun, RunCall}
 use Rattle.hotsync_run.specs.LineRuns.{LineRan, log_in, write_count}
 use Rattle.hotsync_run.specs.Meetings.{Meets}
 use Rattle.hotsync_run.specs.Runs.{SentNothing, SessionRan}
@@ -61,14 +61,13 @@ pub record Ran : Type 0 where
   pub before : CallTold
   pub after : CallTold
   pub report : Report
-  pub told : AreTold before
   pub picked : meeting.picked ≡ place_for meeting.device meeting.slots add
   pub handheld : IfSome before.palm.contents (λ held. HoldsAll held meeting.device.databases meeting.device.user)
   pub desktop : IsDesk (option_map finished before.desk.contents) meeting.slots
   pub line : LineRan rules meeting.device before.palm after.palm report
   pub left : SessionLeft meeting after.palm before.desk after.desk report
 
-abbrev given_in : Ran → List ℕ
+abbrev pub given_in : Ran → List ℕ
 given_in ran = ran.report.given.items
 
 some_writes : (m : Meeting) → 1 ≤ writes_before_commit m
@@ -127,6 +126,8 @@ wrote_none ran over =
 
 -- a session stopped, and the next one is that of the folders that it left, where the same is asked
 pub record Precedes (ran next : Ran) : Type 0 where
+  pub told : AreTold ran.before
+  pub next_told : AreTold next.before
   pub asks : AsksTheSame ran.meeting next.meeting
   pub palm : next.before.palm.contents ≡ ran.after.palm.contents
   pub desk : next.before.desk.contents ≡ ran.after.desk.contents
@@ -136,7 +137,7 @@ pub record Precedes (ran next : Ran) : Type 0 where
 met-device : {ran next : Ran} → Precedes ran next
     → IsOne next.meeting.device.databases ran.line.last.databases next.meeting.device.user ran.line.last.user
 met-device {ran} {next} is =
-    same_handheld next.before.palm.contents ran.line.last next.meeting.device next.told.palm
+    same_handheld next.before.palm.contents ran.line.last next.meeting.device is.next_told.palm
     (subst (λ (told : Option FileMap). Stands told ran.line.last.databases ran.line.last.user) (sym is.palm) ran.line.stands) next.handheld
 
 met-front : {ran next : Ran} → Precedes ran next → Front ran.meeting ran.report.writes (given_in ran) next.meeting.device
@@ -146,13 +147,13 @@ met-front {ran} is = grind (arith, met-device is, front_of ran.meeting ran.line 
 slots-before : {ran next : Ran} → Precedes ran next → StoppedBefore ran.meeting ran.before.desk ran.after.desk ran.report
     → next.meeting.slots ≡ ran.meeting.slots
 slots-before {ran} {next} is b =
-    same_slots ran.before.desk.contents next.before.desk.contents ran.told.desk next.told.desk
+    same_slots ran.before.desk.contents next.before.desk.contents is.told.desk is.next_told.desk
     (subst (λ (told : Option FileMap). StandsAs ran.before.desk.contents told) (sym is.desk) b.stands) ran.desktop next.desktop
 
 slots-behind : (ran next : Ran) → Precedes ran next → StoppedBehind ran.meeting ran.after.desk ran.report
     → next.meeting.slots ≡ merged_slots ran.meeting (given_in ran)
 slots-behind ran next is b =
-    merged_met next.before.desk.contents (merged_slots ran.meeting (given_in ran)) next.told.desk
+    merged_met next.before.desk.contents (merged_slots ran.meeting (given_in ran)) is.next_told.desk
     (subst (λ (told : Option FileMap). StandsForSlots (merged_slots ran.meeting (given_in ran)) told) (sym is.desk) b.stands)
     (merged-ordered ran.meeting (given_in ran) (picked-near ran.meeting ran.add ran.picked) ran.desktop.ordered) next.desktop
 
@@ -232,7 +233,7 @@ module _ {ran next : Ran} (is : Precedes ran next) (none : first_over ran.meetin
   runs-of = grind (arith, met-front is, is-found, number-of ran.meeting ran.desktop)
 
 -- the ids that the new records of a database got in a session that ended
-got-of : (ran : Ran) → EndedSession ran.meeting ran.after.palm ran.after.desk ran.report → (name : List ℕ) → IsActive ran.meeting name
+pub got-of : (ran : Ran) → EndedSession ran.meeting ran.after.palm ran.after.desk ran.report → (name : List ℕ) → IsActive ran.meeting name
     → GotAllIds (action_at ran.meeting name) (found_of ran.meeting name) (ids_at ran.meeting (given_in ran) name)
 got-of ran ended name active =
     (front-behind ran.meeting ran.report.writes (given_in ran) ran.line.last ran.left.sound (none-over ran ended)
@@ -306,19 +307,18 @@ taken-up ran later all =
 
 -- ---- calls
 
-session_in : (call : RunCall) {end : SessionEnd} → call.report.end ≡ end → DidRun call
+pub session_in : (call : RunCall) {end : SessionEnd} → call.report.end ≡ end → IsAnsweredRun call
     → ByEnd end (SentNothing call.run call.before call.after call.status call.report) (SessionRan call.run call.before call.after call.status call.report)
 session_in call is did = grind arith
 
-abbrev ran-of : (call : RunCall) → SessionRan call.run call.before call.after call.status call.report → AreTold call.before → Ran
-ran-of call ran told = record {
+abbrev pub ran-of : (call : RunCall) → SessionRan call.run call.before call.after call.status call.report → Ran
+ran-of call ran = record {
   rules = ran.rules;
   meeting = ran.meeting;
   add = ran.meeting.wishes.add_user;
   before = call.before;
   after = call.after;
   report = call.report;
-  told = told;
   picked = ran.meets.picked;
   handheld = ran.meets.handheld;
   desktop = ran.meets.desktop;
@@ -337,10 +337,14 @@ record AreSessions (call : RunCall) (later : List RunCall) : Type 0 where
   last_given : given_in (last_ran ran others) ≡ (log_in (last_call call later).report).given
   last_after : (last_ran ran others).after ≡ (last_call call later).after
 
+first-told : (call : RunCall) (later : List RunCall) → AllRan call later → AreTold call.before
+first-told call [] all = all.0.0
+first-told call (next ∷ later) all = all.0.0
+
 are-sessions : (call : RunCall) (later : List RunCall) → AllRan call later → AreSessions call later
 are-sessions call [] all =
-    let session = session_in call all.1 all.0 in
-    let ran = ran-of call session all.0.0 in
+    let session = session_in call all.1 all.0.1 in
+    let ran = ran-of call session in
     record {
       ran = ran;
       others = [];
@@ -352,8 +356,8 @@ are-sessions call [] all =
       last_after = refl;
     }
 are-sessions call (next ∷ later) all =
-    let session = session_in call all.1 all.0 in
-    let ran = ran-of call session all.0.0 in
+    let session = session_in call all.1 all.0.1 in
+    let ran = ran-of call session in
     let rest = are-sessions next later all.3 in
     let asked = rest.meets.asked in
     record {
@@ -361,6 +365,8 @@ are-sessions call (next ∷ later) all =
       others = rest.ran ∷ rest.others;
       precede = (
         record {
+          told = all.0.0;
+          next_told = subst AreTold (sym rest.before) (first-told next later all.3);
           asks = record {
             actions = asked.actions ∙ ap actions_by all.2.actions ∙ sym session.meets.asked.actions;
             slow = asked.slow ∙ all.2.slow ∙ sym session.meets.asked.slow;

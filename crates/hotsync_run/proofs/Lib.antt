@@ -3,6 +3,7 @@ pub mod AnsweredRuns
 pub mod CallLaws
 pub mod CleanLaws
 pub mod EndLaws
+pub mod EqualLaws
 pub mod FrontLaws
 pub mod FrontMoments
 pub mod HeadlineLaws

@@ -6,6 +6,7 @@ pub mod Clean
 pub mod Clocks
 pub mod Codes
 pub mod Ends
+pub mod Equal
 pub mod Headline
 pub mod LineRuns
 pub mod Lines
