@@ -1,5 +1,4 @@
 -- What a stopped run left is what the next one meets: so the last one takes up all that stopped.
-use Rattle.std.proofs.lemmas.Grind.{common_steps}
 use Rattle.std.proofs.Common.{◌≡◌, ◌⊎◌, ◌∙◌, ◌≤◌, ◌<◌, ap, refl, sym, subst, arith, inl, inr, ℕ, Bool, List, [], ◌∷◌, length, map}
 use Rattle.std.specs.Prelude.{Option, Some, None, IfSome, IsSome, filter, replicate}
 use Rattle.std.specs.Option.{option_map}
@@ -24,7 +23,6 @@ use Rattle.sync_session.specs.Sessions.{adds_of, after_commit, before_commit, be
 use Rattle.sync_session.specs.Skips.{active}
 use Rattle.sync_session.specs.Tasks.{Meeting, place_for, slot_of}
 use Rattle.sync_session.specs.Users.{agreed_user, begin_mark}
-use Rattle.sync_session.proofs.QuietLaws.{quiet-before_writes}
 use Rattle.session_laws.specs.Meetings.{AsksTheSame, IsActive, action_at, found_of, ids_at}
 use Rattle.session_laws.specs.Repeats.{GotAllIds}
 use Rattle.session_fronts.specs.Again.{AllRunAgain, HasSlot, Later, RunsAgain, last_run}
@@ -43,12 +41,13 @@ use Rattle.hotsync_run.specs.Told.{CallTold}
 use Rattle.hotsync_run.specs.Wishes.{actions_by}
 use Rattle.hotsync_run.specs.declared.report.Report.{Report}
 use Rattle.hotsync_run.specs.declared.report.SessionEnd.{SessionEnd}
-use Rattle.hotsync_run.proofs.EndLaws.{count-append, performed-prefix, prefix-count}
+use Rattle.hotsync_run.proofs.EndLaws.{count-append}
 use Rattle.hotsync_run.proofs.FrontLaws.{front_of}
 use Rattle.hotsync_run.proofs.LeftLaws.{no-limit, parts-are, writes-before}
 use Rattle.hotsync_run.proofs.OneLaws.{IsOne, merged_met, same_handheld, same_slots}
 use Rattle.hotsync_run.proofs.OverLaws.{MeetsTheSame, over-same}
 use Rattle.hotsync_run.proofs.QuietRuns.{IsKept, quiet-run}
+use Rattle.hotsync_run.proofs.SkippedLaws.{no-changes}
 use Rattle.hotsync_run.proofs.SlotLaws.{merged-ordered, merged-picked, merged-place, picked-near, same-place}
 
 -- ---- a session
@@ -102,9 +101,6 @@ all-written ran ended =
 
 -- ---- a limit
 
-no_items : (xs : List (List ℕ)) → length xs ≤ 0 → xs ≡ []
-no_items xs few = grind (arith, common_steps)
-
 -- nothing was written
 record WroteNone (ran : Ran) : Type 0 where
   kept : IsKept ran.meeting.device ran.line.last
@@ -116,10 +112,7 @@ unfolding write_count
 wrote_none ran over =
     let m = ran.meeting in
     let log = log_in ran.report in
-    let begins = performed-prefix ran.line.log (ran.left.over over) in
-    let few = prefix-count begins in
-    let count : length (filter changes (map text (before_writes m))) ≡ 0 = ap length (quiet-before_writes m) in
-    let none = no_items (filter changes log.performed) (omega (arith, few, count)) in
+    let none = no-changes ran.line m (ran.left.over over) in
     record { kept = quiet-run log.performed log.replies m.device ran.line.last none ran.line.ran.ran; none = ran.line.writes ∙ ap length none }
 
 -- ---- what the next one meets

@@ -7,6 +7,7 @@ pub mod EqualLaws
 pub mod FrontLaws
 pub mod FrontMoments
 pub mod HeadlineLaws
+pub mod KeptLaws
 pub mod LeftLaws
 pub mod LineLaws
 pub mod LookLaws
@@ -27,6 +28,7 @@ pub mod QuietRuns
 pub mod RunLaws
 pub mod SideLaws
 pub mod SlotLaws
+pub mod SkippedLaws
 pub mod StatusLaws
 pub mod SystemLaws
 pub mod TalkLaws

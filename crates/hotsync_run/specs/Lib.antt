@@ -8,6 +8,7 @@ pub mod Codes
 pub mod Ends
 pub mod Equal
 pub mod Headline
+pub mod Kept
 pub mod LineRuns
 pub mod Lines
 pub mod Looks
