@@ -1,5 +1,4 @@
 -- What a stopped run left is what the next one meets: so the last one takes up all that stopped.
-use Rattle.std.proofs.lemmas.Grind.{common_steps}
 use Rattle.std.proofs.Common.{◌≡◌, ◌⊎◌, ◌∙◌, ◌≤◌, ◌<◌, ap, refl, sym, subst, arith, inl, inr, ℕ, Bool, List, [], ◌∷◌, length, map}
 use Rattle.std.specs.Prelude.{Option, Some, None, IfSome, IsSome, filter, replicate}
 use Rattle.std.specs.Option.{option_map}
@@ -24,7 +23,6 @@ use Rattle.sync_session.specs.Sessions.{adds_of, after_commit, before_commit, be
 use Rattle.sync_session.specs.Skips.{active}
 use Rattle.sync_session.specs.Tasks.{Meeting, place_for, slot_of}
 use Rattle.sync_session.specs.Users.{agreed_user, begin_mark}
-use Rattle.sync_session.proofs.QuietLaws.{quiet-before_writes}
 use Rattle.session_laws.specs.Meetings.{AsksTheSame, IsActive, action_at, found_of, ids_at}
 use Rattle.session_laws.specs.Repeats.{GotAllIds}
 use Rattle.session_fronts.specs.Again.{AllRunAgain, HasSlot, Later, RunsAgain, last_run}
@@ -32,10 +30,10 @@ use Rattle.session_fronts.specs.Stops.{StandsAmongNews, StandsBehindCommit}
 use Rattle.session_fronts.proofs.FrontLaws.{front-among, front-behind}
 use Rattle.session_fronts.proofs.ManyLaws.{all-run_again}
 use Rattle.session_fronts.proofs.StopLaws.{active-among, active-behind}
-use Rattle.hotsync_run.specs.Again.{AllMeet, AllRan, AreTold, DidRun, EndsAsOne, TakesUp, last_call}
+use Rattle.hotsync_run.specs.Again.{AllMeet, AllRan, AreTold, EndsAsOne, TakesUp, last_call}
 use Rattle.hotsync_run.specs.Causes.{ByEnd}
 use Rattle.hotsync_run.specs.Ends.{EndedSession, SessionLeft, StoppedBefore, StoppedBehind}
-use Rattle.hotsync_run.specs.Headline.{RunCall}
+use Rattle.hotsync_run.specs.Headline.{IsAnsweredRun, RunCall}
 use Rattle.hotsync_run.specs.LineRuns.{LineRan, log_in, write_count}
 use Rattle.hotsync_run.specs.Meetings.{Meets}
 use Rattle.hotsync_run.specs.Runs.{SentNothing, SessionRan}
@@ -43,12 +41,13 @@ use Rattle.hotsync_run.specs.Told.{CallTold}
 use Rattle.hotsync_run.specs.Wishes.{actions_by}
 use Rattle.hotsync_run.specs.declared.report.Report.{Report}
 use Rattle.hotsync_run.specs.declared.report.SessionEnd.{SessionEnd}
-use Rattle.hotsync_run.proofs.EndLaws.{count-append, performed-prefix, prefix-count}
+use Rattle.hotsync_run.proofs.EndLaws.{count-append}
 use Rattle.hotsync_run.proofs.FrontLaws.{front_of}
 use Rattle.hotsync_run.proofs.LeftLaws.{no-limit, parts-are, writes-before}
 use Rattle.hotsync_run.proofs.OneLaws.{IsOne, merged_met, same_handheld, same_slots}
 use Rattle.hotsync_run.proofs.OverLaws.{MeetsTheSame, over-same}
 use Rattle.hotsync_run.proofs.QuietRuns.{IsKept, quiet-run}
+use Rattle.hotsync_run.proofs.SkippedLaws.{no-changes}
 use Rattle.hotsync_run.proofs.SlotLaws.{merged-ordered, merged-picked, merged-place, picked-near, same-place}
 
 -- ---- a session
@@ -61,14 +60,13 @@ pub record Ran : Type 0 where
   pub before : CallTold
   pub after : CallTold
   pub report : Report
-  pub told : AreTold before
   pub picked : meeting.picked ≡ place_for meeting.device meeting.slots add
   pub handheld : IfSome before.palm.contents (λ held. HoldsAll held meeting.device.databases meeting.device.user)
   pub desktop : IsDesk (option_map finished before.desk.contents) meeting.slots
   pub line : LineRan rules meeting.device before.palm after.palm report
   pub left : SessionLeft meeting after.palm before.desk after.desk report
 
-abbrev given_in : Ran → List ℕ
+abbrev pub given_in : Ran → List ℕ
 given_in ran = ran.report.given.items
 
 some_writes : (m : Meeting) → 1 ≤ writes_before_commit m
@@ -103,9 +101,6 @@ all-written ran ended =
 
 -- ---- a limit
 
-no_items : (xs : List (List ℕ)) → length xs ≤ 0 → xs ≡ []
-no_items xs few = grind (arith, common_steps)
-
 -- nothing was written
 record WroteNone (ran : Ran) : Type 0 where
   kept : IsKept ran.meeting.device ran.line.last
@@ -117,16 +112,15 @@ unfolding write_count
 wrote_none ran over =
     let m = ran.meeting in
     let log = log_in ran.report in
-    let begins = performed-prefix ran.line.log (ran.left.over over) in
-    let few = prefix-count begins in
-    let count : length (filter changes (map text (before_writes m))) ≡ 0 = ap length (quiet-before_writes m) in
-    let none = no_items (filter changes log.performed) (omega (arith, few, count)) in
+    let none = no-changes ran.line m (ran.left.over over) in
     record { kept = quiet-run log.performed log.replies m.device ran.line.last none ran.line.ran.ran; none = ran.line.writes ∙ ap length none }
 
 -- ---- what the next one meets
 
 -- a session stopped, and the next one is that of the folders that it left, where the same is asked
 pub record Precedes (ran next : Ran) : Type 0 where
+  pub told : AreTold ran.before
+  pub next_told : AreTold next.before
   pub asks : AsksTheSame ran.meeting next.meeting
   pub palm : next.before.palm.contents ≡ ran.after.palm.contents
   pub desk : next.before.desk.contents ≡ ran.after.desk.contents
@@ -136,7 +130,7 @@ pub record Precedes (ran next : Ran) : Type 0 where
 met-device : {ran next : Ran} → Precedes ran next
     → IsOne next.meeting.device.databases ran.line.last.databases next.meeting.device.user ran.line.last.user
 met-device {ran} {next} is =
-    same_handheld next.before.palm.contents ran.line.last next.meeting.device next.told.palm
+    same_handheld next.before.palm.contents ran.line.last next.meeting.device is.next_told.palm
     (subst (λ (told : Option FileMap). Stands told ran.line.last.databases ran.line.last.user) (sym is.palm) ran.line.stands) next.handheld
 
 met-front : {ran next : Ran} → Precedes ran next → Front ran.meeting ran.report.writes (given_in ran) next.meeting.device
@@ -146,13 +140,13 @@ met-front {ran} is = grind (arith, met-device is, front_of ran.meeting ran.line 
 slots-before : {ran next : Ran} → Precedes ran next → StoppedBefore ran.meeting ran.before.desk ran.after.desk ran.report
     → next.meeting.slots ≡ ran.meeting.slots
 slots-before {ran} {next} is b =
-    same_slots ran.before.desk.contents next.before.desk.contents ran.told.desk next.told.desk
+    same_slots ran.before.desk.contents next.before.desk.contents is.told.desk is.next_told.desk
     (subst (λ (told : Option FileMap). StandsAs ran.before.desk.contents told) (sym is.desk) b.stands) ran.desktop next.desktop
 
 slots-behind : (ran next : Ran) → Precedes ran next → StoppedBehind ran.meeting ran.after.desk ran.report
     → next.meeting.slots ≡ merged_slots ran.meeting (given_in ran)
 slots-behind ran next is b =
-    merged_met next.before.desk.contents (merged_slots ran.meeting (given_in ran)) next.told.desk
+    merged_met next.before.desk.contents (merged_slots ran.meeting (given_in ran)) is.next_told.desk
     (subst (λ (told : Option FileMap). StandsForSlots (merged_slots ran.meeting (given_in ran)) told) (sym is.desk) b.stands)
     (merged-ordered ran.meeting (given_in ran) (picked-near ran.meeting ran.add ran.picked) ran.desktop.ordered) next.desktop
 
@@ -232,7 +226,7 @@ module _ {ran next : Ran} (is : Precedes ran next) (none : first_over ran.meetin
   runs-of = grind (arith, met-front is, is-found, number-of ran.meeting ran.desktop)
 
 -- the ids that the new records of a database got in a session that ended
-got-of : (ran : Ran) → EndedSession ran.meeting ran.after.palm ran.after.desk ran.report → (name : List ℕ) → IsActive ran.meeting name
+pub got-of : (ran : Ran) → EndedSession ran.meeting ran.after.palm ran.after.desk ran.report → (name : List ℕ) → IsActive ran.meeting name
     → GotAllIds (action_at ran.meeting name) (found_of ran.meeting name) (ids_at ran.meeting (given_in ran) name)
 got-of ran ended name active =
     (front-behind ran.meeting ran.report.writes (given_in ran) ran.line.last ran.left.sound (none-over ran ended)
@@ -306,19 +300,18 @@ taken-up ran later all =
 
 -- ---- calls
 
-session_in : (call : RunCall) {end : SessionEnd} → call.report.end ≡ end → DidRun call
+pub session_in : (call : RunCall) {end : SessionEnd} → call.report.end ≡ end → IsAnsweredRun call
     → ByEnd end (SentNothing call.run call.before call.after call.status call.report) (SessionRan call.run call.before call.after call.status call.report)
 session_in call is did = grind arith
 
-abbrev ran-of : (call : RunCall) → SessionRan call.run call.before call.after call.status call.report → AreTold call.before → Ran
-ran-of call ran told = record {
+abbrev pub ran-of : (call : RunCall) → SessionRan call.run call.before call.after call.status call.report → Ran
+ran-of call ran = record {
   rules = ran.rules;
   meeting = ran.meeting;
   add = ran.meeting.wishes.add_user;
   before = call.before;
   after = call.after;
   report = call.report;
-  told = told;
   picked = ran.meets.picked;
   handheld = ran.meets.handheld;
   desktop = ran.meets.desktop;
@@ -337,10 +330,14 @@ record AreSessions (call : RunCall) (later : List RunCall) : Type 0 where
   last_given : given_in (last_ran ran others) ≡ (log_in (last_call call later).report).given
   last_after : (last_ran ran others).after ≡ (last_call call later).after
 
+first-told : (call : RunCall) (later : List RunCall) → AllRan call later → AreTold call.before
+first-told call [] all = all.0.0
+first-told call (next ∷ later) all = all.0.0
+
 are-sessions : (call : RunCall) (later : List RunCall) → AllRan call later → AreSessions call later
 are-sessions call [] all =
-    let session = session_in call all.1 all.0 in
-    let ran = ran-of call session all.0.0 in
+    let session = session_in call all.1 all.0.1 in
+    let ran = ran-of call session in
     record {
       ran = ran;
       others = [];
@@ -352,8 +349,8 @@ are-sessions call [] all =
       last_after = refl;
     }
 are-sessions call (next ∷ later) all =
-    let session = session_in call all.1 all.0 in
-    let ran = ran-of call session all.0.0 in
+    let session = session_in call all.1 all.0.1 in
+    let ran = ran-of call session in
     let rest = are-sessions next later all.3 in
     let asked = rest.meets.asked in
     record {
@@ -361,6 +358,8 @@ are-sessions call (next ∷ later) all =
       others = rest.ran ∷ rest.others;
       precede = (
         record {
+          told = all.0.0;
+          next_told = subst AreTold (sym rest.before) (first-told next later all.3);
           asks = record {
             actions = asked.actions ∙ ap actions_by all.2.actions ∙ sym session.meets.asked.actions;
             slow = asked.slow ∙ all.2.slow ∙ sym session.meets.asked.slow;

@@ -7,11 +7,13 @@ use Rattle.std.proofs.Math.Seq.{take-append_seam}
 use Rattle.hs_folders.specs.FileMaps.{FileMap}
 use Rattle.hs_folders.specs.Moments.{EachMomentSince}
 use Rattle.hs_folders.proofs.MomentLaws.{moments_weaken}
+use Rattle.palm_device.specs.Devices.{Device}
 use Rattle.dlp_commands.specs.Changes.{changes, given_in}
 use Rattle.dlp_commands.specs.DeviceRuns.{DeviceRun, Exchange, Ran, exchanged}
 use Rattle.desktop_session.specs.Says.{IsPrefix}
 use Rattle.line_script.specs.Rules.{RuleValue}
 use Rattle.line_world.specs.Folders.{StoodAfterSome}
+use Rattle.sync_session.specs.Fronts.{Front}
 use Rattle.sync_session.specs.Sessions.{requests}
 use Rattle.sync_session.specs.Tasks.{Meeting}
 use Rattle.hotsync_run.specs.Ends.{StandsAtFront}
@@ -22,53 +24,65 @@ use Rattle.hotsync_run.proofs.EndLaws.{performed-prefix}
 use Rattle.hotsync_run.proofs.FrontLaws.{exchanged-requests}
 use Rattle.hotsync_run.proofs.LineLaws.{exchanged-parts}
 
-abbrev requests_of : List Exchange → List (List ℕ)
+abbrev pub requests_of : List Exchange → List (List ℕ)
 requests_of exchanges = map (λ (exchange : Exchange). exchange.request) exchanges
 
-abbrev replies_of : List Exchange → List (List ℕ)
+abbrev pub replies_of : List Exchange → List (List ℕ)
 replies_of exchanges = map (λ (exchange : Exchange). exchange.reply) exchanges
 
 same_length : (exchanges : List Exchange) → length (replies_of exchanges) ≡ length (requests_of exchanges)
 same_length [] = refl
 same_length (exchange ∷ exchanges) = ap (λ (n : ℕ). suc n) (same_length exchanges)
 
--- behind some of the exchanges the handheld is at a front
-front_at : (meeting : Meeting) {rules : List RuleValue} {before after : FolderTold} {report : Report} → LineRan rules meeting.device before after report
-    → IsPrefix (log_in report).issued (requests meeting) → (told : Option FileMap) → StoodAfterSome meeting.device (exchanges_in report) told
-    → StandsAtFront meeting told
-front_at meeting {report} line prefix told stood =
-    let asked = requests_of stood.before in
+-- a device at a front of the session
+pub record IsAtFront (meeting : Meeting) (device : Device) : Type 0 where
+  pub writes : ℕ
+  pub given : List ℕ
+  pub front : Front meeting writes given device
+
+-- behind some of the exchanges the handheld is at one
+pub front-some : (meeting : Meeting) {rules : List RuleValue} {before after : FolderTold} {report : Report}
+    → LineRan rules meeting.device before after report → IsPrefix (log_in report).issued (requests meeting) → (some later : List Exchange)
+    (device : Device) → exchanges_in report ≡ some ++ later → Ran meeting.device some device → IsAtFront meeting device
+front-some meeting {report} line prefix some later device is ran =
+    let asked = requests_of some in
     let count = length asked in
     let begins = performed-prefix line.log prefix in
     let same = line.ran.same in
     let all = exchanged-requests (log_in report).performed (log_in report).replies (omega (arith, same)) in
-    let parts : asked ++ requests_of stood.after ≡ (log_in report).performed =
-    sym (map-append (λ (exchange : Exchange). exchange.request) stood.before stood.after) ∙ ap requests_of (sym stood.is) ∙ all in
-    let whole : asked ++ (requests_of stood.after ++ begins.rest) ≡ requests meeting =
-    sym (append_assoc asked (requests_of stood.after) begins.rest) ∙ ap (λ (l : List (List ℕ)). l ++ begins.rest) parts ∙ begins.is in
+    let parts : asked ++ requests_of later ≡ (log_in report).performed =
+    sym (map-append (λ (exchange : Exchange). exchange.request) some later) ∙ ap requests_of (sym is) ∙ all in
+    let whole : asked ++ (requests_of later ++ begins.rest) ≡ requests meeting =
+    sym (append_assoc asked (requests_of later) begins.rest) ∙ ap (λ (l : List (List ℕ)). l ++ begins.rest) parts ∙ begins.is in
     let first : take count (requests meeting) ≡ asked = ap (λ (l : List (List ℕ)). take count l) (sym whole)
-    ∙ take-append_seam asked (requests_of stood.after ++ begins.rest) in
-    let run : DeviceRun meeting.device asked (replies_of stood.before) stood.device = record {
-      same = same_length stood.before;
-      ran = subst (λ (l : List Exchange). Ran meeting.device l stood.device) (sym (exchanged-parts stood.before)) stood.ran;
+    ∙ take-append_seam asked (requests_of later ++ begins.rest) in
+    let run : DeviceRun meeting.device asked (replies_of some) device = record {
+      same = same_length some;
+      ran = subst (λ (l : List Exchange). Ran meeting.device l device) (sym (exchanged-parts some)) ran;
     } in
     record {
       writes = length (filter changes (take count (requests meeting)));
       given = flat_map (λ (exchange : Exchange). given_in exchange.request exchange.reply)
-          (exchanged (take count (requests meeting)) (replies_of stood.before));
-      device = stood.device;
+          (exchanged (take count (requests meeting)) (replies_of some));
       front = record {
         count = count;
-        replies = replies_of stood.before;
-        reached = stood.device;
-        run = subst (λ (l : List (List ℕ)). DeviceRun meeting.device l (replies_of stood.before) stood.device) (sym first) run;
+        replies = replies_of some;
+        reached = device;
+        run = subst (λ (l : List (List ℕ)). DeviceRun meeting.device l (replies_of some) device) (sym first) run;
         holds = refl;
         ids = refl;
         databases = refl;
         user = refl;
       };
-      stands = stood.stands;
     }
+
+-- so a moment that stood for it stands at a front
+front_at : (meeting : Meeting) {rules : List RuleValue} {before after : FolderTold} {report : Report} → LineRan rules meeting.device before after report
+    → IsPrefix (log_in report).issued (requests meeting) → (told : Option FileMap) → StoodAfterSome meeting.device (exchanges_in report) told
+    → StandsAtFront meeting told
+front_at meeting line prefix told stood =
+    let at = front-some meeting line prefix stood.before stood.after stood.device stood.is stood.ran in
+    record { writes = at.writes; given = at.given; device = stood.device; front = at.front; stands = stood.stands }
 
 -- so is each moment
 pub fronts_at_moments : (meeting : Meeting) {rules : List RuleValue} (before : FolderTold) {after : FolderTold} {report : Report}

@@ -9,6 +9,7 @@ use Rattle.hotsync_run.specs.Runs.{SentNothing, SessionRan}
 use Rattle.hotsync_run.specs.Scripts.{IsScripted}
 use Rattle.hotsync_run.specs.declared.report.SessionEnd.{SessionEnd}
 use Rattle.hotsync_run.specs.declared.report.SessionEnd.TheVariants.{NotStarted, Ended, Stopped}
+use Rattle.hotsync_run.proofs.SkippedLaws.{keeps-bytes}
 
 begun_by : (end : SessionEnd) (Not Began : Type 0) → ByEnd end Not Began → HasBegun end → Began
 begun_by NotStarted Not Began is begun = absurd begun
@@ -67,6 +68,7 @@ module _ (call : RunCall) (is : IsAnsweredRun call) where
             reached = talked.line.last;
             handheld = talked.front;
             keeps = talked.line.stands;
+            files = keeps-bytes talked.line talked.left;
             limit = talked.left.over;
             loss = talked.left.losing;
           };

@@ -3,9 +3,11 @@ pub mod AnsweredRuns
 pub mod CallLaws
 pub mod CleanLaws
 pub mod EndLaws
+pub mod EqualLaws
 pub mod FrontLaws
 pub mod FrontMoments
 pub mod HeadlineLaws
+pub mod KeptLaws
 pub mod LeftLaws
 pub mod LineLaws
 pub mod LookLaws
@@ -26,6 +28,7 @@ pub mod QuietRuns
 pub mod RunLaws
 pub mod SideLaws
 pub mod SlotLaws
+pub mod SkippedLaws
 pub mod StatusLaws
 pub mod SystemLaws
 pub mod TalkLaws

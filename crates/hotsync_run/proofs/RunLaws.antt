@@ -13,7 +13,7 @@ use Rattle.palm_device.specs.Handles.{no_handles}
 use Rattle.handheld_files.specs.Openings.{HoldsAll}
 use Rattle.handheld_files.specs.declared.fault.OpenFault.{OpenFault}
 use Rattle.line_script.specs.Rules.{RuleValue}
-use Rattle.line_world.specs.Folders.{OthersStay, StoodAfterSome}
+use Rattle.line_world.specs.Folders.{FilesRan, OthersStay, StoodAfterSome}
 use Rattle.desk_journal.specs.Overlays.{StandsAs, finished, put_all}
 use Rattle.desk_store.specs.Desks.{IsDesk}
 use Rattle.desk_store.specs.Shelves.{SlotValue}
@@ -279,6 +279,7 @@ line_from rules device first before after report stays line = record {
   last = line.last;
   ran = line.ran;
   stands = line.stands;
+  files = subst (λ (t : Option FileMap). FilesRan t device (exchanges_in report) after.contents line.last) stays.contents line.files;
   others = subst (λ (t : Option FileMap). OthersStay t after.contents) stays.contents line.others;
   moments = subst (λ (m : Moments). EachMomentSince (StoodAfterSome device (exchanges_in report)) m after.moments) stays.moments line.moments;
   given = line.given;

@@ -28,6 +28,7 @@ use Rattle.sync_session.specs.Sessions.{before_writes, requests}
 use Rattle.sync_session.specs.Tasks.{Meeting}
 use Rattle.hotsync_run.specs.Causes.{EndsAs, IsLineDown, cause_in}
 use Rattle.hotsync_run.specs.Ends.{EndedSession, IsToldRefusal, StatusShows, StoppedBefore, StoppedBehind}
+use Rattle.hotsync_run.specs.Kept.{KeepsBytes}
 use Rattle.hotsync_run.specs.LineRuns.{frames_in, log_in}
 use Rattle.hotsync_run.specs.Meetings.{Meets}
 use Rattle.hotsync_run.specs.Runs.{BlamesByCount, IsRun}
@@ -92,8 +93,9 @@ FairStaysUp rules call =
 
 -- An ended session leaves both sides at the merge, and what was sent begins that session. One that
 -- stopped left the desktop as it was, or merged, as it was at each moment, and the handheld behind
--- the first of the session's writes. Where a limit would be passed nothing was written,
--- nor where a new handheld would cost the desktop live rows.
+-- the first of the session's writes. Of the handheld's files only the information file and those of
+-- databases that the session doesn't skip changed. Where a limit would be passed nothing was
+-- written, nor where a new handheld would cost the desktop live rows.
 pub record LeavesTheMerge (meeting : Meeting) (call : RunCall) : Type 0 where
   pub begins : IsPrefix (log_in call.report).issued (requests meeting)
   pub ended : call.report.end ≡ Ended
@@ -109,6 +111,7 @@ pub record LeavesTheMerge (meeting : Meeting) (call : RunCall) : Type 0 where
   pub reached : Device
   pub handheld : Front meeting call.report.writes call.report.given.items reached
   pub keeps : Stands call.after.palm.contents reached.databases reached.user
+  pub files : KeepsBytes meeting call.before.palm.contents call.after.palm.contents
   pub limit : IsSome (first_over meeting)
       → IsPrefix (log_in call.report).issued (map text (before_writes meeting))
   pub loss : IsSome (first_loss meeting)

@@ -6,7 +6,9 @@ pub mod Clean
 pub mod Clocks
 pub mod Codes
 pub mod Ends
+pub mod Equal
 pub mod Headline
+pub mod Kept
 pub mod LineRuns
 pub mod Lines
 pub mod Looks

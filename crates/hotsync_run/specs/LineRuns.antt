@@ -15,7 +15,7 @@ use Rattle.trace_text.specs.declared.frame.Frame.{Frame}
 use Rattle.line_script.specs.Rules.{RuleValue}
 use Rattle.line_script.specs.Scripts.{fate_by}
 use Rattle.line_world.specs.Counts.{CountsOf}
-use Rattle.line_world.specs.Folders.{OthersStay, StoodAfterSome}
+use Rattle.line_world.specs.Folders.{FilesRan, OthersStay, StoodAfterSome}
 use Rattle.line_world.specs.Logs.{LogValue, said_in, texts}
 use Rattle.line_world.specs.Worlds.{EndsAcknowledged, IsLog, LeavesOff, TellBoth, TellDone, WorldValue}
 use Rattle.hotsync_run.specs.Told.{FolderTold}
@@ -49,7 +49,7 @@ IsCounted X (Some tally) frames = CountsOf X tally frames
 -- The frames are a proper trace by the script of all that was said, and tell each end all messages of the other one, or all but the last.
 -- Each performed request is one that was issued, once and in order, or all but the last are performed; each is one step of the handheld,
 -- with its reply, and all replies but the last at most were taken. The folder stands for the handheld after the last step, and at each
--- moment it stood for the handheld after some of them. Where all that was issued was answered, the frames end with the desktop's acknowledgement of the
+-- moment it stood for the handheld after some of them; its files went with the steps, each of which touched one file at most. Where all that was issued was answered, the frames end with the desktop's acknowledgement of the
 -- last reply.
 pub record LineRan (rules : List RuleValue) (device : Device) (before after : FolderTold) (report : Report) : Type 0 where
   pub proper : IsProper (fate_by rules) (said_in (log_in report)) (frames_in report)
@@ -60,6 +60,7 @@ pub record LineRan (rules : List RuleValue) (device : Device) (before after : Fo
   pub last : Device
   pub ran : DeviceRun device (log_in report).performed (log_in report).replies last
   pub stands : Stands after.contents last.databases last.user
+  pub files : FilesRan before.contents device (exchanges_in report) after.contents last
   pub others : OthersStay before.contents after.contents
   pub moments : EachMomentSince (StoodAfterSome device (exchanges_in report)) before.moments after.moments
   pub given : (log_in report).given ≡ flat_map (λ (exchange : Exchange). given_in exchange.request exchange.reply) (exchanges_in report)

@@ -12,6 +12,7 @@ ghost use Rattle.hotsync_run.specs.Again.{AllRan, AreOfOneKind, AreTold, EndsAsO
 ghost use Rattle.hotsync_run.specs.Calls.{Call, IsAnsweredCall, IsNothing};
 ghost use Rattle.hotsync_run.specs.Causes.{HasBegun};
 ghost use Rattle.hotsync_run.specs.Clean.{GoesThrough};
+ghost use Rattle.hotsync_run.specs.Equal.{EndsEqual};
 ghost use Rattle.hotsync_run.specs.Headline.{ActsOnce, FairStaysUp, Headline, IsAnsweredRun, IsWhatItSays, LeavesTheMerge, RunCall, TellsCause};
 ghost use Rattle.hotsync_run.specs.LineRuns.{exchanges_in};
 ghost use Rattle.hotsync_run.specs.Looks.{IsLook};
@@ -21,7 +22,7 @@ ghost use Rattle.hotsync_run.specs.Runs.{SentNothing};
 ghost use Rattle.hotsync_run.specs.Scripts.{IsScripted};
 ghost use Rattle.hotsync_run.specs.Told.{CallTold};
 ghost use Rattle.hotsync_run.specs.Undisturbed.{EndsWell, IsUndisturbed};
-ghost use Rattle.hotsync_run.specs.declared.report.SessionEnd.TheVariants.{NotStarted};
+ghost use Rattle.hotsync_run.specs.declared.report.SessionEnd.TheVariants.{Ended, NotStarted};
 
 /// What is promised of each run whose session began, on one page.
 pub fn a_run_keeps_what_it_promises()
@@ -74,6 +75,12 @@ pub fn what_is_refused_changes_nothing()
 pub fn an_ended_session_leaves_both_sides_at_the_merge()
     ensures { (call : RunCall) → IsAnsweredRun call → HasBegun call.report.end
         → (meeting : Meeting) × Meets call.run call.before meeting × LeavesTheMerge meeting call }
+{}
+
+/// An ended run leaves both sides equal: of each database that wasn't skipped and was shown whole, read
+/// slow or honest, the handheld and the slot of its user hold the same records, none marked.
+pub fn an_ended_run_leaves_both_sides_equal()
+    ensures { (call : RunCall) → IsAnsweredRun call → call.report.end ≡ Ended → EndsEqual call }
 {}
 
 /// Stopped and run again: any number of runs of one pair of folders, one behind another, of which each stopped but the last, leave

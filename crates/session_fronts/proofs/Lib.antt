@@ -4,6 +4,7 @@ pub mod BehindActs
 pub mod CountLaws
 pub mod CutActs
 pub mod EachLaws
+pub mod EqualLaws
 pub mod FitLaws
 pub mod FrontLaws
 pub mod LossLaws

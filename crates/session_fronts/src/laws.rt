@@ -22,6 +22,7 @@ ghost use Rattle.session_laws.specs.Repeats.{GotAllIds};
 ghost use Rattle.session_fronts.specs.Again.{AllRunAgain, IsFresh, IsFreshBehind, Later};
 ghost use Rattle.session_fronts.specs.Again.{RunsAgain, last_run};
 ghost use Rattle.session_fronts.specs.Answered.{IsAnsweredExchange};
+ghost use Rattle.session_fronts.specs.Equal.{HasEqualSides, IsShownWhole};
 ghost use Rattle.session_fronts.specs.Given.{GetFreeIds, ids_in};
 ghost use Rattle.session_fronts.specs.Sound.{IsSoundMeeting};
 ghost use Rattle.session_fronts.specs.Stops.{StandsAmongNews, StandsBehindCommit};
@@ -33,6 +34,15 @@ pub fn the_merge_is_reached()
         → first_over meeting ≡ None
         → GetFreeIds (session meeting given) meeting.device
         → device_after (session meeting given) meeting.device ≡ merged_device meeting given }
+{}
+
+/// Behind a whole session both sides hold the same records of a database that wasn't skipped, live and
+/// without a mark, where all of it was read, or what was passed over was honest.
+pub fn both_sides_end_equal()
+    ensures { (meeting : Meeting) (given name : List ℕ) → IsSoundMeeting meeting
+        → IsActive meeting name → IsShownWhole meeting name
+        → GotAllIds (action_at meeting name) (found_of meeting name) (ids_at meeting given name)
+        → HasEqualSides (holding_after meeting given name) }
 {}
 
 /// What a session says fits into messages: so any beginning of it can be said whose new records get free

@@ -3,6 +3,7 @@ pub mod CauseLaws
 pub mod CloseLaws
 pub mod EachLaws
 pub mod EndLaws
+pub mod FilesLaws
 pub mod FreeLaws
 pub mod HandleLaws
 pub mod IdsLaws

@@ -31,13 +31,15 @@ use Rattle.sync_session.specs.Endings.{Ends}
 use Rattle.sync_session.specs.Limits.{first_over}
 use Rattle.sync_session.specs.Losses.{first_loss}
 use Rattle.sync_session.specs.Merges.{merged_slots}
-use Rattle.sync_session.specs.Outcomes.{IsAtCommit, IsCommitted, IsStopOf, IsUncommitted, MergedSince, SessionEnds, StandsForSlots}
+use Rattle.sync_session.specs.Outcomes.{ChangesDesk, IsAtCommit, IsCommitted, IsStopOf, IsUncommitted, MergedSince, SessionEnds, StandsForSlots}
 use Rattle.sync_session.specs.Outcomes.{StopsAtLimit, StopsAtLoss, StopsFor, requests_before_commit, seat_of, tellings}
 use Rattle.sync_session.specs.Reports.{reports}
 use Rattle.sync_session.specs.Stopping.{stop_of}
-use Rattle.sync_session.specs.Takes.{each_of, taken_slots}
+use Rattle.sync_session.specs.Takes.{each_of, taken_entries, taken_slots}
+use Rattle.sync_session.proofs.FilesLaws.{AreCommitFiles, taken-files}
 use Rattle.sync_session.proofs.IdsLaws.{text-before_commit}
 use Rattle.sync_session.proofs.SessionJoins.{NewsReach, Reached, end_reach, end_stop, news_reach, news_stop, session_free, writes_stop}
+use Rattle.sync_session.proofs.SpanLaws.{on_ok}
 use Rattle.sync_session.proofs.StretchLaws.{Tells}
 use Rattle.sync_session.proofs.TakenLaws.{taken-merged}
 use Rattle.sync_session.specs.Users.{begun_user}
@@ -145,6 +147,13 @@ module _ {L F : Type 0} (talk : L → Option Talk) (since : L → L → Type 0) 
       moments = no_moment (StandsForSlots (merged_slots meeting [])) (moments folder) (moments folder) refl;
     });
     cause = why;
+    changed = record {
+      entries = [];
+      files = tt;
+      written = tt;
+      stands = inl refl;
+      each_moment = no_moment (StandsAs (option_map (put_all []) (contents folder))) (moments folder) (moments folder) refl;
+    };
     over = λ some. unwritten (inl some);
     unseated = unseated;
     limit = refusal.limit;
@@ -166,6 +175,21 @@ module _ {L F : Type 0} (talk : L → Option Talk) (since : L → L → Type 0) 
     seated : IsOk (seat_of meeting)
     desk : IsDesk (contents after) (merged_slots meeting given)
     each : MergedSince meeting given (moments folder) (moments after)
+    entries : List EntryValue
+    files : AreCommitFiles meeting entries
+    written : contents after ≡ option_map (put_all entries) (contents folder)
+    moved : EachMomentSince (StandsAs (option_map (put_all entries) (contents folder))) (moments folder) (moments after)
+
+  -- it changed the folder so
+  changed_by : {given : List ℕ} {dealt : List (List ℕ)} {between : L} {folder after : F} (answer : Result (Vec DbReport) Stop)
+      → Committed given dealt between folder after → ChangesDesk meeting (tellings contents moments folder after) answer
+  changed_by {folder} {after} answer done = record {
+    entries = done.entries;
+    files = done.files;
+    written = on_ok (contents after ≡ option_map (put_all done.entries) (contents folder)) answer done.written;
+    stands = inr (ap (option_map overlay) done.written);
+    each_moment = done.moved;
+  }
 
   closes_ends : (since_more : (a b c : L) → since a b → since b c → since a c) {given : List ℕ} {dealt : List (List ℕ)} {date : ℕ} {slot : Marks}
       (prepared : Prepared) {between : SessionValue L} {folder after : F} (answer : Result (Ended L) (Halted L)) → date ≡ meeting.wishes.date
@@ -185,6 +209,7 @@ module _ {L F : Type 0} (talk : L → Option Talk) (since : L → L → Type 0) 
     };
     stopped = tt;
     cause = tt;
+    changed = changed_by (Ok prepared.reports) done;
     over = λ some. not_refused _ meeting done.on (inl some);
     unseated = λ why is. seated_says _ meeting why done.seated is;
     limit = λ name is. none_named _ (first_over meeting) name done.on.within is;
@@ -205,6 +230,7 @@ module _ {L F : Type 0} (talk : L → Option Talk) (since : L → L → Type 0) 
       moments = done.each;
     });
     cause = later_stop talk fault meeting old halted.link halted.cause ends.cause;
+    changed = changed_by (Err (stop.Session halted.cause)) done;
     over = λ some. not_refused _ meeting done.on (inl some);
     unseated = λ why is. seated_says _ meeting why done.seated is;
     limit = λ name is. none_named _ (first_over meeting) name done.on.within is;
@@ -216,9 +242,9 @@ module _ {L F : Type 0} (talk : L → Option Talk) (since : L → L → Type 0) 
     -- the commit was refused, and stands or not
     refused_ends : {given : List ℕ} {dealt : List (List ℕ)} {entries : List EntryValue} {between : L} {desk : DeskValue F} {refusal : CommitFault × F}
         {left : Outcome L F} → NewsReach talk since fault downs meeting given dealt old between → IsUnrefused meeting → IsOk (seat_of meeting)
-        → Commits contents moments paths faults (merged_slots meeting given) entries desk (Err refusal)
+        → Commits contents moments paths faults (merged_slots meeting given) entries desk (Err refusal) → AreCommitFiles meeting entries
         → left ≡ stopped between refusal.1 (stop_of refusal.0) → EndsSo desk.folder left
-    refused_ends {given} {entries} {between} {desk} {refusal} news on seated commits is =
+    refused_ends {given} {entries} {between} {desk} {refusal} news on seated commits files is =
         let made : Option FileMap = option_map (put_all entries) (contents desk.folder) in
         let merged : List SlotValue = merged_slots meeting given in
         let stops = rw (text-before_commit meeting given (replicate (adds_of meeting) 0)) at news.reached.stops in
@@ -257,6 +283,7 @@ module _ {L F : Type 0} (talk : L → Option Talk) (since : L → L → Type 0) 
           stopped = both;
           cause = commit_stop talk fault meeting old between refusal.0
               (record { given = given; count = news.count; free = news.free; does = news.reached.does });
+          changed = record { entries = entries; files = files; written = tt; stands = commits.refused; each_moment = commits.each_moment };
           over = λ some. not_refused _ meeting on (inl some);
           unseated = λ why is. seated_says _ meeting why seated is;
           limit = λ name is. none_named _ (first_over meeting) name on.within is;
@@ -270,9 +297,9 @@ module _ {L F : Type 0} (talk : L → Option Talk) (since : L → L → Type 0) 
           → date ≡ meeting.wishes.date → between.user ≡ meeting.device.user → slot ≡ (slot_of meeting).marks
           → ArePlannedFor meeting prepared.planned.items → prepared.reports.items ≡ reports meeting
           → NewsReach talk since fault downs meeting given dealt old between.link → IsUnrefused meeting → IsOk (seat_of meeting)
-          → Commits contents moments paths faults (merged_slots meeting given) entries desk answer
+          → Commits contents moments paths faults (merged_slots meeting given) entries desk answer → AreCommitFiles meeting entries
           → AfterCommit talk since fault downs date slot prepared between answer left → EndsSo desk.folder left
-      commit_ends {given} {dealt} prepared {entries} between {desk} (Ok after) dated known marked are told news on seated commits goes =
+      commit_ends {given} {dealt} prepared {entries} between {desk} (Ok after) dated known marked are told news on seated commits files goes =
           let merged : List SlotValue = merged_slots meeting given in
           let stands : IsDesk (contents after.folder) merged = rw commits.slots at commits.stands in
           let made : IsDesk (option_map (put_all entries) (contents desk.folder)) merged = rw commits.written at stands in
@@ -284,9 +311,14 @@ module _ {L F : Type 0} (talk : L → Option Talk) (since : L → L → Type 0) 
             desk = stands;
             each = moments_merged merged (option_map (put_all entries) (contents desk.folder)) (moments desk.folder) (moments after.folder) made
                 commits.each_moment;
+            entries = entries;
+            files = files;
+            written = commits.written;
+            moved = commits.each_moment;
           } in
           rw goes.is (closes_ends since_more prepared goes.answer dated known marked are told done goes.ends)
-      commit_ends prepared between (Err refusal) dated known marked are told news on seated commits goes = refused_ends news on seated commits goes
+      commit_ends prepared between (Err refusal) dated known marked are told news on seated commits files goes =
+          refused_ends news on seated commits files goes
 
       -- what both sides know of each other once all is read
       pub record Known (prepared : Prepared) (now : SessionValue L) (desk : DeskValue F) (date : ℕ) : Type 0 where
@@ -317,7 +349,9 @@ module _ {L F : Type 0} (talk : L → Option Talk) (since : L → L → Type 0) 
           ≡ merged_slots meeting (flat_map (λ (one : Vec ℕ). one.items) ids.items)
           = rw (knows.dated, user, knows.picked, knows.slots)
           (taken-merged meeting prepared.planned.items dealt knows.ordered knows.are news.dealt ∙ ap (merged_slots meeting) (sym (flat-each ids.items))) in
-          commit_ends prepared then goes.answer knows.dated user marked knows.are knows.told news knows.on knows.seated (rw taken at goes.commits) goes.goes
+          let files : AreCommitFiles meeting (taken_entries date then.user prepared.planned.items dealt desk.picked desk.slots)
+          = rw (knows.dated, user, knows.picked, knows.slots) (taken-files meeting prepared.planned.items dealt knows.are) in
+          commit_ends prepared then goes.answer knows.dated user marked knows.are knows.told news knows.on knows.seated (rw taken at goes.commits) files goes.goes
       news_ends {then} (Err cause) knows sends goes =
           ends_before goes (news_stop since_more meeting knows.rests (λ (one : Vec ℕ). one.items) knows.user knows.are knows.read knows.tells
           (replicate (adds_of meeting) 0) sends)

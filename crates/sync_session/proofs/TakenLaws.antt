@@ -38,14 +38,14 @@ rows_same date None (Some d) = refl
 rows_same date None None = refl
 
 -- the rows that a merge of a meeting's database changes
-abbrev rows_at : Meeting → List ℕ → Option DatabaseValue
+abbrev pub rows_at : Meeting → List ℕ → Option DatabaseValue
 rows_at meeting name = rows_before meeting.wishes.date (task_of meeting name).rows (task_of meeting name).handheld
 
-abbrev old_at : Meeting → List ℕ → List Record
+abbrev pub old_at : Meeting → List ℕ → List Record
 old_at meeting name = records_of (task_of meeting name).archive
 
 -- a planned database of a meeting changes as its task says
-change-task : (meeting : Meeting) (name : List ℕ) (one : Planned) (given : List ℕ) → IsPlannedFor meeting (task_of meeting name) one
+pub change-task : (meeting : Meeting) (name : List ℕ) (one : Planned) (given : List ℕ) → IsPlannedFor meeting (task_of meeting name) one
     → change_of meeting.wishes.date (slot_of meeting).shelves one given
     ≡ change_unless (skip_of (task_of meeting name)) (change_from one.plan given (old_at meeting name) (rows_at meeting name))
 unfolding change_of
@@ -90,7 +90,7 @@ named_archive : (name : List ℕ) (rows : DatabaseValue) (es : List Record) → 
 named_archive name rows [] is = tt
 named_archive name rows (e ∷ es) is = is
 
-planned_name : (name : List ℕ) (plan : Plan) (given : List ℕ) (old : List Record) (rows : DatabaseValue) → rows.head.name ≡ name
+pub planned_name : (name : List ℕ) (plan : Plan) (given : List ℕ) (old : List Record) (rows : DatabaseValue) → rows.head.name ≡ name
     → HasName name (planned_change plan given old rows)
 planned_name name plan given old rows is = record { rows = is; base = is; archive = named_archive name rows (planned_archive plan old) is }
 
@@ -102,7 +102,7 @@ named_by name date None (Some d) rows desktop other is =
     rw (← same) (other d refl)
 named_by name date None None rows desktop other is = absurd (cc)
 
-rows_name : (meeting : Meeting) (name : List ℕ) (rows : DatabaseValue) → rows_at meeting name ≡ Some rows → rows.head.name ≡ name
+pub rows_name : (meeting : Meeting) (name : List ℕ) (rows : DatabaseValue) → rows_at meeting name ≡ Some rows → rows.head.name ≡ name
 rows_name meeting name rows is =
     named_by name meeting.wishes.date (task_of meeting name).rows (task_of meeting name).handheld rows
     (λ d e. database_of-name name (slot_of meeting).shelves.rows d e) (λ d e. database_of-name name meeting.device.databases d e) is

@@ -1,6 +1,9 @@
 -- How a session over a link that tells its device ends, and what it leaves of both sides.
-use Rattle.std.specs.Prelude.{◌≡◌, ◌⊎◌, ℕ, List, [], ◌∷◌, length, map, replicate, slice_index, Option, None, Some, IfErr, IfOk, IfSome, IsSome, OnErr, Result}
-use Rattle.std.specs.Prelude.{Ok, Err}
+use Rattle.std.specs.Prelude.{◌≡◌, ◌⊎◌, ℕ, List, [], ◌∷◌, length, map, replicate, slice_index, Option, None, Some, IfErr, IfOk, IfSome, IsSome, OnErr, OnOk, Result}
+use Rattle.std.specs.Prelude.{Ok, Err, is_none, true}
+use Rattle.std.specs.List.{AllByRecursion, list_any}
+use Rattle.std.specs.Option.{option_map}
+use Rattle.std.specs.Str.{bytes_eq}
 use Rattle.std.specs.Global.{Vec}
 use Rattle.hs_folders.specs.FileMaps.{FileMap}
 use Rattle.hs_folders.specs.Moments.{EachMomentSince, Moments}
@@ -8,13 +11,17 @@ use Rattle.pdb_values.specs.Slots.{slot_for}
 use Rattle.pdb_values.specs.declared.slot.Slot.{Slot}
 use Rattle.pdb_values.specs.declared.slot.Slot.TheVariants.{Full, Refused}
 use Rattle.pdb_values.specs.declared.user.UserInfo.{UserInfo}
+use Rattle.folder_files.specs.FileNames.{desktop_info_file}
 use Rattle.folder_files.specs.Slots.{users_of}
 use Rattle.dlp_commands.specs.declared.link.LinkFault.{LinkFault}
 use Rattle.dlp_commands.specs.declared.link.LinkFault.TheVariants.{Down}
 use Rattle.dlp_commands.specs.Talks.{Talk}
-use Rattle.desk_journal.specs.Overlays.{StandsAs, overlay}
+use Rattle.desk_journal.specs.Entries.{EntryValue}
+use Rattle.desk_journal.specs.Overlays.{StandsAs, overlay, put_all}
+use Rattle.desk_store.specs.DeskFiles.{slot_file}
 use Rattle.desk_store.specs.Desks.{IsDesk, IsDeskOf}
 use Rattle.desk_store.specs.Shelves.{SlotValue, marks_of}
+use Rattle.desk_store.specs.declared.role.Role.{Role}
 use Rattle.desktop_session.specs.declared.fault.SessionFault.{SessionFault}
 use Rattle.desktop_session.specs.declared.fault.SessionFault.TheVariants as session
 use Rattle.desktop_session.specs.Acts.{text}
@@ -30,7 +37,8 @@ use Rattle.sync_session.specs.Losses.{first_loss}
 use Rattle.sync_session.specs.Merges.{merged_slots}
 use Rattle.sync_session.specs.Reports.{reports as reports_of}
 use Rattle.sync_session.specs.Sessions.{adds_of, after_commit, before_commit, before_writes, session}
-use Rattle.sync_session.specs.Tasks.{Meeting}
+use Rattle.sync_session.specs.Skips.{skip_of}
+use Rattle.sync_session.specs.Tasks.{Meeting, names, task_of}
 
 -- ---- the desktop's folder
 
@@ -52,6 +60,27 @@ pub record Tellings : Type 0 where
 abbrev pub tellings : {F : Type 0} → (F → Option FileMap) → (F → Moments) → F → F → Tellings
 tellings contents moments before after =
     record { before = contents before; after = contents after; moments_before = moments before; moments_after = moments after }
+
+-- the file of a database that the session doesn't skip, in the picked slot
+pub record IsTaskFile (meeting : Meeting) (file : List ℕ) : Type 0 where
+  pub name : List ℕ
+  pub there : list_any (λ other. bytes_eq other name) (names meeting) ≡ true
+  pub kept : is_none (skip_of (task_of meeting name)) ≡ true
+  pub role : Role
+  pub is : file ≡ slot_file meeting.picked role name
+
+-- the information file, or such a one
+abbrev pub IsCommitFile : Meeting → List ℕ → Type 0
+IsCommitFile meeting file = (file ≡ desktop_info_file) ⊎ IsTaskFile meeting file
+
+-- The folder was changed by one commit at most. Where the session ended it has these files over those that it had; where it stopped it
+-- stands for what it stood for, or for that, and so it did at each moment that passed.
+pub record ChangesDesk (meeting : Meeting) (folder : Tellings) (answer : Result (Vec DbReport) Stop) : Type 0 where
+  pub entries : List EntryValue
+  pub files : AllByRecursion (λ (entry : EntryValue). IsCommitFile meeting entry.name) entries
+  pub written : OnOk answer (folder.after ≡ option_map (put_all entries) folder.before)
+  pub stands : StandsAs folder.before folder.after ⊎ StandsAs (option_map (put_all entries) folder.before) folder.after
+  pub each_moment : EachMomentSince (StandsAs (option_map (put_all entries) folder.before)) folder.moments_before folder.moments_after
 
 -- ---- a session that ended
 
@@ -171,6 +200,7 @@ pub record SessionEnds {L : Type 0} (talk : L → Option Talk) (since : L → L 
   pub ended : IfOk answer (λ reports. IsEnded talk meeting old new folder reports.items)
   pub stopped : OnErr answer (IsUncommitted talk since fault downs meeting old new folder ⊎ IsCommitted talk since fault downs meeting old new folder)
   pub cause : IfErr answer (IsStopOf talk fault meeting old new)
+  pub changed : ChangesDesk meeting folder answer
   pub unseated : (why : SessionFault) → seat_of meeting ≡ Err why
       → Stops talk since fault downs (text reading_user ∷ []) old new × StopsFor (stop.Session why) answer
   pub over : IsSome (first_over meeting) → Stops talk since fault downs (map text (before_writes meeting)) old new

@@ -1,0 +1,31 @@
+-- A run whose session ended leaves the same on both sides.
+use Rattle.std.proofs.Common.{◌≡◌, refl, subst, sym}
+use Rattle.desk_store.specs.Shelves.{SlotValue}
+use Rattle.sync_session.specs.Merges.{merged_device}
+use Rattle.session_laws.specs.Meetings.{holding}
+use Rattle.session_fronts.specs.Equal.{HasEqualSides}
+use Rattle.session_fronts.proofs.EqualLaws.{holds-equal}
+use Rattle.hotsync_run.specs.Equal.{EndsEqual}
+use Rattle.hotsync_run.specs.Headline.{IsAnsweredRun, RunCall}
+use Rattle.hotsync_run.specs.declared.report.SessionEnd.TheVariants.{Ended}
+use Rattle.hotsync_run.proofs.AgainLaws.{given_in, got-of, ran-of, session_in}
+use Rattle.hotsync_run.proofs.SlotLaws.{merged-picked, picked-near}
+
+pub ends-equal : (call : RunCall) → IsAnsweredRun call → call.report.end ≡ Ended → EndsEqual call
+ends-equal call is end =
+    let session = session_in call end is in
+    let ran = ran-of call session in
+    let m = ran.meeting in
+    let given = given_in ran in
+    let whole = ran.left.ended end in
+    record {
+      meeting = m;
+      meets = session.meets;
+      given = given;
+      told = refl;
+      handheld = whole.handheld;
+      desktop = whole.desktop;
+      each = λ name active shown. subst (λ (slot : SlotValue). HasEqualSides (holding (merged_device m given) slot name))
+          (sym (merged-picked m given (picked-near m ran.add ran.picked)))
+          (holds-equal m given name ran.left.sound active shown (got-of ran whole name active));
+    }
