@@ -25,9 +25,11 @@ mark secret = if secret then codes " private" else []
 abbrev pub label_char : ℕ → ℕ
 label_char byte = if byte == 10 then 0x240A else char_of byte
 
+-- that character in UTF-8
 abbrev pub label_char_text : ℕ → List ℕ
 label_char_text byte = encode_utf8 (label_char byte)
 
+-- the characters of a label
 abbrev pub label_chars : List ℕ → List ℕ
 label_chars label = flat_map label_char_text label
 
