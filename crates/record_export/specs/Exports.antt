@@ -1,5 +1,5 @@
 -- The memos that are exported of a database (Palm File Format Specification; pilot-link's memo.h).
-use Rattle.std.specs.Prelude.{ℕ, ◌==◌, ◌&&◌, ◌||◌, Bool, not, List, [], codes, filter, map, Option, if◌then◌else◌}
+use Rattle.std.specs.Prelude.{◌≡◌, ℕ, ◌==◌, ◌&&◌, ◌||◌, Bool, true, not, List, [], codes, filter, map, Option, if◌then◌else◌}
 use Rattle.std.specs.List.{flat_map}
 use Rattle.std.specs.Str.{bytes_eq}
 use Rattle.pdb_values.specs.declared.head.DbHead.{DbHead}
@@ -11,7 +11,7 @@ use Rattle.palm_records.specs.Categories.{category_label}
 use Rattle.palm_records.specs.Strings.{until_zero}
 use Rattle.record_export.specs.declared.export.Privacy.{Privacy}
 use Rattle.record_export.specs.declared.export.Privacy.TheVariants as privacy
-use Rattle.record_export.specs.Memos.{MemoValue, memo_text}
+use Rattle.record_export.specs.Memos.{IsMemo, MemoValue, memo_text}
 
 -- a memo database: records of type `DATA` and creator `memo`, or `PMem` on later handhelds
 abbrev pub holds_memos : DbHead → Bool
@@ -36,6 +36,10 @@ memo_of app item = record {
 abbrev pub is_exported : Privacy → Record → Bool
 is_exported privacy.All item = is_live item
 is_exported privacy.WithoutPrivate item = is_live item && not item.content.secret
+
+-- where a record is exported, its memo has an id of 24 bits, and bytes
+abbrev pub IsItem : Option (List ℕ) → Privacy → Record → Type 0
+IsItem app wanted item = is_exported wanted item ≡ true → IsMemo (memo_of app item)
 
 -- the memos that are exported, in the order of their records
 abbrev pub exported_memos : Privacy → DatabaseValue → List MemoValue

@@ -13,6 +13,10 @@ line_feed = 10 ∷ []
 abbrev pub begins_with : List ℕ → List ℕ → Bool
 begins_with word bytes = starts_with nat_eq bytes word
 
+-- an id has 24 bits
+abbrev pub id_limit : ℕ
+id_limit = 0x1000000
+
 -- three dashes and an id in six hexadecimal digits
 abbrev pub id_text : ℕ → List ℕ
 id_text id = codes "--- " ++ encode_lower (bytes_high_first 3 id)

@@ -2,7 +2,7 @@
 use Rattle.std.specs.Prelude.{ℕ, ◌<◌, ◌==◌, Bool, List, [], ◌∷◌, ◌++◌, codes, slice_index, if◌then◌else◌}
 use Rattle.std.specs.List.{flat_map}
 use Rattle.palm_text.specs.Characters.{char_text}
-use Rattle.record_export.specs.Heads.{begins_with, head_line, line_feed}
+use Rattle.record_export.specs.Heads.{begins_with, head_line, id_limit, line_feed}
 
 -- a memo: the id of its record, whether it is private, the label of its category (empty: none), and its text as a Palm's bytes
 pub record MemoValue : Type 0 where
@@ -17,7 +17,7 @@ IsBytes bytes = (i : ℕ) → slice_index bytes i < 256
 
 -- an id has 24 bits, and the others are bytes
 pub record IsMemo (memo : MemoValue) : Type 0 where
-  pub id : memo.id < 0x1000000
+  pub id : memo.id < id_limit
   pub label : IsBytes memo.label
   pub text : IsBytes memo.text
 

@@ -1,9 +1,9 @@
 // The memos of a database as a text.
-ghost use Rattle.std.specs.Prelude.{◌≡◌, ◌↔◌, IfOk, IsErrOf, OnOk, false, string_bytes, true};
+ghost use Rattle.std.specs.Prelude.{◌≡◌, ◌↔◌, All, IfOk, IsErrOf, List, OnOk, false, string_bytes, true};
 ghost use Rattle.std.specs.Option.{option_copied};
 ghost use Rattle.record_export.specs.declared.export.ExportFault.TheVariants.{NoMemory};
-ghost use Rattle.record_export.specs.Exports.{exported_memos, holds_memos, items_text};
-ghost use Rattle.record_export.specs.Memos.{memos_text};
+ghost use Rattle.record_export.specs.Exports.{IsItem, exported_memos, holds_memos, items_text};
+ghost use Rattle.record_export.specs.Memos.{IsMemo, MemoValue, memos_text};
 
 use crate::memo::push_item;
 use pdb_values::{Database, DbHead};
@@ -35,7 +35,8 @@ impl From<AllocError> for ExportFault {
     }
 }
 
-/// The text of the memos of a database, in UTF-8: those that are exported, in the order of their records.
+/// The text of the memos of a database, in UTF-8: those that are exported, in the order of their records. It is the text
+/// of no other memos.
 pub fn memos_text(
     alloc: Global,
     database: &Database,
@@ -43,6 +44,8 @@ pub fn memos_text(
 ) -> Result<String, ExportFault>
     ensures text { IfOk result (λ text. string_bytes text
         ≡ memos_text (exported_memos privacy database.now)) }
+    ensures alone { IfOk result (λ text. (memos : List MemoValue) → All IsMemo memos
+        → memos_text memos ≡ string_bytes text → memos ≡ exported_memos privacy database.now) }
     ensures kind { IsErrOf result ExportFault.CannotExport
         ↔ (holds_memos database.now.head ≡ false) }
 {
@@ -63,8 +66,9 @@ fn holds_memos(head: &DbHead) -> bool
 
 // The text of all records that are exported.
 fn items_text(alloc: Global, database: &Database, privacy: Privacy) -> Result<String, AllocError>
-    ensures { IfOk result (λ text. string_bytes text
+    ensures text { IfOk result (λ text. string_bytes text
         ≡ items_text database.now.app privacy database.now.records) }
+    ensures memos { OnOk result (All (IsItem database.now.app privacy) database.now.records) }
 {
     let mut text = String::new(alloc);
     for item in database.records() {

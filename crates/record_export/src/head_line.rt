@@ -1,6 +1,7 @@
 // The head line of a memo.
-ghost use Rattle.std.specs.Prelude.{◌≡◌, ◌++◌, OnOk, string_bytes};
-ghost use Rattle.record_export.specs.Heads.{gap, head_line, id_text, is_doubtful, label_char, label_chars, label_text, mark};
+ghost use Rattle.std.specs.Prelude.{◌≡◌, ◌<◌, ◌++◌, OnOk, string_bytes};
+ghost use Rattle.record_export.specs.Memos.{IsBytes};
+ghost use Rattle.record_export.specs.Heads.{gap, head_line, id_limit, id_text, is_doubtful, label_char, label_chars, label_text, mark};
 
 use palm_text::char_of;
 use pdb_values::RecordId;
@@ -14,8 +15,10 @@ pub fn push_head(
     secret: bool,
     label: &[u8],
 ) -> Result<(), AllocError>
-    ensures { OnOk result (string_bytes text.new
+    ensures text { OnOk result (string_bytes text.new
         ≡ string_bytes text.old ++ head_line id secret label.now) }
+    ensures id { OnOk result (id < id_limit) }
+    ensures label { IsBytes label.now }
 {
     push_id(alloc, text, id)?;
     text.push_str(mark(secret))?;
@@ -26,7 +29,8 @@ pub fn push_head(
 
 // Appends three dashes and an id.
 fn push_id(alloc: Global, text: &mut String, id: RecordId) -> Result<(), AllocError>
-    ensures { OnOk result (string_bytes text.new ≡ string_bytes text.old ++ id_text id) }
+    ensures text { OnOk result (string_bytes text.new ≡ string_bytes text.old ++ id_text id) }
+    ensures id { OnOk result (id < id_limit) }
 {
     let digits = hex::encode(alloc, &id.number().to_be_bytes()[1..])?;
     text.push_str("--- ")?;

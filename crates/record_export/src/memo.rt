@@ -2,8 +2,8 @@
 ghost use Rattle.std.specs.Prelude.{◌≡◌, ◌++◌, OnOk, string_bytes};
 ghost use Rattle.std.specs.Option.{option_copied};
 ghost use Rattle.record_export.specs.Exports as exports;
-ghost use Rattle.record_export.specs.Exports.{item_text, memo_of, shown_label};
-ghost use Rattle.record_export.specs.Memos.{memo_text};
+ghost use Rattle.record_export.specs.Exports.{IsItem, item_text, memo_of, shown_label};
+ghost use Rattle.record_export.specs.Memos.{IsMemo, memo_text};
 
 use crate::export::Privacy;
 use crate::head_line::push_head;
@@ -20,8 +20,9 @@ pub fn push_item(
     privacy: Privacy,
     item: &Record,
 ) -> Result<(), AllocError>
-    ensures { OnOk result (string_bytes text.new
+    ensures text { OnOk result (string_bytes text.new
         ≡ string_bytes text.old ++ item_text (option_copied app.entry) privacy item.now) }
+    ensures memo { OnOk result (IsItem (option_copied app.entry) privacy item.now) }
 {
     if is_exported(privacy, item) {
         push_memo(alloc, text, app, item)?;
@@ -46,12 +47,14 @@ fn push_memo(
     app: Option<&[u8]>,
     item: &Record,
 ) -> Result<(), AllocError>
-    ensures { OnOk result (string_bytes text.new
+    ensures text { OnOk result (string_bytes text.new
         ≡ string_bytes text.old ++ memo_text (memo_of (option_copied app.entry) item.now)) }
+    ensures memo { OnOk result (IsMemo (memo_of (option_copied app.entry) item.now)) }
 {
     let label = shown_label(app, item.content.category());
     push_head(alloc, text, item.id, item.content.secret(), label)?;
-    push_lines(text, until_zero(item.content.bytes()))?;
+    let memo = until_zero(item.content.bytes());
+    push_lines(text, memo)?;
     Ok(())
 }
 

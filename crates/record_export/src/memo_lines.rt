@@ -1,14 +1,15 @@
 // The lines of a memo.
 ghost use Rattle.std.specs.Prelude.{◌≡◌, ◌++◌, OnOk, string_bytes};
 ghost use Rattle.palm_text.specs.Characters.{char_text};
-ghost use Rattle.record_export.specs.Memos.{guard, guard_behind, lines_from, memo_lines};
+ghost use Rattle.record_export.specs.Memos.{IsBytes, guard, guard_behind, lines_from, memo_lines};
 
 use palm_text::char_of;
 use std::alloc::AllocError;
 
 /// Appends the lines of a memo.
 pub fn push_lines(text: &mut String, memo: &[u8]) -> Result<(), AllocError>
-    ensures { OnOk result (string_bytes text.new ≡ string_bytes text.old ++ memo_lines memo.now) }
+    ensures text { OnOk result (string_bytes text.new ≡ string_bytes text.old ++ memo_lines memo.now) }
+    ensures memo { IsBytes memo.now }
 {
     push_guard(text, memo)?;
     push_from(text, memo)?;
