@@ -21,12 +21,15 @@
 //!   `db no-app`, `db blocks`, `db counts`.
 //! - A file: `db file H`, or `db zeros LENGTH PLACE=BYTE..`, which has the name `A`; then `db parse`, which makes it the
 //!   database, `db head`, `db entries`, `db write`, `db again`, `db check`, `db show`; `db laws`.
+//! - Texts: `export new TYPE CREATOR ATTRIBUTES` (a database), `export app LENGTH` (zeros), `export label CATEGORY H`,
+//!   `export record ID live|deleted open|private CATEGORY H`, and then `export txt`, `export txt-public`.
 //! - Folders made of a seed and a count: `made files SEED COUNT` prints each file with its bytes, and `made sums SEED COUNT`
 //!   with its length and the number that its bytes are as digits to the base 31, modulo 2 to the 32.
 #![tactic(auto)]
 
 mod calls;
 mod database;
+mod export;
 mod file;
 mod made;
 mod memory;
@@ -36,6 +39,7 @@ mod value;
 
 use case_words::word;
 use database::Loaded;
+use export::Exports;
 use memory::Memory;
 use pdb_values::Database;
 use std::alloc::{AllocError, Global};
@@ -56,6 +60,7 @@ struct Cases<'r> {
     system: System<'r>,
     shelf: Vec<Database>,
     loaded: Loaded,
+    exports: Exports,
 }
 
 impl<'r> Cases<'r> {
@@ -67,6 +72,7 @@ impl<'r> Cases<'r> {
             system: System::new(rt, alloc),
             shelf: Vec::new(alloc),
             loaded: Loaded::new(alloc),
+            exports: Exports::new(alloc),
         }
     }
 
@@ -96,6 +102,7 @@ impl<'r> Cases<'r> {
             "disk" => self.system.obey(call),
             "shelf" => shelf::obey(self.alloc, &mut self.shelf, call),
             "db" => self.loaded.obey(call),
+            "export" => self.exports.obey(call),
             "made" => made::obey(self.alloc, call),
             _ => value::obey(self.alloc, line, words),
         }

@@ -1,0 +1,4 @@
+pub mod HeadLaws
+pub mod LineLaws
+pub mod MemoLaws
+pub mod TextLaws

@@ -1,0 +1,78 @@
+// The memos of a database as a text.
+ghost use Rattle.std.specs.Prelude.{◌≡◌, ◌↔◌, All, IfOk, IsErrOf, List, OnOk, false, string_bytes, true};
+ghost use Rattle.std.specs.Option.{option_copied};
+ghost use Rattle.record_export.specs.declared.export.ExportFault.TheVariants.{NoMemory};
+ghost use Rattle.record_export.specs.Exports.{IsItem, exported_memos, holds_memos, items_text};
+ghost use Rattle.record_export.specs.Memos.{IsMemo, MemoValue, memos_text};
+
+use crate::memo::push_item;
+use pdb_values::{Database, DbHead};
+use std::alloc::{AllocError, Global};
+
+/// Which records are exported.
+#[derive(Clone, Copy)]
+pub enum Privacy {
+    /// All that the user has not deleted. Private ones are marked.
+    All,
+    /// Those of them that are not private.
+    WithoutPrivate,
+}
+
+/// Why there is no text.
+#[derive(Clone, Copy)]
+pub enum ExportFault {
+    /// The database is no memo database.
+    CannotExport,
+    /// Memory ran out.
+    NoMemory,
+}
+
+impl From<AllocError> for ExportFault {
+    ghost from_gives = { λ _ fault. fault ≡ NoMemory };
+
+    fn from(_: AllocError) -> Self {
+        ExportFault::NoMemory
+    }
+}
+
+/// The text of the memos of a database, in UTF-8: those that are exported, in the order of their records. It is the text
+/// of no other memos.
+pub fn memos_text(
+    alloc: Global,
+    database: &Database,
+    privacy: Privacy,
+) -> Result<String, ExportFault>
+    ensures text { IfOk result (λ text. string_bytes text
+        ≡ memos_text (exported_memos privacy database.now)) }
+    ensures alone { IfOk result (λ text. (memos : List MemoValue) → All IsMemo memos
+        → memos_text memos ≡ string_bytes text → memos ≡ exported_memos privacy database.now) }
+    ensures kind { IsErrOf result ExportFault.CannotExport
+        ↔ (holds_memos database.now.head ≡ false) }
+{
+    if !holds_memos(database.head()) {
+        return Err(ExportFault::CannotExport);
+    }
+    let text = items_text(alloc, database, privacy)?;
+    Ok(text)
+}
+
+// Whether it is a memo database: type `DATA`, creator `memo`, or `PMem` on later handhelds.
+fn holds_memos(head: &DbHead) -> bool
+    ensures { result ≡ holds_memos head.now }
+{
+    let is_memo = head.creator.0 == *b"memo" || head.creator.0 == *b"PMem";
+    !head.holds_resources() && head.kind.0 == *b"DATA" && is_memo
+}
+
+// The text of all records that are exported.
+fn items_text(alloc: Global, database: &Database, privacy: Privacy) -> Result<String, AllocError>
+    ensures text { IfOk result (λ text. string_bytes text
+        ≡ items_text database.now.app privacy database.now.records) }
+    ensures memos { OnOk result (All (IsItem database.now.app privacy) database.now.records) }
+{
+    let mut text = String::new(alloc);
+    for item in database.records() {
+        push_item(alloc, &mut text, database.app(), privacy, item)?;
+    }
+    Ok(text)
+}
