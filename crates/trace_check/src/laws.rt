@@ -1,0 +1,20 @@
+//! What holds of all traces. The functions do nothing: their contracts are the laws.
+ghost use Rattle.std.specs.Prelude.{◌≡◌, List, ℕ, Result, Ok, Err};
+ghost use Rattle.trace_text.specs.TraceLines.{FrameValue, trace_text};
+ghost use Rattle.trace_check.specs.Readings.{AreTraced, IsTraceReading};
+ghost use Rattle.trace_check.specs.declared.fault.TraceFault.{TraceFault};
+ghost use Rattle.trace_check.specs.declared.fault.TraceFault.TheVariants.{NoMemory};
+
+/// A text is one trace, or has one fault: so each answer of `read_trace` comes exactly where it is that, unless memory ran out.
+pub fn a_text_is_one_trace()
+    ensures { (bytes : List ℕ) (x y : Result (List FrameValue) TraceFault)
+        → IsTraceReading bytes x → IsTraceReading bytes y
+        → ¬ (x ≡ Err NoMemory) → ¬ (y ≡ Err NoMemory) → x ≡ y }
+{}
+
+/// What is read of the text of a trace is that trace, unless memory ran out.
+pub fn a_written_trace_is_read()
+    ensures { (frames : List FrameValue) (read : Result (List FrameValue) TraceFault)
+        → AreTraced 1 frames → IsTraceReading (trace_text frames) read
+        → ¬ (read ≡ Err NoMemory) → read ≡ Ok frames }
+{}
