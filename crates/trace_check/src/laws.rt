@@ -1,6 +1,7 @@
 //! What holds of all traces. The functions do nothing: their contracts are the laws.
 ghost use Rattle.std.specs.Prelude.{◌≡◌, List, ℕ, Result, Ok, Err};
 ghost use Rattle.trace_text.specs.TraceLines.{FrameValue, trace_text};
+ghost use Rattle.trace_check.specs.Judging.{HasOneVerdict, HasSevenRules, SaysItsFates, SaysItsMessages};
 ghost use Rattle.trace_check.specs.Readings.{AreTraced, IsTraceReading};
 ghost use Rattle.trace_check.specs.declared.fault.TraceFault.{TraceFault};
 ghost use Rattle.trace_check.specs.declared.fault.TraceFault.TheVariants.{NoMemory};
@@ -17,4 +18,21 @@ pub fn a_written_trace_is_read()
     ensures { (frames : List FrameValue) (read : Result (List FrameValue) TraceFault)
         → AreTraced 1 frames → IsTraceReading (trace_text frames) read
         → ¬ (read ≡ Err NoMemory) → read ≡ Ok frames }
+{}
+
+/// A trace is proper exactly where it keeps the seven rules.
+pub fn the_rules_are_the_definition()
+    ensures { HasSevenRules }
+{}
+
+/// A trace is proper, with one number of requests and one of replies, or has one first rule that it breaks.
+pub fn a_trace_has_one_verdict()
+    ensures { HasOneVerdict }
+{}
+
+/// A trace speaks for itself: what is proper by some script and some messages, as the trace of every run is, is proper by the
+/// fates and the messages that its frames say.
+pub fn a_trace_speaks_for_itself()
+    ensures fates { SaysItsFates }
+    ensures messages { SaysItsMessages }
 {}

@@ -10,8 +10,13 @@ mod fault;
 mod frame;
 mod laws;
 mod reader;
+mod rule;
 mod word;
 
 pub use fault::TraceFault;
-pub use laws::{a_text_is_one_trace, a_written_trace_is_read};
+pub use laws::{
+    a_text_is_one_trace, a_trace_has_one_verdict, a_trace_speaks_for_itself,
+    a_written_trace_is_read, the_rules_are_the_definition,
+};
 pub use reader::{MOST_BYTES, read_trace};
+pub use rule::{Rule, Verdict};
