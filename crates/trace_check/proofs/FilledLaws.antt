@@ -1,5 +1,5 @@
 -- The messages of parts that begin those of a session: each is the session's, and the last one, where parts are missing, has its length and its first parts.
-use Rattle.std.proofs.Common.{◌≡◌, ℕ, zero, suc, ◌+◌, ◌-◌, ◌*◌, ◌<◌, ◌≤◌, min, List, [], ◌∷◌, ◌++◌, length, take, drop, map, replicate, refl, sym, ap, subst, ◌∙◌, append_assoc, arith, inl, inr}
+use Rattle.std.proofs.Common.{◌≡◌, ◌⊎◌, ℕ, zero, suc, ◌+◌, ◌-◌, ◌*◌, ◌<◌, ◌≤◌, min, List, [], ◌∷◌, ◌++◌, length, take, drop, map, replicate, refl, sym, ap, subst, ◌∙◌, append_assoc, arith, inl, inr}
 use Rattle.std.proofs.lemmas.Bool.{cases_lt}
 use Rattle.std.proofs.lemmas.List.{append-nil, length-append, length-take, length-replicate, take-append-drop, take-append-le, take_all, length-drop}
 use Rattle.std.specs.List.{range_with_len, flat_map}
@@ -11,7 +11,7 @@ use Rattle.padp_link.proofs.PieceLaws.{bytes_of-taken}
 use Rattle.trace_text.specs.Parts.{Part, message_parts, session_parts}
 use Rattle.trace_text.specs.Talks.{pieces_before}
 use Rattle.line_laws.specs.Talking.{part_at}
-use Rattle.trace_check.specs.Messages.{filled, messages_from, messages_in}
+use Rattle.trace_check.specs.Messages.{filled, messages_from, messages_in, wholes_from, wholes_in, IfFirst}
 
 -- ---- the first parts of a message
 
@@ -242,10 +242,13 @@ behind_is (x ∷ xs) (y ∷ ys) rest later is inside =
     let found = behind_is xs ys rest later tail (omega arith) in
     (found.0, ap (λ z. z ∷ xs) head ∙ ap (λ zs. y ∷ zs) found.1, found.2)
 
-pub heard : (number : ℕ) (messages : List (List ℕ)) (parts rest : List Part) → parts ++ rest ≡ session_parts number messages → Heard number messages parts
-heard number messages [] rest is = heard-none number messages
-heard number [] (part ∷ parts) rest is = absurd cc
-heard number (message ∷ later) (part ∷ parts) rest is =
+-- parts that begin a session's begin its first message, or are all of it and go on with the next
+begins : (number : ℕ) (message : List ℕ) (later : List (List ℕ)) (part : Part) (parts rest : List Part)
+    → (part ∷ parts) ++ rest ≡ session_parts number (message ∷ later)
+    → ((suc (length parts) < piece_count (length message)) × (part ∷ parts ≡ firsts (session_id number) message (suc (length parts))))
+    ⊎ ((behind : ℕ) × (more : List Part) × (piece_count (length message) ≡ suc behind) × (part ∷ parts ≡ firsts (session_id number) message (suc behind) ++ more)
+    × (more ++ rest ≡ session_parts (number + 1) later))
+begins number message later part parts rest is =
     let id = session_id number in
     let count = piece_count (length message) in
     let all : (part ∷ parts) ++ rest ≡ firsts id message count ++ session_parts (number + 1) later =
@@ -254,12 +257,41 @@ heard number (message ∷ later) (part ∷ parts) rest is =
     elim (cases_lt (length (part ∷ parts)) count) [
       | inl few ↦
           let front = front_is (part ∷ parts) (firsts id message count) rest (session_parts (number + 1) later) all (omega (arith, len, few)) in
-          let same : part ∷ parts ≡ firsts id message (suc (length parts)) =
-          front ∙ take-map-range_with_len (part_at id message) 0 count (suc (length parts)) (omega (arith, few)) in
-          subst (Heard number (message ∷ later)) (sym same) (heard-part number message later (length parts) few)
+          inl (few, front ∙ take-map-range_with_len (part_at id message) 0 count (suc (length parts)) (omega (arith, few)))
       | inr enough ↦
           let found = behind_is (part ∷ parts) (firsts id message count) rest (session_parts (number + 1) later) all (omega (arith, len, enough)) in
           let counted : count ≡ suc (count - 1) = omega arith in
-          subst (Heard number (message ∷ later)) (sym (found.1 ∙ ap (λ k. firsts id message k ++ found.0) counted))
-          (heard-whole number message later (count - 1) found.0 counted (heard (number + 1) later found.0 rest found.2))
+          inr (count - 1, found.0, counted, found.1 ∙ ap (λ k. firsts id message k ++ found.0) counted, found.2)
     ]
+
+pub heard : (number : ℕ) (messages : List (List ℕ)) (parts rest : List Part) → parts ++ rest ≡ session_parts number messages → Heard number messages parts
+heard number messages [] rest is = heard-none number messages
+heard number [] (part ∷ parts) rest is = absurd cc
+heard number (message ∷ later) (part ∷ parts) rest is = elim (begins number message later part parts rest is) [
+  | inl few ↦ subst (Heard number (message ∷ later)) (sym few.1) (heard-part number message later (length parts) few.0)
+  | inr all ↦ subst (Heard number (message ∷ later)) (sym all.3)
+      (heard-whole number message later all.0 all.1 all.2 (heard (number + 1) later all.1 rest all.4))
+]
+
+wholes-few : (parts : List Part) (wanted : ℕ) → length parts < wanted → wholes_from wanted parts ≡ 0
+wholes-few [] zero few = absurd (omega arith)
+wholes-few [] (suc wanted) few = refl
+wholes-few (part ∷ parts) zero few = absurd (omega arith)
+wholes-few (part ∷ parts) (suc wanted) few = wholes-few parts wanted (omega arith)
+
+none-whole : (id : ℕ) (message : List ℕ) (behind : ℕ) → suc behind < piece_count (length message) → wholes_in (firsts id message (suc behind)) ≡ 0
+none-whole id message behind few =
+    let len = length-map-range_with_len (part_at id message) 1 behind in
+    wholes-few (map (part_at id message) (range_with_len 1 behind)) (piece_count (length message) - 1) (omega (arith, len, few))
+
+-- the first message, where it is whole, is the session's first one
+pub first-told : (P : List ℕ → Type 0) (number : ℕ) (messages : List (List ℕ)) (parts rest : List Part) → parts ++ rest ≡ session_parts number messages
+    → 0 < wholes_in parts → IfFirst P messages → IfFirst P (messages_in parts)
+first-told P number messages [] rest is some first = tt
+first-told P number [] (part ∷ parts) rest is some first = absurd cc
+first-told P number (message ∷ later) (part ∷ parts) rest is some first = elim (begins number message later part parts rest is) [
+  | inl few ↦
+      let none = ap wholes_in few.1 ∙ none-whole (session_id number) message (length parts) few.0 in
+      absurd (omega (arith, some, none))
+  | inr all ↦ subst (IfFirst P) (sym (ap messages_in all.3 ∙ in-whole (session_id number) message all.0 all.1 all.2)) first
+]

@@ -13,8 +13,12 @@ use Rattle.trace_text.specs.TraceLines.{FrameValue}
 use Rattle.line_laws.proofs.MessageLaws.{pieces-more}
 use Rattle.line_laws.proofs.PastLaws.{keys_below, keys_push}
 use Rattle.line_laws.proofs.PartLaws.{spoken_keys}
-use Rattle.trace_check.specs.Messages.{messages_in, parts_in, talk_in}
-use Rattle.trace_check.proofs.FilledLaws.{Agrees, Heard, heard}
+use Rattle.cmp_hello.specs.declared.hello.HelloKind.{HelloKind}
+use Rattle.cmp_hello.specs.declared.hello.HelloKind.TheVariants.{Wake, Init}
+use Rattle.trace_check.specs.Judging.{IsProperTrace}
+use Rattle.trace_check.specs.Messages.{messages_in, parts_in, talk_in, IfFirst, IsGreeting, Greets}
+use Rattle.trace_check.proofs.FilledLaws.{Agrees, Heard, heard, first-told}
+use Rattle.trace_check.proofs.RunLaws.{proper-fates}
 
 -- the messages of both ends agree as far as they were begun
 abbrev Agree : Talk → Talk → List Sent → Type 0
@@ -137,3 +141,19 @@ proper-talk script talk frames proper =
       handheld = speaks_in Handheld Desktop talk frames agree proper.handheld;
       desktop = speaks_in Desktop Handheld talk frames agree proper.desktop;
     }
+
+-- ---- a run's trace
+
+greets_in : (kind : HelloKind) (X : End) (talk : Talk) (frames : List FrameValue) → SaysMessages X talk (past_of frames)
+    → IfFirst (IsGreeting kind) (messages_of X talk) → Greets kind X frames
+greets_in kind X talk frames says first some =
+    subst (IfFirst (IsGreeting kind)) (sym (talk_in-messages X frames))
+    (first-told (IsGreeting kind) 0 (messages_of X talk) (parts_in X frames) says.rest says.is some first)
+
+pub proper-trace : (script : ℕ → FateValue) (talk : Talk) (frames : List FrameValue) → IsProper script talk frames
+    → IfFirst (IsGreeting Wake) talk.handheld → IfFirst (IsGreeting Init) talk.desktop → IsProperTrace frames
+proper-trace script talk frames proper wake init = record {
+  proper = proper-fates script (talk_in frames) frames (proper-talk script talk frames proper);
+  wake = greets_in Wake Handheld talk frames proper.handheld.says wake;
+  init = greets_in Init Desktop talk frames proper.desktop.says init;
+}

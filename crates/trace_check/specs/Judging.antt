@@ -11,7 +11,7 @@ use Rattle.trace_text.specs.Past.{Sent, said, is_data_of, is_repeat}
 use Rattle.trace_text.specs.Proper.{IsProper, AreNumbered, ComeInOrder, SaysMessages, AtMostTen, IsKnown, AnswersReached, DataIsAcked}
 use Rattle.trace_text.specs.Talks.{Talk}
 use Rattle.trace_text.specs.TraceLines.{FrameValue}
-use Rattle.trace_check.specs.Messages.{fates_in, talk_in, whole_count, Greets}
+use Rattle.trace_check.specs.Messages.{fates_in, talk_in, whole_count, IfFirst, IsGreeting, Greets}
 use Rattle.trace_check.specs.declared.rule.Rule.{Rule}
 use Rattle.trace_check.specs.declared.rule.Rule.TheVariants.{A, B, C, D, E, F, G}
 use Rattle.trace_check.specs.declared.rule.Verdict.{Verdict}
@@ -96,3 +96,9 @@ SaysItsFates = (script : ℕ → FateValue) (talk : Talk) (frames : List FrameVa
 -- what is proper by some messages is proper by those that its frames say
 abbrev pub SaysItsMessages : Type 0
 SaysItsMessages = (script : ℕ → FateValue) (talk : Talk) (frames : List FrameValue) → IsProper script talk frames → IsProper script (talk_in frames) frames
+
+-- what is proper by some fates, and by messages that begin with the greetings, is a proper trace by itself
+abbrev pub SpeaksForItself : Type 0
+SpeaksForItself =
+    (script : ℕ → FateValue) (talk : Talk) (frames : List FrameValue) → IsProper script talk frames → IfFirst (IsGreeting Wake) talk.handheld
+    → IfFirst (IsGreeting Init) talk.desktop → IsProperTrace frames

@@ -1,7 +1,7 @@
 //! What holds of all traces. The functions do nothing: their contracts are the laws.
 ghost use Rattle.std.specs.Prelude.{◌≡◌, List, ℕ, Result, Ok, Err};
 ghost use Rattle.trace_text.specs.TraceLines.{FrameValue, trace_text};
-ghost use Rattle.trace_check.specs.Judging.{HasOneVerdict, HasSevenRules, SaysItsFates, SaysItsMessages};
+ghost use Rattle.trace_check.specs.Judging.{HasOneVerdict, HasSevenRules, SaysItsFates, SaysItsMessages, SpeaksForItself};
 ghost use Rattle.trace_check.specs.Readings.{AreTraced, IsTraceReading};
 ghost use Rattle.trace_check.specs.declared.fault.TraceFault.{TraceFault};
 ghost use Rattle.trace_check.specs.declared.fault.TraceFault.TheVariants.{NoMemory};
@@ -31,8 +31,9 @@ pub fn a_trace_has_one_verdict()
 {}
 
 /// A trace speaks for itself: what is proper by some script and some messages, as the trace of every run is, is proper by the
-/// fates and the messages that its frames say.
+/// fates and the messages that its frames say. Where the messages begin with the greetings, it is a proper trace.
 pub fn a_trace_speaks_for_itself()
     ensures fates { SaysItsFates }
     ensures messages { SaysItsMessages }
+    ensures trace { SpeaksForItself }
 {}
