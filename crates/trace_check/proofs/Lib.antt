@@ -1,0 +1,9 @@
+pub mod FateLaws
+pub mod FilledLaws
+pub mod LineLaws
+pub mod PlainLaws
+pub mod RuleLaws
+pub mod RunLaws
+pub mod StripLaws
+pub mod TalkLaws
+pub mod TraceLaws

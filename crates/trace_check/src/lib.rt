@@ -1,0 +1,22 @@
+//! Traces of the line, read and judged.
+//!
+//! `read_trace` takes exactly the texts that `write_trace` of `trace_text` gives: a line `NUMBER END FATE MARK HEX` for each
+//! frame, ended by a line feed, with the numbers from 1 on, a fate that a script may give or `ok`, and 1 to 1,040 bytes. The
+//! format is this program's own.
+#![tactic(auto)]
+
+mod fate;
+mod fault;
+mod frame;
+mod laws;
+mod reader;
+mod rule;
+mod word;
+
+pub use fault::TraceFault;
+pub use laws::{
+    a_text_is_one_trace, a_trace_has_one_verdict, a_trace_speaks_for_itself,
+    a_written_trace_is_read, the_rules_are_the_definition,
+};
+pub use reader::{MOST_BYTES, read_trace};
+pub use rule::{Rule, Verdict};
