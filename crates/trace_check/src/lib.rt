@@ -1,8 +1,11 @@
-//! Traces of the line, read and judged.
+//! Traces of the line: they are read back, and what makes one proper is said by itself.
 //!
 //! `read_trace` takes exactly the texts that `write_trace` of `trace_text` gives: a line `NUMBER END FATE MARK HEX` for each
 //! frame, ended by a line feed, with the numbers from 1 on, a fate that a script may give or `ok`, and 1 to 1,040 bytes. The
 //! format is this program's own.
+//!
+//! A trace is proper by the fates and the messages that its own frames say (`specs/Judging.antt`), which is that it keeps
+//! the seven rules of `Rule`. So is the trace of every run, whatever its line did.
 #![tactic(auto)]
 
 mod fate;

@@ -4,6 +4,7 @@ use case_words::{bytes_in, number_in, short_in};
 use line_script::{Script, ScriptFault, read_script};
 use std::alloc::{AllocError, Global};
 use std::fmt::Write;
+use trace_check::{MOST_BYTES, TraceFault, read_trace};
 use trace_text::{End, Fate, Frame, write_trace};
 
 /// Does what a line asks for: what is about scripts and traces, or the name of a case.
@@ -15,6 +16,7 @@ pub fn obey(alloc: Global, words: &[&str]) -> Result<String, AllocError> {
         ["frame", number, end, mark, text, fate @ ..] => {
             trace(alloc, number, (end, mark), text, fate)
         }
+        ["trace", text] => read(alloc, &bytes_in(alloc, text)),
         ["case", ..] => words.join(alloc, " "),
         _ => String::from_str(alloc, "no such line"),
     }
@@ -97,5 +99,23 @@ fn fate_of(alloc: Global, words: &[&str]) -> Fate {
         ["hit", place, bytes] => Fate::Hit(short_in(place), kept(&bytes_in(alloc, bytes))),
         ["noise", bytes] => Fate::Noise(kept(&bytes_in(alloc, bytes))),
         _ => Fate::Ok,
+    }
+}
+
+// How many frames the trace in some bytes has, and whether they are written as they were read; or its first bad line.
+fn read(alloc: Global, text: &[u8]) -> Result<String, AllocError> {
+    if text.len() > MOST_BYTES {
+        return String::from_str(alloc, "too long");
+    }
+    match read_trace(alloc, text) {
+        Ok(frames) => {
+            let (count, same) = (
+                frames.len(),
+                write_trace(alloc, &frames)?.as_slice() == text,
+            );
+            format!(in alloc; "trace of {count} frames, the same text: {same}")
+        }
+        Err(TraceFault::BadLine(number)) => format!(in alloc; "bad line {number}"),
+        Err(TraceFault::NoMemory) => String::from_str(alloc, "no memory"),
     }
 }
