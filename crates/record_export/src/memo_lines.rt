@@ -8,7 +8,8 @@ use std::alloc::AllocError;
 
 /// Appends the lines of a memo.
 pub fn push_lines(text: &mut String, memo: &[u8]) -> Result<(), AllocError>
-    ensures text { OnOk result (string_bytes text.new ≡ string_bytes text.old ++ memo_lines memo.now) }
+    ensures text { OnOk result (string_bytes text.new
+        ≡ string_bytes text.old ++ memo_lines memo.now) }
     ensures memo { IsBytes memo.now }
 {
     push_guard(text, memo)?;
