@@ -27,6 +27,7 @@ pub mod RunLaws
 pub mod SideLaws
 pub mod SlotLaws
 pub mod StatusLaws
+pub mod StopLaws
 pub mod SystemLaws
 pub mod TalkLaws
 pub mod TraceLaws
