@@ -12,7 +12,8 @@ use Rattle.trace_text.specs.Tallies.{IsFairUpTo, faults_from}
 use Rattle.trace_text.specs.TraceLines.{FrameValue}
 use Rattle.line_script.specs.Scripts.{fate_by}
 use Rattle.line_steps.specs.declared.harm.Stop.{Stop}
-use Rattle.line_world.specs.Causes.{BearsOut, EndsBy}
+use Rattle.line_world.specs.Causes.{BearsOut}
+use Rattle.line_world.specs.Stops.{EndsBy}
 use Rattle.run_words.specs.Runs.{Run}
 use Rattle.hotsync_run.specs.Causes.{IsLineDown, cause_in}
 use Rattle.hotsync_run.specs.Clean.{AreSaidOnce, GoesThrough, IsLineStop}

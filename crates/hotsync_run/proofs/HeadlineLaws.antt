@@ -54,6 +54,7 @@ module _ (call : RunCall) (is : IsAnsweredRun call) where
           cause = record {
             ends = talked.ends;
             cause = talked.caused;
+            stops = talked.stops;
             blames = is.ran.blames;
             shows = talked.shows;
             refused = talked.refused;

@@ -30,6 +30,7 @@ pub mod SideLaws
 pub mod SlotLaws
 pub mod SkippedLaws
 pub mod StatusLaws
+pub mod StopLaws
 pub mod SystemLaws
 pub mod TalkLaws
 pub mod TraceLaws

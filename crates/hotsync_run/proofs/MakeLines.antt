@@ -6,7 +6,7 @@ use Rattle.std.proofs.lemmas.Bool.{cases_lt}
 use Rattle.line_script.specs.Scripts.{fate_by}
 use Rattle.line_steps.specs.Sending.{StopsBy}
 use Rattle.line_steps.specs.declared.harm.Stop.{Stop}
-use Rattle.line_world.specs.Causes.{EndsBy}
+use Rattle.line_world.specs.Stops.{EndsBy}
 use Rattle.trace_text.specs.Fates.{FateValue, Lost, Untouched, is_fault}
 use Rattle.trace_text.specs.Proper.{AreNumbered}
 use Rattle.trace_text.specs.Tallies.{IsFairUpTo, faults_from}

@@ -319,6 +319,7 @@ talked_from {rules} {meeting} {first} before {after} {report} stays stood talked
   line = line_from rules meeting.device first.palm before.palm after.palm report stays talked.line;
   ends = talked.ends;
   caused = talked.caused;
+  stops = talked.stops;
   fair = talked.fair;
   faulted = talked.faulted;
   dealt = talked.dealt;

@@ -33,7 +33,7 @@ use Rattle.dlp_commands.specs.declared.link.LinkFault.{LinkFault}
 use Rattle.sync_session.specs.declared.stop.Stop.{Stop}
 use Rattle.sync_session.specs.declared.stop.Stop.TheVariants as stop
 use Rattle.hotsync_run.specs.Causes.{ByEnd, EndsAs, IsLineDown, IsUnsaid, cause_in, numbers_by, stop_status}
-use Rattle.hotsync_run.specs.Ends.{SessionLeft}
+use Rattle.hotsync_run.specs.Ends.{SessionLeft, StatusShows}
 use Rattle.hotsync_run.specs.LineRuns.{TellsWorld, frames_in}
 use Rattle.hotsync_run.specs.Reports.{IsNotStarted}
 use Rattle.hotsync_run.specs.Talks.{DesktopRan, IsLeft, IsTalk, KeptSilent, Talked, TalkedFor, left_databases, left_end}
@@ -46,6 +46,7 @@ use Rattle.hotsync_run.proofs.FrontMoments.{fronts_at_moments}
 use Rattle.hotsync_run.proofs.LeftLaws.{EndsOver, Tells, session_left}
 use Rattle.hotsync_run.proofs.LineLaws.{line_answered, line_ran}
 use Rattle.hotsync_run.proofs.StatusLaws.{refusal_told, status_shows}
+use Rattle.hotsync_run.proofs.StopLaws.{tells_stop}
 use Rattle.hotsync_run.proofs.WholeLaws.{dealt_with}
 use Rattle.hotsync_run.specs.declared.left.Left.{Left}
 use Rattle.hotsync_run.specs.declared.report.Report.{Report}
@@ -165,21 +166,26 @@ spoke {contents} {moments} {paths} {faults} {desk_contents} {desk_moments} {desk
     let bears : BearsOut (cause_in left.status report.faulted.items) (frames_in report) =
     subst (λ (n : List ℕ). BearsOut (cause_in left.status n) (frames_in report)) (sym faulted_are)
     (subst (λ (f : List FrameValue). BearsOut (cause_in left.status left.faulted.items) f) (sym tells.frames) shown.caused) in
+    let dealt : DealtWith meeting left.status report line.answered =
+    subst (λ (n : ℕ). DealtWith meeting left.status report n) (sym (line_answered silent stands since tells))
+    (dealt_with fault (tellings desk_contents desk_moments folder outcome.folder) old new
+    left sides tells is cause_is caused end_is line.ran.same shown.up shown.keeper ends_as bears ends.cause ends.ended session) in
+    let shows : StatusShows meeting report left.status =
+    status_shows (meeting_of old.server.device slots wishes) cause contents moments paths faults fault downs desk desk_after
+    outcome.end sides is.status ends in
     let talked : Talked old.script meeting before after left.status report = record {
       line = line;
       ends = ends_as;
       caused = bears;
+      stops = tells_stop left.status (record { ends = ends_as; caused = bears; dealt = dealt; shows = shows; acked = line.acked });
       fair = λ calm_script fallen. shown.up (ap (λ (c : Option Down). down_end c) cause_is
           ∙ fair (subst (λ (f : List FrameValue). IsFairUpTo (length f) (fate_by new.script)) tells.frames
           (subst (λ (rules : List RuleValue). IsFairUpTo (length (frames_in report)) (fate_by rules)) (sym since.same_script) calm_script))) fallen;
       faulted = faults_moved faulted_are tells.frames shown.faulted;
-      dealt = subst (λ (n : ℕ). DealtWith meeting left.status report n) (sym (line_answered silent stands since tells))
-          (dealt_with fault (tellings desk_contents desk_moments folder outcome.folder) old new
-          left sides tells is cause_is caused end_is line.ran.same shown.up shown.keeper ends_as bears ends.cause ends.ended session);
+      dealt = dealt;
       stopped = λ e. databases_are ∙ left_none outcome.end cause left is (sym end_is ∙ e);
       left = session;
-      shows = status_shows (meeting_of old.server.device slots wishes) cause contents moments paths faults fault downs desk desk_after
-          outcome.end sides is.status ends;
+      shows = shows;
       front = front_of meeting line session.issued;
       fronts = fronts_at_moments meeting palm line session.issued;
       refused = refusal_told (meeting_of old.server.device slots wishes) cause contents moments paths faults fault downs old new desk desk_after outcome.end

@@ -23,6 +23,7 @@ use Rattle.hotsync_run.specs.Refusals.{BlamesHandheld, BlamesScript}
 use Rattle.hotsync_run.specs.Talks.{IsTalk, KeptSilent, Talked, TalkedFor}
 use Rattle.hotsync_run.specs.Told.{SidesTold, SinkTold}
 use Rattle.hotsync_run.specs.Whole.{StopsAnswered}
+use Rattle.hotsync_run.proofs.StopLaws.{tells_stop}
 use Rattle.hotsync_run.proofs.WholeLaws.{dealt_as}
 use Rattle.hotsync_run.specs.Traces.{TracesText}
 use Rattle.hotsync_run.specs.declared.report.Report.{Report}
@@ -45,10 +46,17 @@ talked_as : {rules : List RuleValue} {meeting : Meeting} {before after : SidesTo
     → BearsOut (cause_in other report.faulted.items) (frames_in report) → (IsLineDown other → ⊥) → (IsFallen other → ⊥) → (StopsAnswered other → ⊥)
     → (report.end ≡ Ended) ⊎ (other ≡ NoMemory) → StatusShows meeting report other → IsToldRefusal meeting other
     → Talked rules meeting before after other report
-talked_as talked ends caused up stands free over shows refused = record {
+talked_as {other} talked ends caused up stands free over shows refused = record {
   line = talked.line;
   ends = ends;
   caused = caused;
+  stops = tells_stop other (record {
+    ends = ends;
+    caused = caused;
+    dealt = dealt_as up stands free over talked.dealt;
+    shows = shows;
+    acked = talked.line.acked;
+  });
   fair = λ fair. up;
   faulted = talked.faulted;
   dealt = dealt_as up stands free over talked.dealt;

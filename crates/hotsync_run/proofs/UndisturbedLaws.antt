@@ -1,6 +1,6 @@
 -- A run that nothing disturbs is done whole.
 use Rattle.std.proofs.lemmas.Grind.{common_steps}
-use Rattle.std.proofs.Common.{◌≡◌, ◌⊎◌, ◌∙◌, ◌+◌, ℕ, List, [], ◌∷◌, ◌++◌, inl, inr, refl, subst, arith, Ok, Err}
+use Rattle.std.proofs.Common.{◌≡◌, ◌⊎◌, ◌∙◌, ◌+◌, ℕ, List, [], ◌∷◌, ◌++◌, inl, inr, refl, subst, sym, arith, Ok, Err}
 use Rattle.std.specs.Prelude.{false, true, IfSome, IsSome, Option, None, Some, string_bytes}
 use Rattle.std.specs.declared.alloc.Global.{Global}
 use Rattle.hs_folders.specs.FileMaps.{FileMap}
@@ -15,7 +15,8 @@ use Rattle.line_script.specs.Scripts.{fate_by}
 use Rattle.line_script.specs.declared.fault.ScriptFault.TheVariants as script
 use Rattle.line_script.proofs.ScriptLaws.{one_reading}
 use Rattle.line_steps.specs.declared.harm.Stop.TheVariants as stop
-use Rattle.line_world.specs.Causes.{BearsOut, EndsBy}
+use Rattle.line_world.specs.Causes.{BearsOut}
+use Rattle.line_world.specs.Stops.{EndsBy}
 use Rattle.desk_journal.specs.Overlays.{finished}
 use Rattle.desk_store.specs.Desks as desktop
 use Rattle.desk_store.specs.declared.fault.DeskOpenFault.{DeskOpenFault}
@@ -36,7 +37,8 @@ use Rattle.hotsync_run.specs.declared.report.Report.{Report}
 use Rattle.hotsync_run.specs.declared.report.SessionEnd.{SessionEnd}
 use Rattle.hotsync_run.specs.declared.status.Status.{Status}
 use Rattle.hotsync_run.specs.declared.status.Status.TheVariants.{BadScript, TooLong, HandheldFolder, DesktopFolder, SourceRead}
-use Rattle.hotsync_run.specs.declared.status.Status.TheVariants.{TraceWrite, OutWrite, NoMemory}
+use Rattle.hotsync_run.specs.declared.status.Status.TheVariants.{Done, TraceWrite, OutWrite, NoMemory, LineDown, Unplugged, Aborted, Undetected}
+use Rattle.hotsync_run.specs.declared.status.Status.TheVariants.{OtherUser, TooManyUsers, Limit, NewHandheld}
 use Rattle.hotsync_run.specs.declared.status.Status.TheVariants.{InUse}
 
 none_holds : (A : Type 0) → IsSome {T = A} None → ⊥
@@ -162,7 +164,21 @@ record RanWell (meeting : Meeting) (status : Status) (report : Report) : Type 0 
   pub may_meet : MayMeet meeting
 
 ends_well : {meeting : Meeting} (status : Status) {report : Report} → RanWell meeting status report → EndsWell status report
-ends_well status ran = grind (arith, common_steps)
+ends_well Done ran = inl (refl, ran.ends)
+ends_well NoMemory ran = inr (inl refl)
+ends_well TraceWrite ran = absurd (ran.blames.trace refl)
+ends_well OutWrite ran = absurd (ran.blames.out refl)
+ends_well HandheldFolder ran = absurd (ran.blames.handheld refl)
+ends_well DesktopFolder ran = absurd (ran.blames.desktop refl)
+ends_well (LineDown end) ran = absurd (ran.up tt)
+ends_well (Unplugged number) ran = absurd (ran.unplugged ran.caused.1)
+ends_well (Aborted number) ran = absurd (ran.aborted ran.caused.1)
+ends_well (Undetected number) ran = inr (inr (number, refl, ran.caused.1))
+ends_well (OtherUser handheld desktop) ran = absurd (ran.may_meet.known ran.shows.0.slot)
+ends_well TooManyUsers ran = absurd (ran.may_meet.room ran.shows.0)
+ends_well (Limit name) ran = absurd (none_is_some (sym ran.may_meet.within ∙ ran.shows.0))
+ends_well (NewHandheld name) ran = absurd (none_is_some (sym ran.may_meet.keeps ∙ ran.shows.1))
+ends_well _ ran = absurd ran.ends
 
 session_ends_well : {run : Run} {before after : CallTold} {out out_after : SinkTold} {status : Status} {report : Report}
     → IsUndisturbed run before after out out_after report → BlamesNone status → SessionRan run before after status report → EndsWell status report

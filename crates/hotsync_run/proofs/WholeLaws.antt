@@ -20,7 +20,8 @@ use Rattle.line_steps.specs.declared.harm.Stop.{Stop as LineStop}
 use Rattle.line_steps.specs.Sending.{StopsBy}
 use Rattle.line_steps.specs.Stories.{told_from}
 use Rattle.line_talk.specs.Telling.{bytes_of, wake}
-use Rattle.line_world.specs.Causes.{BearsOut, EndsBy, IsCause, down_end}
+use Rattle.line_world.specs.Causes.{BearsOut, IsCause, down_end}
+use Rattle.line_world.specs.Stops.{EndsBy}
 use Rattle.line_world.specs.Logs.{LogValue, no_log}
 use Rattle.line_world.specs.Worlds.{EndsAcknowledged, IsLog, TellDone, WorldValue, world_talk}
 use Rattle.line_world.specs.declared.down.Down.{Down}
@@ -84,7 +85,7 @@ stop_ends : (why : LineStop) (given : FateValue) (bytes : List ℕ) → StopsBy 
 stop_ends why given bytes is = grind (arith, common_steps)
 
 -- a run that goes on behind its last frame doesn't end with it
-goes_on : {why : LineStop} {Y : End} {key : Key} {frames : List FrameValue} → EndsBy why frames → EndsAcknowledging Y key frames → ⊥
+pub goes_on : {why : LineStop} {Y : End} {key : Key} {frames : List FrameValue} → EndsBy why frames → EndsAcknowledging Y key frames → ⊥
 goes_on {why} ends acked =
     grind (
       arith,
@@ -116,7 +117,7 @@ more-requests : (meeting : Meeting) → length (map text (before_writes meeting)
 more-requests meeting =
     grind (arith, parts-are meeting [], length-append (map text (before_commit meeting [])) (map text (after_commit meeting)), before-longer meeting [])
 
-two-first : (meeting : Meeting) → 2 ≤ length (map text (before_writes meeting))
+pub two-first : (meeting : Meeting) → 2 ≤ length (map text (before_writes meeting))
 unfolding before_writes
 two-first meeting = omega arith
 

@@ -33,6 +33,7 @@ use Rattle.hotsync_run.specs.LineRuns.{frames_in, log_in}
 use Rattle.hotsync_run.specs.Meetings.{Meets}
 use Rattle.hotsync_run.specs.Runs.{BlamesByCount, IsRun}
 use Rattle.hotsync_run.specs.Scripts.{IsScripted}
+use Rattle.hotsync_run.specs.Stops.{TellsStop}
 use Rattle.hotsync_run.specs.Told.{CallTold, SinkTold}
 use Rattle.hotsync_run.specs.Traces.{IsTraced}
 use Rattle.hotsync_run.specs.declared.report.Report.{Report}
@@ -77,11 +78,13 @@ pub record IsWhatItSays (rules : List RuleValue) (call : RunCall) : Type 0 where
       call.after.trace call.status
 
 -- A stop has the cause that is told: the status says whether it ended, the frames bear the cause
--- out, an object is blamed only where it failed, and another user, a limit and a new handheld are
--- those that both sides show.
+-- out, and where the last frame ends the run the cause is that frame, unless memory ran out. An
+-- object is blamed only where it failed, and another user, a limit and a new handheld are those
+-- that both sides show.
 pub record TellsCause (meeting : Meeting) (call : RunCall) : Type 0 where
   pub ends : EndsAs call.status call.report.end
   pub cause : BearsOut (cause_in call.status call.report.faulted.items) (frames_in call.report)
+  pub stops : TellsStop call.status (frames_in call.report)
   pub blames : BlamesByCount call.before call.after call.status
   pub shows : StatusShows meeting call.report call.status
   pub refused : IsToldRefusal meeting call.status

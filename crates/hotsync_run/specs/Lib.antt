@@ -22,6 +22,7 @@ pub mod Reports
 pub mod Runs
 pub mod Scans
 pub mod Scripts
+pub mod Stops
 pub mod Systems
 pub mod Talks
 pub mod Told

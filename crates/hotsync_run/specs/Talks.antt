@@ -28,6 +28,7 @@ use Rattle.hotsync_run.specs.Causes.{ByEnd, EndsAs, IsLineDown, cause_in, number
 use Rattle.hotsync_run.specs.Ends.{IsToldRefusal, SessionLeft, StandsAtFront, StatusShows}
 use Rattle.hotsync_run.specs.LineRuns.{LineRan, frames_in}
 use Rattle.hotsync_run.specs.Reports.{IsNotStarted}
+use Rattle.hotsync_run.specs.Stops.{TellsStop}
 use Rattle.hotsync_run.specs.Told.{FolderTold, SidesTold}
 use Rattle.hotsync_run.specs.Whole.{DealtWith}
 use Rattle.hotsync_run.specs.Wishes.{AsksFor}
@@ -85,14 +86,16 @@ NamesFaults report =
     (report.faulted.items ≡ []) ⊎ ((end : End) × BearsOut (Some (down.LineDown end report.faulted.items)) (frames_in report))
 
 -- A session between these sides that began: what went over the line and how far it was dealt with,
--- and its cause where it stopped. Where the script is fair up to the last frame no line goes down.
--- Databases are told where it ended. What it left of both sides is that of the session of both, and
--- the handheld stands at a front of that, as its folder did at each moment.
+-- and its cause where it stopped, which is the last frame where that ends the run. Where the script
+-- is fair up to the last frame no line goes down. Databases are told where it ended. What it left of
+-- both sides is that of the session of both, and the handheld stands at a front of that, as its
+-- folder did at each moment.
 pub record Talked (rules : List RuleValue) (meeting : Meeting) (before after : SidesTold)
     (status : Status) (report : Report) : Type 0 where
   pub line : LineRan rules meeting.device before.palm after.palm report
   pub ends : EndsAs status report.end
   pub caused : BearsOut (cause_in status report.faulted.items) (frames_in report)
+  pub stops : TellsStop status (frames_in report)
   pub fair : IsFairUpTo (length (frames_in report)) (fate_by rules) → ¬ IsLineDown status
   pub faulted : NamesFaults report
   pub dealt : DealtWith meeting status report line.answered

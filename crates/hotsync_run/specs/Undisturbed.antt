@@ -12,7 +12,7 @@ use Rattle.trace_text.specs.Tallies.{IsFairUpTo}
 use Rattle.line_script.specs.Rules.{RuleValue}
 use Rattle.line_script.specs.Scripts.{fate_by}
 use Rattle.line_steps.specs.declared.harm.Stop.TheVariants as stop
-use Rattle.line_world.specs.Causes.{EndsBy}
+use Rattle.line_world.specs.Stops.{EndsBy}
 use Rattle.desk_journal.specs.Overlays.{finished}
 use Rattle.desk_store.specs.Desks.{IsReadable}
 use Rattle.run_words.specs.Runs.{Run}
