@@ -66,6 +66,7 @@ module _ (call : RunCall) (is : IsAnsweredRun call) where
             stopped = talked.left.stopped;
             given = talked.left.given;
             desktop = talked.left.moments;
+            commit = ran.changed;
             reached = talked.line.last;
             handheld = talked.front;
             keeps = talked.line.stands;

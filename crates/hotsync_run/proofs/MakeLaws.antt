@@ -105,7 +105,6 @@ made_talk {items} {device} {slots} after {status} {report} are merged holds clos
       slots = slots;
       desktop = desk;
       after = after;
-      changed = talk.changed;
       talked = had;
       databases = λ ended. (had.talked.left.ended ended).databases
           ∙ ap reports (meets items device slots had.wishes are holds closed desk)
@@ -183,8 +182,7 @@ module _ (items : List Item) (status : Status) (report : Report) where
     slots = ran.slots;
     desktop = ran.desktop;
     after = ran.after;
-    changed = ran.changed;
-    talked = record { wishes = ran.talked.wishes; asked = ran.talked.asked; talked = talked };
+    talked = record { wishes = ran.talked.wishes; asked = ran.talked.asked; talked = talked; changed = ran.talked.changed };
     databases = ran.databases;
   }
 

@@ -344,14 +344,14 @@ traced_from {text} first {before} {after} same later traced =
     }
 
 -- the desktop's folder, from before its journal was finished on
-desktop_ran : {first : FolderTold} (before : FolderTold) {after : FolderTold} {end : SessionEnd} → before.contents ≡ option_map finished first.contents
-    → StandsAsItDid first before → DesktopRan before.contents before after end → DesktopRan (option_map finished first.contents) first after end
-desktop_ran {first} before {after} finished_is stood ran =
+desktop_ran : {meeting : Meeting} {first : FolderTold} (before : FolderTold) {after : FolderTold} {end : SessionEnd} → before.contents ≡ option_map finished first.contents
+    → StandsAsItDid first before → DesktopRan meeting before.contents before after end
+    → DesktopRan meeting (option_map finished first.contents) first after end
+desktop_ran {meeting} {first} before {after} finished_is stood ran =
     let same : option_map (put_all ran.entries) before.contents ≡ option_map (put_all ran.entries) (option_map finished first.contents) =
     ap (λ (t : Option FileMap). option_map (put_all ran.entries) t) finished_is in
     record {
       entries = ran.entries;
-      place = ran.place;
       files = ran.files;
       written = λ ended. ran.written ended ∙ same;
       stands = elim ran.stands [
@@ -402,9 +402,9 @@ module _ {run : Run} (before after : CallTold) {palm desk : FolderTold} {trace :
     trace = traced.silent silent.report_is.frames ∙ opened.trace_taken;
   }
 
-  session_run : TracesReport run.trace report trace after.trace status → DesktopRan desk.contents desk after.desk report.end
+  session_run : TracesReport run.trace report trace after.trace status
       → TalkedFor run rules device slots (both_told palm desk) (sides_of after) status report → SessionRan run before after status report
-  session_run traced changed had = record {
+  session_run traced had = record {
     rules = rules;
     scripted = opened.scripted;
     meeting = meeting_of device slots had.wishes;
@@ -415,7 +415,7 @@ module _ {run : Run} (before after : CallTold) {palm desk : FolderTold} {trace :
       picked = refl;
       asked = had.asked;
     };
-    changed = desktop_ran desk opened.finished_is opened.stands changed;
+    changed = desktop_ran desk opened.finished_is opened.stands had.changed;
     talked = talked_from (both_told palm desk) opened.stays opened.stands had.talked;
     traced = traced_from before.trace opened.trace_taken opened.trace_later traced.traced;
   }
@@ -426,7 +426,7 @@ module _ {run : Run} (before after : CallTold) {palm desk : FolderTold} {trace :
   by_session talk traced = record {
     shown = by_end_then report.end {A = KeptSilent (both_told palm desk) (sides_of after) status report}
         {B = TalkedFor run rules device slots (both_told palm desk) (sides_of after) status report} {C = SentNothing run before after status report}
-        {D = SessionRan run before after status report} (silent_run traced) (session_run traced talk.changed) talk.shown;
+        {D = SessionRan run before after status report} (silent_run traced) (session_run traced) talk.shown;
     blames = record {
       source = λ e. absurd (talk_not_script talk (subst BlamesScript (sym e) tt));
       folders = record {

@@ -3,13 +3,12 @@ use Rattle.std.proofs.lemmas.Grind.{common_steps}
 use Rattle.std.proofs.Common.{arith, ◌≡◌, ◌⊎◌, ◌∙◌, ap, inl, inr, refl, sym, subst, ℕ, List, [], length}
 use Rattle.std.specs.Prelude.{Option, None, Some, Result, Err, IsErrOf, OnOk}
 use Rattle.std.specs.Global.{Vec}
-use Rattle.std.specs.Option.{option_map}
 use Rattle.hs_folders.specs.FileMaps.{FileMap}
 use Rattle.hs_folders.specs.Moments.{Moments}
 use Rattle.hs_folders.proofs.MomentLaws.{no_moment}
 use Rattle.palm_device.specs.Devices.{Device}
 use Rattle.handheld_files.specs.Openings.{Stands}
-use Rattle.desk_journal.specs.Overlays.{StandsAs, put_all}
+use Rattle.desk_journal.specs.Overlays.{StandsAs}
 use Rattle.trace_text.specs.Tallies.{IsFairUpTo}
 use Rattle.trace_text.specs.declared.frame.End.{End}
 use Rattle.line_script.specs.Rules.{RuleValue}
@@ -23,10 +22,10 @@ use Rattle.line_world.specs.Causes.{BearsOut, IsCause, down_end}
 use Rattle.line_world.specs.declared.down.Down.{Down}
 use Rattle.line_world.specs.declared.down.Down.TheVariants as down
 use Rattle.sync_session.specs.Leaving.{LeavesFolder}
-use Rattle.sync_session.specs.Outcomes.{tellings}
+use Rattle.sync_session.specs.Outcomes.{ChangesDesk, tellings}
 use Rattle.sync_session.specs.declared.outcome.Outcome.{Outcome}
 use Rattle.sync_session.specs.declared.report.DbReport.{DbReport}
-use Rattle.sync_session.specs.Tasks.{meeting_of}
+use Rattle.sync_session.specs.Tasks.{Meeting, meeting_of}
 use Rattle.sync_session.specs.declared.wishes.Wishes.{Wishes}
 use Rattle.session_fronts.specs.Sound.{IsSoundMeeting}
 use Rattle.dlp_commands.specs.declared.link.LinkFault.{LinkFault}
@@ -105,19 +104,21 @@ faults_moved same same_frames is = grind (arith, [])
 ended_ok : (answer : Result (Vec DbReport) Stop) {end : SessionEnd} {P : Type 0} → end ≡ left_end answer → OnOk answer P → end ≡ Ended → P
 ended_ok answer is ok ended = grind (arith, common_steps)
 
-desk_changed : {L D : Type 0} {contents : D → Option FileMap} {moments : D → Moments} {paths : D → Option (List (List ℕ))} {faults : D → ℕ} {folder : D}
-    {outcome : Outcome L D} {end : SessionEnd} → end ≡ left_end outcome.end → LeavesFolder contents moments paths faults folder outcome
-    → DesktopRan (contents folder) (folder_told contents moments paths faults folder)
-    (folder_told contents moments paths faults outcome.folder) end
-desk_changed {contents} {moments} {folder} {outcome} is leaves = record {
-  entries = leaves.entries;
-  place = leaves.place;
-  files = leaves.files;
-  written = ended_ok outcome.end is leaves.written;
-  stands = leaves.stands;
-  between = moments folder;
-  unchanged = no_moment (StandsAs (contents folder)) (moments folder) (moments folder) refl;
-  changed = leaves.each_moment;
+desk_changed : {meeting : Meeting} (before after : FolderTold) (answer : Result (Vec DbReport) Stop) {end : SessionEnd} → end ≡ left_end answer
+    → ChangesDesk meeting (record {
+      before = before.contents;
+      after = after.contents;
+      moments_before = before.moments;
+      moments_after = after.moments;
+    }) answer → DesktopRan meeting before.contents before after end
+desk_changed before after answer is changes = record {
+  entries = changes.entries;
+  files = changes.files;
+  written = ended_ok answer is changes.written;
+  stands = changes.stands;
+  between = before.moments;
+  unchanged = no_moment (StandsAs before.contents) before.moments before.moments refl;
+  changed = changes.each_moment;
 }
 
 -- what is known of a session over a world that was fresh, by all that its calls answered
@@ -192,10 +193,9 @@ spoke {contents} {moments} {paths} {faults} {desk_contents} {desk_moments} {desk
           is.status ends;
     } in
     let has : TalkedFor run old.script old.server.device slots before after left.status report =
-    record { wishes = wishes; asked = asked; talked = talked } in
+    record { wishes = wishes; asked = asked; talked = talked; changed = desk_changed desk desk_after outcome.end end ends.changed } in
     record {
       shown = by_left outcome.end (KeptSilent before after left.status report) end has;
-      changed = desk_changed end leaves;
       blames = record {
         handheld = λ e. elim (since.keeper (sym cause_is ∙ shown.keeper e)) [ inl was ↦ absurd (none_is_some (sym calm ∙ was)) | inr rose ↦ rose ];
         desktop = λ e. leaves.cause.rose (left_desk outcome.end cause left is e);
@@ -213,16 +213,6 @@ pub kept_silent : (run : Run) (rules : List RuleValue) (device : Device) (slots 
 kept_silent run rules device slots before after {status} {report} memory is palm_same desk_same = record {
   shown = subst (λ (e : SessionEnd). ByEnd e (KeptSilent before after status report) (TalkedFor run rules device slots before after status report))
       (sym is.end) (record { memory = memory; report_is = is; handheld = palm_same; desktop = desk_same });
-  changed = subst (λ (d : FolderTold). DesktopRan before.desk.contents before.desk d report.end) (sym desk_same) (record {
-    entries = [];
-    place = 0;
-    files = tt;
-    written = λ ended. let none = is.end in cc;
-    stands = inl refl;
-    between = before.desk.moments;
-    unchanged = no_moment (StandsAs before.desk.contents) before.desk.moments before.desk.moments refl;
-    changed = no_moment (StandsAs (option_map (put_all []) before.desk.contents)) before.desk.moments before.desk.moments refl;
-  });
   blames = record { handheld = λ e. cc; desktop = λ e. cc };
   paths = record {
     handheld = ap (λ (t : FolderTold). t.paths) palm_same;

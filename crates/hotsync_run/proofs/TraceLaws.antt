@@ -132,8 +132,7 @@ talk_traced {run} {rules} {device} {slots} {before} {after} {status} traced {rep
         report_is = kept.report_is;
         handheld = kept.handheld;
         desktop = kept.desktop;
-      }) (λ had. record { wishes = had.wishes; asked = had.asked; talked = talked_traced had.talked traced is }) talk.shown;
-  changed = talk.changed;
+      }) (λ had. record { wishes = had.wishes; asked = had.asked; talked = talked_traced had.talked traced is; changed = had.changed }) talk.shown;
   blames = record {
     handheld = λ e. talk.blames.handheld (folder_traced status is (λ f. cc) (λ f. cc) e);
     desktop = λ e. talk.blames.desktop (folder_traced status is (λ f. cc) (λ f. cc) e);

@@ -3,6 +3,7 @@
 -- a session says (`requests`), its merge (`merged_device`, `merged_slots`), what folders stand for
 -- (`Stands`, `StandsAs`, `StandsForSlots`).
 use Rattle.std.specs.Prelude.{◌≡◌, ◌⊎◌, ℕ, List, length, map, IsSome}
+use Rattle.std.specs.Option.{option_map}
 use Rattle.hs_folders.specs.Moments.{EachMomentSince}
 use Rattle.palm_device.specs.Devices.{Device}
 use Rattle.dlp_commands.specs.DeviceRuns.{DeviceRun}
@@ -15,7 +16,7 @@ use Rattle.line_script.specs.Scripts.{fate_by}
 use Rattle.line_world.specs.Causes.{BearsOut}
 use Rattle.line_world.specs.Logs.{said_in}
 use Rattle.line_world.specs.Worlds.{IsLog, TellBoth}
-use Rattle.desk_journal.specs.Overlays.{StandsAs}
+use Rattle.desk_journal.specs.Overlays.{StandsAs, finished}
 use Rattle.desktop_session.specs.Acts.{text}
 use Rattle.desktop_session.specs.Says.{IsPrefix}
 use Rattle.run_words.specs.Runs.{Run}
@@ -34,6 +35,7 @@ use Rattle.hotsync_run.specs.Meetings.{Meets}
 use Rattle.hotsync_run.specs.Runs.{BlamesByCount, IsRun}
 use Rattle.hotsync_run.specs.Scripts.{IsScripted}
 use Rattle.hotsync_run.specs.Stops.{TellsStop}
+use Rattle.hotsync_run.specs.Talks.{DesktopRan}
 use Rattle.hotsync_run.specs.Told.{CallTold, SinkTold}
 use Rattle.hotsync_run.specs.Traces.{IsTraced}
 use Rattle.hotsync_run.specs.declared.report.Report.{Report}
@@ -97,8 +99,10 @@ FairStaysUp rules call =
 -- An ended session leaves both sides at the merge, and what was sent begins that session. One that
 -- stopped left the desktop as it was, or merged, as it was at each moment, and the handheld behind
 -- the first of the session's writes. Of the handheld's files only the information file and those of
--- databases that the session doesn't skip changed. Where a limit would be passed nothing was
--- written, nor where a new handheld would cost the desktop live rows.
+-- databases that the session doesn't skip changed, and of the desktop's, once a journal that was
+-- left is finished, only its information file and those of such databases in the picked slot. Where
+-- a limit would be passed nothing was written, nor where a new handheld would cost the desktop live
+-- rows.
 pub record LeavesTheMerge (meeting : Meeting) (call : RunCall) : Type 0 where
   pub begins : IsPrefix (log_in call.report).issued (requests meeting)
   pub ended : call.report.end ≡ Ended
@@ -111,6 +115,8 @@ pub record LeavesTheMerge (meeting : Meeting) (call : RunCall) : Type 0 where
       (λ told. StandsAs call.before.desk.contents told
       ⊎ StandsForSlots (merged_slots meeting given) told)
       call.before.desk.moments call.after.desk.moments
+  pub commit : DesktopRan meeting (option_map finished call.before.desk.contents) call.before.desk
+      call.after.desk call.report.end
   pub reached : Device
   pub handheld : Front meeting call.report.writes call.report.given.items reached
   pub keeps : Stands call.after.palm.contents reached.databases reached.user

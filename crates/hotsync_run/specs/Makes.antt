@@ -21,7 +21,7 @@ use Rattle.hotsync_run.specs.Causes.{ByEnd}
 use Rattle.hotsync_run.specs.Lines.{done_lines}
 use Rattle.hotsync_run.specs.Printed.{IsPrinted}
 use Rattle.hotsync_run.specs.Reports.{IsNotStarted}
-use Rattle.hotsync_run.specs.Talks.{DesktopRan, TalkedFor}
+use Rattle.hotsync_run.specs.Talks.{TalkedFor}
 use Rattle.hotsync_run.specs.Told.{FolderTold, SidesTold, SinkTold}
 use Rattle.hotsync_run.specs.declared.report.Report.{Report}
 use Rattle.hotsync_run.specs.declared.report.SessionEnd.TheVariants.{Ended}
@@ -90,8 +90,6 @@ pub record MadeRan (items : List Item) (status : Status) (report : Report) : Typ
   pub slots : List SlotValue
   pub desktop : IsDesk (Some (desktop_files items)) slots
   pub after : SidesTold
-  pub changed : DesktopRan (Some (desktop_files items)) (files_told (desktop_files items)) after.desk
-      report.end
   pub talked : TalkedFor made_run made_script device slots (made_told items) after status report
   pub databases : report.end ≡ Ended → report.databases.items ≡ made_report items ∷ []
 

@@ -60,8 +60,8 @@ pub record SessionRan (run : Run) (before after : CallTold) (status : Status) (r
   pub scripted : IsScripted run.script before.source.left rules
   pub meeting : Meeting
   pub meets : Meets run before meeting
-  pub changed : DesktopRan (option_map finished before.desk.contents) before.desk after.desk
-      report.end
+  pub changed : DesktopRan meeting (option_map finished before.desk.contents) before.desk
+      after.desk report.end
   pub talked : Talked rules meeting (sides_of before) (sides_of after) status report
   pub traced : IsTraced run.trace (trace_text (frames_in report)) before.trace after.trace status
 

@@ -1,5 +1,5 @@
 -- What is known of a session over a line once it is over.
-use Rattle.std.specs.Prelude.{◌≡◌, ◌⊎◌, ℕ, List, [], length, Option, Some, Result, Ok, Err}
+use Rattle.std.specs.Prelude.{◌≡◌, ◌⊎◌, List, [], length, Option, Some, Result, Ok, Err}
 use Rattle.std.specs.Global.{Vec}
 use Rattle.std.specs.List.{AllByRecursion}
 use Rattle.std.specs.Option.{option_map}
@@ -16,7 +16,7 @@ use Rattle.line_world.specs.declared.down.Down.{Down}
 use Rattle.line_world.specs.declared.down.Down.TheVariants as down
 use Rattle.run_words.specs.Runs.{Run}
 use Rattle.sync_session.specs.Fronts.{Front}
-use Rattle.sync_session.specs.Leaving.{IsSlotsFile}
+use Rattle.sync_session.specs.Outcomes.{IsCommitFile}
 use Rattle.sync_session.specs.Tasks.{Meeting, meeting_of}
 use Rattle.sync_session.specs.declared.report.DbReport.{DbReport}
 use Rattle.sync_session.specs.declared.stop.Stop.{Stop}
@@ -64,14 +64,13 @@ pub record IsLeft (answer : Result (Vec DbReport) Stop) (cause : Option Down) (l
 -- ---- what is known of it
 
 -- The desktop's folder, which is this once a journal that was left is finished, and then changed
--- once at most: an ended session has put some files over the others, all of one slot or the
--- information file. One that stopped left it standing for what it stood for at first, or for that.
+-- once at most: an ended session has put some files over the others, which are the information file
+-- and those of databases that it doesn't skip, in the picked slot. One that stopped left it standing for what it stood for at first, or for that.
 -- At each moment it stood for the one, and from some moment on for the other.
-pub record DesktopRan (opened : Option FileMap) (before after : FolderTold) (end : SessionEnd)
-    : Type 0 where
+pub record DesktopRan (meeting : Meeting) (opened : Option FileMap) (before after : FolderTold)
+    (end : SessionEnd) : Type 0 where
   pub entries : List EntryValue
-  pub place : ℕ
-  pub files : AllByRecursion (λ (entry : EntryValue). IsSlotsFile place entry.name) entries
+  pub files : AllByRecursion (λ (entry : EntryValue). IsCommitFile meeting entry.name) entries
   pub written : end ≡ Ended → after.contents ≡ option_map (put_all entries) opened
   pub stands : StandsAs before.contents after.contents
       ⊎ StandsAs (option_map (put_all entries) opened) after.contents
@@ -108,12 +107,15 @@ pub record Talked (rules : List RuleValue) (meeting : Meeting) (before after : S
 
 -- ---- how a run has it
 
--- a session between a handheld and a desktop's slots, for which the words ask
+-- a session between a handheld and a desktop's slots, for which the words ask, and what it changed
+-- of the desktop's folder
 pub record TalkedFor (run : Run) (rules : List RuleValue) (device : Device) (slots : List SlotValue)
     (before after : SidesTold) (status : Status) (report : Report) : Type 0 where
   pub wishes : Wishes
   pub asked : AsksFor run wishes
   pub talked : Talked rules (meeting_of device slots wishes) before after status report
+  pub changed : DesktopRan (meeting_of device slots wishes) before.desk.contents before.desk
+      after.desk report.end
 
 -- memory ran out before anything was sent, and both folders are as they were
 pub record KeptSilent (before after : SidesTold) (status : Status) (report : Report) : Type 0 where
@@ -137,6 +139,5 @@ pub record IsTalk (run : Run) (rules : List RuleValue) (device : Device) (slots 
     (before after : SidesTold) (status : Status) (report : Report) : Type 0 where
   pub shown : ByEnd report.end (KeptSilent before after status report)
       (TalkedFor run rules device slots before after status report)
-  pub changed : DesktopRan before.desk.contents before.desk after.desk report.end
   pub blames : BlamesFolders before after status
   pub paths : SamePaths before after
