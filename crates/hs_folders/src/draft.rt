@@ -3,7 +3,7 @@
 use crate::replacement::replaced_mode;
 use crate::system_files::locked;
 use std::alloc::Global;
-use std::fs::{File, OpenOptions, Permissions};
+use std::fs::{File, Metadata, OpenOptions, Permissions};
 use std::io::{ErrorKind, Write};
 use std::os::unix::fs::PermissionsExt;
 use std::path::Path;
@@ -23,15 +23,16 @@ pub(crate) struct Draft {
 
 impl Draft {
     // Makes the file, beside the place that it is to have. What stands at either and is no file is
-    // refused unopened, as is a draft that somebody else is writing.
+    // refused unopened, beside it a link too, so that none that was planted there is written
+    // through; and so is a draft that somebody else is writing.
     pub(crate) fn create<R: Files<File = File>>(
         rt: &R,
         alloc: Global,
         path: &str,
     ) -> io::Result<Draft> {
         let beside = format!(in alloc; "{path}{DRAFT}")?;
-        check_place(rt, path)?;
-        check_place(rt, &beside)?;
+        check_file(fs::metadata(rt, path))?;
+        check_file(fs::symlink_metadata(rt, beside.as_str()))?;
         let mut how = OpenOptions::new();
         how.write(true);
         how.create(true);
@@ -69,8 +70,9 @@ impl Draft {
     }
 }
 
-fn check_place<R: Files>(rt: &R, path: &str) -> io::Result<()> {
-    match fs::metadata(rt, path) {
+// Refuses what stands somewhere and is no file.
+fn check_file(found: io::Result<Metadata>) -> io::Result<()> {
+    match found {
         Ok(found) if !found.is_file() => Err(io::Error::from(ErrorKind::InvalidInput)),
         _ => Ok(()),
     }

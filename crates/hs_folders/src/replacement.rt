@@ -56,17 +56,27 @@ pub(crate) fn replaced_mode<R: Files>(rt: &R, path: Path<'_>) -> Option<u32> {
     }
 }
 
-// The mode of a new file of this folder: private where one of its files is not readable to all.
+// The mode of a new file of this folder: private where one of its files is not readable to all. A
+// name that is not UTF-8 is passed over, as in the list of names.
 fn new_mode<R: Files>(rt: &R, alloc: Global, folder: &str) -> io::Result<u32> {
     for entry in fs::read_dir(&(rt, alloc), folder)? {
-        let entry = entry?;
-        let path = Path::new(folder).join(alloc, entry.file_name())?;
-        match replaced_mode(rt, path.as_path()) {
-            Some(mode) if mode & READ_BY_ALL == 0 => return Ok(PRIVATE),
-            _ => {}
+        match entry {
+            Ok(entry) if is_private(rt, alloc, folder, entry.file_name())? => return Ok(PRIVATE),
+            Ok(_) => {}
+            Err(error) if error.kind() == ErrorKind::InvalidFilename => {}
+            Err(error) => return Err(error),
         }
     }
     Ok(USUAL)
+}
+
+// Whether a file of this name is not readable to all.
+fn is_private<R: Files>(rt: &R, alloc: Global, folder: &str, name: &str) -> io::Result<bool> {
+    let path = Path::new(folder).join(alloc, name)?;
+    match replaced_mode(rt, path.as_path()) {
+        Some(mode) => Ok(mode & READ_BY_ALL == 0),
+        None => Ok(false),
+    }
 }
 
 // Writes a file with these permissions, where the file system has any: nobody else reads it before.
