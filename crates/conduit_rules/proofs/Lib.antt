@@ -20,4 +20,5 @@ pub mod SettledLaws
 pub mod SlotLaws
 pub mod SortLaws
 pub mod TableLaws
+pub mod TwiceLaws
 pub mod ViewLaws

@@ -92,8 +92,12 @@ loose_for Desktop xs = xs
 abbrev pub partners_for : Action → Sides → List ContentValue
 partners_for a s = each_id (λ i. option_to_list (partner_for a s i))
 
+-- the desktop's contents of the records that both sides changed, each its own way: the handheld's stays under the id, and these are new
+abbrev pub kept_twice : Action → Sides → List ContentValue
+kept_twice a s = each_id (λ i. option_to_list (fate_for a s i).news)
+
 abbrev pub offers_for : Action → Sides → List ContentValue
-offers_for a s = loose_for a s.loose_live ++ each_id (λ i. option_to_list (fate_for a s i).news)
+offers_for a s = loose_for a s.loose_live ++ kept_twice a s
 
 -- the choice of an action; that of Sync is that of a synchronisation
 abbrev pub choice_for : Action → Sides → Choice

@@ -1,10 +1,10 @@
 -- The lists of a plan, from what is chosen and what the handheld holds.
-use Rattle.std.specs.Prelude.{◌≡◌, ℕ, Bool, true, false, if◌then◌else◌, List, [], ◌∷◌, Option, Some, None}
+use Rattle.std.specs.Prelude.{◌≡◌, ℕ, Bool, true, false, if◌then◌else◌, List, [], ◌∷◌, length, Option, Some, None}
 use Rattle.pdb_values.specs.Contents.{ContentValue}
 use Rattle.conduit_rules.specs.ById.{each_id, with_id}
 use Rattle.conduit_rules.specs.Contents.{same_content}
 use Rattle.conduit_rules.specs.States.{Held, nothing, live, archived, content_of}
-use Rattle.conduit_rules.specs.Choices.{Sides, choice_for}
+use Rattle.conduit_rules.specs.Choices.{Sides, choice_for, kept_twice}
 use Rattle.conduit_rules.specs.declared.action.Action.{Action}
 use Rattle.conduit_rules.specs.declared.planned.Plan.{Plan}
 
@@ -54,3 +54,4 @@ pub record IsPlan (a : Action) (s : Sides) (p : Plan) : Type 0 where
   pub gone : p.gone.items ≡ gone_rows (choice_for a s).keep s.handheld
   pub adds : p.adds.items ≡ (choice_for a s).adds
   pub purge : p.purge.items ≡ purged_ids (choice_for a s).keep s.handheld
+  pub twice : p.twice ≡ length (kept_twice a s)

@@ -135,6 +135,7 @@ impl Draft {
             partners,
             mut news,
         } = self;
+        let twice = news.len();
         let mut offers = Vec::new(alloc);
         let mut archive = Vec::new(alloc);
         collect_loose(alloc, slots, &mut offers, &mut archive)?;
@@ -147,6 +148,7 @@ impl Draft {
             gone,
             adds: leave_unpaired(alloc, &partners, &offers)?,
             purge,
+            twice,
         })
     }
 }

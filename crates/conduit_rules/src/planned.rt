@@ -17,4 +17,6 @@ pub struct Plan {
     pub adds: Vec<Content>,
     /// The live records of the handheld that are not kept.
     pub purge: Vec<RecordId>,
+    /// How many records both sides changed, each its own way, so that both contents stay.
+    pub twice: usize,
 }

@@ -100,8 +100,8 @@ read_same [] = refl
 read_same (s ∷ view) = rw (received_same s.state, read_same view) refl
 
 counts_same : (a b : Counts) → a.fast ≡ b.fast → a.read ≡ b.read → a.replaced ≡ b.replaced → a.added ≡ b.added → a.purged ≡ b.purged
-    → a.archived ≡ b.archived → a.rows ≡ b.rows → a ≡ b
-counts_same a b fast read replaced added purged archived rows = grind (arith, fast)
+    → a.archived ≡ b.archived → a.twice ≡ b.twice → a.rows ≡ b.rows → a ≡ b
+counts_same a b fast read replaced added purged archived twice rows = grind (arith, fast)
 
 counts_are : {items : List Item} {wishes : Wishes} → AsksNothing wishes → IsMadeMerge items
     → counts_of (made_meeting items wishes) (made_task items) ≡ made_counts items

@@ -18,15 +18,16 @@ use Rattle.made_folders.specs.Sides.{desktop_files, handheld_files}
 use Rattle.made_folders.specs.declared.item.Item.{Item}
 use Rattle.made_merge.specs.Numbers.{kinds}
 use Rattle.hotsync_run.specs.Causes.{ByEnd}
-use Rattle.hotsync_run.specs.Lines.{done_lines}
-use Rattle.hotsync_run.specs.Printed.{IsPrinted}
+use Rattle.hotsync_looks.specs.Lines.{done_lines}
+use Rattle.hotsync_looks.specs.Printed.{IsPrinted}
 use Rattle.hotsync_run.specs.Reports.{IsNotStarted}
 use Rattle.hotsync_run.specs.Talks.{TalkedFor}
-use Rattle.hotsync_run.specs.Told.{FolderTold, SidesTold, SinkTold}
+use Rattle.hotsync_looks.specs.Told.{SinkTold}
+use Rattle.hotsync_run.specs.Told.{FolderTold, SidesTold}
 use Rattle.hotsync_run.specs.declared.report.Report.{Report}
 use Rattle.hotsync_run.specs.declared.report.SessionEnd.TheVariants.{Ended}
-use Rattle.hotsync_run.specs.declared.status.Status.{Status}
-use Rattle.hotsync_run.specs.declared.status.Status.TheVariants.{Done, OutWrite, NoMemory}
+use Rattle.hotsync_looks.specs.declared.status.Status.{Status}
+use Rattle.hotsync_looks.specs.declared.status.Status.TheVariants.{Done, OutWrite, NoMemory}
 
 -- ---- what is asked of it
 
@@ -69,6 +70,7 @@ made_counts items = record {
   added = kinds 9 items;
   purged = kinds 7 items;
   archived = 0;
+  twice = 0;
   rows = length items - kinds 7 items;
 }
 

@@ -1,8 +1,8 @@
 // Hints for whoever called, on standard error. Nothing is promised of them: what can't be said is left out.
 use crate::answer::Answer;
-use crate::printed_name::push_name;
+use hotsync_looks::push_name;
 use crate::report::Report;
-use crate::status::Status;
+use hotsync_looks::Status;
 use dlp_replies::{Reply, read_reply};
 use folder_files::JOURNAL;
 use hs_folders::Folder;
@@ -10,7 +10,7 @@ use pdb_values::DbName;
 use run_clap::{Command, RunWords, read_command};
 use run_words::{NamedAction, Target, read_actions};
 use std::alloc::{AllocError, Global};
-use sync_session::{DbReport, Did, Skip};
+use sync_session::{Counts, DbReport, Did, Skip};
 
 // The function whose reply tells when the handheld was synchronised last.
 const READ_USER_INFO: u8 = 0x10;
@@ -99,7 +99,7 @@ pub fn hint_folders<R: Eprint + AllocGlobal, H: Folder + Drop, D: Folder + Drop>
     match status {
         Status::Done => {
             for database in &report.databases {
-                hint_missing(rt, database);
+                hint_database(rt, database);
             }
             hint_names(rt, &mut device);
             hint_names(rt, &mut desk);
@@ -109,13 +109,22 @@ pub fn hint_folders<R: Eprint + AllocGlobal, H: Folder + Drop, D: Folder + Drop>
     }
 }
 
-// The word that brings back a database that the handheld lost.
-fn hint_missing<R: Eprint + AllocGlobal>(rt: &R, database: &DbReport) {
-    let Did::Skipped(Skip::Missing) = database.did else {
+// The word that brings back a database that the handheld lost, or how many records are there twice now.
+fn hint_database<R: Eprint + AllocGlobal>(rt: &R, database: &DbReport) {
+    let Ok(stem) = database.name.file_stem(rt.alloc()) else {
         return;
     };
-    if let Ok(stem) = database.name.file_stem(rt.alloc()) {
-        let _ = eprintln!(rt; "hint: --actions={stem}:desktop brings {stem} back to the handheld");
+    match database.did {
+        Did::Skipped(Skip::Missing) => {
+            let _ =
+                eprintln!(rt; "hint: --actions={stem}:desktop brings {stem} back to the handheld");
+        }
+        Did::Synced(Counts { twice, .. }) if twice > 0 => {
+            let _ = eprintln!(rt;
+                "hint: {stem}: changed on both sides, and kept in both versions: {twice}"
+            );
+        }
+        _ => {}
     }
 }
 

@@ -8,13 +8,14 @@ use Rattle.std.proofs.lemmas.Bool.Decides.{nat_tests}
 use Rattle.pdb_values.specs.Contents.{ContentValue}
 use Rattle.pdb_values.specs.declared.record.Record.{Record}
 use Rattle.conduit_rules.specs.ById.{each_id, id_bound, with_id}
-use Rattle.conduit_rules.specs.Choices.{fate_at, partner, partners}
+use Rattle.conduit_rules.specs.Choices.{fate_at, kept_twice, partner, partners}
 use Rattle.conduit_rules.specs.Contents.{count_of}
 use Rattle.conduit_rules.specs.Fates.{Fate, fate}
 use Rattle.conduit_rules.specs.News.{unpaired}
 use Rattle.conduit_rules.specs.Plans.{purged_at, replacement}
 use Rattle.conduit_rules.specs.States.{Based, Held, base_at, first, has_row, held, held_where, is_row, no_base}
 use Rattle.conduit_rules.specs.Views.{IsHonest, IsHonestUnder, fast_seen, view_held}
+use Rattle.conduit_rules.specs.declared.action.Action.TheVariants.{Sync}
 use Rattle.conduit_rules.specs.declared.view.Seen.{Seen}
 use Rattle.conduit_rules.proofs.ViewLaws.{first-id, view_held-fast}
 use Rattle.made_folders.specs.Items.{generator_of, made}
@@ -195,11 +196,16 @@ mates_are items are few =
     (λ number none within. partner_is number items are within none)
     (λ item found ten some within. partner_is item.number items are within found ∙ (facts item ten).mate)
 
+-- no record was changed on both sides
+twice_none : (items : List Item) → AreMade 1 items → kept_twice Sync (made_sides items) ≡ []
+twice_none items are =
+    each_nothing (λ i. option_to_list (fate_at (made_sides items) i).news) (λ number within. news_none items are number within)
+
 adds_are : (items : List Item) → AreMade 1 items → length items ≤ 5000 → (made_choice items).adds ≡ flat_map new_contents items
 adds_are items are few =
     let rows = loose_made (has_row (records_on Base items)) 1 items are (omega arith) (base_zero items)
     (based_from items 1 items are are (omega arith) (λ number behind. refl)) in
-    let news = each_nothing (λ i. option_to_list (fate_at (made_sides items) i).news) (λ number within. news_none items are number within) in
+    let news = twice_none items are in
     ap {A = List ContentValue × List ContentValue} (λ x. unpaired (λ c. count_of c x.0) x.1) (λ k. (
       mates_are items are few k,
       (ap {A = List ContentValue × List ContentValue} (λ x. x.0 ++ x.1) (λ m. (rows m, news m))
@@ -255,6 +261,7 @@ merged_by_kinds items are few = record {
   purged = ap length (purged_by items are few) ∙ of_kind (λ (item : Item). purged_at (kept_on item) (held_on Handheld (Some item)) item.number) 7 1
       items are (λ item ten. (facts item ten).purged);
   archived = archive_is items are;
+  twice = ap length (twice_none items are);
   rows = ap (λ ys. length ys + (kinds 9 items + kinds 7 items)) (kept_by items are few)
       ∙ but_kinds (λ (item : Item). with_id item.number (kept_on item)) 9 7 1 items are (λ item ten. (facts item ten).kept);
 }

@@ -1,6 +1,6 @@
 -- What a synchronisation makes of made folders.
 use Rattle.std.specs.Prelude.{◌≡◌, ◌+◌, Bool, true, false, List, [], filter, length}
-use Rattle.conduit_rules.specs.Choices.{Choice, Sides, choice_for, sides_of}
+use Rattle.conduit_rules.specs.Choices.{Choice, Sides, choice_for, kept_twice, sides_of}
 use Rattle.conduit_rules.specs.Plans.{kept_rows, purged_ids, replaced_rows}
 use Rattle.conduit_rules.specs.Views.{fast_view}
 use Rattle.conduit_rules.specs.declared.action.Action.TheVariants.{Sync}
@@ -36,4 +36,5 @@ pub record IsMadeMerge (items : List Item) : Type 0 where
   pub added : length (made_choice items).adds ≡ kinds 9 items
   pub purged : length (purged_ids (made_choice items).keep (made_sides items).handheld) ≡ kinds 7 items
   pub archived : (made_choice items).archive ≡ []
+  pub twice : length (kept_twice Sync (made_sides items)) ≡ 0
   pub rows : length (kept_rows (made_choice items).keep) + (kinds 9 items + kinds 7 items) ≡ length items

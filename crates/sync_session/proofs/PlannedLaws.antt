@@ -9,7 +9,7 @@ use Rattle.std.specs.Prelude.{filter, if◌then◌else◌, is_none, is_some, nat
 use Rattle.std.specs.List.{AllByRecursion}
 use Rattle.std.specs.Option.{option_map}
 use Rattle.sync_session.proofs.MeetingWords.{ContentValue, DatabaseValue, kept_rows, lost, purged_at, purged_ids, replaced_rows, replacement, Job, Planned}
-use Rattle.sync_session.proofs.MeetingWords.{Skip, base_rows, choice, is_fast, seen_held, view, AreEachPlannedFor, ArePlannedFor, IsPlannedFor, active, skip_of}
+use Rattle.sync_session.proofs.MeetingWords.{Skip, action_or_sync, base_rows, choice, is_fast, seen_held, view, AreEachPlannedFor, ArePlannedFor, IsPlannedFor, active, skip_of}
 use Rattle.sync_session.proofs.MeetingWords.{Meeting, Task, names, records_of, slot_of, task_of, tasks, ShelvesValue, agrees, sides, job_for}
 use Rattle.pdb_values.specs.NamedDatabases.{database_of}
 use Rattle.pdb_values.specs.declared.record.Record.{Record}
@@ -24,7 +24,7 @@ use Rattle.conduit_rules.specs.Contents.{same_content}
 use Rattle.conduit_rules.specs.States.{Held, archived, first, live, nothing}
 use Rattle.conduit_rules.specs.Views.{fast_seen, fast_view, slow_seen, slow_view}
 use Rattle.conduit_rules.specs.declared.view.Seen.{Seen}
-use Rattle.conduit_rules.proofs.ByIdLaws.{each_below-suc, each_below-zero}
+use Rattle.conduit_rules.proofs.TwiceLaws.{length-each_below, length-kept_twice}
 use Rattle.conduit_rules.proofs.ViewLaws.{fast_id}
 use Rattle.conduit_merge.specs.Merging.{new_under, one_copy_behind}
 use Rattle.conduit_merge.proofs.StopLaws.{within}
@@ -37,7 +37,7 @@ use Rattle.sync_session.specs.Limits.{first_behind, first_over, gone_count, size
 use Rattle.sync_session.specs.News.{add_count}
 use Rattle.sync_session.specs.PlannedLimits.{over_planned, sizes_planned, unseen_count}
 use Rattle.sync_session.specs.PlannedReports.{counts_planned, did_by_plan, report_planned, reports_planned, told}
-use Rattle.sync_session.specs.Reports.{counts_of, did_by, did_of, is_received, read_count, report_of, reports}
+use Rattle.sync_session.specs.Reports.{counts_of, did_by, did_of, is_received, read_count, report_of, reports, twice_count}
 use Rattle.sync_session.specs.Sizes.{is_over}
 use Rattle.sync_session.proofs.ReadJoins.{job-fast, job-skip, IsSeen, jobs_for}
 use Rattle.sync_session.proofs.SeenCountLaws.{length-view, unseen_is_new, view_by}
@@ -151,6 +151,7 @@ record SameLists (meeting : Meeting) (task : Task) (one : Planned) : Type 0 wher
   pub replaced : length one.plan.replace.items ≡ length (replaced_rows (choice meeting task).keep (seen_held meeting task))
   pub purged : length one.plan.purge.items ≡ length (purged_ids (choice meeting task).keep (seen_held meeting task))
   pub archive : one.plan.archive.items ≡ (choice meeting task).archive
+  pub twice : one.plan.twice ≡ twice_count meeting task
 
 same_lists : (meeting : Meeting) (task : Task) (one : Planned) → AreSoundRecords (records_of task.handheld)
     → IsPlannedFor meeting task one → skip_of task ≡ None → SameLists meeting task one
@@ -171,6 +172,7 @@ same_lists meeting task one sound for none =
       replaced = ap length plan.replace;
       purged = ap length plan.purge;
       archive = plan.archive;
+      twice = plan.twice;
     }
 
 archive_by : (archives : List DatabaseValue) (new more : List (ℕ × ContentValue)) (name other : List ℕ) → name ≡ other → new ≡ more
@@ -224,15 +226,6 @@ fits sizes none =
 told_small : (n m : ℕ) → n ≡ m → n ≤ 65535 → told n ≡ m
 told_small n m is few = min-eq_left (omega (arith, few)) ∙ is
 
-shorter : {A B : Type 0} (f : ℕ → List A) (g : ℕ → List B) (n : ℕ) → ((i : ℕ) → length (f i) ≤ length (g i)) → length (each_below f n) ≤ length (each_below g n)
-shorter f g zero each = grind (arith, common_steps, each_below-zero f, each_below-zero g)
-shorter f g (suc n) each =
-    let below = shorter f g n each in
-    let one = ap length (each_below-suc f n) ∙ length-append (each_below f n) (f n) in
-    let two = ap length (each_below-suc g n) ∙ length-append (each_below g n) (g n) in
-    let last = each n in
-    omega (arith, below, one, two, last)
-
 replaced_kept : (i : ℕ) (keep : Option ContentValue) (h : Held) → length (with_id i (replacement keep h)) ≤ length (with_id i keep)
 replaced_kept i None h = omega arith
 replaced_kept i (Some c) nothing = omega arith
@@ -242,6 +235,11 @@ replaced_kept i (Some c) (live x) = by (same_content x c)
     by true = omega arith
     by false = omega arith
 replaced_kept i (Some c) (archived x) = omega arith
+
+-- what both sides changed is kept
+twice_few : (meeting : Meeting) (task : Task) → twice_count meeting task ≤ length (kept_rows (choice meeting task).keep)
+unfolding choice
+twice_few meeting task = length-kept_twice (action_or_sync task.action) (sides meeting task)
 
 purged_gone : (i : ℕ) (keep : Option ContentValue) (h : Held) → length (purged_at keep h i) ≤ length (with_id i (lost keep h))
 purged_gone i None nothing = omega arith
@@ -343,11 +341,12 @@ module _ (meeting : Meeting) (proper : IsProper meeting.device) where
       let fit : Fits (sizes_planned (slot_of meeting).shelves handhelds desktops one) = fits _ under in
       let records = fit.records in let rows = fit.rows in let base = fit.base in let archive = fit.archive in
       let seen_few = length-filter (λ (seen : Seen). is_received seen.state) one.view.seen.items in
-      let replaced_few = shorter (λ i. with_id i (replacement (keep i) (held i))) (λ i. with_id i (keep i)) id_bound
+      let replaced_few = length-each_below (λ i. with_id i (replacement (keep i) (held i))) (λ i. with_id i (keep i)) id_bound
       (λ i. replaced_kept i (keep i) (held i)) in
-      let purged_few = shorter (λ i. purged_at (keep i) (held i) i) (λ i. with_id i (lost (keep i) (held i))) id_bound
+      let purged_few = length-each_below (λ i. purged_at (keep i) (held i) i) (λ i. with_id i (lost (keep i) (held i))) id_bound
       (λ i. purged_gone i (keep i) (held i)) in
-      let kept = same.kept in let gone = same.gone in let replaced = same.replaced in let purged = same.purged in
+      let few_twice = twice_few meeting task in
+      let kept = same.kept in let gone = same.gone in let replaced = same.replaced in let purged = same.purged in let twice = same.twice in
       λ k. record {
         fast = (ap (λ (j : Job). j.fast) for.job ∙ job-fast meeting task) k;
         read = told_small _ _ (ap read_count (for.seen none)) (omega (arith, seen_few, records)) k;
@@ -355,6 +354,7 @@ module _ (meeting : Meeting) (proper : IsProper meeting.device) where
         added = told_small _ _ same.adds (omega (arith, rows)) k;
         purged = told_small _ _ same.purged (omega (arith, purged_few, gone, purged, base)) k;
         archived = told_small _ _ (archived_by (slot_of meeting).shelves.archives _ _ one.job.name name same.name same.archive) (omega (arith, archive)) k;
+        twice = told_small _ _ same.twice (omega (arith, few_twice, kept, twice, rows)) k;
         rows = told_small _ _ (λ k. same.kept k + same.adds k) (omega (arith, rows)) k;
       }
 

@@ -28,6 +28,7 @@ counts_planned shelves one = record {
   added = told (length one.plan.adds.items);
   purged = told (length one.plan.purge.items);
   archived = told (archived_planned shelves one);
+  twice = told one.plan.twice;
   rows = told (rows_planned one);
 }
 

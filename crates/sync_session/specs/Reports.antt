@@ -1,5 +1,6 @@
 -- What is told of each database once a session has ended.
 use Rattle.std.specs.Prelude.{ℕ, ◌-◌, Bool, true, false, List, [], filter, length, map, Option, Some, None}
+use Rattle.conduit_rules.specs.Choices.{kept_twice}
 use Rattle.conduit_rules.specs.Plans.{replaced_rows, purged_ids}
 use Rattle.conduit_rules.specs.declared.view.Seen.{Seen}
 use Rattle.conduit_rules.specs.declared.view.SeenState.{SeenState}
@@ -9,7 +10,7 @@ use Rattle.sync_session.specs.declared.skip.Skip.{Skip}
 use Rattle.sync_session.specs.Archives.{entries_of}
 use Rattle.sync_session.specs.Tasks.{Meeting, Task, records_of, tasks}
 use Rattle.sync_session.specs.Skips.{skip_of}
-use Rattle.sync_session.specs.Choosing.{choice, is_fast, seen_held, view}
+use Rattle.sync_session.specs.Choosing.{action_or_sync, choice, is_fast, seen_held, sides, view}
 use Rattle.sync_session.specs.News.{add_count}
 use Rattle.sync_session.specs.Limits.{archive_count, row_count}
 use Rattle.sync_session.specs.declared.report.Counts.{Counts}
@@ -30,6 +31,10 @@ read_count view = length (filter (λ (seen : Seen). is_received seen.state) view
 abbrev pub archived_count : Meeting → Task → ℕ
 archived_count meeting task = archive_count meeting task - length (one_copy_behind [] (entries_of (records_of task.archive)))
 
+-- how many records both sides changed, each its own way
+abbrev pub twice_count : Meeting → Task → ℕ
+twice_count meeting task = length (kept_twice (action_or_sync task.action) (sides meeting task))
+
 -- how a database was synchronised
 abbrev pub counts_of : Meeting → Task → Counts
 counts_of meeting task = record {
@@ -39,6 +44,7 @@ counts_of meeting task = record {
   added = add_count meeting task;
   purged = length (purged_ids (choice meeting task).keep (seen_held meeting task));
   archived = archived_count meeting task;
+  twice = twice_count meeting task;
   rows = row_count meeting task;
 }
 

@@ -35,6 +35,8 @@ pub struct Counts {
     pub purged: u32,
     /// The entries that the archive got.
     pub archived: u32,
+    /// The records that both sides changed, each its own way, so that both contents stay.
+    pub twice: u32,
     /// The desktop's rows now.
     pub rows: u32,
 }

@@ -47,6 +47,7 @@ fn counts_of<D: Folder>(alloc: Global, desk: &Desk<D>, one: &Planned) -> Result<
         added: told(plan.adds.len()),
         purged: told(plan.purge.len()),
         archived: told(archived_count(alloc, desk, one)?),
+        twice: told(plan.twice),
         rows: told(plan.kept.len().saturating_add(plan.adds.len())),
     })
 }

@@ -1,4 +1,4 @@
-use Rattle.std.proofs.Common.{◌≡◌, ◌++◌, List, ℕ, ◌∙◌, ap, map}
+use Rattle.std.proofs.Common.{◌≡◌, ◌++◌, List, ℕ, ◌∙◌, ap, arith, map}
 use Rattle.std.specs.Option.{option_copied}
 use Rattle.pdb_values.specs.Contents.{ContentValue}
 use Rattle.conduit_rules.specs.Choices.{offers_for, choice_for}
@@ -36,4 +36,5 @@ returns c = λ a s is live archived.
           ∙ ap {A = List ContentValue × List ContentValue} (λ p. unpaired (λ x. count_of x p.0) p.1)
           (λ k. ((c.deref.ensures.value ∙ is.partners) k, (c.deref-2.ensures.value ∙ offered) k));
       purge = is.purge;
+      twice = grind (arith, c.len-twice.ensures, is.news);
     }
