@@ -20,11 +20,12 @@ use Rattle.hotsync_run.specs.Makes.{IsMake, MadeNothing, MadeRan}
 use Rattle.hotsync_run.specs.Reports.{IsNotStarted}
 use Rattle.hotsync_run.specs.Runs.{IsRun, SentNothing, SessionRan}
 use Rattle.hotsync_run.specs.Talks.{Talked}
-use Rattle.hotsync_run.specs.Told.{CallTold, FolderTold, SidesTold, SinkTold}
+use Rattle.hotsync_looks.specs.Told.{SinkTold}
+use Rattle.hotsync_run.specs.Told.{CallTold, FolderTold, SidesTold}
 use Rattle.hotsync_run.specs.declared.report.Report.{Report}
 use Rattle.hotsync_run.specs.declared.report.SessionEnd.{SessionEnd}
 use Rattle.hotsync_run.specs.declared.report.SessionEnd.TheVariants.{NotStarted, Ended, Stopped}
-use Rattle.hotsync_run.specs.declared.status.Status.{Status}
+use Rattle.hotsync_looks.specs.declared.status.Status.{Status}
 use Rattle.hotsync_run.proofs.FrontLaws.{performed-begins}
 
 abbrev AreAnswered : Report → Type 0

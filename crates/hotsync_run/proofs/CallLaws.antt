@@ -4,12 +4,13 @@ use Rattle.std.proofs.Common.{arith, ◌≡◌, ◌⊎◌}
 use Rattle.std.specs.Prelude.{Option}
 use Rattle.run_words.specs.Commands.{Task}
 use Rattle.hotsync_run.specs.Calls.{IsCall}
-use Rattle.hotsync_run.specs.Printed.{IsPrinted}
-use Rattle.hotsync_run.specs.Told.{CallTold, SinkTold}
+use Rattle.hotsync_looks.specs.Printed.{IsPrinted}
+use Rattle.hotsync_looks.specs.Told.{SinkTold}
+use Rattle.hotsync_run.specs.Told.{CallTold}
 use Rattle.hotsync_run.specs.Reports.{IsNotStarted}
 use Rattle.hotsync_run.specs.declared.report.Report.{Report}
-use Rattle.hotsync_run.specs.declared.status.Status.{Status}
-use Rattle.hotsync_run.specs.declared.status.Status.TheVariants.{NoMemory}
+use Rattle.hotsync_looks.specs.declared.status.Status.{Status}
+use Rattle.hotsync_looks.specs.declared.status.Status.TheVariants.{NoMemory}
 
 -- want of memory that can't be said is want of memory
 pub only_memory : {status : Status} → (status ≡ NoMemory) ⊎ (status ≡ NoMemory) → status ≡ NoMemory

@@ -21,8 +21,8 @@ use Rattle.hotsync_run.specs.LineRuns.{frames_in}
 use Rattle.hotsync_run.specs.Runs.{HasRun, SentNothing, SessionRan}
 use Rattle.hotsync_run.specs.Told.{CallTold}
 use Rattle.hotsync_run.specs.declared.report.Report.{Report}
-use Rattle.hotsync_run.specs.declared.status.Status.{Status}
-use Rattle.hotsync_run.specs.declared.status.Status.TheVariants.{LineDown, Unplugged, Aborted, Undetected}
+use Rattle.hotsync_looks.specs.declared.status.Status.{Status}
+use Rattle.hotsync_looks.specs.declared.status.Status.TheVariants.{LineDown, Unplugged, Aborted, Undetected}
 use Rattle.hotsync_run.proofs.MakeLines.{no_stop}
 use Rattle.hotsync_run.proofs.RunLaws.{refused_not_stopped}
 use Rattle.hotsync_run.proofs.TraceLaws.{by_end_both}

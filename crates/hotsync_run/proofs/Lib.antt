@@ -10,7 +10,6 @@ pub mod HeadlineLaws
 pub mod KeptLaws
 pub mod LeftLaws
 pub mod LineLaws
-pub mod LookLaws
 pub mod MadeItems
 pub mod MadeLimits
 pub mod MadeReports
@@ -22,8 +21,6 @@ pub mod MakeWords
 pub mod OneLaws
 pub mod OverLaws
 pub mod PickLaws
-pub mod PrintedLaws
-pub mod PrintedNameLaws
 pub mod QuietRuns
 pub mod RunLaws
 pub mod SideLaws

@@ -31,14 +31,14 @@ use Rattle.hotsync_run.specs.Causes.{EndsAs, IsLineDown, IsUnsaid, cause_in}
 use Rattle.hotsync_run.specs.Ends.{StatusShows}
 use Rattle.hotsync_run.specs.LineRuns.{frames_in}
 use Rattle.hotsync_run.specs.Makes.{HasMade, MadeNothing, MadeRan, files_told, made_run, made_script, made_told}
-use Rattle.hotsync_run.specs.Printed.{IsPrintedStatus}
+use Rattle.hotsync_looks.specs.Printed.{IsPrintedStatus}
 use Rattle.hotsync_run.specs.Talks.{IsTalk, KeptSilent, Talked, TalkedFor}
 use Rattle.hotsync_run.specs.Told.{FolderTold, SidesTold}
 use Rattle.hotsync_run.specs.declared.report.Report.{Report}
-use Rattle.hotsync_run.specs.declared.status.Status.{Status}
-use Rattle.hotsync_run.specs.declared.status.Status.TheVariants.{Done, Usage, BadScript, TooLong, BadFile, TooMany, HandheldFolder, DesktopFolder, SourceRead}
-use Rattle.hotsync_run.specs.declared.status.Status.TheVariants.{TraceWrite, OutWrite, NoMemory, LineDown, Unplugged, Aborted, Undetected, OtherUser}
-use Rattle.hotsync_run.specs.declared.status.Status.TheVariants.{TooManyUsers, Limit, NewHandheld, WrongSide, InUse}
+use Rattle.hotsync_looks.specs.declared.status.Status.{Status}
+use Rattle.hotsync_looks.specs.declared.status.Status.TheVariants.{Done, Usage, BadScript, TooLong, BadFile, TooMany, HandheldFolder, DesktopFolder, SourceRead}
+use Rattle.hotsync_looks.specs.declared.status.Status.TheVariants.{TraceWrite, OutWrite, NoMemory, LineDown, Unplugged, Aborted, Undetected, OtherUser}
+use Rattle.hotsync_looks.specs.declared.status.Status.TheVariants.{TooManyUsers, Limit, NewHandheld, WrongSide, InUse}
 use Rattle.hotsync_run.proofs.MadeItems.{drawn_short}
 use Rattle.hotsync_run.proofs.MadeLimits.{none_lost, none_over}
 use Rattle.hotsync_run.proofs.MadeReports.{AsksNothing, made_device, made_meeting, made_meets, made_slot, reports_are}

@@ -28,23 +28,25 @@ use Rattle.hotsync_run.specs.Causes.{ByEnd, HasBegun}
 use Rattle.hotsync_run.specs.Clean.{IsLineStop}
 use Rattle.hotsync_run.specs.Ends.{SessionLeft, StandsAtFront}
 use Rattle.hotsync_run.specs.LineRuns.{LineRan, exchanges_in}
-use Rattle.hotsync_run.specs.Opening.{Opens, OpensAtMost, OpensGiven, OpensGivenAtMost}
-use Rattle.hotsync_run.specs.Printed.{IsPrintedStatus}
+use Rattle.hotsync_looks.specs.Opening.{Opens, OpensAtMost, OpensGiven, OpensGivenAtMost}
+use Rattle.hotsync_looks.specs.Printed.{IsPrintedStatus}
 use Rattle.hotsync_run.specs.Refusals.{BlamesHandheld, BlamesScript, DesktopRefuses, HandheldRefuses, HasDesktop, HasHandheld, IsDesktopFailure, IsHandheldFailure}
 use Rattle.hotsync_run.specs.Refusals.{IsRefused, IsTraceRefusal, LeavesDesktopUnread}
-use Rattle.hotsync_run.specs.Refusals.{TraceRefuses, desktop_status, handheld_status}
+use Rattle.hotsync_looks.specs.FolderFaults.{desktop_status, handheld_status}
+use Rattle.hotsync_run.specs.Refusals.{TraceRefuses}
 use Rattle.hotsync_run.specs.Reports.{IsNotStarted}
 use Rattle.hotsync_run.specs.Runs.{HasRun, OpensNamed, SentNothing, SessionRan, StandsAsItDid, StaysAsItWas}
 use Rattle.hotsync_run.specs.Scripts.{HasScript, IsScriptRefusal, IsScripted, ScriptRefuses}
 use Rattle.hotsync_run.specs.Talks.{DesktopRan, IsTalk, KeptSilent, Talked, TalkedFor}
-use Rattle.hotsync_run.specs.Told.{CallTold, FolderTold, SidesTold, SinkTold, SourceTold, sides_of}
+use Rattle.hotsync_looks.specs.Told.{SinkTold, SourceTold}
+use Rattle.hotsync_run.specs.Told.{CallTold, FolderTold, SidesTold, sides_of}
 use Rattle.hotsync_run.specs.Traces.{IsTraced, TracesReport}
 use Rattle.hotsync_run.proofs.TraceLaws.{by_end_then, talk_not_in_use, talk_not_script, talked_memory, talked_unsaid}
 use Rattle.hotsync_run.specs.declared.report.Report.{Report}
 use Rattle.hotsync_run.specs.declared.report.SessionEnd.{SessionEnd}
-use Rattle.hotsync_run.specs.declared.status.Status.{Status}
-use Rattle.hotsync_run.specs.declared.status.Status.TheVariants.{Done, HandheldFolder, DesktopFolder, SourceRead, TraceWrite, OutWrite}
-use Rattle.hotsync_run.specs.declared.status.Status.TheVariants.{NoMemory, WrongSide, InUse}
+use Rattle.hotsync_looks.specs.declared.status.Status.{Status}
+use Rattle.hotsync_looks.specs.declared.status.Status.TheVariants.{Done, HandheldFolder, DesktopFolder, SourceRead, TraceWrite, OutWrite}
+use Rattle.hotsync_looks.specs.declared.status.Status.TheVariants.{NoMemory, WrongSide, InUse}
 
 -- a refusal of a script is no other one
 pub record IsScriptAlone (refusal : Status) : Type 0 where

@@ -32,8 +32,8 @@ use Rattle.hotsync_run.specs.Ends.{IsCutShort, IsToldRefusal, SaidAll, StatusSho
 use Rattle.hotsync_run.specs.Talks.{left_status}
 use Rattle.hotsync_run.specs.Told.{FolderTold}
 use Rattle.hotsync_run.specs.declared.report.Report.{Report}
-use Rattle.hotsync_run.specs.declared.status.Status.{Status}
-use Rattle.hotsync_run.specs.declared.status.Status.TheVariants.{Limit, NewHandheld, NoMemory}
+use Rattle.hotsync_looks.specs.declared.status.Status.{Status}
+use Rattle.hotsync_looks.specs.declared.status.Status.TheVariants.{Limit, NewHandheld, NoMemory}
 use Rattle.hotsync_run.proofs.EndLaws.{logged_all}
 use Rattle.hotsync_run.proofs.LeftLaws.{EndsOver, Tells}
 

@@ -51,8 +51,8 @@ use Rattle.hotsync_run.specs.declared.left.Left.{Left}
 use Rattle.hotsync_run.specs.declared.report.Report.{Report}
 use Rattle.hotsync_run.specs.declared.report.SessionEnd.{SessionEnd}
 use Rattle.hotsync_run.specs.declared.report.SessionEnd.TheVariants.{Ended, Stopped}
-use Rattle.hotsync_run.specs.declared.status.Status.{Status}
-use Rattle.hotsync_run.specs.declared.status.Status.TheVariants.{HandheldFolder, DesktopFolder, NoMemory}
+use Rattle.hotsync_looks.specs.declared.status.Status.{Status}
+use Rattle.hotsync_looks.specs.declared.status.Status.TheVariants.{HandheldFolder, DesktopFolder, NoMemory}
 
 -- a status says how far the session came and why it stopped; the frames bear it out
 pub record Shown (status : Status) (end : SessionEnd) (numbers : List ℕ) (cause : Option Down) (frames : List FrameValue) : Type 0 where

@@ -21,7 +21,8 @@ use Rattle.hotsync_run.specs.Ends.{IsCutShort, IsToldRefusal, StatusShows, statu
 use Rattle.hotsync_run.specs.LineRuns.{frames_in}
 use Rattle.hotsync_run.specs.Refusals.{BlamesHandheld, BlamesScript}
 use Rattle.hotsync_run.specs.Talks.{IsTalk, KeptSilent, Talked, TalkedFor}
-use Rattle.hotsync_run.specs.Told.{SidesTold, SinkTold}
+use Rattle.hotsync_looks.specs.Told.{SinkTold}
+use Rattle.hotsync_run.specs.Told.{SidesTold}
 use Rattle.hotsync_run.specs.Whole.{StopsAnswered}
 use Rattle.hotsync_run.proofs.StopLaws.{tells_stop}
 use Rattle.hotsync_run.proofs.WholeLaws.{dealt_as}
@@ -29,8 +30,8 @@ use Rattle.hotsync_run.specs.Traces.{TracesText}
 use Rattle.hotsync_run.specs.declared.report.Report.{Report}
 use Rattle.hotsync_run.specs.declared.report.SessionEnd.{SessionEnd}
 use Rattle.hotsync_run.specs.declared.report.SessionEnd.TheVariants.{NotStarted, Ended}
-use Rattle.hotsync_run.specs.declared.status.Status.{Status}
-use Rattle.hotsync_run.specs.declared.status.Status.TheVariants.{Done, TraceWrite, OutWrite, NoMemory, InUse}
+use Rattle.hotsync_looks.specs.declared.status.Status.{Status}
+use Rattle.hotsync_looks.specs.declared.status.Status.TheVariants.{Done, TraceWrite, OutWrite, NoMemory, InUse}
 
 -- by how far a session came, what follows
 pub by_end_then : (end : SessionEnd) {A B C D : Type 0} → (A → C) → (B → D) → ByEnd end A B → ByEnd end C D

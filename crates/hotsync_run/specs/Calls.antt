@@ -5,16 +5,17 @@ use Rattle.hs_folders.specs.declared.folder.Folder.{Ghosts as FolderMembers}
 use Rattle.hs_folders.specs.declared.sink.Sink.{Ghosts as SinkMembers}
 use Rattle.hs_folders.specs.declared.source.Source.{Ghosts as SourceMembers}
 use Rattle.run_words.specs.Commands.{Task, Sync, LookAt, Scan, Make, task_of}
-use Rattle.hotsync_run.specs.Looks.{IsLook}
+use Rattle.hotsync_looks.specs.Looks.{IsLook}
 use Rattle.hotsync_run.specs.Makes.{IsMake}
-use Rattle.hotsync_run.specs.Printed.{IsPrinted}
+use Rattle.hotsync_looks.specs.Printed.{IsPrinted}
 use Rattle.hotsync_run.specs.Runs.{IsRun}
-use Rattle.hotsync_run.specs.Scans.{IsScanned}
-use Rattle.hotsync_run.specs.Told.{CallTold, SinkTold, call_told, sink_told}
+use Rattle.hotsync_looks.specs.Scans.{IsScanned}
+use Rattle.hotsync_looks.specs.Told.{SinkTold, sink_told}
+use Rattle.hotsync_run.specs.Told.{CallTold, call_told}
 use Rattle.hotsync_run.specs.declared.answer.Answer.{Answer}
 use Rattle.hotsync_run.specs.declared.report.Report.{Report}
-use Rattle.hotsync_run.specs.declared.status.Status.{Status}
-use Rattle.hotsync_run.specs.declared.status.Status.TheVariants.{Usage, NoMemory}
+use Rattle.hotsync_looks.specs.declared.status.Status.{Status}
+use Rattle.hotsync_looks.specs.declared.status.Status.TheVariants.{Usage, NoMemory}
 
 -- what words ask for, where the seconds of the date now are these, if it can be told
 abbrev pub task_in : Option ℕ → List (String Global) → Option Task

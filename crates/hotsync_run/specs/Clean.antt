@@ -5,8 +5,8 @@ use Rattle.trace_text.specs.Frames.{past_of}
 use Rattle.trace_text.specs.Past.{Sent, is_repeat}
 use Rattle.hotsync_run.specs.LineRuns.{frames_in}
 use Rattle.hotsync_run.specs.declared.report.Report.{Report}
-use Rattle.hotsync_run.specs.declared.status.Status.{Status}
-use Rattle.hotsync_run.specs.declared.status.Status.TheVariants.{LineDown, Unplugged, Aborted, Undetected}
+use Rattle.hotsync_looks.specs.declared.status.Status.{Status}
+use Rattle.hotsync_looks.specs.declared.status.Status.TheVariants.{LineDown, Unplugged, Aborted, Undetected}
 
 -- no data frame has the key of the same end's data frame before it
 abbrev pub AreSaidOnce : List Sent → Type 0

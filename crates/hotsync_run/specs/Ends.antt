@@ -26,9 +26,9 @@ use Rattle.hotsync_run.specs.LineRuns.{log_in}
 use Rattle.hotsync_run.specs.Told.{FolderTold}
 use Rattle.hotsync_run.specs.declared.report.Report.{Report}
 use Rattle.hotsync_run.specs.declared.report.SessionEnd.TheVariants.{Ended, Stopped}
-use Rattle.hotsync_run.specs.declared.status.Status.{Status}
-use Rattle.hotsync_run.specs.declared.status.Status.TheVariants.{HandheldFolder, DesktopFolder, NoMemory, LineDown, Unplugged, Aborted, Undetected, OtherUser}
-use Rattle.hotsync_run.specs.declared.status.Status.TheVariants.{TooManyUsers, Limit, NewHandheld}
+use Rattle.hotsync_looks.specs.declared.status.Status.{Status}
+use Rattle.hotsync_looks.specs.declared.status.Status.TheVariants.{HandheldFolder, DesktopFolder, NoMemory, LineDown, Unplugged, Aborted, Undetected, OtherUser}
+use Rattle.hotsync_looks.specs.declared.status.Status.TheVariants.{TooManyUsers, Limit, NewHandheld}
 
 -- It ended: each of the session's requests was issued and performed, both folders stand for the merge under the ids that new records got, the
 -- desktop's without a journal, and what was done with each database is told.

@@ -36,11 +36,12 @@ use Rattle.hotsync_run.specs.Runs.{BlamesByCount, IsRun}
 use Rattle.hotsync_run.specs.Scripts.{IsScripted}
 use Rattle.hotsync_run.specs.Stops.{TellsStop}
 use Rattle.hotsync_run.specs.Talks.{DesktopRan}
-use Rattle.hotsync_run.specs.Told.{CallTold, SinkTold}
+use Rattle.hotsync_looks.specs.Told.{SinkTold}
+use Rattle.hotsync_run.specs.Told.{CallTold}
 use Rattle.hotsync_run.specs.Traces.{IsTraced}
 use Rattle.hotsync_run.specs.declared.report.Report.{Report}
 use Rattle.hotsync_run.specs.declared.report.SessionEnd.TheVariants.{Ended, Stopped}
-use Rattle.hotsync_run.specs.declared.status.Status.{Status}
+use Rattle.hotsync_looks.specs.declared.status.Status.{Status}
 
 -- a call for the words of a run: its objects before and after it, and what it answered
 pub record RunCall : Type 0 where

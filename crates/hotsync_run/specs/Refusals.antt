@@ -14,26 +14,13 @@ use Rattle.desk_store.specs.declared.fault.DeskOpenFault.{DeskOpenFault}
 use Rattle.desk_store.specs.declared.fault.DeskOpenFault.TheVariants as desk_opening
 use Rattle.run_words.specs.Runs.{Run}
 use Rattle.trace_text.specs.declared.frame.End.TheVariants as end
+use Rattle.hotsync_looks.specs.FolderFaults.{desktop_status, handheld_status}
 use Rattle.hotsync_run.specs.Scripts.{HasScript, ScriptRefuses}
 use Rattle.hotsync_run.specs.Told.{CallTold}
-use Rattle.hotsync_run.specs.declared.status.FileSide.TheVariants as side
-use Rattle.hotsync_run.specs.declared.status.Status.{Status}
-use Rattle.hotsync_run.specs.declared.status.Status.TheVariants.{BadScript, TooLong, BadFile, TooMany, HandheldFolder, DesktopFolder, SourceRead, TraceWrite}
-use Rattle.hotsync_run.specs.declared.status.Status.TheVariants.{NoMemory, WrongSide, InUse}
-
--- what a refusal to open the handheld's folder makes of a run
-abbrev pub handheld_status : OpenFault → Status
-handheld_status opening.Keeper = HandheldFolder
-handheld_status opening.TooMany = TooMany end.Handheld
-handheld_status (opening.BadFile name kind place) = BadFile side.Handheld name kind place
-handheld_status opening.NoMemory = NoMemory
-
--- what a refusal to open the desktop's folder makes of a run
-abbrev pub desktop_status : DeskOpenFault → Status
-desktop_status desk_opening.DeskFault = DesktopFolder
-desktop_status desk_opening.TooMany = TooMany end.Desktop
-desktop_status (desk_opening.BadFile name kind place) = BadFile side.Desktop name kind place
-desktop_status desk_opening.NoMemory = NoMemory
+use Rattle.hotsync_looks.specs.declared.status.FileSide.TheVariants as side
+use Rattle.hotsync_looks.specs.declared.status.Status.{Status}
+use Rattle.hotsync_looks.specs.declared.status.Status.TheVariants.{BadScript, TooLong, BadFile, TooMany, HandheldFolder, DesktopFolder, SourceRead, TraceWrite}
+use Rattle.hotsync_looks.specs.declared.status.Status.TheVariants.{NoMemory, WrongSide, InUse}
 
 -- files with the information file of a desktop
 abbrev pub is_desktop : FileMap → Bool

@@ -11,21 +11,22 @@ use Rattle.run_words.specs.Runs.{Run}
 use Rattle.sync_session.specs.Tasks.{Meeting}
 use Rattle.hotsync_run.specs.Causes.{ByEnd, HasBegun}
 use Rattle.hotsync_run.specs.LineRuns.{frames_in}
-use Rattle.hotsync_run.specs.Lines.{done_lines}
+use Rattle.hotsync_looks.specs.Lines.{done_lines}
 use Rattle.hotsync_run.specs.Meetings.{Meets}
-use Rattle.hotsync_run.specs.Opening.{Opens, OpensAtMost, OpensGiven, OpensGivenAtMost}
-use Rattle.hotsync_run.specs.Printed.{IsPrinted}
+use Rattle.hotsync_looks.specs.Opening.{Opens, OpensAtMost, OpensGiven, OpensGivenAtMost}
+use Rattle.hotsync_looks.specs.Printed.{IsPrinted}
 use Rattle.hotsync_run.specs.Refusals.{IsRefused, LeavesDesktopUnread}
 use Rattle.hotsync_run.specs.Reports.{IsNotStarted}
 use Rattle.hotsync_run.specs.Scripts.{IsScripted}
 use Rattle.hotsync_run.specs.Talks.{BlamesFolders, DesktopRan, Talked}
-use Rattle.hotsync_run.specs.Told.{CallTold, FolderTold, SinkTold, sides_of}
+use Rattle.hotsync_looks.specs.Told.{SinkTold}
+use Rattle.hotsync_run.specs.Told.{CallTold, FolderTold, sides_of}
 use Rattle.hotsync_run.specs.Traces.{IsTraced}
 use Rattle.hotsync_run.specs.Undisturbed.{EndsWell, IsUndisturbed}
 use Rattle.hotsync_run.specs.declared.report.Report.{Report}
 use Rattle.hotsync_run.specs.declared.report.SessionEnd.{SessionEnd}
-use Rattle.hotsync_run.specs.declared.status.Status.{Status}
-use Rattle.hotsync_run.specs.declared.status.Status.TheVariants.{SourceRead, TraceWrite, NoMemory, InUse}
+use Rattle.hotsync_looks.specs.declared.status.Status.{Status}
+use Rattle.hotsync_looks.specs.declared.status.Status.TheVariants.{SourceRead, TraceWrite, NoMemory, InUse}
 
 -- ---- a run that sent nothing
 

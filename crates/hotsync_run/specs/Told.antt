@@ -5,23 +5,12 @@ use Rattle.hs_folders.specs.Moments.{Moments}
 use Rattle.hs_folders.specs.declared.folder.Folder.{Ghosts as FolderMembers}
 use Rattle.hs_folders.specs.declared.sink.Sink.{Ghosts as SinkMembers}
 use Rattle.hs_folders.specs.declared.source.Source.{Ghosts as SourceMembers}
+use Rattle.hotsync_looks.specs.Told.{SinkTold, SourceTold, sink_told, source_told}
 
 -- what a folder tells
 pub record FolderTold : Type 0 where
   pub contents : Option FileMap
   pub moments : Moments
-  pub paths : Option (List (List ℕ))
-  pub faults : ℕ
-
--- what a sink tells
-pub record SinkTold : Type 0 where
-  pub taken : Option (List ℕ)
-  pub paths : Option (List (List ℕ))
-  pub faults : ℕ
-
--- what a source tells
-pub record SourceTold : Type 0 where
-  pub left : Option (List ℕ)
   pub paths : Option (List (List ℕ))
   pub faults : ℕ
 
@@ -43,14 +32,6 @@ sides_of told = record { palm = told.palm; desk = told.desk }
 -- what these tell of a folder, by the members of its trait
 abbrev pub folder_told : {F : Type 0} → (F → Option FileMap) → (F → Moments) → (F → Option (List (List ℕ))) → (F → ℕ) → F → FolderTold
 folder_told contents moments paths faults folder = record { contents = contents folder; moments = moments folder; paths = paths folder; faults = faults folder }
-
--- likewise of a sink
-abbrev pub sink_told : {T : Type 0} → (T → Option (List ℕ)) → (T → Option (List (List ℕ))) → (T → ℕ) → T → SinkTold
-sink_told taken paths faults sink = record { taken = taken sink; paths = paths sink; faults = faults sink }
-
--- likewise of a source
-abbrev pub source_told : {S : Type 0} → (S → Option (List ℕ)) → (S → Option (List (List ℕ))) → (S → ℕ) → S → SourceTold
-source_told left paths faults source = record { left = left source; paths = paths source; faults = faults source }
 
 -- what both folders tell, by the members of their traits
 abbrev pub sides_told : {H D : Type 0} → FolderMembers H → FolderMembers D → H → D → SidesTold

@@ -24,11 +24,12 @@ use Rattle.hotsync_run.specs.LineRuns.{frames_in}
 use Rattle.hotsync_run.specs.Meetings.{Meets}
 use Rattle.hotsync_run.specs.Refusals.{is_desktop, is_handheld}
 use Rattle.hotsync_run.specs.Scripts.{IsScripted}
-use Rattle.hotsync_run.specs.Told.{CallTold, SinkTold}
+use Rattle.hotsync_looks.specs.Told.{SinkTold}
+use Rattle.hotsync_run.specs.Told.{CallTold}
 use Rattle.hotsync_run.specs.declared.report.Report.{Report}
 use Rattle.hotsync_run.specs.declared.report.SessionEnd.TheVariants.{Ended}
-use Rattle.hotsync_run.specs.declared.status.Status.{Status}
-use Rattle.hotsync_run.specs.declared.status.Status.TheVariants.{Done, NoMemory, Undetected}
+use Rattle.hotsync_looks.specs.declared.status.Status.{Status}
+use Rattle.hotsync_looks.specs.declared.status.Status.TheVariants.{Done, NoMemory, Undetected}
 
 -- ---- what has to be given
 

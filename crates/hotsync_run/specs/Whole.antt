@@ -13,9 +13,9 @@ use Rattle.hotsync_run.specs.Causes.{IsFallen, IsLineDown}
 use Rattle.hotsync_run.specs.LineRuns.{frames_in, log_in}
 use Rattle.hotsync_run.specs.declared.report.Report.{Report}
 use Rattle.hotsync_run.specs.declared.report.SessionEnd.TheVariants.{Ended}
-use Rattle.hotsync_run.specs.declared.status.Status.{Status}
-use Rattle.hotsync_run.specs.declared.status.Status.TheVariants.{HandheldFolder, DesktopFolder, NoMemory, OtherUser, TooManyUsers, Limit}
-use Rattle.hotsync_run.specs.declared.status.Status.TheVariants.{NewHandheld}
+use Rattle.hotsync_looks.specs.declared.status.Status.{Status}
+use Rattle.hotsync_looks.specs.declared.status.Status.TheVariants.{HandheldFolder, DesktopFolder, NoMemory, OtherUser, TooManyUsers, Limit}
+use Rattle.hotsync_looks.specs.declared.status.Status.TheVariants.{NewHandheld}
 
 -- Behind the greetings the frames tell the handheld the requests that it performed, or one request more, and the desktop the replies that were answered, or
 -- one reply more: the one more only where it was not dealt with, and no end had spent its tries.

@@ -3,7 +3,7 @@ ghost use Rattle.std.specs.Prelude.{◌≡◌};
 ghost use Rattle.hotsync_run.specs.Reports.{IsNotStarted};
 
 use crate::report::Report;
-use crate::status::Status;
+use hotsync_looks::Status;
 use std::alloc::Global;
 
 /// The status, the report and both folders, which come back with every status.

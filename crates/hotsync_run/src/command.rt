@@ -5,13 +5,13 @@ ghost use Rattle.hotsync_run.specs.Refusals.{BlamesHandheld, BlamesScript};
 ghost use Rattle.hotsync_run.specs.Reports.{IsNotStarted};
 
 use crate::answer::Answer;
-use crate::look::look_at;
+use hotsync_looks::look_at;
 use crate::make::make;
-use crate::packets::print_packets;
-use crate::printing::print_refusal;
+use hotsync_looks::print_packets;
+use hotsync_looks::print_refusal;
 use crate::report::SessionEnd;
 use crate::run::run_folders;
-use crate::status::Status;
+use hotsync_looks::Status;
 use hs_folders::{Folder, Sink, Source};
 use run_clap::{Command, WordsFault, read_command};
 use std::alloc::Global;

@@ -8,16 +8,11 @@
 #![tactic(auto)]
 
 mod answer;
-mod bad_file;
 mod clock;
 mod command;
 mod hints;
 mod left;
-mod look;
 mod make;
-mod packets;
-mod printed_name;
-mod printing;
 mod program;
 pub mod promises;
 mod report;
@@ -25,8 +20,6 @@ mod reporting;
 mod run;
 mod script;
 mod sides;
-mod source;
-mod status;
 mod steady;
 mod talk;
 mod tracing;
@@ -34,7 +27,7 @@ mod wishes;
 
 pub use answer::Answer;
 pub use command::hotsync;
+pub use hotsync_looks::{FileSide, Status};
 pub use program::{Ended, run_on_system, run_program};
 pub use report::{Report, SessionEnd};
-pub use status::{FileSide, Status};
 pub use sync_session::{Counts, DbReport, Did, Skip};

@@ -8,12 +8,12 @@ ghost use Rattle.made_folders.specs.Sides.{desktop_files, handheld_files};
 ghost use Rattle.palm_device.specs.Bounds.{IsBounded};
 ghost use Rattle.run_words.specs.Views.{run_view};
 ghost use Rattle.hotsync_run.specs.Makes.{HasMade, IsMake, made_run, made_script, script_text};
-ghost use Rattle.hotsync_run.specs.Told.{sink_told};
+ghost use Rattle.hotsync_looks.specs.Told.{sink_told};
 
 use crate::answer::Answer;
-use crate::printing::print_status;
+use hotsync_looks::print_status;
 use crate::report::Report;
-use crate::status::Status;
+use hotsync_looks::Status;
 use crate::steady::SteadyFolder;
 use crate::talk::talk;
 use desk_store::Desk;

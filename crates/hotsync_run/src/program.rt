@@ -2,19 +2,20 @@
 ghost use Rattle.std.specs.Prelude.{◌≡◌, ◌↔◌, IfOk, IsErr, IsErrOf, None, drop};
 ghost use Rattle.std.specs.Process.{exit_status};
 ghost use Rattle.hotsync_run.specs.Calls.{HasSession, IsCall, IsSync, OfCall, ReadsSource, WritesTrace, task_in};
-ghost use Rattle.hotsync_run.specs.Codes.{code_of};
+ghost use Rattle.hotsync_looks.specs.Codes.{code_of};
 ghost use Rattle.hotsync_run.specs.Refusals.{BlamesHandheld, BlamesScript};
 ghost use Rattle.hotsync_run.specs.Reports.{IsNotStarted};
 ghost use Rattle.hotsync_run.specs.Systems.{AreUntold, EndsProgram, IsSystemCall};
-ghost use Rattle.hotsync_run.specs.Told.{call_told, sink_told};
+ghost use Rattle.hotsync_looks.specs.Told.{sink_told};
+ghost use Rattle.hotsync_run.specs.Told.{call_told};
 
 use crate::answer::Answer;
 use crate::clock::seconds_now;
 use crate::command::hotsync;
 use crate::hints::{hint_folders, hint_words};
-use crate::printing::print_refusal;
+use hotsync_looks::print_refusal;
 use crate::report::SessionEnd;
-use crate::status::Status;
+use hotsync_looks::Status;
 use hs_folders::{DirFolder, FileSink, FileSource, Folder, Sink, Source, StdoutSink};
 use run_clap::WordsFault;
 use std::alloc::Global;

@@ -1,12 +1,12 @@
 // The script of a run.
 ghost use Rattle.std.specs.Prelude.{◌≡◌, ◌≤◌, IfErr, IfOk, IfSome, IsErrOf, None, OnOk, Some, length, option_copied};
 ghost use Rattle.hs_folders.specs.Causes.{Rose};
-ghost use Rattle.hotsync_run.specs.Looks.{source_limit};
-ghost use Rattle.hotsync_run.specs.Opening.{Opens, OpensAtMost, OpensGiven, OpensGivenAtMost};
+ghost use Rattle.hotsync_looks.specs.Looks.{source_limit};
+ghost use Rattle.hotsync_looks.specs.Opening.{Opens, OpensAtMost, OpensGiven, OpensGivenAtMost};
 ghost use Rattle.hotsync_run.specs.Scripts.{IsScript, IsScriptRefusal, IsScripted, ScriptRefuses, ScriptShows};
 
-use crate::source::read_source;
-use crate::status::Status;
+use hotsync_looks::read_source;
+use hotsync_looks::Status;
 use hs_folders::Source;
 use line_script::{Script, ScriptFault, read_script};
 use std::alloc::Global;

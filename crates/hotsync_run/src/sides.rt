@@ -11,11 +11,11 @@ ghost use Rattle.desk_journal.specs.Overlays.{StandsAs, finished};
 ghost use Rattle.desk_store.specs.Bounds.{AreBounded};
 ghost use Rattle.desk_store.specs.Desks.{IsDesk};
 ghost use Rattle.desk_store.specs.Views.{folder_in as desk_in};
-ghost use Rattle.hotsync_run.specs.Opening.{Opens, OpensAtMost};
+ghost use Rattle.hotsync_looks.specs.Opening.{Opens, OpensAtMost};
 ghost use Rattle.hotsync_run.specs.Refusals.{DesktopRefuses, DesktopShows, HandheldRefuses, HandheldShows, HasDesktop, LeavesDesktopUnread, is_desktop, is_handheld};
 ghost use Rattle.hotsync_run.specs.Views.{device_in};
 
-use crate::status::Status;
+use hotsync_looks::Status;
 use desk_store::Desk;
 use folder_files::{DESKTOP_INFO, DEVICE_INFO};
 use handheld_store::Store;

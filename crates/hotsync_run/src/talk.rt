@@ -15,7 +15,7 @@ ghost use Rattle.hotsync_run.specs.Wishes.{AsksFor};
 use crate::answer::Answer;
 use crate::left::{Left, left_of};
 use crate::reporting::report_of;
-use crate::status::Status;
+use hotsync_looks::Status;
 use crate::wishes::wishes_of;
 use desk_store::Desk;
 use handheld_server::Server;

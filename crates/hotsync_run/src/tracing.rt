@@ -3,12 +3,12 @@ ghost use Rattle.std.specs.Prelude.{◌≡◌, ◌≤◌, [], IfErr, IsErrOf, No
 ghost use Rattle.hs_folders.specs.Causes.{Rose};
 ghost use Rattle.trace_text.specs.TraceLines.{frame_value, trace_text};
 ghost use Rattle.hotsync_run.specs.Causes.{IsUnsaid, untold as untold_status};
-ghost use Rattle.hotsync_run.specs.Opening.{Opens, OpensAtMost, OpensGiven, OpensGivenAtMost};
+ghost use Rattle.hotsync_looks.specs.Opening.{Opens, OpensAtMost, OpensGiven, OpensGivenAtMost};
 ghost use Rattle.hotsync_run.specs.Refusals.{IsTraceRefusal, TraceRefuses};
-ghost use Rattle.hotsync_run.specs.Told.{sink_told};
+ghost use Rattle.hotsync_looks.specs.Told.{sink_told};
 ghost use Rattle.hotsync_run.specs.Traces.{TracesFrames, TracesText};
 
-use crate::status::Status;
+use hotsync_looks::Status;
 use hs_folders::{Sink, SinkFault};
 use std::alloc::{AllocError, Global};
 use trace_text::{Frame, write_trace};

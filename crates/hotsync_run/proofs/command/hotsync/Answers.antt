@@ -3,7 +3,8 @@ use Rattle.std.specs.Prelude.{Some, map, string_bytes}
 use Rattle.run_words.specs.Commands.{task_of}
 use Rattle.run_words.specs.Views.{task_view}
 use Rattle.run_words.specs.declared.command.Command.{Command}
-use Rattle.hotsync_run.specs.Told.{CallTold, folder_told, sink_told, source_told}
+use Rattle.hotsync_looks.specs.Told.{sink_told, source_told}
+use Rattle.hotsync_run.specs.Told.{CallTold, folder_told}
 use Rattle.hotsync_run.proofs.CallLaws.{only_memory, unread_call}
 use Rattle.hotsync_run.proofs.MakeWords.{few_asked}
 use Rattle.hotsync_run.proofs.command.hotsync.Goals as goal

@@ -1,9 +1,9 @@
 use Rattle.std.proofs.Common.{◌≡◌, ◌∙◌, ap}
 use Rattle.made_folders.specs.Items.{made}
-use Rattle.hotsync_run.specs.Lines.{done_lines}
-use Rattle.hotsync_run.specs.Told.{sink_told}
+use Rattle.hotsync_looks.specs.Lines.{done_lines}
+use Rattle.hotsync_looks.specs.Told.{sink_told}
 use Rattle.hotsync_run.proofs.MakeLaws.{ends_printed, made_printed}
-use Rattle.hotsync_run.proofs.PrintedLaws.{printed_weaken}
+use Rattle.hotsync_looks.proofs.PrintedLaws.{printed_weaken}
 use Rattle.hotsync_run.proofs.make.make.Goals as goal
 
 pub returns : goal.returns

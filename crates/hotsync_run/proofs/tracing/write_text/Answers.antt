@@ -1,4 +1,4 @@
-use Rattle.hotsync_run.specs.Told.{sink_told}
+use Rattle.hotsync_looks.specs.Told.{sink_told}
 use Rattle.hotsync_run.proofs.TraceLaws.{text_written}
 use Rattle.hotsync_run.proofs.tracing.write_text.Goals as goal
 

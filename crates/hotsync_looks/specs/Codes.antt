@@ -1,0 +1,32 @@
+-- The exit status of the program.
+use Rattle.std.specs.Prelude.{ℕ}
+use Rattle.hotsync_looks.specs.declared.status.Status.{Status}
+use Rattle.hotsync_looks.specs.declared.status.Status.TheVariants.{Done, Usage, BadScript, TooLong, BadFile, TooMany, HandheldFolder, DesktopFolder, SourceRead}
+use Rattle.hotsync_looks.specs.declared.status.Status.TheVariants.{TraceWrite, OutWrite, NoMemory, LineDown, Unplugged, Aborted, Undetected, OtherUser}
+use Rattle.hotsync_looks.specs.declared.status.Status.TheVariants.{TooManyUsers, Limit, NewHandheld, WrongSide, InUse, CannotExport}
+
+-- the exit status for each status of a call
+abbrev pub code_of : Status → ℕ
+code_of Done = 0
+code_of Usage = 2
+code_of (BadScript _) = 3
+code_of TooLong = 3
+code_of (BadFile _ _ _ _) = 3
+code_of (CannotExport _ _) = 3
+code_of (TooMany _) = 3
+code_of HandheldFolder = 4
+code_of DesktopFolder = 4
+code_of (InUse _) = 4
+code_of SourceRead = 4
+code_of TraceWrite = 4
+code_of OutWrite = 4
+code_of NoMemory = 5
+code_of (LineDown _) = 6
+code_of (Unplugged _) = 6
+code_of (Aborted _) = 6
+code_of (Undetected _) = 6
+code_of (OtherUser _ _) = 7
+code_of TooManyUsers = 7
+code_of (Limit _) = 7
+code_of (NewHandheld _) = 7
+code_of (WrongSide _) = 7

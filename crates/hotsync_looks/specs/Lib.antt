@@ -1,0 +1,10 @@
+pub mod BadFiles
+pub mod Codes
+pub mod FolderFaults
+pub mod Lines
+pub mod Looks
+pub mod Opening
+pub mod Printed
+pub mod PrintedNames
+pub mod Scans
+pub mod Told

@@ -1,0 +1,153 @@
+-- The lines that a call prints.
+use Rattle.std.specs.Prelude.{ℕ, Bool, if◌then◌else◌, List, [], ◌∷◌, ◌++◌, codes, string_bytes}
+use Rattle.std.specs.List.{flat_map}
+use Rattle.std.specs.Fmt.{decimal}
+use Rattle.std.specs.Int.{to_be_bytes, w32}
+use Rattle.std.specs.declared.alloc.Global.{Global}
+use Rattle.hex.specs.Hex.{encode_lower}
+use Rattle.pdb_values.specs.Stems.{stem_of}
+use Rattle.pdb_files.specs.BadKinds.{word_of}
+use Rattle.pdb_files.specs.declared.bad_kind.BadKind.{BadKind}
+use Rattle.run_words.specs.declared.look.ExportForm.{ExportForm}
+use Rattle.run_words.specs.declared.look.ExportForm.TheVariants.{Text}
+use Rattle.hotsync_looks.specs.PrintedNames.{printed_name}
+use Rattle.hotsync_looks.specs.declared.status.FileSide.{FileSide}
+use Rattle.hotsync_looks.specs.declared.status.FileSide.TheVariants.{Handheld, Desktop, Source}
+use Rattle.hotsync_looks.specs.declared.status.Status.{Status}
+use Rattle.hotsync_looks.specs.declared.status.Status.TheVariants.{Done, Usage, BadScript, TooLong, BadFile, TooMany, HandheldFolder, DesktopFolder, SourceRead}
+use Rattle.hotsync_looks.specs.declared.status.Status.TheVariants.{TraceWrite, OutWrite, NoMemory, LineDown, Unplugged, Aborted, Undetected, OtherUser}
+use Rattle.hotsync_looks.specs.declared.status.Status.TheVariants.{TooManyUsers, Limit, NewHandheld, WrongSide, InUse, CannotExport}
+use Rattle.sync_session.specs.declared.report.Counts.{Counts}
+use Rattle.sync_session.specs.declared.report.DbReport.{DbReport}
+use Rattle.sync_session.specs.declared.report.Did.{Did}
+use Rattle.sync_session.specs.declared.report.Did.TheVariants.{Synced, Skipped}
+use Rattle.sync_session.specs.declared.skip.Skip.{Skip}
+use Rattle.sync_session.specs.declared.skip.Skip.TheVariants as skip
+use Rattle.trace_text.specs.declared.frame.End.{End}
+use Rattle.trace_text.specs.declared.frame.End.TheVariants as end
+
+-- the byte that ends a line
+abbrev pub line_feed : List ℕ
+line_feed = 10 ∷ []
+
+-- how the program is called
+abbrev pub usage_line : List ℕ
+usage_line = codes "usage: hotsync run HANDHELD DESKTOP --date=D [--script=F] [--trace=F] [--slow] [--actions=L] [--add-user]" ++ line_feed
+
+abbrev pub no_memory_line : List ℕ
+no_memory_line = codes "no memory" ++ line_feed
+
+abbrev pub ended_line : List ℕ
+ended_line = codes "ended" ++ line_feed
+
+-- the word of the side that a bad file lies on
+abbrev pub side_word : FileSide → List ℕ
+side_word Handheld = codes "handheld"
+side_word Desktop = codes "desktop"
+side_word Source = codes "source"
+
+-- `bad file SIDE NAME KIND PLACE`, with the name as it is printed
+unfoldable pub bad_file_line : FileSide → List ℕ → BadKind → ℕ → List ℕ
+bad_file_line side name kind place =
+    codes "bad file " ++ side_word side ++ codes " " ++ printed_name name ++ codes " " ++ word_of kind ++ (codes " " ++ (decimal place ++ line_feed))
+
+-- the word of an end of the line
+abbrev pub end_word : End → List ℕ
+end_word end.Handheld = codes "handheld"
+end_word end.Desktop = codes "desktop"
+
+-- the word that stands for the folder of an end where a run is called
+abbrev pub folder_word : End → List ℕ
+folder_word end.Handheld = codes "HANDHELD"
+folder_word end.Desktop = codes "DESKTOP"
+
+-- a user in eight digits of lower-case hexadecimal
+abbrev pub user_text : ℕ → List ℕ
+user_text user = encode_lower (to_be_bytes w32 user)
+
+-- a line of words and a number
+unfoldable pub number_line : List ℕ → ℕ → List ℕ
+number_line words number = words ++ (decimal number ++ line_feed)
+
+-- a line of words and another word
+unfoldable pub word_line : List ℕ → List ℕ → List ℕ
+word_line words word = words ++ word ++ line_feed
+
+-- `other user HANDHELD DESKTOP`
+unfoldable pub users_line : ℕ → ℕ → List ℕ
+users_line handheld desktop = codes "other user " ++ user_text handheld ++ codes " " ++ user_text desktop ++ line_feed
+
+-- the word of a form
+abbrev pub form_word : ExportForm → List ℕ
+form_word Text = codes "txt"
+
+-- `cannot export STEM as FORM`
+unfoldable pub export_line : List ℕ → ExportForm → List ℕ
+export_line name form = codes "cannot export " ++ stem_of name ++ codes " as " ++ form_word form ++ line_feed
+
+-- the line of each refusal; a sink that failed gets none
+abbrev pub refusal_line : Status → List ℕ
+refusal_line Done = ended_line
+refusal_line Usage = usage_line
+refusal_line (BadScript line) = number_line (codes "bad script line ") line
+refusal_line TooLong = codes "source too long" ++ line_feed
+refusal_line (BadFile side name kind place) = bad_file_line side (string_bytes {Z = Global} name) kind place
+refusal_line (CannotExport name form) = export_line name form
+refusal_line (TooMany end) = word_line (codes "too many databases ") (end_word end)
+refusal_line (WrongSide end) = word_line (codes "wrong side ") (folder_word end)
+refusal_line HandheldFolder = codes "handheld folder failed" ++ line_feed
+refusal_line DesktopFolder = codes "desktop folder failed" ++ line_feed
+refusal_line (InUse end) = word_line (end_word end) (codes " folder in use")
+refusal_line SourceRead = codes "source read failed" ++ line_feed
+refusal_line TraceWrite = codes "trace write failed" ++ line_feed
+refusal_line OutWrite = []
+refusal_line NoMemory = no_memory_line
+refusal_line (LineDown end) = word_line (codes "line down ") (end_word end)
+refusal_line (Unplugged number) = number_line (codes "unplugged ") number
+refusal_line (Aborted number) = number_line (codes "aborted ") number
+refusal_line (Undetected number) = number_line (codes "undetected ") number
+refusal_line (OtherUser handheld desktop) = users_line handheld desktop
+refusal_line TooManyUsers = codes "too many users" ++ line_feed
+refusal_line (Limit name) = word_line (codes "limit ") (stem_of name)
+refusal_line (NewHandheld name) = word_line (codes "new handheld ") (stem_of name)
+
+-- how the handheld's database was read
+abbrev pub mode_word : Bool → List ℕ
+mode_word fast = if fast then codes " fast" else codes " slow"
+
+-- a word and a count behind it
+abbrev pub count_text : List ℕ → ℕ → List ℕ
+count_text word count = word ++ decimal count
+
+-- why a database was left alone
+abbrev pub skip_word : Skip → List ℕ
+skip_word skip.Nothing = codes "nothing"
+skip_word skip.Resource = codes "resource"
+skip_word skip.ReadOnly = codes "read-only"
+skip_word skip.Stream = codes "stream"
+skip_word skip.Differs = codes "differs"
+skip_word skip.Missing = codes "missing"
+
+-- ` MODE read R replaced P added A purged D archived V rows N`
+unfoldable pub counts_text : Counts → List ℕ
+counts_text counts =
+    mode_word counts.fast
+    ++ count_text (codes " read ") counts.read ++ count_text (codes " replaced ") counts.replaced ++ count_text (codes " added ") counts.added
+    ++ count_text (codes " purged ") counts.purged ++ count_text (codes " archived ") counts.archived ++ count_text (codes " rows ") counts.rows
+
+-- this, or ` skipped REASON`
+abbrev pub did_text : Did → List ℕ
+did_text (Synced counts) = counts_text counts
+did_text (Skipped reason) = codes " skipped " ++ skip_word reason
+
+-- what was done with the database of a name, behind its stem
+unfoldable pub database_line : List ℕ → Did → List ℕ
+database_line name did = stem_of name ++ did_text did ++ line_feed
+
+-- the line of what was done with one database
+abbrev pub line_of_report : DbReport → List ℕ
+line_of_report report = database_line report.name report.did
+
+-- what a run prints that was done: a line each database, and then `ended`
+abbrev pub done_lines : List DbReport → List ℕ
+done_lines databases = flat_map line_of_report databases ++ ended_line

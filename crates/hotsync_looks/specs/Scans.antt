@@ -1,0 +1,15 @@
+-- What holds of a call that shows the packets in some bytes.
+use Rattle.std.specs.Prelude.{◌≡◌, ◌⊎◌, ℕ, List}
+use Rattle.hs_folders.specs.Causes.{Rose}
+use Rattle.slp_frames.specs.PacketScan.{scan}
+use Rattle.trace_text.specs.PacketLists.{ShowsPackets}
+use Rattle.hotsync_looks.specs.Printed.{IsPrinted}
+use Rattle.hotsync_looks.specs.Told.{SinkTold}
+use Rattle.hotsync_looks.specs.declared.status.Status.{Status}
+use Rattle.hotsync_looks.specs.declared.status.Status.TheVariants.{Done, OutWrite, NoMemory}
+
+-- What is known of it: a line for each packet, and their number, unless standard output fails or memory runs out.
+pub record IsScanned (bytes : List ℕ) (out out_after : SinkTold) (status : Status) : Type 0 where
+  pub ended : (status ≡ Done) ⊎ (status ≡ OutWrite) ⊎ (status ≡ NoMemory)
+  pub printed : IsPrinted (ShowsPackets (scan bytes)) out out_after status
+  pub complete : ¬ Rose out.faults out_after.faults → (status ≡ Done) ⊎ (status ≡ NoMemory)

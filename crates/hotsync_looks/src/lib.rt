@@ -1,0 +1,21 @@
+//! How a call of the program ends: its status, the lines that it prints, and the calls that only look: into a database
+//! file, or for packets in captured bytes.
+//!
+//! A status has one line and one exit status. Names of files are printed one to one and without control characters, so
+//! that no name makes a line of its own. The lines and the statuses are this program's own; docs/FORMATS.md lists them.
+#![tactic(auto)]
+
+mod bad_file;
+mod look;
+mod packets;
+mod printed_name;
+mod printing;
+mod source;
+mod status;
+
+pub use look::look_at;
+pub use packets::print_packets;
+pub use printed_name::push_name;
+pub use printing::{print_no_memory, print_refusal, print_status, print_text};
+pub use source::read_source;
+pub use status::{FileSide, Status};

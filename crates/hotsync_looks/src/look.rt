@@ -1,0 +1,129 @@
+// A look at a database file.
+ghost use Rattle.std.specs.Prelude.{◌≡◌, ◌≤◌, IfErr, IfOk, IfSome, IsErrOf, OnOk, Some, length, string_bytes};
+ghost use Rattle.hs_folders.specs.Causes.{Rose};
+ghost use Rattle.hotsync_looks.specs.Looks as looks;
+ghost use Rattle.hotsync_looks.specs.Looks.{IsLook, IsLookRefusal, IsReadable, IsTextIn, NoTextSays, SourceShows, export_text, look_text as text_of_look, source_limit};
+ghost use Rattle.hotsync_looks.specs.Opening.{Opens, OpensAtMost};
+
+use crate::bad_file::fault_status;
+use crate::printing::{print_refusal, print_text};
+use crate::source::read_source;
+use crate::status::{FileSide, Status};
+use file_text::{check_text, show_text};
+use hs_folders::{Sink, Source};
+use pdb_files::read_database;
+use pdb_values::Database;
+use record_export::{ExportFault, Privacy, memos_text};
+use run_words::{Export, Look, LookWords};
+use std::alloc::Global;
+
+/// Reads the database of a file, and prints what the look wants of it.
+pub fn look_at<S: Source, O: Sink>(
+    alloc: Global,
+    words: LookWords<'_>,
+    source: &mut S,
+    out: &mut O,
+) -> Status
+    ensures { IsLook words.entry.look words.entry.file.now
+        (record {
+          left = S.left source.old;
+          paths = S.paths source.old;
+          faults = S.faults source.old;
+        })
+        (record {
+          left = S.left source.new;
+          paths = S.paths source.new;
+          faults = S.faults source.new;
+        })
+        (record { taken = O.taken out.old; paths = O.paths out.old; faults = O.faults out.old })
+        (record { taken = O.taken out.new; paths = O.paths out.new; faults = O.faults out.new })
+        result }
+{
+    match look_into(alloc, words.look, words.file, source) {
+        Ok(text) => print_text(text.as_str(), out),
+        Err(refusal) => print_refusal(alloc, refusal, out),
+    }
+}
+
+// The text of the database of a file.
+fn look_into<S: Source>(
+    alloc: Global,
+    look: Look,
+    file: &str,
+    source: &mut S,
+) -> Result<String, Status>
+    ensures text { IfOk result (λ text. IsTextIn look (S.left source.old) (string_bytes text)) }
+    ensures readable { OnOk result (IfSome (S.left source.old) (IsReadable look)) }
+    ensures shown { IfErr result (λ refusal. IfSome (S.left source.old)
+        (SourceShows look file.now refusal)) }
+    ensures failed { IsErrOf result Status.SourceRead → Rose (S.faults source.old)
+        (S.faults source.new) }
+    ensures refusal { IfErr result IsLookRefusal }
+
+    ensures opened { OnOk result (Opens file.now (S.paths source.old) (S.paths source.new)) }
+    ensures path { OpensAtMost file.now (S.paths source.old) (S.paths source.new) }
+    ensures count { S.faults source.old ≤ S.faults source.new }
+{
+    let bytes = read_source(alloc, source, file)?;
+    let text = bytes_text(alloc, look, file, &bytes)?;
+    Ok(text)
+}
+
+// The text of the database in these bytes of a file.
+fn bytes_text(alloc: Global, look: Look, file: &str, bytes: &[u8]) -> Result<String, Status>
+    requires { length bytes.now ≤ source_limit }
+    ensures text { IfOk result (λ text. IsTextIn look (Some bytes.now) (string_bytes text)) }
+    ensures readable { OnOk result (IsReadable look bytes.now) }
+    ensures shown { IfErr result (λ refusal. SourceShows look file.now refusal bytes.now) }
+    ensures failed { ¬ IsErrOf result Status.SourceRead }
+    ensures refusal { IfErr result IsLookRefusal }
+{
+    let database = match read_database(alloc, bytes) {
+        Ok(database) => database,
+        Err(fault) => return Err(fault_status(alloc, FileSide::Source, file, fault)),
+    };
+    let text = database_text(alloc, look, &database)?;
+    Ok(text)
+}
+
+// What the look wants of a database.
+fn database_text(alloc: Global, look: Look, database: &Database) -> Result<String, Status>
+    ensures text { IfOk result (λ text. text_of_look look database.now
+        ≡ Some (string_bytes text)) }
+    ensures refused { IfErr result (λ refusal. NoTextSays look database.now refusal) }
+{
+    let text = match look {
+        Look::Check => check_text(alloc, database)?,
+        Look::Show => show_text(alloc, database)?,
+        Look::Export(export) => exported_text(alloc, export, database)?,
+    };
+    Ok(text)
+}
+
+// The text of a database in the form that is wanted.
+fn exported_text(alloc: Global, export: Export, database: &Database) -> Result<String, Status>
+    ensures text { IfOk result (λ text. export_text export export.form database.now
+        ≡ Some (string_bytes text)) }
+    ensures refused { IfErr result (λ refusal.
+        NoTextSays (Look.Export export) database.now refusal) }
+{
+    match memos_text(alloc, database, privacy_of(export)) {
+        Ok(text) => Ok(text),
+        Err(ExportFault::CannotExport) => Err(Status::CannotExport {
+            name: database.head().name.copy(),
+            form: export.form,
+        }),
+        Err(ExportFault::NoMemory) => Err(Status::NoMemory),
+    }
+}
+
+// Which records are exported.
+fn privacy_of(export: Export) -> Privacy
+    ensures { result ≡ looks.privacy_of export }
+{
+    if export.without_private {
+        Privacy::WithoutPrivate
+    } else {
+        Privacy::All
+    }
+}

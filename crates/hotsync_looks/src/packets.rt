@@ -1,0 +1,36 @@
+// The packets in captured bytes.
+ghost use Rattle.hotsync_looks.specs.Scans.{IsScanned};
+ghost use Rattle.run_words.specs.Words.{bytes_of};
+ghost use Rattle.std.specs.Prelude.{◌≡◌, ◌≤◌, IfOk, string_bytes};
+ghost use Rattle.slp_frames.specs.PacketScan.{scan};
+ghost use Rattle.trace_text.specs.PacketLists.{ShowsPackets};
+
+use crate::printing::{print_no_memory, print_text};
+use crate::status::Status;
+use hs_folders::Sink;
+use std::alloc::{AllocError, Global};
+use trace_text::show_packets;
+
+/// Prints a line for each packet in the bytes of this hexadecimal, and then their number.
+pub fn print_packets<O: Sink>(alloc: Global, hex: &str, out: &mut O) -> Status
+    ensures scanned { IsScanned (bytes_of hex.now)
+        (record { taken = O.taken out.old; paths = O.paths out.old; faults = O.faults out.old })
+        (record { taken = O.taken out.new; paths = O.paths out.new; faults = O.faults out.new })
+        result }
+{
+    match packets_text(alloc, hex) {
+        Ok(text) => print_text(text.as_str(), out),
+        Err(AllocError) => print_no_memory(out),
+    }
+}
+
+// The text of the packets in the bytes of this hexadecimal.
+fn packets_text(alloc: Global, hex: &str) -> Result<String, AllocError>
+    ensures { IfOk result (λ text. ShowsPackets (scan (bytes_of hex.now)) (string_bytes text)) }
+{
+    let Ok(bytes) = hex::decode(alloc, hex) else {
+        return Err(AllocError);
+    };
+    let text = show_packets(alloc, &bytes)?;
+    Ok(text)
+}

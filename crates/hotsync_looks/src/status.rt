@@ -1,0 +1,179 @@
+// How a call ended.
+ghost use Rattle.std.specs.Prelude.{◌≡◌};
+ghost use Rattle.hotsync_looks.specs.FolderFaults.{desktop_status, handheld_status};
+ghost use Rattle.hotsync_looks.specs.declared.status.Status.TheVariants as status;
+
+use desk_store::DeskOpenFault;
+use handheld_store::OpenFault;
+use pdb_files::BadKind;
+use pdb_values::DbName;
+use run_words::ExportForm;
+use std::alloc::AllocError;
+use trace_text::End;
+
+/// Where a bad file lies.
+#[derive(Clone, Copy, PartialEq, Eq)]
+pub enum FileSide {
+    Handheld,
+    Desktop,
+    Source,
+}
+
+/// How a call of the program ended.
+#[derive(Drop)]
+pub enum Status {
+    /// The command was done whole.
+    Done,
+    /// The words ask for nothing that this program does.
+    Usage,
+    /// The first line of the script that is out of its form, from 1 on.
+    BadScript(u32),
+    /// The source has more than 67,108,864 bytes, or the script more than 100,000 lines.
+    TooLong,
+    /// A file breaks the rules of its format: its name, its first failing test, and the place of
+    /// that in the file, or the number of the block.
+    BadFile {
+        side: FileSide,
+        name: String,
+        kind: BadKind,
+        place: u64,
+    },
+    /// The source's database of this name holds nothing that has this form.
+    CannotExport {
+        name: DbName,
+        form: ExportForm,
+    },
+    /// A side has more than 200 databases.
+    TooMany(End),
+    /// The handheld's folder failed.
+    HandheldFolder,
+    /// The desktop's folder failed.
+    DesktopFolder,
+    /// Somebody else has the folder of this end open.
+    InUse(End),
+    /// The source failed.
+    SourceRead,
+    /// The trace failed.
+    TraceWrite,
+    /// Standard output failed.
+    OutWrite,
+    /// Memory ran out.
+    NoMemory,
+    /// A fragment of this end was sent ten times and never answered.
+    LineDown(End),
+    /// The line was unplugged where the frame of this number was to be sent.
+    Unplugged(u64),
+    /// The session was aborted in place of the frame of this number.
+    Aborted(u64),
+    /// The frame of this number, as the line would have damaged it, holds a packet.
+    Undetected(u64),
+    /// The handheld's user and that of the desktop are not the same.
+    OtherUser {
+        handheld: u32,
+        desktop: u32,
+    },
+    /// The desktop has no room for one more user.
+    TooManyUsers,
+    /// The session would make more of this database than a side can hold.
+    Limit(DbName),
+    /// The handheld never ended a session and the desktop did, and the session would cost the desktop live rows of this database.
+    NewHandheld(DbName),
+    /// The folder of this end has the information file of the other one.
+    WrongSide(End),
+}
+
+impl From<AllocError> for Status {
+    ghost from_gives = { λ _ outcome. outcome ≡ status.NoMemory };
+
+    fn from(_: AllocError) -> Self {
+        Status::NoMemory
+    }
+}
+
+/// What it makes of a run that the handheld's folder was not opened.
+impl From<OpenFault> for Status {
+    ghost from_gives = { λ fault outcome. outcome ≡ handheld_status fault };
+
+    fn from(fault: OpenFault) -> Self {
+        match fault {
+            OpenFault::Keeper => Status::HandheldFolder,
+            OpenFault::TooMany => Status::TooMany(End::Handheld),
+            OpenFault::BadFile { name, kind, place } => Status::BadFile {
+                side: FileSide::Handheld,
+                name,
+                kind,
+                place,
+            },
+            OpenFault::NoMemory => Status::NoMemory,
+        }
+    }
+}
+
+/// What it makes of a run that the desktop's folder was not opened.
+impl From<DeskOpenFault> for Status {
+    ghost from_gives = { λ fault outcome. outcome ≡ desktop_status fault };
+
+    fn from(fault: DeskOpenFault) -> Self {
+        match fault {
+            DeskOpenFault::DeskFault => Status::DesktopFolder,
+            DeskOpenFault::TooMany => Status::TooMany(End::Desktop),
+            DeskOpenFault::BadFile { name, kind, place } => Status::BadFile {
+                side: FileSide::Desktop,
+                name,
+                kind,
+                place,
+            },
+            DeskOpenFault::NoMemory => Status::NoMemory,
+        }
+    }
+}
+
+impl FileSide {
+    ghost use Rattle.hotsync_looks.specs.Lines.{side_word};
+
+    /// The word that stands for the side in a printed line.
+    pub fn word(self) -> &'static str
+        ensures { result.now ≡ side_word self }
+    {
+        match self {
+            FileSide::Handheld => "handheld",
+            FileSide::Desktop => "desktop",
+            FileSide::Source => "source",
+        }
+    }
+}
+
+impl Status {
+    ghost use Rattle.hotsync_looks.specs.Codes.{code_of};
+
+    /// The exit status of the program.
+    pub fn code(&self) -> u8
+        ensures { result ≡ code_of self.now }
+    {
+        match self {
+            Status::Done => 0,
+            Status::Usage => 2,
+            Status::BadScript(_)
+            | Status::TooLong
+            | Status::BadFile { .. }
+            | Status::CannotExport { .. }
+            | Status::TooMany(_) => 3,
+            Status::HandheldFolder
+            | Status::DesktopFolder
+            | Status::InUse(_)
+            | Status::SourceRead
+            | Status::TraceWrite
+            | Status::OutWrite => 4,
+            Status::NoMemory => 5,
+            Status::LineDown(_)
+            | Status::Unplugged(_)
+            | Status::Aborted(_)
+            | Status::Undetected(_) => 6,
+            Status::OtherUser { .. }
+            | Status::TooManyUsers
+            | Status::Limit(_)
+            | Status::NewHandheld(_)
+            | Status::WrongSide(_) => 7,
+        }
+    }
+}
