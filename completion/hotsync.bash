@@ -3,7 +3,7 @@ _hotsync() {
     local word=${COMP_WORDS[COMP_CWD]}
     COMPREPLY=()
     if [ "$COMP_CWD" -eq 1 ]; then
-        COMPREPLY=($(compgen -W 'run check show packet make' -- "$word"))
+        COMPREPLY=($(compgen -W 'run check show export packet make' -- "$word"))
         return
     fi
     case ${COMP_WORDS[1]} in
