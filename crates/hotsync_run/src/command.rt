@@ -5,13 +5,10 @@ ghost use Rattle.hotsync_run.specs.Refusals.{BlamesHandheld, BlamesScript};
 ghost use Rattle.hotsync_run.specs.Reports.{IsNotStarted};
 
 use crate::answer::Answer;
-use hotsync_looks::look_at;
 use crate::make::make;
-use hotsync_looks::print_packets;
-use hotsync_looks::print_refusal;
 use crate::report::SessionEnd;
 use crate::run::run_folders;
-use hotsync_looks::Status;
+use hotsync_looks::{Status, look_at, print_packets, print_refusal};
 use hs_folders::{Folder, Sink, Source};
 use run_clap::{Command, WordsFault, read_command};
 use std::alloc::Global;

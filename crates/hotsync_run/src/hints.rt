@@ -1,10 +1,9 @@
 // Hints for whoever called, on standard error. Nothing is promised of them: what can't be said is left out.
 use crate::answer::Answer;
-use hotsync_looks::push_name;
 use crate::report::Report;
-use hotsync_looks::Status;
 use dlp_replies::{Reply, read_reply};
 use folder_files::JOURNAL;
+use hotsync_looks::{Status, push_name};
 use hs_folders::Folder;
 use pdb_values::DbName;
 use run_clap::{Command, RunWords, read_command};
@@ -116,8 +115,9 @@ fn hint_database<R: Eprint + AllocGlobal>(rt: &R, database: &DbReport) {
     };
     match database.did {
         Did::Skipped(Skip::Missing) => {
-            let _ =
-                eprintln!(rt; "hint: --actions={stem}:desktop brings {stem} back to the handheld");
+            let _ = eprintln!(rt;
+                "hint: --actions={stem}:desktop brings {stem} back to the handheld"
+            );
         }
         Did::Synced(Counts { twice, .. }) if twice > 0 => {
             let _ = eprintln!(rt;

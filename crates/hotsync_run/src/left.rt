@@ -4,8 +4,8 @@ ghost use Rattle.hotsync_run.specs.Causes.{down_status as status_of_down, fault_
 ghost use Rattle.hotsync_run.specs.Talks.{IsLeft};
 
 use crate::report::SessionEnd;
-use hotsync_looks::Status;
 use desktop_session::SessionFault;
+use hotsync_looks::Status;
 use line_world::Down;
 use std::alloc::{AllocError, Global};
 use sync_session::{DbReport, Stop};

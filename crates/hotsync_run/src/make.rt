@@ -11,13 +11,12 @@ ghost use Rattle.hotsync_run.specs.Makes.{HasMade, IsMake, made_run, made_script
 ghost use Rattle.hotsync_looks.specs.Told.{sink_told};
 
 use crate::answer::Answer;
-use hotsync_looks::print_status;
 use crate::report::Report;
-use hotsync_looks::Status;
 use crate::steady::SteadyFolder;
 use crate::talk::talk;
 use desk_store::Desk;
 use handheld_store::Store;
+use hotsync_looks::{Status, print_status};
 use hs_folders::{Folder, Sink};
 use line_script::{Script, read_script};
 use made_folders::{MadeFolders, make_folders};

@@ -14,15 +14,14 @@ ghost use Rattle.hotsync_run.specs.Told.{call_told, sides_told};
 ghost use Rattle.run_words.specs.Views.{run_view};
 
 use crate::answer::Answer;
-use hotsync_looks::print_status;
 use crate::report::SessionEnd;
 use crate::script::script_of;
 use crate::sides::{open_desktop, open_handheld};
-use hotsync_looks::Status;
 use crate::talk::talk;
 use crate::tracing::{open_trace, write_frames};
 use desk_store::Desk;
 use handheld_store::Store;
+use hotsync_looks::{Status, print_status};
 use hs_folders::{Folder, Sink, Source};
 use line_script::Script;
 use run_clap::RunWords;

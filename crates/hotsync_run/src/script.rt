@@ -5,8 +5,7 @@ ghost use Rattle.hotsync_looks.specs.Looks.{source_limit};
 ghost use Rattle.hotsync_looks.specs.Opening.{Opens, OpensAtMost, OpensGiven, OpensGivenAtMost};
 ghost use Rattle.hotsync_run.specs.Scripts.{IsScript, IsScriptRefusal, IsScripted, ScriptRefuses, ScriptShows};
 
-use hotsync_looks::read_source;
-use hotsync_looks::Status;
+use hotsync_looks::{Status, read_source};
 use hs_folders::Source;
 use line_script::{Script, ScriptFault, read_script};
 use std::alloc::Global;

@@ -15,10 +15,10 @@ ghost use Rattle.hotsync_looks.specs.Opening.{Opens, OpensAtMost};
 ghost use Rattle.hotsync_run.specs.Refusals.{DesktopRefuses, DesktopShows, HandheldRefuses, HandheldShows, HasDesktop, LeavesDesktopUnread, is_desktop, is_handheld};
 ghost use Rattle.hotsync_run.specs.Views.{device_in};
 
-use hotsync_looks::Status;
 use desk_store::Desk;
 use folder_files::{DESKTOP_INFO, DEVICE_INFO};
 use handheld_store::Store;
+use hotsync_looks::Status;
 use hs_folders::{Folder, FolderFault, FolderOpenFault};
 use std::alloc::Global;
 use trace_text::End;
