@@ -18,6 +18,8 @@ pub fn words_text(alloc: Global, now: Option<u32>, line: &str) -> Result<String,
             let word = match look.look {
                 Look::Check => "check",
                 Look::Show => "show",
+                Look::Export(export) if export.without_private => "export without private",
+                Look::Export(_) => "export",
             };
             format!(in alloc; "{word} file {}\n", look.file)
         }
