@@ -11,6 +11,7 @@ pub mod LossLaws
 pub mod ManyLaws
 pub mod MergeActs
 pub mod NameLaws
+pub mod NewIdsLaws
 pub mod OpenActs
 pub mod OrderActs
 pub mod OrderRuns
@@ -21,9 +22,12 @@ pub mod PutActs
 pub mod ReadActs
 pub mod ReadyLaws
 pub mod RelabelLaws
+pub mod RowCountLaws
 pub mod RunLaws
+pub mod SkippedLaws
 pub mod SortedLaws
 pub mod StopLaws
 pub mod TaskActs
 pub mod UnknownLaws
+pub mod UnwrittenLaws
 pub mod WriteActs

@@ -21,14 +21,15 @@ use Rattle.sync_session.specs.Tasks.{Meeting, task_of}
 use Rattle.session_laws.specs.Meetings.{AllFollow, Follows, IsActive, action_at, found_of, holding_after, ids_at, last_of, places_of}
 use Rattle.session_laws.specs.Renaming.{AreUnknown, SameEnds}
 use Rattle.session_laws.specs.Repeats.{AreStops, Found, GotAllIds, GotIds, IsRead, MayStop, NoneUnderGone, Place, all_ids, among_news, at_end, before_mark}
-use Rattle.session_laws.specs.Repeats.{behind_commit, chosen, ended, given_by, ids_with, left, news_done, shown, sides}
+use Rattle.session_laws.specs.Repeats.{EndAlike, Ended, behind_commit, chosen, ended, given_by, ids_given, ids_with, left, left_by, news_done, shown, sides}
 use Rattle.session_laws.proofs.CommitLaws.{end-adds, no_contents}
 use Rattle.session_laws.proofs.DesktopLaws.{chosen-again}
-use Rattle.session_laws.proofs.MeetingLaws.{reading-shows}
+use Rattle.session_laws.proofs.MeetingLaws.{all-follow, reading-shows}
 use Rattle.session_laws.proofs.NewsLaws.{news-adds, whole-is}
 use Rattle.session_laws.proofs.SoundLaws.{read-commit, read-news}
-use Rattle.session_laws.proofs.WholeLaws.{meetings-hold}
-use Rattle.session_fronts.specs.Again.{AllRunAgain, AreFresh, IsFreshBehind, Later, RunsAgain, last_run}
+use Rattle.session_laws.proofs.RepeatLaws.{both_repeat}
+use Rattle.session_laws.proofs.WholeLaws.{holds-end, meetings-hold}
+use Rattle.session_fronts.specs.Again.{AllRunAgain, AreFresh, EndsAtMerge, IsFreshBehind, Later, RunsAgain, ids_of_all, last_run}
 use Rattle.session_fronts.specs.Sound.{IsSoundMeeting}
 use Rattle.session_fronts.proofs.FrontLaws.{front-among, front-behind}
 use Rattle.session_fronts.proofs.ReadyLaws.{handheld-sound}
@@ -131,6 +132,7 @@ record IsTaken (x : Found) (meeting next : Meeting) (name ids : List ℕ) : Type
   place : Place
   follows : Follows meeting next name place
   may : MayStop (action_at meeting name) (found_of meeting name) place
+  gives : ids_given place ≡ ids
   active : IsActive next name
   ready : IsReady (action_at meeting name) x (found_of next name)
   stay : (later : List ℕ) → AreUnknown x later → AreUnknown x (ids_with (action_at meeting name) place later)
@@ -147,6 +149,7 @@ taken x {meeting} {name} {ids} ready fresh none_ids step =
       place = step.place;
       follows = step.follows;
       may = step.may;
+      gives = step.gives;
       active = step.active;
       ready = subst (IsReady (action_at meeting name) x) (sym step.follows.finds) (ready-left x step.place step.may ready);
       stay = λ later un. step.stay x later (unknown-both x ids later (unknown-of x ids own fresh) un);
@@ -185,11 +188,28 @@ record IsChain (x : Found) (a : Action) (meeting : Meeting) (es : List Later) (l
   ready : IsReady a x (found_of (last_run meeting es) name)
   fresh : NoBase (base_at x.base true) (ids_at (last_run meeting es) later name)
   stay : (ids : List ℕ) → AreUnknown x ids → AreUnknown x (all_ids a (places_of steps) ids)
+  given : (a ≡ Desktop → ⊥) → all_ids a (places_of steps) (ids_at (last_run meeting es) later name) ≡ ids_of_all meeting es later name
+
+-- where it doesn't go by the desktop all ids stand in the end
+ids-other : (a : Action) (place : Place) (later : List ℕ) → (a ≡ Desktop → ⊥) → ids_with a place later ≡ ids_given place ++ later
+ids-other Sync place later other = refl
+ids-other Handheld place later other = refl
+ids-other Desktop place later other = absurd (other refl)
 
 chain : (x : Found) (a : Action) {meeting : Meeting} (es : List Later) (later : List ℕ) {name : List ℕ} → action_at meeting name ≡ a
     → AllRunAgain meeting es → IsActive meeting name → IsReady a x (found_of meeting name) → AreFresh (base_at x.base true) meeting es later name
     → IsChain x a meeting es later name
-chain x a [] later same runs is ready fresh = grind (arith, [])
+chain x a [] later same runs is ready fresh = record {
+  steps = [];
+  last = refl;
+  follows = tt;
+  stops = tt;
+  active = is;
+  ready = ready;
+  fresh = fresh;
+  stay = λ ids un. un;
+  given = λ other. refl;
+}
 chain x a {meeting} (e ∷ es) later {name} same runs is ready fresh =
     let t = take-step x name runs.0 runs.1 runs.2 is (subst (λ b. IsReady b x (found_of meeting name)) (sym same) ready) fresh.0 in
     let rest =
@@ -207,15 +227,22 @@ chain x a {meeting} (e ∷ es) later {name} same runs is ready fresh =
       fresh = rest.fresh;
       stay = λ ids un. subst (λ b. AreUnknown x (ids_with b t.place (all_ids a (places_of rest.steps) ids))) same
           (t.stay (all_ids a (places_of rest.steps) ids) (rest.stay ids un));
+      given = λ other. ids-other a t.place (all_ids a (places_of rest.steps) (ids_at (last_run e.next es) later name)) other
+          ∙ ap {A = List ℕ × List ℕ} (λ p. p.0 ++ p.1) (λ k. (t.gives k, rest.given other k));
     }
 
-pub all-run_again : (meeting : Meeting) (es : List Later) (later new : List ℕ) (name : List ℕ) → IsSoundMeeting meeting → AllRunAgain meeting es
-    → IsActive meeting name → IsFreshBehind meeting es later name
+-- what is known of the database behind all of them
+record IsTakenUp (meeting : Meeting) (es : List Later) (later name : List ℕ) : Type 0 where
+  read : IsRead (found_of meeting name)
+  chained : IsChain (found_of meeting name) (action_at meeting name) meeting es later name
+  unknown : AreUnknown (found_of meeting name)
+      (all_ids (action_at meeting name) (places_of chained.steps) (ids_at (last_run meeting es) later name))
+
+taken-up : (meeting : Meeting) (es : List Later) (later name : List ℕ) → IsSoundMeeting meeting → AllRunAgain meeting es → IsActive meeting name
+    → IsFreshBehind meeting es later name
     → GotAllIds (action_at meeting name) (found_of (last_run meeting es) name) (ids_at (last_run meeting es) later name)
-    → GotAllIds (action_at meeting name) (found_of meeting name) (ids_at meeting new name)
-    → AreUnknown (found_of meeting name) (ids_at meeting new name)
-    → IsActive (last_run meeting es) name × SameEnds (found_of meeting name) (holding_after (last_run meeting es) later name) (holding_after meeting new name)
-all-run_again meeting es later new name sound runs is fresh got new_got new_un =
+    → IsTakenUp meeting es later name
+taken-up meeting es later name sound runs is fresh got =
     let a = action_at meeting name in
     let x = found_of meeting name in
     let own = handheld-sound sound (task_of meeting name) refl in
@@ -227,10 +254,50 @@ all-run_again meeting es later new name sound runs is fresh got new_got new_un =
       | inl kept ↦ kept.back ids (all-new got)
       | inr none ↦ none-later x.records none got
     ] in
-    let un = c.stay ids (unknown-of x ids new_ids c.fresh) in (
+    record { read = read; chained = c; unknown = c.stay ids (unknown-of x ids new_ids c.fresh) }
+
+pub all-run_again : (meeting : Meeting) (es : List Later) (later new : List ℕ) (name : List ℕ) → IsSoundMeeting meeting → AllRunAgain meeting es
+    → IsActive meeting name → IsFreshBehind meeting es later name
+    → GotAllIds (action_at meeting name) (found_of (last_run meeting es) name) (ids_at (last_run meeting es) later name)
+    → GotAllIds (action_at meeting name) (found_of meeting name) (ids_at meeting new name)
+    → AreUnknown (found_of meeting name) (ids_at meeting new name)
+    → IsActive (last_run meeting es) name × SameEnds (found_of meeting name) (holding_after (last_run meeting es) later name) (holding_after meeting new name)
+all-run_again meeting es later new name sound runs is fresh got new_got new_un =
+    let a = action_at meeting name in
+    let x = found_of meeting name in
+    let up = taken-up meeting es later name sound runs is fresh got in
+    let c = up.chained in
+    let ids = ids_at (last_run meeting es) later name in (
       c.active,
       subst (λ (last : Meeting). SameEnds x (holding_after last later name) (holding_after meeting new name)) c.last
-          (meetings-hold meeting name c.steps later new is (subst (λ (last : Meeting). IsActive last name) (sym c.last) c.active) c.follows read c.stops
+          (meetings-hold meeting name c.steps later new is (subst (λ (last : Meeting). IsActive last name) (sym c.last) c.active) c.follows up.read c.stops
           (subst (λ (last : Meeting). GotAllIds a (found_of last name) (ids_at last later name)) (sym c.last) got)
-          (subst (λ (last : Meeting). AreUnknown x (all_ids a (places_of c.steps) (ids_at last later name))) (sym c.last) un) new_got new_un),
+          (subst (λ (last : Meeting). AreUnknown x (all_ids a (places_of c.steps) (ids_at last later name))) (sym c.last) up.unknown) new_got new_un),
     )
+
+-- and under which ids it ends
+pub all-merged : (meeting : Meeting) (es : List Later) (later name : List ℕ) → IsSoundMeeting meeting → AllRunAgain meeting es → IsActive meeting name
+    → IsFreshBehind meeting es later name
+    → GotAllIds (action_at meeting name) (found_of (last_run meeting es) name) (ids_at (last_run meeting es) later name)
+    → EndsAtMerge meeting es later name
+all-merged meeting es later name sound runs is fresh got =
+    let a = action_at meeting name in
+    let x = found_of meeting name in
+    let up = taken-up meeting es later name sound runs is fresh got in
+    let c = up.chained in
+    let places = places_of c.steps in
+    let last = last_run meeting es in
+    let ids = ids_at last later name in
+    let follow = all-follow meeting name c.steps c.follows in
+    let action : action_at last name ≡ a = ap (λ (m : Meeting). action_at m name) (sym c.last) ∙ follow.0 in
+    let finds : found_of last name ≡ left_by a x places = ap (λ (m : Meeting). found_of m name) (sym c.last) ∙ follow.1 in
+    let both = both_repeat a places ids up.read c.stops (subst (λ (y : Found). GotIds a y ids) finds got.got) in
+    let holds : holding_after last later name ≡ ended a (left_by a x places) ids =
+    holds-end last later name c.active ∙ (λ k. ended (action k) (finds k) ids) in
+    record {
+      ids = all_ids a places ids;
+      all = c.given;
+      got = both.0;
+      unknown = up.unknown;
+      ends = subst (λ (e : Ended). EndAlike e (ended a x (all_ids a places ids))) (sym holds) both.1;
+    }

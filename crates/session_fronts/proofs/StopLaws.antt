@@ -2,7 +2,7 @@
 use Rattle.std.proofs.lemmas.Grind.{common_steps}
 use Rattle.std.proofs.Common.{◌≡◌, ◌⊎◌, inl, inr, ◌∙◌, ◌<◌, ◌||◌, not, refl, ap, sym, subst, ℕ, Bool, true, List, [], ◌∷◌, ◌++◌, length, take, if◌then◌else◌}
 use Rattle.std.proofs.Common.{arith, is_none, is_some}
-use Rattle.std.specs.Prelude.{Option, Some, None}
+use Rattle.std.specs.Prelude.{Option, None}
 use Rattle.std.specs.List.{AllByRecursion}
 use Rattle.pdb_values.specs.Databases.{DatabaseValue}
 use Rattle.pdb_values.specs.NamedDatabases.{database_of}
@@ -16,7 +16,7 @@ use Rattle.conduit_rules.specs.declared.action.Action.TheVariants.{Sync, Handhel
 use Rattle.conduit_rules.specs.declared.view.Seen.{Seen}
 use Rattle.conduit_rules.proofs.ActionLaws.{handheld-is}
 use Rattle.conduit_merge.specs.Stops.{NoBase}
-use Rattle.conduit_merge.specs.Writes.{Write, after, clearing}
+use Rattle.conduit_merge.specs.Writes.{Write, clearing}
 use Rattle.conduit_merge.proofs.CountLaws.{honest-merged}
 use Rattle.conduit_merge.proofs.PutLaws.{differ-ids}
 use Rattle.conduit_merge.proofs.StopLaws.{handheld-given}
@@ -27,7 +27,7 @@ use Rattle.run_words.specs.declared.action.NamedAction.{NamedAction}
 use Rattle.sync_session.specs.Archives.{entries_of}
 use Rattle.sync_session.specs.Choosing.{action_or_sync, agrees, base_rows_by, is_fast, is_fast_by, view}
 use Rattle.sync_session.specs.Limits.{first_over}
-use Rattle.sync_session.specs.Merges.{handheld_before, merged_databases, merged_device, merged_slot}
+use Rattle.sync_session.specs.Merges.{merged_databases, merged_device, merged_slot}
 use Rattle.sync_session.specs.Skips.{active, head_of, reason_by, skip_of}
 use Rattle.sync_session.specs.Tasks.{Meeting, Task, action_of_word, records_of, slot_of, task_of}
 use Rattle.sync_session.specs.Users.{begun_user}
@@ -35,7 +35,7 @@ use Rattle.session_laws.specs.Meetings.{AsksTheSame, Follows, IsActive, IsLikeFi
 use Rattle.session_laws.specs.Meetings.{action_at, found_of, holding_after, ids_at}
 use Rattle.session_laws.specs.Renaming.{AreUnknown, SameEnds}
 use Rattle.session_laws.specs.Repeats.{Found, GotAllIds, GotIds, IsRead, MayStop, NoneUnderGone, Place, among_news, at_end, before_mark, behind_commit, chosen}
-use Rattle.session_laws.specs.Repeats.{given_by, ids_with, left_behind_commit, news_done, shown, sides}
+use Rattle.session_laws.specs.Repeats.{given_by, ids_given, ids_with, left_behind_commit, news_done, shown, sides}
 use Rattle.session_laws.proofs.CommitLaws.{commit-adds, end-adds}
 use Rattle.session_laws.proofs.MeetingLaws.{among-news, at-the_end, behind-the_commit, reading-shows}
 use Rattle.session_laws.proofs.MergedLaws.{handheld-merged}
@@ -46,19 +46,14 @@ use Rattle.session_laws.proofs.TaskLaws.{are-active, device-name, is-active, on_
 use Rattle.session_laws.proofs.WholeLaws.{active-again, meetings-hold, merged-at, whole-found}
 use Rattle.session_fronts.specs.Again.{IsFresh, RunsAgain}
 use Rattle.session_fronts.specs.Sound.{IsSoundMeeting}
-use Rattle.session_fronts.specs.Stops.{IsWritten, StandsAmongNews, StandsBehindCommit, StandsWith, news_at}
+use Rattle.session_fronts.specs.Stops.{StandsAmongNews, StandsBehindCommit, StandsWith, news_at}
 use Rattle.session_fronts.proofs.FrontLaws.{front-among, front-behind}
 use Rattle.session_fronts.proofs.PartActs.{take-all}
 use Rattle.session_fronts.proofs.ReadyLaws.{handheld-sound}
+use Rattle.session_fronts.proofs.UnwrittenLaws.{unwritten-ids, written-records}
 use Rattle.session_fronts.proofs.UnknownLaws.{IsNewIn, all-new, news-back, news-new, none-back, none-front, unknown-both, unknown-of}
 
 -- ---- what the next meeting finds
-
-before_rs : (h r : Option DatabaseValue) {b : DatabaseValue} → handheld_before h r ≡ Some b → b.records ≡ records_of h
-before_rs h r before = grind (arith, common_steps)
-
-written-records : {t : Task} {ws : List Write} {o : Option DatabaseValue} → IsWritten t ws o → records_of o ≡ after ws (records_of t.handheld)
-written-records {t} {ws} is = ap records_of is.stands ∙ ap (after ws) (before_rs t.handheld t.rows is.is)
 
 pub left-among : {meeting next : Meeting} {given : List ℕ} (stands : StandsAmongNews meeting given next.device) → AsksTheSame meeting next
     → next.device.user ≡ begun_user meeting.device.user → slot_of next ≡ slot_of meeting → 0 < (slot_of meeting).marks.pc
@@ -190,6 +185,7 @@ pub record IsStep (meeting next : Meeting) (name ids : List ℕ) : Type 0 where
   pub own : AllByRecursion (IsNewIn (found_of meeting name).records) ids
   pub back : (later : List ℕ) → GotAllIds (action_at meeting name) (found_of next name) later
       → AllByRecursion (IsNewIn (found_of meeting name).records) later
+  pub gives : ids_given place ≡ ids
   pub stay : (x : Found) (later : List ℕ) → AreUnknown x (ids ++ later) → AreUnknown x (ids_with (action_at meeting name) place later)
   pub active : IsActive next name
 
@@ -245,6 +241,7 @@ step-among {meeting} {next} {given} {name} stands is asks slot number read fresh
             own = own;
             back = λ later got. news-back a x ids count later (subst (λ (rs : List Record). AllByRecursion (IsNewIn rs) later)
                 (ap (λ (y : Found). y.records) follows.finds) (all-new got));
+            gives = refl;
             stay = λ z later un. ids-among z ids later un a count;
             active = active;
           }
@@ -256,6 +253,9 @@ step-among {meeting} {next} {given} {name} stands is asks slot number read fresh
             may = tt;
             own = own;
             back = λ later got. subst (λ (y : Found). AllByRecursion (IsNewIn y.records) later) finds (all-new got);
+            gives = unwritten-ids a x (task_of meeting name) ids count refl
+                (subst (λ (now : Option DatabaseValue). StandsWith (task_of meeting name) (news_at meeting name ids count) now)
+                (ap (λ (ds : List DatabaseValue). database_of name ds) databases) (stands.each name)) (stands.free name) (stands.all name);
             stay = λ z later un. ids-before z ids later un a;
             active = active;
           }
@@ -312,6 +312,7 @@ step-behind {meeting} {next} {given} {name} stands is asks slot number read =
             own = all-new free;
             back = λ later got. none-later x.records
                 (ap (λ (y : Found). (chosen a y).adds) follows.finds ∙ adds-behind a x ids (stands.count name) read free.got) got;
+            gives = refl;
             stay = λ z later un. ids-behind z ids later un a (stands.count name);
             active = active-behind meeting next given stands name is asks slot;
           }
@@ -328,6 +329,7 @@ step-behind {meeting} {next} {given} {name} stands is asks slot number read =
             own = all-new free;
             back = λ later got. none-later x.records
                 (ap (λ (y : Found). (chosen a y).adds) follows.finds ∙ end-adds a x ids seen (not (agrees next)) read free.got then_read) got;
+            gives = refl;
             stay = λ z later un. ids-end z ids later un a seen (not (agrees next));
             active = active-again meeting next given name merged is;
           }

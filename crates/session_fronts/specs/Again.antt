@@ -1,16 +1,21 @@
 -- A session that is run again behind one that stopped.
 use Rattle.std.specs.Prelude.{◌≡◌, ◌≤◌, ◌<◌, ◌++◌, ◌⊎◌, ℕ, true, List, [], ◌∷◌, None}
+use Rattle.pdb_values.specs.NamedDatabases.{database_of}
+use Rattle.palm_device.specs.Devices.{Device}
 use Rattle.conduit_rules.specs.States.{Based, base_at}
 use Rattle.conduit_rules.specs.Views.{IsHonest}
+use Rattle.conduit_rules.specs.declared.action.Action.TheVariants.{Desktop}
 use Rattle.conduit_merge.specs.Stops.{NoBase}
+use Rattle.desk_store.specs.Shelves.{SlotValue}
 use Rattle.sync_session.specs.Choosing.{base_rows, is_fast}
 use Rattle.sync_session.specs.Fronts.{Front}
 use Rattle.sync_session.specs.Limits.{first_over}
 use Rattle.sync_session.specs.Merges.{merged_slot}
 use Rattle.sync_session.specs.Sessions.{writes_before_commit}
 use Rattle.sync_session.specs.Tasks.{Meeting, records_of, slot_of, task_of}
-use Rattle.session_laws.specs.Meetings.{AsksTheSame, found_of, ids_at}
-use Rattle.session_laws.specs.Repeats.{NoneUnderGone}
+use Rattle.session_laws.specs.Meetings.{AsksTheSame, IsActive, action_at, found_of, holding_after, ids_at}
+use Rattle.session_laws.specs.Renaming.{AreUnknown}
+use Rattle.session_laws.specs.Repeats.{EndAlike, GotIds, NoneUnderGone, ended}
 use Rattle.session_fronts.specs.Sound.{IsSoundMeeting}
 
 -- the desktop's slot is as it was, or merged: the first while no more writes were made than stand before the commit, the second from there on
@@ -61,3 +66,34 @@ pub record IsFreshBehind (meeting : Meeting) (es : List Later) (later : List ℕ
   pub honest : is_fast meeting (task_of meeting name) ≡ true → IsHonest (base_rows (task_of meeting name)) (records_of (task_of meeting name).handheld)
   pub fresh : AreFresh (base_at (found_of meeting name).base true) meeting es later name
   pub gone : NoneUnderGone (found_of meeting name).gone_counts (found_of meeting name).base (found_of meeting name).records
+
+-- ---- under which ids they end
+
+-- the ids that the sessions gave to a database, in order
+abbrev pub ids_of_all : Meeting → List Later → List ℕ → List ℕ → List ℕ
+ids_of_all meeting [] later name = ids_at meeting later name
+ids_of_all meeting (e ∷ es) later name = ids_at meeting e.given name ++ ids_of_all e.next es later name
+
+-- The last session leaves of a database the merge of what the first one found, but for gone rows of the base, under ids of which each was free at
+-- its turn and nothing had one. They are all that were given, in order, unless it goes by the desktop, where those given before the commit are
+-- purged again.
+pub record EndsAtMerge (meeting : Meeting) (es : List Later) (later name : List ℕ) : Type 0 where
+  pub ids : List ℕ
+  pub all : (action_at meeting name ≡ Desktop → ⊥) → ids ≡ ids_of_all meeting es later name
+  pub got : GotIds (action_at meeting name) (found_of meeting name) ids
+  pub unknown : AreUnknown (found_of meeting name) ids
+  pub ends : EndAlike (holding_after (last_run meeting es) later name) (ended (action_at meeting name) (found_of meeting name) ids)
+
+-- ---- what they skip
+
+-- both sides hold under a name what a meeting found there
+pub record HoldsTheSame (meeting : Meeting) (device : Device) (slot : SlotValue) (name : List ℕ) : Type 0 where
+  pub handheld : database_of name device.databases ≡ (task_of meeting name).handheld
+  pub rows : database_of name slot.shelves.rows ≡ (task_of meeting name).rows
+  pub base : database_of name slot.shelves.bases ≡ (task_of meeting name).base
+  pub archive : database_of name slot.shelves.archives ≡ (task_of meeting name).archive
+
+-- each of the sessions behind a first one skips the database of a name, and finds it as the first did
+abbrev pub AllSkip : Meeting → List Later → List ℕ → Type 0
+AllSkip meeting [] name = Unit {0}
+AllSkip meeting (e ∷ es) name = (IsActive e.next name → ⊥) × HoldsTheSame meeting e.next.device (slot_of e.next) name × AllSkip meeting es name

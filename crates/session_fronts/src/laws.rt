@@ -12,15 +12,15 @@ ghost use Rattle.desktop_session.specs.Tellings.{AreSayable, device_after, excha
 ghost use Rattle.sync_session.specs.Fronts.{Front};
 ghost use Rattle.sync_session.specs.Limits.{first_over};
 ghost use Rattle.sync_session.specs.Losses.{first_loss};
-ghost use Rattle.sync_session.specs.Merges.{merged_device};
+ghost use Rattle.sync_session.specs.Merges.{merged_device, merged_slot};
 ghost use Rattle.sync_session.specs.Sessions.{adds_of, after_commit, before_commit, before_writes, session};
 ghost use Rattle.sync_session.specs.Sessions.{requests, writes_before_commit};
 ghost use Rattle.sync_session.specs.Tasks.{Meeting};
 ghost use Rattle.session_laws.specs.Meetings.{IsActive, action_at, found_of, holding_after, ids_at};
 ghost use Rattle.session_laws.specs.Renaming.{AreUnknown, SameEnds};
 ghost use Rattle.session_laws.specs.Repeats.{GotAllIds};
-ghost use Rattle.session_fronts.specs.Again.{AllRunAgain, IsFresh, IsFreshBehind, Later};
-ghost use Rattle.session_fronts.specs.Again.{RunsAgain, last_run};
+ghost use Rattle.session_fronts.specs.Again.{AllRunAgain, AllSkip, EndsAtMerge, HoldsTheSame};
+ghost use Rattle.session_fronts.specs.Again.{IsFresh, IsFreshBehind, Later, RunsAgain, last_run};
 ghost use Rattle.session_fronts.specs.Answered.{IsAnsweredExchange};
 ghost use Rattle.session_fronts.specs.Equal.{HasEqualSides, IsShownWhole};
 ghost use Rattle.session_fronts.specs.Given.{GetFreeIds, ids_in};
@@ -181,4 +181,34 @@ pub fn stopped_sessions_are_run_again()
         → GotAllIds a x (ids_at meeting new name) → AreUnknown x (ids_at meeting new name)
         → IsActive last name
         × SameEnds x (holding_after last later name) (holding_after meeting new name) }
+{}
+
+/// After any number of sessions that stopped the one that ends leaves of each database the merge of what the
+/// first one found: under all ids that they gave it, or, where it goes by the desktop, under some of them.
+pub fn stopped_sessions_end_at_the_merge()
+    ensures { (meeting : Meeting) (es : List Later) (later name : List ℕ) → IsSoundMeeting meeting
+        → AllRunAgain meeting es → IsActive meeting name → IsFreshBehind meeting es later name
+        → let last = last_run meeting es in
+        GotAllIds (action_at meeting name) (found_of last name) (ids_at last later name)
+        → EndsAtMerge meeting es later name }
+{}
+
+/// A session leaves a database that it skips as both sides had it, and the sessions that are run again behind
+/// it skip it too, find it so and leave it so, whichever ids they give.
+pub fn a_skipped_database_is_left_alone()
+    ensures whole { (meeting : Meeting) (given name : List ℕ) → (IsActive meeting name → ⊥)
+        → HoldsTheSame meeting (merged_device meeting given) (merged_slot meeting given) name }
+    ensures again { (meeting : Meeting) (es : List Later) (later name : List ℕ)
+        → AllRunAgain meeting es → (IsActive meeting name → ⊥)
+        → let last = last_run meeting es in AllSkip meeting es name
+        × HoldsTheSame meeting (merged_device last later) (merged_slot last later) name }
+{}
+
+/// There are ids that a handheld may give to all new records of a session that passes no limit: in each
+/// database each is free at its turn, and nothing had one.
+pub fn new_ids_can_be_given()
+    ensures { (meeting : Meeting) → IsSoundMeeting meeting → first_over meeting ≡ None
+        → (new : List ℕ) × ((name : List ℕ) → IsActive meeting name
+        → GotAllIds (action_at meeting name) (found_of meeting name) (ids_at meeting new name)
+        × AreUnknown (found_of meeting name) (ids_at meeting new name)) }
 {}

@@ -141,3 +141,9 @@ handheld-merged m ts given t b are there before =
       own-changes (handheld-own m) ts given m.device.databases t are there,
       own_merged m t (ids_dealt m ts given t.name),
     )
+
+-- and under a name that none of them has
+pub handheld-others : (m : Meeting) (ts : List Task) (given name : List ℕ) → AreTasks m ts → NotNamed name ts
+    → database_of name (merged_databases m ts given m.device.databases) ≡ database_of name m.device.databases
+handheld-others m ts given name are unnamed =
+    ap (database_of name) (merged-puts m ts given m.device.databases) ∙ others-stay (handheld-own m) ts given m.device.databases name are unnamed

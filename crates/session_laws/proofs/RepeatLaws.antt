@@ -123,7 +123,7 @@ read-left Desktop {x} (among_news given n) read may = read-news Desktop x given 
 read-left a {x} (behind_commit given n) read may = read-commit a x given n read may.got
 read-left a (at_end given view g) read may = may.1
 
-both_repeat : (a : Action) {x : Found} (places : List Place) (later : List ℕ) → IsRead x → AreStops a x places → GotIds a (left_by a x places) later
+pub both_repeat : (a : Action) {x : Found} (places : List Place) (later : List ℕ) → IsRead x → AreStops a x places → GotIds a (left_by a x places) later
     → GotIds a x (all_ids a places later) × EndAlike (ended a (left_by a x places) later) (ended a x (all_ids a places later))
 both_repeat a {x} [] later read stops got = (got, alike_same {e = ended a x later} {f = ended a x later} refl)
 both_repeat a {x} (place ∷ places) later read stops got =

@@ -60,7 +60,7 @@ rows_name_by : (name : List ℕ) (date : ℕ) (rows handheld : Option DatabaseVa
     → rows_before date rows handheld ≡ Some r → r.head.name ≡ name
 rows_name_by name date rows handheld named handheld_named is = grind arith
 
-rows_name : (m : Meeting) (t : Task) {r : DatabaseValue} → t ≡ task_of m t.name → rows_before m.wishes.date t.rows t.handheld ≡ Some r
+pub rows_name : (m : Meeting) (t : Task) {r : DatabaseValue} → t ≡ task_of m t.name → rows_before m.wishes.date t.rows t.handheld ≡ Some r
     → r.head.name ≡ t.name
 rows_name m t is before =
     grind (

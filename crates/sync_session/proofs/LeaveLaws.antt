@@ -9,7 +9,7 @@ use Rattle.hs_folders.proofs.MomentLaws.{no_moment}
 use Rattle.pdb_values.specs.declared.user.Marks.{Marks}
 use Rattle.sync_session.proofs.LinkWords.{LinkFault, Talk, SessionValue, Act, text, link_ended, marking, Does, Stops, Ended, Halted, SessionFault}
 use Rattle.desk_journal.specs.Entries.{EntryValue}
-use Rattle.desk_journal.specs.Overlays.{StandsAs, overlay, put_all}
+use Rattle.desk_journal.specs.Overlays.{FinishesAs, finished, put_all}
 use Rattle.folder_files.specs.Slots.{users_of}
 use Rattle.sync_session.proofs.MeetingWords.{DbHead, DatabaseValue, SlotValue, marks_of, slot_at, DeskValue, marks_in, shelves_in, gained, news_under}
 use Rattle.sync_session.proofs.MeetingWords.{SpansBehind, each_acts, Planned}
@@ -115,7 +115,7 @@ module _ {L F : Type 0} (talk : L → Option Talk) (since : L → L → Type 0) 
       files = tt;
       written = tt;
       stands = inl refl;
-      each_moment = no_moment (StandsAs (option_map (put_all []) (contents folder))) (moments folder) (moments folder) refl;
+      each_moment = no_moment (FinishesAs (option_map (put_all []) (contents folder))) (moments folder) (moments folder) refl;
       cause = record { later = omega arith; rose = λ is. absurd (let same : cause ≡ stop.DeskFault = cc in other same); still = λ none. refl };
       same_paths = refl;
     };
@@ -131,7 +131,7 @@ module _ {L F : Type 0} (talk : L → Option Talk) (since : L → L → Type 0) 
     place = place;
     files = files;
     written = on_ok (contents after.folder ≡ option_map (put_all entries) (contents desk.folder)) end commits.written;
-    stands = inr (ap (option_map overlay) commits.written);
+    stands = inr (ap (option_map finished) commits.written);
     each_moment = commits.each_moment;
     cause = record { later = commits.cause.later; rose = λ is. absurd (other is); still = λ none. commits.cause.still (λ is. is) };
     same_paths = commits.same_paths;
@@ -166,7 +166,7 @@ module _ {L F : Type 0} (talk : L → Option Talk) (since : L → L → Type 0) 
         place = place;
         files = files;
         written = tt;
-        stands = commits.refused;
+        stands = commits.left;
         each_moment = commits.each_moment;
         cause = record {
           later = commits.cause.later;

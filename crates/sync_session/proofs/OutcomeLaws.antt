@@ -10,8 +10,8 @@ use Rattle.pdb_values.specs.declared.user.Marks.{Marks}
 use Rattle.pdb_values.specs.declared.user.UserInfo.{UserInfo}
 use Rattle.sync_session.proofs.LinkWords.{LinkFault, Talk, Ended, Halted, SessionFault, text, marking, reading_user, SessionValue, Stops}
 use Rattle.desk_journal.specs.Entries.{EntryValue}
-use Rattle.desk_journal.specs.Overlays.{StandsAs, overlay, put_all}
-use Rattle.desk_journal.proofs.OverlayLaws.{plain_overlay}
+use Rattle.desk_journal.specs.Overlays.{FinishesAs, finished, put_all}
+use Rattle.desk_journal.proofs.FinishLaws.{plain_finished}
 use Rattle.desk_store.specs.Desks.{IsDesk}
 use Rattle.sync_session.proofs.MeetingWords.{AreInOrder, SlotValue, DeskValue, marks_in, ArePlannedFor, IsAtRest, adds_of, after_commit, before_writes, Meeting}
 use Rattle.sync_session.proofs.MeetingWords.{slot_of, gained, news_under, SpansBehind}
@@ -46,19 +46,24 @@ use Rattle.sync_session.specs.Users.{begun_user}
 
 -- ---- the folder
 
--- what stands as a folder of these slots stands for them
-pub stands_merged : (slots : List SlotValue) (made told : Option FileMap) → IsDesk made slots → StandsAs made told → StandsForSlots slots told
-stands_merged slots made None desk same = tt
-stands_merged slots None (Some held) desk same = absurd cc
-stands_merged slots (Some made) (Some held) desk same =
-    let over : overlay held ≡ overlay made = cc in
-    rw (over ∙ plain_overlay made desk.stands.no_journal) desk.stands
+-- the folder of a desktop has no journal
+finished_desk : (told : Option FileMap) {slots : List SlotValue} → IsDesk told slots → option_map finished told ≡ told
+finished_desk None desk = refl
+finished_desk (Some held) desk = ap Some (plain_finished held desk.stands.no_journal)
+
+-- so it stands for its slots
+pub desk_stands : (told : Option FileMap) (slots : List SlotValue) → IsDesk told slots → StandsForSlots slots told
+desk_stands told slots desk = subst (λ (t : Option FileMap). IsDesk t slots) (sym (finished_desk told desk)) desk
+
+-- and what stands as one does
+pub stands_merged : (slots : List SlotValue) (made told : Option FileMap) → IsDesk made slots → FinishesAs made told → StandsForSlots slots told
+stands_merged slots made told desk same = subst (λ (t : Option FileMap). IsDesk t slots) (sym same) (desk_stands made slots desk)
 
 -- so it does at each moment
-moments_merged : (slots : List SlotValue) (made : Option FileMap) (old new : Moments) → IsDesk made slots → EachMomentSince (StandsAs made) old new
+moments_merged : (slots : List SlotValue) (made : Option FileMap) (old new : Moments) → IsDesk made slots → EachMomentSince (FinishesAs made) old new
     → EachMomentSince (StandsForSlots slots) old new
 moments_merged slots made old new desk each =
-    moments_weaken (StandsAs made) (StandsForSlots slots) old new each (λ told same. stands_merged slots made told desk same)
+    moments_weaken (FinishesAs made) (StandsForSlots slots) old new each (λ told same. stands_merged slots made told desk same)
 
 -- ---- why
 
@@ -117,10 +122,6 @@ unrefused_says meeting answer on = record {
 pub cause_says : (meeting : Meeting) (cause : SessionFault) → SaysRefusal meeting (Err (stop.Session cause))
 cause_says meeting cause = record { limit = λ name is. tt; loss = λ name none is. tt }
 
-desk_stands : (told : Option FileMap) (slots : List SlotValue) → IsDesk told slots → StandsForSlots slots told
-desk_stands None slots desk = tt
-desk_stands (Some held) slots desk = rw (plain_overlay held desk.stands.no_journal) desk.stands
-
 flat-each : (ids : List (Vec ℕ)) → flat_map (λ (one : Vec ℕ). one.items) ids ≡ flat_map (λ (one : List ℕ). one) (each_of ids)
 flat-each [] = refl
 flat-each (one ∷ ids) = ap (λ zs. one.items ++ zs) (flat-each ids)
@@ -152,7 +153,7 @@ module _ {L F : Type 0} (talk : L → Option Talk) (since : L → L → Type 0) 
       files = tt;
       written = tt;
       stands = inl refl;
-      each_moment = no_moment (StandsAs (option_map (put_all []) (contents folder))) (moments folder) (moments folder) refl;
+      each_moment = no_moment (FinishesAs (option_map (put_all []) (contents folder))) (moments folder) (moments folder) refl;
     };
     over = λ some. unwritten (inl some);
     unseated = unseated;
@@ -178,7 +179,7 @@ module _ {L F : Type 0} (talk : L → Option Talk) (since : L → L → Type 0) 
     entries : List EntryValue
     files : AreCommitFiles meeting entries
     written : contents after ≡ option_map (put_all entries) (contents folder)
-    moved : EachMomentSince (StandsAs (option_map (put_all entries) (contents folder))) (moments folder) (moments after)
+    moved : EachMomentSince (FinishesAs (option_map (put_all entries) (contents folder))) (moments folder) (moments after)
 
   -- it changed the folder so
   changed_by : {given : List ℕ} {dealt : List (List ℕ)} {between : L} {folder after : F} (answer : Result (Vec DbReport) Stop)
@@ -187,7 +188,7 @@ module _ {L F : Type 0} (talk : L → Option Talk) (since : L → L → Type 0) 
     entries = done.entries;
     files = done.files;
     written = on_ok (contents after ≡ option_map (put_all done.entries) (contents folder)) answer done.written;
-    stands = inr (ap (option_map overlay) done.written);
+    stands = inr (ap (option_map finished) done.written);
     each_moment = done.moved;
   }
 
@@ -254,10 +255,10 @@ module _ {L F : Type 0} (talk : L → Option Talk) (since : L → L → Type 0) 
           | inl same ↦ inl (record {
             given = given;
             stops = stops;
-            stands = ap (λ f. option_map overlay (contents f)) same;
+            stands = ap (λ f. option_map finished (contents f)) same;
             moments = no_moment (StandsForSlots merged) (moments desk.folder) (moments refusal.1) (ap moments same);
           })
-          | inr stands ↦ elim commits.refused [
+          | inr stands ↦ elim commits.left [
             | inl before ↦ inl (record {
               given = given;
               stops = stops;
@@ -283,7 +284,7 @@ module _ {L F : Type 0} (talk : L → Option Talk) (since : L → L → Type 0) 
           stopped = both;
           cause = commit_stop talk fault meeting old between refusal.0
               (record { given = given; count = news.count; free = news.free; does = news.reached.does });
-          changed = record { entries = entries; files = files; written = tt; stands = commits.refused; each_moment = commits.each_moment };
+          changed = record { entries = entries; files = files; written = tt; stands = commits.left; each_moment = commits.each_moment };
           over = λ some. not_refused _ meeting on (inl some);
           unseated = λ why is. seated_says _ meeting why seated is;
           limit = λ name is. none_named _ (first_over meeting) name on.within is;

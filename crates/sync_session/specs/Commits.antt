@@ -1,19 +1,19 @@
 -- How a desktop commits: its picked slot changes at once, or not at all.
-use Rattle.std.specs.Prelude.{◌≡◌, ◌⊎◌, ℕ, List, Option, IfOk, OnErr, Result}
+use Rattle.std.specs.Prelude.{◌≡◌, ◌⊎◌, ℕ, List, Option, IfOk, Result}
 use Rattle.std.specs.Option.{option_map}
 use Rattle.std.specs.Result.{IsErrAnd}
 use Rattle.hs_folders.specs.Causes.{HasCause}
 use Rattle.hs_folders.specs.FileMaps.{FileMap}
 use Rattle.hs_folders.specs.Moments.{EachMomentSince, Moments}
 use Rattle.desk_journal.specs.Entries.{EntryValue}
-use Rattle.desk_journal.specs.Overlays.{StandsAs, put_all}
+use Rattle.desk_journal.specs.Overlays.{FinishesAs, put_all}
 use Rattle.desk_store.specs.Desks.{IsDesk}
 use Rattle.desk_store.specs.Shelves.{SlotValue}
 use Rattle.desk_store.specs.Views.{DeskValue, folder_in}
 use Rattle.desk_store.specs.declared.fault.CommitFault.{CommitFault}
 use Rattle.desk_store.specs.declared.fault.CommitFault.TheVariants.{DeskFault}
 
--- With Ok the desktop has these slots, its folder holds these files over all others, and stands for the slots. After a refusal the folder
+-- With Ok the desktop has these slots, its folder holds these files over all others, and stands for the slots. Whatever the answer, the folder
 -- stands for what it stood for, or for all of the change. It is as it was, or with these files it is that of a desktop with these slots.
 -- From the first moment at which anything changed on, it stands for the change.
 -- The folder's failure is answered where its count rose.
@@ -23,9 +23,9 @@ pub record Commits {F : Type 0} (contents : F → Option FileMap) (moments : F �
   pub picked : IfOk answer (λ after. after.picked ≡ desk.picked)
   pub stands : IfOk answer (λ after. IsDesk (contents after.folder) after.slots)
   pub written : IfOk answer (λ after. contents after.folder ≡ option_map (put_all entries) (contents desk.folder))
-  pub refused : OnErr answer (StandsAs (contents desk.folder) (contents (folder_in answer))
-      ⊎ StandsAs (option_map (put_all entries) (contents desk.folder)) (contents (folder_in answer)))
+  pub left : FinishesAs (contents desk.folder) (contents (folder_in answer))
+      ⊎ FinishesAs (option_map (put_all entries) (contents desk.folder)) (contents (folder_in answer))
   pub made : (folder_in answer ≡ desk.folder) ⊎ IsDesk (option_map (put_all entries) (contents desk.folder)) taken
-  pub each_moment : EachMomentSince (StandsAs (option_map (put_all entries) (contents desk.folder))) (moments desk.folder) (moments (folder_in answer))
+  pub each_moment : EachMomentSince (FinishesAs (option_map (put_all entries) (contents desk.folder))) (moments desk.folder) (moments (folder_in answer))
   pub cause : HasCause (faults desk.folder) (faults (folder_in answer)) (IsErrAnd answer (λ refusal. refusal.0 ≡ DeskFault))
   pub same_paths : paths (folder_in answer) ≡ paths desk.folder

@@ -10,7 +10,7 @@ use Rattle.dlp_commands.specs.declared.link.LinkFault.TheVariants.{Down}
 use Rattle.dlp_commands.specs.Links.{WentDown}
 use Rattle.folder_files.specs.FileNames.{desktop_info_file}
 use Rattle.desk_journal.specs.Entries.{EntryValue}
-use Rattle.desk_journal.specs.Overlays.{StandsAs, put_all}
+use Rattle.desk_journal.specs.Overlays.{FinishesAs, put_all}
 use Rattle.desk_store.specs.DeskFiles.{slot_file}
 use Rattle.desk_store.specs.declared.role.Role.{Role}
 use Rattle.sync_session.specs.declared.outcome.Outcome.{Outcome}
@@ -34,8 +34,8 @@ pub record LeavesFolder {L F : Type 0} (contents : F → Option FileMap) (moment
   pub place : ℕ
   pub files : AllByRecursion (λ (entry : EntryValue). IsSlotsFile place entry.name) entries
   pub written : OnOk left.end (contents left.folder ≡ option_map (put_all entries) (contents folder))
-  pub stands : StandsAs (contents folder) (contents left.folder) ⊎ StandsAs (option_map (put_all entries) (contents folder)) (contents left.folder)
-  pub each_moment : EachMomentSince (StandsAs (option_map (put_all entries) (contents folder))) (moments folder) (moments left.folder)
+  pub stands : FinishesAs (contents folder) (contents left.folder) ⊎ FinishesAs (option_map (put_all entries) (contents folder)) (contents left.folder)
+  pub each_moment : EachMomentSince (FinishesAs (option_map (put_all entries) (contents folder))) (moments folder) (moments left.folder)
   pub cause : HasCause (faults folder) (faults left.folder) (IsErrOf left.end stop.DeskFault)
   pub same_paths : paths left.folder ≡ paths folder
 

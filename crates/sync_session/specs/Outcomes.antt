@@ -1,5 +1,5 @@
 -- How a session over a link that tells its device ends, and what it leaves of both sides.
-use Rattle.std.specs.Prelude.{◌≡◌, ◌⊎◌, ℕ, List, [], ◌∷◌, length, map, replicate, slice_index, Option, None, Some, IfErr, IfOk, IfSome, IsSome, OnErr, OnOk, Result}
+use Rattle.std.specs.Prelude.{◌≡◌, ◌⊎◌, ℕ, List, [], ◌∷◌, length, map, replicate, slice_index, Option, None, Some, IfErr, IfOk, IsSome, OnErr, OnOk, Result}
 use Rattle.std.specs.Prelude.{Ok, Err, is_none, true}
 use Rattle.std.specs.List.{AllByRecursion, list_any}
 use Rattle.std.specs.Option.{option_map}
@@ -17,9 +17,9 @@ use Rattle.dlp_commands.specs.declared.link.LinkFault.{LinkFault}
 use Rattle.dlp_commands.specs.declared.link.LinkFault.TheVariants.{Down}
 use Rattle.dlp_commands.specs.Talks.{Talk}
 use Rattle.desk_journal.specs.Entries.{EntryValue}
-use Rattle.desk_journal.specs.Overlays.{StandsAs, overlay, put_all}
+use Rattle.desk_journal.specs.Overlays.{FinishesAs, finished, put_all}
 use Rattle.desk_store.specs.DeskFiles.{slot_file}
-use Rattle.desk_store.specs.Desks.{IsDesk, IsDeskOf}
+use Rattle.desk_store.specs.Desks.{IsDesk}
 use Rattle.desk_store.specs.Shelves.{SlotValue, marks_of}
 use Rattle.desk_store.specs.declared.role.Role.{Role}
 use Rattle.desktop_session.specs.declared.fault.SessionFault.{SessionFault}
@@ -42,9 +42,9 @@ use Rattle.sync_session.specs.Tasks.{Meeting, names, task_of}
 
 -- ---- the desktop's folder
 
--- it stands for these slots: its files, and over them those of a journal that was not finished
+-- it stands for these slots: once a journal that was not finished is finished, it is the folder of a desktop with them
 abbrev pub StandsForSlots : List SlotValue → Option FileMap → Type 0
-StandsForSlots slots told = IfSome told (λ held. IsDeskOf (overlay held) slots)
+StandsForSlots slots told = IsDesk (option_map finished told) slots
 
 -- at each moment since, it stood for the merge, which it never leaves
 abbrev pub MergedSince : Meeting → List ℕ → Moments → Moments → Type 0
@@ -79,8 +79,8 @@ pub record ChangesDesk (meeting : Meeting) (folder : Tellings) (answer : Result 
   pub entries : List EntryValue
   pub files : AllByRecursion (λ (entry : EntryValue). IsCommitFile meeting entry.name) entries
   pub written : OnOk answer (folder.after ≡ option_map (put_all entries) folder.before)
-  pub stands : StandsAs folder.before folder.after ⊎ StandsAs (option_map (put_all entries) folder.before) folder.after
-  pub each_moment : EachMomentSince (StandsAs (option_map (put_all entries) folder.before)) folder.moments_before folder.moments_after
+  pub stands : FinishesAs folder.before folder.after ⊎ FinishesAs (option_map (put_all entries) folder.before) folder.after
+  pub each_moment : EachMomentSince (FinishesAs (option_map (put_all entries) folder.before)) folder.moments_before folder.moments_after
 
 -- ---- a session that ended
 
@@ -106,7 +106,7 @@ pub record IsUncommitted {L : Type 0} (talk : L → Option Talk) (since : L → 
     (meeting : Meeting) (old new : L) (folder : Tellings) : Type 0 where
   pub given : List ℕ
   pub stops : Stops talk since fault downs (requests_before_commit meeting) old new
-  pub stands : StandsAs folder.before folder.after
+  pub stands : FinishesAs folder.before folder.after
   pub moments : MergedSince meeting given folder.moments_before folder.moments_after
 
 -- All that precedes the commit was answered, the folder stands for the merge, and no more went out then than a beginning of what follows.

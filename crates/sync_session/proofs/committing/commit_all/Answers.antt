@@ -34,9 +34,9 @@ returns-in-Ok g c =
             picked = made.picked;
             stands = made.desk;
             written = made.written;
-            refused = made.refused;
+            left = made.left;
             made = made.made;
-            each_moment = made.each_moment;
+            each_moment = made.each_left;
             cause = made.cause;
             same_paths = made.paths;
           });
