@@ -1,10 +1,12 @@
 -- What words ask for, by the first of them.
-use Rattle.std.specs.Prelude.{ℕ, List, [], ◌∷◌, Option, Some, None, codes, bytes_eq, option_map, option_and_then, if◌then◌else◌}
-use Rattle.run_words.specs.declared.command.Look.{Look}
-use Rattle.run_words.specs.declared.command.Look.TheVariants.{Check, Show}
+use Rattle.std.specs.Prelude.{ℕ, true, List, [], ◌∷◌, Option, Some, None, codes, bytes_eq, option_map, option_and_then, if◌then◌else◌}
+use Rattle.run_words.specs.declared.look.Look.{Look}
+use Rattle.run_words.specs.declared.look.Look.TheVariants.{Check, Show, Export}
+use Rattle.run_words.specs.Exports.{export_in}
+use Rattle.run_words.specs.Forms.{Form, is_of_form, plain_at}
 use Rattle.run_words.specs.Numbers.{number_of, count_of}
 use Rattle.run_words.specs.Runs.{Run, run_of}
-use Rattle.run_words.specs.Words.{is_plain, is_hex, bytes_of}
+use Rattle.run_words.specs.Words.{is_hex, bytes_of}
 
 -- a run, a look at a file, the packets in some bytes, or a run over folders made of a seed and a count
 pub data Task : Type 0 where
@@ -13,20 +15,58 @@ pub data Task : Type 0 where
   Scan : List ℕ → Task
   Make : ℕ → ℕ → Task
 
--- the file that the words behind `check` or `show` name: one plain word, and nothing else
-unfoldable pub file_of : List (List ℕ) → Option (List ℕ)
-file_of (file ∷ []) = if is_plain file then Some file else None
-file_of _ = None
+-- plain words alone, of these names
+abbrev pub plain_form : List (List ℕ) → Form
+plain_form names = record { plain = names; options = []; flags = [] }
 
--- the bytes that the words behind `packet` give: one word of hexadecimal, and nothing else
+-- `FILE`, behind `check` and `show`
+unfoldable pub file_form : Form
+file_form = plain_form (codes "file" ∷ [])
+
+-- `FILE --as=FORM [--without-private]`, behind `export`
+unfoldable pub export_form : Form
+export_form = record {
+  plain = codes "file" ∷ [];
+  options = record { name = codes "as"; is_required = true } ∷ [];
+  flags = codes "without-private" ∷ [];
+}
+
+-- `HEX`, behind `packet`
+unfoldable pub packet_form : Form
+packet_form = plain_form (codes "hex" ∷ [])
+
+-- `SEED N`, behind `make`
+unfoldable pub make_form : Form
+make_form = plain_form (codes "seed" ∷ codes "count" ∷ [])
+
+-- the file that the words behind `check` or `show` name
+unfoldable pub file_of : List (List ℕ) → Option (List ℕ)
+file_of words = if is_of_form file_form words then plain_at 0 words else None
+
+-- the bytes of a word of hexadecimal
+abbrev pub hex_bytes : List ℕ → Option (List ℕ)
+hex_bytes hex = if is_hex hex then Some (bytes_of hex) else None
+
+-- the bytes that the words behind `packet` give
 unfoldable pub packet_of : List (List ℕ) → Option (List ℕ)
-packet_of (hex ∷ []) = if is_hex hex then Some (bytes_of hex) else None
-packet_of _ = None
+packet_of words = if is_of_form packet_form words then option_and_then hex_bytes (plain_at 0 words) else None
+
+-- the run over made folders that words of its form give
+abbrev pub make_in : List (List ℕ) → Option Task
+make_in words =
+    option_and_then (λ seed. option_map (Make seed) (option_and_then count_of (plain_at 1 words))) (option_and_then number_of (plain_at 0 words))
 
 -- the seed and the count behind `make`
 unfoldable pub make_of : List (List ℕ) → Option Task
-make_of (seed ∷ count ∷ []) = option_and_then (λ number. option_map (Make number) (count_of count)) (number_of seed)
-make_of _ = None
+make_of words = if is_of_form make_form words then make_in words else None
+
+-- the export that words of its form give
+abbrev pub export_task_in : List (List ℕ) → Option Task
+export_task_in words = option_and_then (λ file. option_map (λ export. LookAt (Export export) file) (export_in words)) (plain_at 0 words)
+
+-- the file behind `export`, and how it is exported
+unfoldable pub export_of : List (List ℕ) → Option Task
+export_of words = if is_of_form export_form words then export_task_in words else None
 
 -- what the words behind a command ask for, at the date now
 abbrev pub task_behind : Option ℕ → List ℕ → List (List ℕ) → Option Task
@@ -34,8 +74,9 @@ task_behind now command words =
     if bytes_eq command (codes "run") then option_map Sync (run_of now words)
     else (if bytes_eq command (codes "check") then option_map (LookAt Check) (file_of words)
     else (if bytes_eq command (codes "show") then option_map (LookAt Show) (file_of words)
+    else (if bytes_eq command (codes "export") then export_of words
     else (if bytes_eq command (codes "packet") then option_map Scan (packet_of words)
-    else (if bytes_eq command (codes "make") then make_of words else None))))
+    else (if bytes_eq command (codes "make") then make_of words else None)))))
 
 -- what these words ask for, where the date now is this, if it can be told
 unfoldable pub task_of : Option ℕ → List (List ℕ) → Option Task

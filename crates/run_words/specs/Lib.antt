@@ -1,5 +1,7 @@
 pub mod Actions
 pub mod Commands
+pub mod Exports
+pub mod Forms
 pub mod Numbers
 pub mod Runs
 pub mod StemNames

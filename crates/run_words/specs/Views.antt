@@ -1,35 +1,25 @@
 -- What contracts see of words, and of what they give.
-use Rattle.std.specs.Prelude.{option_copied}
+use Rattle.std.specs.Prelude.{map, option_copied}
 use Rattle.run_words.specs.Commands.{Task, Sync, LookAt, Scan, Make}
-use Rattle.run_words.specs.Runs.{Given, Run}
-use Rattle.run_words.specs.Words.{Kind, plain_word, date_value, script_value, trace_value, actions_value, slow_word, add_user_word, unknown_word, bytes_of}
+use Rattle.run_words.specs.Forms.{Form, NamedOption}
+use Rattle.run_words.specs.Runs.{Run}
+use Rattle.run_words.specs.Words.{bytes_of}
 use Rattle.run_words.specs.declared.command.Command.{Command}
 use Rattle.run_words.specs.declared.command.Command.TheVariants as commands
-use Rattle.run_words.specs.declared.run.GivenWords.{GivenWords}
+use Rattle.run_words.specs.declared.form.ValueOption.{ValueOption}
+use Rattle.run_words.specs.declared.form.WordForm.{WordForm}
 use Rattle.run_words.specs.declared.run.RunWords.{RunWords}
-use Rattle.run_words.specs.declared.word.Word.{Word}
-use Rattle.run_words.specs.declared.word.Word.TheVariants as read
 
-abbrev pub kind_view : Word → Kind
-kind_view (read.Plain word) = plain_word word.now
-kind_view (read.Date value) = date_value value.now
-kind_view (read.Script value) = script_value value.now
-kind_view (read.Trace value) = trace_value value.now
-kind_view (read.Actions value) = actions_value value.now
-kind_view read.Slow = slow_word
-kind_view read.AddUser = add_user_word
-kind_view read.Unknown = unknown_word
+-- the option of a table
+abbrev pub option_view : ValueOption → NamedOption
+option_view option = record { name = option.name.now; is_required = option.is_required }
 
-abbrev pub given_view : GivenWords → Given
-given_view given = record {
-  handheld = option_copied given.handheld;
-  desktop = option_copied given.desktop;
-  date = option_copied given.date;
-  script = option_copied given.script;
-  trace = option_copied given.trace;
-  actions = option_copied given.actions;
-  slow = given.slow;
-  add_user = given.add_user;
+-- the form of a table
+abbrev pub form_view : WordForm → Form
+form_view form = record {
+  plain = map (λ name. name.now) form.plain.now;
+  options = map option_view form.options.now;
+  flags = map (λ name. name.now) form.flags.now;
 }
 
 -- the run of the words

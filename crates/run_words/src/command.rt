@@ -1,31 +1,46 @@
 // Commands.
 ghost use Rattle.std.specs.Prelude.{◌≡◌, map, string_bytes, option_map};
-ghost use Rattle.run_words.specs.Commands.{LookAt, Scan, Sync, file_of, make_of, packet_of, task_of};
+ghost use Rattle.run_words.specs.Commands.{LookAt, Scan, Sync, export_of, file_of, make_of, packet_of, task_of};
+ghost use Rattle.run_words.specs.Exports.{export_in as export_of_words};
 ghost use Rattle.run_words.specs.Runs.{run_of};
 ghost use Rattle.run_words.specs.Views.{task_view};
 
+use crate::form::{ValueOption, WordForm, has_flag, is_of_form, plain_at, value_of};
 use crate::hexadecimal::is_hex;
+use crate::look::{Export, Look, LookWords, text_form_in};
 use crate::number::{count_in, number_in};
 use crate::run::{RunWords, run_words};
-use crate::word::is_plain;
 
-/// What is wanted of a database file.
-#[derive(Clone, Copy, PartialEq, Eq)]
-pub enum Look {
-    /// The number of its entries.
-    Check,
-    /// All that it holds, in lines.
-    Show,
-}
+/// The form of the words behind `check` and `show`.
+pub const FILE: WordForm<'static> = WordForm {
+    plain: &["file"],
+    options: &[],
+    flags: &[],
+};
 
-/// A look at a database file.
-#[derive(Clone, Copy)]
-pub struct LookWords<'a> {
-    /// What is wanted of it.
-    pub look: Look,
-    /// Its path.
-    pub file: &'a str,
-}
+/// The form of the words behind `export`.
+pub const EXPORT: WordForm<'static> = WordForm {
+    plain: &["file"],
+    options: &[ValueOption {
+        name: "as",
+        is_required: true,
+    }],
+    flags: &["without-private"],
+};
+
+/// The form of the words behind `packet`.
+pub const PACKET: WordForm<'static> = WordForm {
+    plain: &["hex"],
+    options: &[],
+    flags: &[],
+};
+
+/// The form of the words behind `make`.
+pub const MAKE: WordForm<'static> = WordForm {
+    plain: &["seed", "count"],
+    options: &[],
+    flags: &[],
+};
 
 /// A search for packets.
 #[derive(Clone, Copy)]
@@ -48,7 +63,7 @@ pub struct MakeWords {
 pub enum Command<'a> {
     /// `run`.
     Run(RunWords<'a>),
-    /// `check` or `show`.
+    /// `check`, `show` or `export`.
     Look(LookWords<'a>),
     /// `packet`.
     Packet(PacketWords<'a>),
@@ -65,18 +80,14 @@ pub fn command_of<'a>(now: Option<u32>, words: &'a [String]) -> Option<Command<'
     let [command, words @ ..] = words else {
         return None;
     };
-    if command.as_str() == "run" {
-        run_command(now, words)
-    } else if command.as_str() == "check" {
-        look_command(Look::Check, words)
-    } else if command.as_str() == "show" {
-        look_command(Look::Show, words)
-    } else if command.as_str() == "packet" {
-        packet_command(words)
-    } else if command.as_str() == "make" {
-        make_command(words)
-    } else {
-        None
+    match command.as_str() {
+        "run" => run_command(now, words),
+        "check" => look_command(Look::Check, words),
+        "show" => look_command(Look::Show, words),
+        "export" => export_command(words),
+        "packet" => packet_command(words),
+        "make" => make_command(words),
+        _ => None,
     }
 }
 
@@ -92,47 +103,68 @@ fn run_command<'a>(now: Option<u32>, words: &'a [String]) -> Option<Command<'a>>
 }
 
 // The look at the file that stands behind `check` or `show`.
-#[tactic(auto, unfolding(crate::specs::Commands::file_of))]
+#[tactic(auto, unfolding(crate::specs::Commands::file_of, crate::specs::Commands::file_form))]
 fn look_command<'a>(look: Look, words: &'a [String]) -> Option<Command<'a>>
     ensures { option_map task_view result
         ≡ option_map (LookAt look) (file_of (map string_bytes words.entry.now)) }
 {
-    let [file] = words else {
-        return None;
-    };
-    if !is_plain(file.as_bytes()) {
+    if !is_of_form(&FILE, words) {
         return None;
     }
-    Some(Command::Look(LookWords {
-        look,
-        file: file.as_str(),
-    }))
+    let file = plain_at(words, 0)?;
+    Some(Command::Look(LookWords { look, file }))
+}
+
+// How words of that form want a database exported.
+fn export_in(words: &[String]) -> Option<Export>
+    ensures { result ≡ export_of_words (map string_bytes words.now) }
+{
+    let form = text_form_in(value_of(words, "as")?)?;
+    Some(Export {
+        form,
+        without_private: has_flag(words, "without-private"),
+    })
+}
+
+// The look at the file that stands behind `export`.
+#[tactic(auto, unfolding(crate::specs::Commands::export_of, crate::specs::Commands::export_form))]
+fn export_command<'a>(words: &'a [String]) -> Option<Command<'a>>
+    ensures { option_map task_view result ≡ export_of (map string_bytes words.entry.now) }
+{
+    if !is_of_form(&EXPORT, words) {
+        return None;
+    }
+    let file = plain_at(words, 0)?;
+    let export = export_in(words)?;
+    let look = Look::Export(export);
+    Some(Command::Look(LookWords { look, file }))
 }
 
 // The hexadecimal behind `packet`.
-#[tactic(auto, unfolding(crate::specs::Commands::packet_of))]
+#[tactic(auto, unfolding(crate::specs::Commands::packet_of, crate::specs::Commands::packet_form))]
 fn packet_command<'a>(words: &'a [String]) -> Option<Command<'a>>
     ensures { option_map task_view result
         ≡ option_map Scan (packet_of (map string_bytes words.entry.now)) }
 {
-    let [hex] = words else {
+    if !is_of_form(&PACKET, words) {
         return None;
-    };
+    }
+    let hex = plain_at(words, 0)?;
     if !is_hex(hex.as_bytes()) {
         return None;
     }
-    Some(Command::Packet(PacketWords { hex: hex.as_str() }))
+    Some(Command::Packet(PacketWords { hex }))
 }
 
 // The seed and the count behind `make`.
-#[tactic(auto, unfolding(crate::specs::Commands::make_of))]
+#[tactic(auto, unfolding(crate::specs::Commands::make_of, crate::specs::Commands::make_form))]
 fn make_command<'a>(words: &'a [String]) -> Option<Command<'a>>
     ensures { option_map task_view result ≡ make_of (map string_bytes words.entry.now) }
 {
-    let [seed, count] = words else {
+    if !is_of_form(&MAKE, words) {
         return None;
-    };
-    let seed = number_in(seed.as_str())?;
-    let count = count_in(count.as_str())?;
+    }
+    let seed = number_in(plain_at(words, 0)?)?;
+    let count = count_in(plain_at(words, 1)?)?;
     Some(Command::Make(MakeWords { seed, count }))
 }

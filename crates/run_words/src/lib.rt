@@ -1,15 +1,17 @@
 //! The words of a command line: which are in the form, and what they ask for.
 //!
-//! The first word is the command. `run HANDHELD DESKTOP --date=D [--script=F] [--trace=F] [--slow] [--actions=L] [--add-user]`
-//! takes its words in any order, `check FILE`, `show FILE`, `packet HEX` and `make SEED N` take plain words alone. A plain word
-//! is not empty and does not begin with `-`. A date is written, or it is `now`, the date that the caller hands over. No call takes
-//! memory but for the list of actions.
+//! The first word is the command: `run HANDHELD DESKTOP --date=D [--script=F] [--trace=F] [--slow] [--actions=L] [--add-user]`,
+//! `check FILE`, `show FILE`, `export FILE --as=txt [--without-private]`, `packet HEX` or `make SEED N`. The form of the words
+//! behind it is a table, and they stand in any order. A plain word is not empty and does not begin with `-`. A date is written,
+//! or it is `now`, the date that the caller hands over. No call takes memory but for the list of actions.
 #![tactic(auto)]
 
 mod action;
 mod action_list;
 mod command;
+mod form;
 mod hexadecimal;
+mod look;
 mod number;
 mod run;
 mod stem;
@@ -17,6 +19,8 @@ mod word;
 
 pub use action::{ActionWord, NamedAction, Target, action_of};
 pub use action_list::{is_actions, read_actions};
-pub use command::{Command, Look, LookWords, MakeWords, PacketWords, command_of};
+pub use command::{Command, EXPORT, FILE, MAKE, MakeWords, PACKET, PacketWords, command_of};
+pub use form::{ValueOption, WordForm};
+pub use look::{Export, ExportForm, Look, LookWords, text_form_in};
 pub use number::{count_in, number_in};
-pub use run::{RunWords, date_in};
+pub use run::{RUN, RunWords, date_in};

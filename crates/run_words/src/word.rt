@@ -1,63 +1,46 @@
-// Words behind `run`, by what they are.
+// One word behind a command.
 ghost use Rattle.std.specs.Prelude.{◌≡◌, option_copied};
-ghost use Rattle.run_words.specs.Views.{kind_view};
-ghost use Rattle.run_words.specs.Words.{after, kind_of, is_plain as is_plain_word};
-
-/// A word behind `run`.
-#[derive(Clone, Copy)]
-pub enum Word<'a> {
-    /// It is not empty and does not begin with `-`.
-    Plain(&'a str),
-    /// What follows `--date=`.
-    Date(&'a str),
-    /// What follows `--script=`.
-    Script(&'a str),
-    /// What follows `--trace=`.
-    Trace(&'a str),
-    /// What follows `--actions=`.
-    Actions(&'a str),
-    /// `--slow`.
-    Slow,
-    /// `--add-user`.
-    AddUser,
-    /// Any other.
-    Unknown,
-}
+ghost use Rattle.run_words.specs.Forms as spec;
+ghost use Rattle.run_words.specs.Words.{after, is_plain as is_plain_word};
 
 // What follows a first part of a word.
-fn value_after<'a>(word: &'a str, name: &str) -> Option<&'a str>
-    ensures { option_copied result ≡ after name.now word.now }
+fn behind<'a>(word: &'a str, part: &str) -> Option<&'a str>
+    ensures { option_copied result ≡ after part.now word.now }
 {
-    word.strip_prefix(name)
+    word.strip_prefix(part)
 }
 
-/// What a word is.
-#[tactic(auto, unfolding(crate::specs::Words::kind_of))]
-pub fn word_of(word: &str) -> Word<'_>
-    ensures { kind_view result ≡ kind_of word.now }
+/// What follows `--NAME=` in a word that begins so.
+pub fn value_in<'a>(word: &'a str, name: &str) -> Option<&'a str>
+    ensures { option_copied result ≡ spec.value_in name.now word.entry.now }
 {
-    if let Some(value) = value_after(word, "--date=") {
-        return Word::Date(value);
+    behind(behind(behind(word, "--")?, name)?, "=")
+}
+
+/// Whether a word begins with `--NAME=`.
+pub fn is_option(word: &str, name: &str) -> bool
+    ensures { result ≡ spec.is_option name.now word.now }
+{
+    value_in(word, name).is_some()
+}
+
+/// Whether a word begins with `--NAME=`, and more follows.
+pub fn has_value(word: &str, name: &str) -> bool
+    ensures { result ≡ spec.has_value name.now word.now }
+{
+    match value_in(word, name) {
+        Some(value) => !value.is_empty(),
+        None => false,
     }
-    if let Some(value) = value_after(word, "--script=") {
-        return Word::Script(value);
-    }
-    if let Some(value) = value_after(word, "--trace=") {
-        return Word::Trace(value);
-    }
-    if let Some(value) = value_after(word, "--actions=") {
-        return Word::Actions(value);
-    }
-    if word == "--slow" {
-        return Word::Slow;
-    }
-    if word == "--add-user" {
-        return Word::AddUser;
-    }
-    if is_plain(word.as_bytes()) {
-        Word::Plain(word)
-    } else {
-        Word::Unknown
+}
+
+/// Whether a word is `--NAME`.
+pub fn is_flag(word: &str, name: &str) -> bool
+    ensures { result ≡ spec.is_flag name.now word.now }
+{
+    match behind(word, "--") {
+        Some(rest) => rest == name,
+        None => false,
     }
 }
 

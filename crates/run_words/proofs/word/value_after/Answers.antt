@@ -1,5 +1,0 @@
-use Rattle.run_words.proofs.WordLaws.{value_after-is}
-use Rattle.run_words.proofs.word.value_after.Goals as goal
-
-pub returns : goal.returns
-returns c = value_after-is c.args.name.now c.args.word.now c.strip_prefix.result c.strip_prefix.ensures.cases
