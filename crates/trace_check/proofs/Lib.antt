@@ -2,8 +2,10 @@ pub mod FateLaws
 pub mod FilledLaws
 pub mod LineLaws
 pub mod PlainLaws
+pub mod ReachLaws
 pub mod RuleLaws
 pub mod RunLaws
+pub mod StartLaws
 pub mod StripLaws
 pub mod TalkLaws
 pub mod TraceLaws

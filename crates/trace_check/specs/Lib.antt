@@ -1,4 +1,5 @@
 pub mod Judging
 pub mod Messages
 pub mod Readings
+pub mod Turns
 pub mod Words

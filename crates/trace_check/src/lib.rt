@@ -12,6 +12,7 @@ mod fate;
 mod fault;
 mod frame;
 mod laws;
+mod notice;
 mod reader;
 mod rule;
 mod word;

@@ -1,0 +1,97 @@
+-- What of a past is enough to judge the next frame by: for each fragment of an end, whether a frame with it is free, and where its messages begin.
+use Rattle.std.specs.Prelude.{◌≡◌, ℕ, ◌+◌, ◌-◌, ◌<◌, ◌≤◌, Bool, true, false, ◌&&◌, ◌||◌, List, [], ◌∷◌, ◌++◌, length, nat_eq, nat_lt, slice_index_or, slice_set, Option, Some, None, if◌then◌else◌}
+use Rattle.padp_link.specs.declared.piece.Key.{Key}
+use Rattle.padp_link.specs.Pieces.{piece_count}
+use Rattle.trace_text.specs.declared.frame.End.{End}
+use Rattle.trace_text.specs.declared.frame.End.TheVariants.{Handheld, Desktop}
+use Rattle.trace_text.specs.Past.{Sent, is_data_of, is_newest_key, first, said, same_key}
+use Rattle.trace_text.specs.Faults.{late_of, newest}
+use Rattle.trace_text.specs.Proper.{is_ack_of}
+use Rattle.trace_text.specs.Talks.{Talk, messages_of, pieces_before}
+
+-- the first one, or else the later one
+abbrev pub or_later : Option ℕ → Option ℕ → Option ℕ
+or_later None later = later
+or_later (Some number) later = Some number
+
+abbrev pub some_if : Bool → ℕ → Option ℕ
+some_if true number = Some number
+some_if false number = None
+
+-- the newest late frame of Y, or 0, when the first frame that passes came; none where none did
+abbrev pub first_late : (List Sent → Bool) → End → (ℕ → Bool) → List Sent → Option ℕ
+first_late p Y came [] = None
+first_late p Y came (frame ∷ past) =
+    or_later (first_late p Y came past)
+    (some_if (p (frame ∷ past) && came (length past + 1)) (newest (late_of Y) (frame ∷ past)))
+
+-- a frame behind this late one, with no later one between, isn't held where this is the newest repeat
+abbrev pub is_free : ℕ → Option ℕ → Bool
+is_free repeat None = false
+is_free repeat (Some late) = nat_eq late 0 || nat_lt late repeat
+
+-- the newest frame bears the fragment of X of this number, from 1 on
+abbrev pub bears : End → ℕ → List Sent → Bool
+bears X number [] = false
+bears X number (frame ∷ past) = is_data_of X frame && nat_eq (length (said X (frame ∷ past))) number
+
+-- the newest frame is Y's acknowledgement of the fragment of X of this number, which is X's newest
+abbrev pub acks : End → End → ℕ → List Sent → Bool
+acks X Y number [] = false
+acks X Y number (frame ∷ past) =
+    is_ack_of Y frame && nat_eq (length (said X (frame ∷ past))) number && is_newest_key frame.key (said X (frame ∷ past))
+
+-- what is known of an end: how many fragments stand before each message that it began and before the next, by which late frame each fragment
+-- that it said is held, its newest key, by which late frame the acknowledgement of that is held, and its newest late frame
+pub record SideValue : Type 0 where
+  pub starts : List ℕ
+  pub told : List (Option ℕ)
+  pub key : Option Key
+  pub acked : Option ℕ
+  pub late : ℕ
+
+-- that is what is known of X behind this past
+pub record IsSide (X Y : End) (talk : Talk) (came : ℕ → Bool) (past : List Sent) (side : SideValue) : Type 0 where
+  pub begun : ℕ
+  pub there : begun ≤ length (messages_of X talk)
+  pub counted : length side.starts ≡ begun + 1
+  pub places : (k : ℕ) → k ≤ begun → slice_index_or side.starts k 0 ≡ pieces_before (messages_of X talk) k
+  pub inside : length (said X past) ≤ pieces_before (messages_of X talk) begun
+  pub behind : 0 < begun → pieces_before (messages_of X talk) (begun - 1) < length (said X past)
+  pub said_all : length side.told ≡ length (said X past)
+  pub told_is : (j : ℕ) → j < length (said X past) → slice_index_or side.told j None ≡ first_late (bears X (j + 1)) X came past
+  pub key_is : side.key ≡ first (said X past)
+  pub acked_is : side.acked ≡ first_late (acks X Y (length (said X past))) Y came past
+  pub late_is : side.late ≡ newest (late_of X) past
+
+-- how many fragments the messages have that were begun
+abbrev pub last_start : SideValue → ℕ
+last_start side = slice_index_or side.starts (length side.starts - 1) 0
+
+-- its next fragment begins a message
+abbrev pub is_start : SideValue → Bool
+is_start side = nat_eq (length side.told) (last_start side)
+
+-- it says a new fragment
+abbrev pub begins : Key → Option ℕ → SideValue → SideValue
+begins key told side = record {
+  starts = if is_start side then side.starts ++ (last_start side + piece_count key.size) ∷ [] else side.starts;
+  told = side.told ++ told ∷ [];
+  key = Some key;
+  acked = None;
+  late = side.late;
+}
+
+-- it says its newest fragment again
+abbrev pub repeats : Option ℕ → SideValue → SideValue
+repeats told side = record side {
+  told = slice_set side.told (length side.told - 1) (or_later (slice_index_or side.told (length side.told - 1) None) told)
+}
+
+abbrev pub is_key : Key → Option Key → Bool
+is_key key None = false
+is_key key (Some newest) = same_key key newest
+
+-- a fragment with this key is acknowledged
+abbrev pub hears : Key → Option ℕ → SideValue → SideValue
+hears key told side = record side { acked = if is_key key side.key then or_later side.acked told else side.acked }
