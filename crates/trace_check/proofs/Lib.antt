@@ -5,6 +5,7 @@ pub mod PlainLaws
 pub mod ReachLaws
 pub mod RuleLaws
 pub mod RunLaws
+pub mod SideLaws
 pub mod StartLaws
 pub mod StripLaws
 pub mod TalkLaws

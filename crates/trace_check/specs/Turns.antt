@@ -5,9 +5,10 @@ use Rattle.padp_link.specs.Pieces.{piece_count}
 use Rattle.trace_text.specs.declared.frame.End.{End}
 use Rattle.trace_text.specs.declared.frame.End.TheVariants.{Handheld, Desktop}
 use Rattle.trace_text.specs.Past.{Sent, is_data_of, is_newest_key, first, said, same_key}
-use Rattle.trace_text.specs.Faults.{late_of, newest}
+use Rattle.trace_text.specs.Faults.{is_late, late_of, newest}
 use Rattle.trace_text.specs.Proper.{is_ack_of}
 use Rattle.trace_text.specs.Talks.{Talk, messages_of, pieces_before}
+use Rattle.trace_check.specs.declared.notice.Notice.{Notice}
 
 -- the first one, or else the later one
 abbrev pub or_later : Option ℕ → Option ℕ → Option ℕ
@@ -50,14 +51,18 @@ pub record SideValue : Type 0 where
   pub acked : Option ℕ
   pub late : ℕ
 
+-- where so many fragments were said, this is how many stand before each message that was begun and before the next
+pub record AreStarts (messages : List (List ℕ)) (said : ℕ) (starts : List ℕ) : Type 0 where
+  pub begun : ℕ
+  pub there : begun ≤ length messages
+  pub counted : length starts ≡ begun + 1
+  pub places : (k : ℕ) → k ≤ begun → slice_index_or starts k 0 ≡ pieces_before messages k
+  pub inside : said ≤ pieces_before messages begun
+  pub behind : 0 < begun → pieces_before messages (begun - 1) < said
+
 -- that is what is known of X behind this past
 pub record IsSide (X Y : End) (talk : Talk) (came : ℕ → Bool) (past : List Sent) (side : SideValue) : Type 0 where
-  pub begun : ℕ
-  pub there : begun ≤ length (messages_of X talk)
-  pub counted : length side.starts ≡ begun + 1
-  pub places : (k : ℕ) → k ≤ begun → slice_index_or side.starts k 0 ≡ pieces_before (messages_of X talk) k
-  pub inside : length (said X past) ≤ pieces_before (messages_of X talk) begun
-  pub behind : 0 < begun → pieces_before (messages_of X talk) (begun - 1) < length (said X past)
+  pub starts_are : AreStarts (messages_of X talk) (length (said X past)) side.starts
   pub said_all : length side.told ≡ length (said X past)
   pub told_is : (j : ℕ) → j < length (said X past) → slice_index_or side.told j None ≡ first_late (bears X (j + 1)) X came past
   pub key_is : side.key ≡ first (said X past)
@@ -95,3 +100,33 @@ is_key key (Some newest) = same_key key newest
 -- a fragment with this key is acknowledged
 abbrev pub hears : Key → Option ℕ → SideValue → SideValue
 hears key told side = record side { acked = if is_key key side.key then or_later side.acked told else side.acked }
+
+-- a frame as what is judged by says it
+pub record IsNotice (notice : Notice) (frame : Sent) (came : ℕ → Bool) (past : List Sent) : Type 0 where
+  pub from_is : notice.from ≡ frame.from
+  pub is_data_is : notice.is_data ≡ frame.is_data
+  pub key_is : notice.key ≡ frame.key
+  pub late_is : notice.late ≡ is_late frame.course
+  pub number_is : notice.number ≡ length past + 1
+  pub came_is : notice.came ≡ came (length past + 1)
+
+-- the newest late frame of the end that sends it
+abbrev pub late_after : Notice → SideValue → ℕ
+late_after notice side = if notice.late then notice.number else side.late
+
+abbrev pub told_by : Notice → SideValue → Option ℕ
+told_by notice side = some_if notice.came (late_after notice side)
+
+-- what is known of the end that sends the frame, behind it
+abbrev pub speaker_after : Notice → SideValue → SideValue
+speaker_after notice side =
+    let later = record side { late = late_after notice side } in
+    if notice.is_data then (if is_key notice.key side.key then repeats (told_by notice side) later else begins notice.key (told_by notice side) later) else later
+
+-- and of the other end, where this is known of the one that sends
+abbrev pub hearer_after : Notice → SideValue → SideValue → SideValue
+hearer_after notice speaker side = if notice.is_data then side else hears notice.key (told_by notice speaker) side
+
+-- the newest repeat behind it
+abbrev pub repeat_after : Notice → SideValue → ℕ → ℕ
+repeat_after notice speaker repeat = if notice.is_data && is_key notice.key speaker.key then notice.number else repeat
