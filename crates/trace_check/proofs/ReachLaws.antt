@@ -57,11 +57,11 @@ pub record IsFound (p : List Sent → Bool) (Y : End) (came : ℕ → Bool) (pas
   pub comes : came n ≡ true
   pub late_is : late ≡ newest (late_of Y) (frame ∷ older)
 
-either : (o : Option ℕ) → (o ≡ None) ⊎ ((number : ℕ) × (o ≡ Some number))
+pub either : (o : Option ℕ) → (o ≡ None) ⊎ ((number : ℕ) × (o ≡ Some number))
 either None = inl refl
 either (Some number) = inr (number, refl)
 
-or_none : (o : Option ℕ) → or_later o None ≡ o
+pub or_none : (o : Option ℕ) → or_later o None ≡ o
 or_none None = refl
 or_none (Some number) = refl
 
