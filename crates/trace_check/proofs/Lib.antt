@@ -1,5 +1,6 @@
 pub mod FateLaws
 pub mod FilledLaws
+pub mod JudgeLaws
 pub mod LineLaws
 pub mod PlainLaws
 pub mod ReachLaws

@@ -25,7 +25,7 @@ said-new : (X : End) (frame : Sent) (past : List Sent) → is_data_of X frame �
 said-new X frame past is new =
     ap (λ o. add o (said X past)) (cond-true (is_data_of X frame) (Some frame.key) None is) ∙ add_new (said X past) (newest_apart frame.key (said X past) new)
 
-newest_first : (key : Key) (keys : List Key) → is_newest_key key keys ≡ true → (first keys ≡ Some key) × (0 < length keys)
+pub newest_first : (key : Key) (keys : List Key) → is_newest_key key keys ≡ true → (first keys ≡ Some key) × (0 < length keys)
 newest_first key [] same = absurd cc
 newest_first key (newest ∷ older) same = (ap Some (sym (same_key-true same)), omega arith)
 

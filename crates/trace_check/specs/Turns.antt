@@ -5,9 +5,9 @@ use Rattle.padp_link.specs.Pieces.{piece_count}
 use Rattle.trace_text.specs.declared.frame.End.{End}
 use Rattle.trace_text.specs.declared.frame.End.TheVariants.{Handheld, Desktop}
 use Rattle.trace_text.specs.Past.{Sent, is_data_of, is_newest_key, first, said, same_key}
-use Rattle.trace_text.specs.Faults.{is_late, late_of, newest}
+use Rattle.trace_text.specs.Faults.{is_late, late_of, newest, newest_repeat}
 use Rattle.trace_text.specs.Proper.{is_ack_of}
-use Rattle.trace_text.specs.Talks.{Talk, messages_of, pieces_before}
+use Rattle.trace_text.specs.Talks.{Talk, Turn, messages_of, pieces_before, answered_by, answer_to}
 use Rattle.trace_check.specs.declared.notice.Notice.{Notice}
 
 -- the first one, or else the later one
@@ -130,3 +130,53 @@ hearer_after notice speaker side = if notice.is_data then side else hears notice
 -- the newest repeat behind it
 abbrev pub repeat_after : Notice → SideValue → ℕ → ℕ
 repeat_after notice speaker repeat = if notice.is_data && is_key notice.key speaker.key then notice.number else repeat
+
+-- what is known of both ends, and the newest repeat
+pub record BothValue : Type 0 where
+  pub handheld : SideValue
+  pub desktop : SideValue
+  pub repeat : ℕ
+
+abbrev pub side_of : End → BothValue → SideValue
+side_of Handheld both = both.handheld
+side_of Desktop both = both.desktop
+
+abbrev pub other_end : End → End
+other_end Handheld = Desktop
+other_end Desktop = Handheld
+
+-- that is known behind this past
+pub record AreSides (talk : Talk) (came : ℕ → Bool) (past : List Sent) (both : BothValue) : Type 0 where
+  pub handheld : IsSide Handheld Desktop talk came past both.handheld
+  pub desktop : IsSide Desktop Handheld talk came past both.desktop
+  pub repeat_is : both.repeat ≡ newest_repeat past
+
+-- the first fragment of an end's message of this number reached what is sent next
+abbrev pub is_start_free : ℕ → ℕ → SideValue → Bool
+is_start_free repeat number side =
+    nat_lt number (length side.starts) && is_free repeat (slice_index_or side.told (slice_index_or side.starts number 0) None)
+
+-- the last one did
+abbrev pub is_end_free : ℕ → ℕ → SideValue → Bool
+is_end_free repeat number side =
+    nat_lt (number + 1) (length side.starts) && is_free repeat (slice_index_or side.told (slice_index_or side.starts (number + 1) 0 - 1) None)
+
+abbrev pub is_answered_by : Option ℕ → ℕ → SideValue → Bool
+is_answered_by None repeat side = false
+is_answered_by (Some number) repeat side = is_start_free repeat number side
+
+-- X knows that its newest fragment was taken, where it said one
+abbrev pub is_known : End → BothValue → Bool
+is_known X both =
+    let side = side_of X both in
+    is_free both.repeat side.acked
+    || (is_start side && is_answered_by (answer_to X (length side.starts - 2)) both.repeat (side_of (other_end X) both))
+
+abbrev pub is_end_reached : Option Turn → BothValue → Bool
+is_end_reached None both = true
+is_end_reached (Some turn) both = is_end_free both.repeat turn.number (side_of turn.end both)
+
+-- where the next fragment of X begins a message, what that answers was taken
+abbrev pub has_answer : End → BothValue → Bool
+has_answer X both =
+    let side = side_of X both in if is_start side then is_end_reached (answered_by X (length side.starts - 1)) both else true
