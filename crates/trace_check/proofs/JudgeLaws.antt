@@ -201,3 +201,144 @@ module _ (X Y : End) (talk : Talk) (came : ℕ → Bool) (past : List Sent) (sid
       newest_is_key : (key : Key) (keys : List Key) → first keys ≡ Some key → is_newest_key key keys ≡ true
       newest_is_key key [] none = absurd cc
       newest_is_key key (newest ∷ older) is = (let e : newest ≡ key = cc in ap (same_key key) e ∙ same_key-same key)
+
+-- ---- known
+
+abbrev known_with : ℕ → End → SideValue → SideValue → Bool
+known_with repeat X side other = is_free repeat side.acked || (is_start side && is_answered_by (answer_to X (length side.starts - 2)) repeat other)
+
+or_cases : (a b : Bool) → (a || b) ≡ true → (a ≡ true) ⊎ (b ≡ true)
+or_cases true b is = inl refl
+or_cases false b is = inr is
+
+or_left : (a b : Bool) → a ≡ true → (a || b) ≡ true
+or_left true b is = refl
+or_left false b is = absurd cc
+
+or_right : (a b : Bool) → b ≡ true → (a || b) ≡ true
+or_right true b is = refl
+or_right false b is = is
+
+answered_by-start : (o : Option ℕ) (repeat : ℕ) (other : SideValue) → is_answered_by o repeat other ≡ true
+    → (answer : ℕ) × (o ≡ Some answer) × (is_start_free repeat answer other ≡ true)
+answered_by-start None repeat other is = absurd cc
+answered_by-start (Some answer) repeat other is = (answer, refl, is)
+
+module _ (X Y : End) (talk : Talk) (came : ℕ → Bool) (past : List Sent) (side other : SideValue) (are : IsSide X Y talk came past side)
+    (theirs : IsSide Y X talk came past other) (some : 0 < length (said X past)) where
+  known-is : known_with (newest_repeat past) X side other ≡ true → IsKnown X Y talk came past
+  known-is known = elim (or_cases (is_free (newest_repeat past) side.acked) _ known) [
+    | inl free ↦ (let it = free-acked X Y talk came past side are free in record { n = it.n; reaches = it.reaches; cause = inl it.acks })
+    | inr answered ↦
+        let parts = and_parts (is_start side) _ answered in
+        let place : length (said X past) ≡ pieces_before (messages_of X talk) are.starts_are.begun = start-place X Y talk came past side are parts.0 in
+        let found = answered_by-start (answer_to X (length side.starts - 2)) (newest_repeat past) other parts.1 in
+        let begun : 0 < are.starts_are.begun = begun_some place in
+        let next : length side.starts - 2 + 1 ≡ are.starts_are.begun = omega (arith, are.starts_are.counted, begun) in
+        let it = start-taken Y X talk came past other theirs found.0 found.2 in
+        record {
+          n = it.1.n;
+          reaches = it.1.reaches;
+          cause = inr (record {
+            number = length side.starts - 2;
+            answer = found.0;
+            asked = omega (arith, next, are.starts_are.there);
+            there = it.0;
+            answers = found.1;
+            newest_ends = ap (pieces_before (messages_of X talk)) next ∙ sym place;
+            bears = it.1.bears;
+          });
+        }
+  ] where
+    begun_some : length (said X past) ≡ pieces_before (messages_of X talk) are.starts_are.begun → 0 < are.starts_are.begun
+    begun_some place = elim (cases_lt 0 are.starts_are.begun) [
+      | inl more ↦ more
+      | inr none ↦
+          let e : are.starts_are.begun ≡ 0 = omega (arith, none) in
+          absurd (omega (arith, some, place, ap (pieces_before (messages_of X talk)) e))
+    ]
+
+  is-known : IsKnown X Y talk came past → known_with (newest_repeat past) X side other ≡ true
+  is-known it = go it.n it.reaches it.cause where
+    go : (n : ℕ) (reaches : Reaches came n past) → AcksNewest X Y past n reaches.frame ⊎ AnswersNewest X Y talk past n reaches.frame
+        → known_with (newest_repeat past) X side other ≡ true
+    go n reaches (inl ack) =
+        or_left (is_free (newest_repeat past) side.acked) _ (acked-free X Y talk came past side are (record { n = n; reaches = reaches; acks = ack }))
+    go n reaches (inr answer) =
+        let begins = place-start X Y talk came past side are (answer.number + 1) (omega (arith, answer.asked)) answer.newest_ends in
+        let number : answer.number ≡ length side.starts - 2 = omega (arith, begins.1, are.starts_are.counted) in
+        let asked : answer_to X (length side.starts - 2) ≡ Some answer.answer = ap (answer_to X) (sym number) ∙ answer.answers in
+        let free = taken-start Y X talk came past other theirs answer.answer (record { n = n; reaches = reaches; bears = answer.bears }) in
+        or_right (is_free (newest_repeat past) side.acked) _
+        (and_from _ _ begins.0 (ap (λ o. is_answered_by o (newest_repeat past) other) asked ∙ free))
+
+-- ---- by what is known of both ends
+
+side-is : (X : End) (talk : Talk) (came : ℕ → Bool) (past : List Sent) (both : BothValue) → AreSides talk came past both
+    → IsSide X (other_end X) talk came past (side_of X both)
+side-is Handheld talk came past both are = are.handheld
+side-is Desktop talk came past both are = are.desktop
+
+other-is : (X : End) (talk : Talk) (came : ℕ → Bool) (past : List Sent) (both : BothValue) → AreSides talk came past both
+    → IsSide (other_end X) X talk came past (side_of (other_end X) both)
+other-is Handheld talk came past both are = are.desktop
+other-is Desktop talk came past both are = are.handheld
+
+module _ (X : End) (talk : Talk) (came : ℕ → Bool) (past : List Sent) (both : BothValue) (are : AreSides talk came past both) where
+  mine : IsSide X (other_end X) talk came past (side_of X both)
+  mine = side-is X talk came past both are
+
+  repeats_as : is_known X both ≡ known_with (newest_repeat past) X (side_of X both) (side_of (other_end X) both)
+  repeats_as = ap (λ r. known_with r X (side_of X both) (side_of (other_end X) both)) are.repeat_is
+
+  pub known_by : 0 < length (said X past) → is_known X both ≡ true → IsKnown X (other_end X) talk came past
+  known_by some known =
+      known-is X (other_end X) talk came past (side_of X both) (side_of (other_end X) both) mine (other-is X talk came past both are) some (sym repeats_as ∙ known)
+
+  pub by_known : 0 < length (said X past) → IsKnown X (other_end X) talk came past → is_known X both ≡ true
+  by_known some known =
+      repeats_as ∙ is-known X (other_end X) talk came past (side_of X both) (side_of (other_end X) both) mine (other-is X talk came past both are) some known
+
+  if-reached : (turn : Option Turn) → is_end_reached turn both ≡ true → IfAnswers turn talk came past
+  if-reached None is = tt
+  if-reached (Some turn) is =
+      let it = end-taken turn.end (other_end turn.end) talk came past (side_of turn.end both) (side-is turn.end talk came past both are) turn.number
+          (ap (λ r. is_end_free r turn.number (side_of turn.end both)) (sym are.repeat_is) ∙ is) in
+      record { n = it.1.n; reaches = it.1.reaches; there = it.0; bears = it.1.bears }
+
+  reached-if : (turn : Option Turn) → IfAnswers turn talk came past → is_end_reached turn both ≡ true
+  reached-if None is = refl
+  reached-if (Some turn) is =
+      ap (λ r. is_end_free r turn.number (side_of turn.end both)) are.repeat_is
+      ∙ taken-end turn.end (other_end turn.end) talk came past (side_of turn.end both) (side-is turn.end talk came past both are) turn.number is.there
+      (record { n = is.n; reaches = is.reaches; bears = is.bears })
+
+  last_begun : length (side_of X both).starts - 1 ≡ mine.starts_are.begun
+  last_begun = omega (arith, mine.starts_are.counted)
+
+  pub answered : has_answer X both ≡ true → AnswersReached X talk came past
+  answered has number less begins =
+      let start = place-start X (other_end X) talk came past (side_of X both) mine number (omega (arith, less)) begins in
+      let reached : is_end_reached (answered_by X (length (side_of X both).starts - 1)) both ≡ true = sym (cond-true _ _ _ start.0) ∙ has in
+      let number_is : length (side_of X both).starts - 1 ≡ number = last_begun ∙ sym start.1 in
+      if-reached (answered_by X number) (ap (λ k. is_end_reached (answered_by X k) both) (sym number_is) ∙ reached)
+
+  pub has-answer : length (said X past) < pieces_before (messages_of X talk) (length (messages_of X talk)) → AnswersReached X talk came past
+      → has_answer X both ≡ true
+  has-answer inside reached = elim (cases_Bool (is_start (side_of X both))) [
+    | inr later ↦ cond-false _ _ _ later
+    | inl start ↦
+        let place : length (said X past) ≡ pieces_before (messages_of X talk) mine.starts_are.begun =
+        start-place X (other_end X) talk came past (side_of X both) mine start in
+        let less : mine.starts_are.begun < length (messages_of X talk) = begun_less place in
+        cond-true _ _ _ start
+        ∙ (ap (λ k. is_end_reached (answered_by X k) both) last_begun
+        ∙ reached-if (answered_by X mine.starts_are.begun) (reached mine.starts_are.begun less (sym place)))
+  ] where
+    begun_less : length (said X past) ≡ pieces_before (messages_of X talk) mine.starts_are.begun → mine.starts_are.begun < length (messages_of X talk)
+    begun_less place = elim (cases_lt mine.starts_are.begun (length (messages_of X talk))) [
+      | inl less ↦ less
+      | inr all ↦
+          let e : mine.starts_are.begun ≡ length (messages_of X talk) = omega (arith, all, mine.starts_are.there) in
+          absurd (omega (arith, inside, place, ap (pieces_before (messages_of X talk)) e))
+    ]

@@ -1,5 +1,5 @@
 -- What of a past is enough to judge the next frame by: for each fragment of an end, whether a frame with it is free, and where its messages begin.
-use Rattle.std.specs.Prelude.{◌≡◌, ℕ, ◌+◌, ◌-◌, ◌<◌, ◌≤◌, Bool, true, false, ◌&&◌, ◌||◌, List, [], ◌∷◌, ◌++◌, length, nat_eq, nat_lt, slice_index_or, slice_set, Option, Some, None, if◌then◌else◌}
+use Rattle.std.specs.Prelude.{◌≡◌, ℕ, ◌+◌, ◌-◌, ◌<◌, ◌≤◌, Bool, true, false, not, ◌&&◌, ◌||◌, List, [], ◌∷◌, ◌++◌, length, nat_eq, nat_lt, slice_index_or, slice_set, Option, Some, None, if◌then◌else◌}
 use Rattle.padp_link.specs.declared.piece.Key.{Key}
 use Rattle.padp_link.specs.Pieces.{piece_count}
 use Rattle.trace_text.specs.declared.frame.End.{End}
@@ -180,3 +180,32 @@ is_end_reached (Some turn) both = is_end_free both.repeat turn.number (side_of t
 abbrev pub has_answer : End → BothValue → Bool
 has_answer X both =
     let side = side_of X both in if is_start side then is_end_reached (answered_by X (length side.starts - 1)) both else true
+
+-- the frame bears a new fragment of the end of which this is known
+abbrev pub is_new : Notice → SideValue → Bool
+is_new notice side = notice.is_data && not (is_key notice.key side.key)
+
+-- both ends knew that their fragments were taken, with this frame too
+abbrev pub knows_after : Notice → BothValue → Bool
+knows_after notice both =
+    not (is_new notice (side_of notice.from both)) || nat_eq (length (side_of notice.from both).told) 0 || is_known notice.from both
+
+-- both ends answered what was taken, with this frame too
+abbrev pub answers_after : Notice → BothValue → Bool
+answers_after notice both = not (is_new notice (side_of notice.from both)) || has_answer notice.from both
+
+-- both ends behind a frame by this end
+abbrev pub both_by : End → Notice → BothValue → BothValue
+both_by Handheld notice both = record {
+  handheld = speaker_after notice both.handheld;
+  desktop = hearer_after notice both.handheld both.desktop;
+  repeat = repeat_after notice both.handheld both.repeat;
+}
+both_by Desktop notice both = record {
+  handheld = hearer_after notice both.desktop both.handheld;
+  desktop = speaker_after notice both.desktop;
+  repeat = repeat_after notice both.desktop both.repeat;
+}
+
+abbrev pub both_after : Notice → BothValue → BothValue
+both_after notice both = both_by notice.from notice both
