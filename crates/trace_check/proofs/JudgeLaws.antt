@@ -46,7 +46,7 @@ module _ (Y X : End) (talk : Talk) (came : ℕ → Bool) (past : List Sent) (sid
         absurd cc
     | inl inside ↦
         let it = free-reached (bears Y (j + 1)) Y came past (bears-from Y (j + 1))
-            (ap (is_free (newest_repeat past)) (sym (are.told_is j inside)) ∙ free) in
+        (ap (is_free (newest_repeat past)) (sym (are.told_is j inside)) ∙ free) in
         let parts = and_parts (is_data_of Y it.reaches.frame) (nat_eq (length (said Y (it.reaches.frame ∷ it.reaches.older))) (j + 1)) it.passes in
         record {
           n = it.n;
@@ -73,7 +73,7 @@ module _ (Y X : End) (talk : Talk) (came : ℕ → Bool) (past : List Sent) (sid
       let parts = and_parts (ltb number (length side.starts)) _ free in
       let less = ltb-true number (length side.starts) parts.0 in
       let it = free-taken (pieces_before (messages_of Y talk) number)
-          (ap (λ k. is_free (newest_repeat past) (get_or side.told k None)) (sym (place_of number less)) ∙ parts.1) in
+      (ap (λ k. is_free (newest_repeat past) (get_or side.told k None)) (sym (place_of number less)) ∙ parts.1) in
       let said_it = taken-said _ it in
       elim (cases_lt number are.starts_are.begun) [
         | inl before ↦ (omega (arith, before, are.starts_are.there), it)
@@ -105,7 +105,7 @@ module _ (Y X : End) (talk : Talk) (came : ℕ → Bool) (past : List Sent) (sid
       let some = pieces-more (messages_of Y talk) number (number + 1) (omega arith) (omega (arith, inside)) in
       let e : pieces_before (messages_of Y talk) (number + 1) - 1 + 1 ≡ pieces_before (messages_of Y talk) (number + 1) = omega (arith, some) in
       let it = free-taken (pieces_before (messages_of Y talk) (number + 1) - 1)
-          (ap (λ k. is_free (newest_repeat past) (get_or side.told (k - 1) None)) (sym (place_of (number + 1) less)) ∙ parts.1) in
+      (ap (λ k. is_free (newest_repeat past) (get_or side.told (k - 1) None)) (sym (place_of (number + 1) less)) ∙ parts.1) in
       (inside, subst (IsTaken Y came past) e it)
 
   taken-end : (number : ℕ) → number < length (messages_of Y talk) → IsTaken Y came past (pieces_before (messages_of Y talk) (number + 1))
@@ -166,8 +166,8 @@ module _ (X Y : End) (talk : Talk) (came : ℕ → Bool) (past : List Sent) (sid
   free-acked : is_free (newest_repeat past) side.acked ≡ true → IsAcked
   free-acked free =
       let it = free-reached (acks X Y (length (said X past))) Y came past
-          (λ frame older passes. ack-from Y frame (parts_of frame older passes).0)
-          (ap (is_free (newest_repeat past)) (sym are.acked_is) ∙ free) in
+      (λ frame older passes. ack-from Y frame (parts_of frame older passes).0)
+      (ap (is_free (newest_repeat past)) (sym are.acked_is) ∙ free) in
       let parts = parts_of it.reaches.frame it.reaches.older it.passes in
       let behind : length (said X (at it.n past)) ≡ length (said X past) = ap (λ p. length (said X p)) it.reaches.here ∙ parts.1 in
       let same : said X (it.reaches.frame ∷ it.reaches.older) ≡ said X past =
@@ -182,7 +182,7 @@ module _ (X Y : End) (talk : Talk) (came : ℕ → Bool) (past : List Sent) (sid
           → (is_ack_of Y frame ≡ true) × (length (said X (frame ∷ older)) ≡ length (said X past)) × (is_newest_key frame.key (said X (frame ∷ older)) ≡ true)
       parts_of frame older passes =
           let front = and_parts (is_ack_of Y frame && nat_eq (length (said X (frame ∷ older))) (length (said X past))) (is_newest_key frame.key (said X (frame ∷ older)))
-              passes in
+          passes in
           let back = and_parts (is_ack_of Y frame) (nat_eq (length (said X (frame ∷ older))) (length (said X past))) front.0 in
           (back.0, eqb-true _ _ back.1, front.1)
 
@@ -303,7 +303,7 @@ module _ (X : End) (talk : Talk) (came : ℕ → Bool) (past : List Sent) (both 
   if-reached None is = tt
   if-reached (Some turn) is =
       let it = end-taken turn.end (other_end turn.end) talk came past (side_of turn.end both) (side-is turn.end talk came past both are) turn.number
-          (ap (λ r. is_end_free r turn.number (side_of turn.end both)) (sym are.repeat_is) ∙ is) in
+      (ap (λ r. is_end_free r turn.number (side_of turn.end both)) (sym are.repeat_is) ∙ is) in
       record { n = it.1.n; reaches = it.1.reaches; there = it.0; bears = it.1.bears }
 
   reached-if : (turn : Option Turn) → IfAnswers turn talk came past → is_end_reached turn both ≡ true

@@ -29,9 +29,10 @@ session-length number (message ∷ later) =
 
 first_part : (id : ℕ) (message : List ℕ) (count : ℕ) → piece_count (length message) ≡ suc count
     → (more : List Part) × (message_parts id message ≡ piece_part message id 0 ∷ more)
-first_part id message count counted =
-    (map (λ piece. record { key = piece.key; bytes = (fragment_of message piece).bytes }) (map (piece_of id (length message)) (range_with_len 1 count)),
-      ap (λ n. map (λ piece. record { key = piece.key; bytes = (fragment_of message piece).bytes }) (map (piece_of id (length message)) (range_with_len 0 n))) counted)
+first_part id message count counted = (
+  map (λ piece. record { key = piece.key; bytes = (fragment_of message piece).bytes }) (map (piece_of id (length message)) (range_with_len 1 count)),
+  ap (λ n. map (λ piece. record { key = piece.key; bytes = (fragment_of message piece).bytes }) (map (piece_of id (length message)) (range_with_len 0 n))) counted,
+)
 
 -- its size is that of the message
 pub start-part : (number : ℕ) (messages : List (List ℕ)) (k : ℕ) (part : Part) (later : List Part) → k < length messages
@@ -50,7 +51,7 @@ start-part number (message ∷ rest) zero part later less is =
 start-part number (message ∷ rest) (suc k) part later less is =
     let size : length (message_parts (session_id number) message) ≡ piece_count (length message) = parts_count (session_id number) message in
     let behind : drop (piece_count (length message) + pieces_before rest k) (message_parts (session_id number) message ++ session_parts (number + 1) rest)
-        ≡ drop (pieces_before rest k) (session_parts (number + 1) rest) =
+    ≡ drop (pieces_before rest k) (session_parts (number + 1) rest) =
     ap (λ n. drop (n + pieces_before rest k) (message_parts (session_id number) message ++ session_parts (number + 1) rest)) (sym size)
     ∙ drop-append-add (message_parts (session_id number) message) (session_parts (number + 1) rest) (pieces_before rest k) in
     let was = start-part (number + 1) rest k part later (omega arith) (sym behind ∙ is) in
@@ -111,7 +112,7 @@ module _ (X : End) (frame : Sent) (past : List Sent) where
       let inside = length-append (reverse (spoken X past)) (part_of frame ∷ says.rest) in (
         says.rest,
         ap (λ n. drop n (session_parts 0 (messages_of X talk))) (sym size)
-        ∙ (ap (drop (length (reverse (spoken X past)))) (sym all) ∙ drop-append_seam (reverse (spoken X past)) (part_of frame ∷ says.rest)),
+            ∙ (ap (drop (length (reverse (spoken X past)))) (sym all) ∙ drop-append_seam (reverse (spoken X past)) (part_of frame ∷ says.rest)),
         omega (arith, ap length all, size, inside),
       )
 

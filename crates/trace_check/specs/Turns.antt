@@ -8,7 +8,9 @@ use Rattle.trace_text.specs.Past.{Sent, is_data_of, is_newest_key, first, said, 
 use Rattle.trace_text.specs.Faults.{is_late, late_of, newest, newest_repeat}
 use Rattle.trace_text.specs.Proper.{is_ack_of}
 use Rattle.trace_text.specs.Talks.{Talk, Turn, messages_of, pieces_before, answered_by, answer_to}
+use Rattle.trace_check.specs.declared.both.Both.{Both}
 use Rattle.trace_check.specs.declared.notice.Notice.{Notice}
+use Rattle.trace_check.specs.declared.side.Side.{Side}
 
 -- the first one, or else the later one
 abbrev pub or_later : Option ℕ → Option ℕ → Option ℕ
@@ -60,6 +62,10 @@ pub record AreStarts (messages : List (List ℕ)) (said : ℕ) (starts : List �
   pub inside : said ≤ pieces_before messages begun
   pub behind : 0 < begun → pieces_before messages (begun - 1) < said
 
+abbrev pub side_value : Side → SideValue
+side_value side =
+    record { starts = side.starts.items; told = side.told.items; key = side.key; acked = side.acked; late = side.late }
+
 -- that is what is known of X behind this past
 pub record IsSide (X Y : End) (talk : Talk) (came : ℕ → Bool) (past : List Sent) (side : SideValue) : Type 0 where
   pub starts_are : AreStarts (messages_of X talk) (length (said X past)) side.starts
@@ -90,7 +96,7 @@ begins key told side = record {
 -- it says its newest fragment again
 abbrev pub repeats : Option ℕ → SideValue → SideValue
 repeats told side = record side {
-  told = slice_set side.told (length side.told - 1) (or_later (slice_index_or side.told (length side.told - 1) None) told)
+  told = slice_set side.told (length side.told - 1) (or_later (slice_index_or side.told (length side.told - 1) None) told);
 }
 
 abbrev pub is_key : Key → Option Key → Bool
@@ -136,6 +142,9 @@ pub record BothValue : Type 0 where
   pub handheld : SideValue
   pub desktop : SideValue
   pub repeat : ℕ
+
+abbrev pub both_value : Both → BothValue
+both_value both = record { handheld = side_value both.handheld; desktop = side_value both.desktop; repeat = both.repeat }
 
 abbrev pub side_of : End → BothValue → SideValue
 side_of Handheld both = both.handheld

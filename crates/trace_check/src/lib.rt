@@ -8,6 +8,7 @@
 //! the seven rules of `Rule`. So is the trace of every run, whatever its line did.
 #![tactic(auto)]
 
+mod both;
 mod fate;
 mod fault;
 mod frame;
@@ -15,6 +16,7 @@ mod laws;
 mod notice;
 mod reader;
 mod rule;
+mod side;
 mod word;
 
 pub use fault::TraceFault;
