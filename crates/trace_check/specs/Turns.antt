@@ -62,6 +62,10 @@ pub record AreStarts (messages : List (List ℕ)) (said : ℕ) (starts : List �
   pub inside : said ≤ pieces_before messages begun
   pub behind : 0 < begun → pieces_before messages (begun - 1) < said
 
+-- an end that said nothing
+abbrev pub no_side : SideValue
+no_side = record { starts = 0 ∷ []; told = []; key = None; acked = None; late = 0 }
+
 abbrev pub side_value : Side → SideValue
 side_value side =
     record { starts = side.starts.items; told = side.told.items; key = side.key; acked = side.acked; late = side.late }
@@ -218,3 +222,7 @@ both_by Desktop notice both = record {
 
 abbrev pub both_after : Notice → BothValue → BothValue
 both_after notice both = both_by notice.from notice both
+
+-- a message by its end and its number
+abbrev pub turn_value : End × ℕ → Turn
+turn_value turn = record { end = turn.0; number = turn.1 }

@@ -1,5 +1,13 @@
 // What is known of both ends of the line while their frames are judged.
-use crate::side::Side;
+ghost use Rattle.std.specs.Prelude.{◌≡◌, ◌<◌, ◌≤◌, ◌+◌, ◌^◌, IfOk, IfSome, OnOk, [], ◌∷◌, None, length};
+ghost use Rattle.std.specs.Option.{option_map};
+ghost use Rattle.trace_text.specs.Talks.{answer_to as answer_of, answered_by as asked_by};
+ghost use Rattle.trace_check.specs.Turns.{answers_after, both_after, both_value, has_answer, hearer_after, is_answered_by, is_end_reached, is_known, is_new as is_new_by, knows_after, no_side, other_end, repeat_after, side_of, side_value, speaker_after, turn_value};
+
+use crate::notice::Notice;
+use crate::side::{Side, is_free};
+use std::alloc::{AllocError, Global};
+use trace_text::End;
 
 // What is known of both ends, and the newest repeat, or 0.
 #[derive(Drop)]
@@ -7,4 +15,193 @@ pub(crate) struct Both {
     pub(crate) handheld: Side,
     pub(crate) desktop: Side,
     pub(crate) repeat: u32,
+}
+
+// The message that an end's message of this number answers.
+fn answered_by(from: End, number: usize) -> Option<(End, usize)>
+    ensures turn { option_map turn_value result ≡ asked_by from number }
+    ensures number { IfSome result (λ turn. turn.1 ≤ number) }
+{
+    match from {
+        End::Handheld => match number {
+            0 => None,
+            _ => Some((End::Desktop, number)),
+        },
+        End::Desktop => match number {
+            0 => Some((End::Handheld, 0)),
+            1 => Some((End::Desktop, 0)),
+            _ => Some((End::Handheld, number - 1)),
+        },
+    }
+}
+
+// The other end's message that answers it.
+fn answer_to(from: End, number: usize) -> Option<usize>
+    requires { number + 1 < 2 ^ 64 }
+    ensures { result ≡ answer_of from number }
+{
+    match from {
+        End::Handheld => match number {
+            0 => Some(0),
+            _ => Some(number + 1),
+        },
+        End::Desktop => match number {
+            0 => None,
+            _ => Some(number),
+        },
+    }
+}
+
+impl Both {
+    // Both ends before the first frame.
+    pub(crate) fn new(alloc: Global) -> Result<Both, AllocError>
+        ensures { IfOk result (λ both. both_value both ≡ record
+            { handheld = no_side; desktop = no_side; repeat = 0 }) }
+    {
+        Ok(Both {
+            handheld: Side::new(alloc)?,
+            desktop: Side::new(alloc)?,
+            repeat: 0,
+        })
+    }
+
+    // What is known of an end.
+    fn side(&self, end: End) -> &Side
+        ensures { side_value result.now ≡ side_of end (both_value self.now) }
+    {
+        match end {
+            End::Handheld => &self.handheld,
+            End::Desktop => &self.desktop,
+        }
+    }
+
+    // Whether this message was taken, if it is one.
+    fn is_end_reached(&self, turn: Option<(End, usize)>) -> bool
+        requires { IfSome turn (λ turn. turn.1 + 1 < 2 ^ 64) }
+        ensures { result ≡ is_end_reached (option_map turn_value turn) (both_value self.now) }
+    {
+        match turn {
+            Some((end, number)) => self.side(end).is_end_free(self.repeat, number),
+            None => true,
+        }
+    }
+
+    // Whether the other end's message that answers this one began, and that reached its end.
+    fn is_answered(&self, from: End, answer: Option<usize>) -> bool
+        ensures { result ≡ is_answered_by answer self.now.repeat
+            (side_of (other_end from) (both_value self.now)) }
+    {
+        match answer {
+            Some(number) => self.side(other(from)).is_start_free(self.repeat, number),
+            None => false,
+        }
+    }
+
+    // Whether an end knows that its newest fragment was taken.
+    fn is_known(&self, from: End) -> bool
+        ensures { result ≡ is_known from (both_value self.now) }
+    {
+        let side = self.side(from);
+        let begun = side.starts.len();
+        is_free(self.repeat, side.acked)
+            || side.is_start() && self.is_answered(from, answer_to(from, begun.saturating_sub(2)))
+    }
+
+    // Whether what its next message answers was taken, where its next fragment begins one.
+    fn has_answer(&self, from: End) -> bool
+        ensures { result ≡ has_answer from (both_value self.now) }
+    {
+        let side = self.side(from);
+        if !side.is_start() {
+            return true;
+        }
+        self.is_end_reached(answered_by(from, side.starts.len().saturating_sub(1)))
+    }
+
+    // Whether the frame bears a new fragment.
+    fn is_new(&self, notice: &Notice) -> bool
+        ensures { result ≡ is_new_by notice.now (side_of notice.now.from (both_value self.now)) }
+    {
+        notice.is_data && !self.side(notice.from).is_newest(notice.key)
+    }
+
+    // Whether the end that sends the frame knows that its fragment before was taken, where this is a new one.
+    pub(crate) fn knows(&self, notice: &Notice) -> bool
+        ensures { result ≡ knows_after notice.now (both_value self.now) }
+    {
+        !self.is_new(notice) || self.side(notice.from).told.is_empty() || self.is_known(notice.from)
+    }
+
+    // Whether what its message answers was taken, where this is a new fragment.
+    pub(crate) fn answers(&self, notice: &Notice) -> bool
+        ensures { result ≡ answers_after notice.now (both_value self.now) }
+    {
+        !self.is_new(notice) || self.has_answer(notice.from)
+    }
+
+    // Goes on behind the frame.
+    pub(crate) fn take(&mut self, notice: &Notice) -> Result<(), AllocError>
+        ensures { OnOk result (both_value self.new ≡ both_after notice.now (both_value self.old)) }
+    {
+        match notice.from {
+            End::Handheld => {
+                step(
+                    notice,
+                    &mut self.handheld,
+                    &mut self.desktop,
+                    &mut self.repeat,
+                )
+            }
+            End::Desktop => step(
+                notice,
+                &mut self.desktop,
+                &mut self.handheld,
+                &mut self.repeat,
+            ),
+        }
+    }
+}
+
+// The other end.
+fn other(end: End) -> End
+    ensures { result ≡ other_end end }
+{
+    match end {
+        End::Handheld => End::Desktop,
+        End::Desktop => End::Handheld,
+    }
+}
+
+// One end sends the frame to the other.
+fn step(
+    notice: &Notice,
+    speaker: &mut Side,
+    hearer: &mut Side,
+    repeat: &mut u32,
+) -> Result<(), AllocError>
+    ensures speaks { OnOk result (side_value speaker.new
+        ≡ speaker_after notice.now (side_value speaker.old)) }
+    ensures hears { OnOk result (side_value hearer.new
+        ≡ hearer_after notice.now (side_value speaker.old) (side_value hearer.old)) }
+    ensures repeats { OnOk result (repeat.new
+        ≡ repeat_after notice.now (side_value speaker.old) repeat.old) }
+{
+    if notice.late {
+        speaker.late = notice.number;
+    }
+    let told = if notice.came {
+        Some(speaker.late)
+    } else {
+        None
+    };
+    if !notice.is_data {
+        hearer.hear(notice.key, told);
+        return Ok(());
+    }
+    if speaker.is_newest(notice.key) {
+        *repeat = notice.number;
+        speaker.repeat(told);
+        return Ok(());
+    }
+    speaker.begin(notice.key, told)
 }

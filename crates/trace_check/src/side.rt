@@ -1,7 +1,7 @@
 // What is known of an end of the line while its frames are judged.
 ghost use Rattle.std.specs.Prelude.{◌≡◌, ◌<◌, ◌+◌, ◌^◌, IfOk, OnOk, [], ◌∷◌, slice_index_or};
 ghost use Rattle.padp_link.specs.Pieces.{piece_count as pieces_of};
-ghost use Rattle.trace_check.specs.Turns.{begins, hears, is_end_free, is_free as frees, is_key, is_start as starts_message, is_start_free, last_start as last_place, or_later as first_of, repeats, side_value};
+ghost use Rattle.trace_check.specs.Turns.{begins, hears, is_end_free, is_free as frees, is_key, is_start as starts_message, is_start_free, last_start as last_place, no_side, or_later as first_of, repeats, side_value};
 
 use padp_link::Key;
 use std::alloc::{AllocError, Global};
@@ -63,8 +63,7 @@ pub(crate) fn is_free(repeat: u32, late: Option<u32>) -> bool
 impl Side {
     // An end that has said nothing.
     pub(crate) fn new(alloc: Global) -> Result<Side, AllocError>
-        ensures { IfOk result (λ side. side_value side ≡ record
-            { starts = 0 ∷ []; told = []; key = None; acked = None; late = 0 }) }
+        ensures { IfOk result (λ side. side_value side ≡ no_side) }
     {
         let mut starts = Vec::new(alloc);
         starts.push(0)?;
