@@ -274,7 +274,7 @@ module _ (X Y : End) (talk : Talk) (came : ℕ → Bool) (past : List Sent) (sid
 
 -- ---- by what is known of both ends
 
-side-is : (X : End) (talk : Talk) (came : ℕ → Bool) (past : List Sent) (both : BothValue) → AreSides talk came past both
+pub side-is : (X : End) (talk : Talk) (came : ℕ → Bool) (past : List Sent) (both : BothValue) → AreSides talk came past both
     → IsSide X (other_end X) talk came past (side_of X both)
 side-is Handheld talk came past both are = are.handheld
 side-is Desktop talk came past both are = are.desktop

@@ -11,3 +11,4 @@ pub mod StartLaws
 pub mod StripLaws
 pub mod TalkLaws
 pub mod TraceLaws
+pub mod TurnLaws

@@ -257,7 +257,7 @@ and_none : (a b : Bool) → b ≡ false → (a && b) ≡ false
 and_none true b is = is
 and_none false b is = refl
 
-key-newest : (key : Key) (keys : List Key) → is_key key (first keys) ≡ is_newest_key key keys
+pub key-newest : (key : Key) (keys : List Key) → is_key key (first keys) ≡ is_newest_key key keys
 key-newest key [] = refl
 key-newest key (newest ∷ older) = refl
 

@@ -1,5 +1,5 @@
 -- What of a past is enough to judge the next frame by: for each fragment of an end, whether a frame with it is free, and where its messages begin.
-use Rattle.std.specs.Prelude.{◌≡◌, ℕ, ◌+◌, ◌-◌, ◌<◌, ◌≤◌, Bool, true, false, not, ◌&&◌, ◌||◌, List, [], ◌∷◌, ◌++◌, length, nat_eq, nat_lt, slice_index_or, slice_set, Option, Some, None, if◌then◌else◌}
+use Rattle.std.specs.Prelude.{◌≡◌, ◌↔◌, ℕ, ◌+◌, ◌-◌, ◌<◌, ◌≤◌, Bool, true, false, not, ◌&&◌, ◌||◌, List, [], ◌∷◌, ◌++◌, length, drop, nat_eq, nat_lt, slice_index_or, slice_set, Option, Some, None, if◌then◌else◌}
 use Rattle.padp_link.specs.declared.piece.Key.{Key}
 use Rattle.padp_link.specs.Pieces.{piece_count}
 use Rattle.trace_text.specs.declared.frame.End.{End}
@@ -8,6 +8,10 @@ use Rattle.trace_text.specs.Past.{Sent, is_data_of, is_newest_key, first, said, 
 use Rattle.trace_text.specs.Faults.{is_late, late_of, newest, newest_repeat}
 use Rattle.trace_text.specs.Proper.{is_ack_of}
 use Rattle.trace_text.specs.Talks.{Talk, Turn, messages_of, pieces_before, answered_by, answer_to}
+use Rattle.trace_text.specs.Frames.{past_of, past_behind, came_in}
+use Rattle.trace_text.specs.TraceLines.{FrameValue}
+use Rattle.trace_check.specs.Judging.{KnowsBefore, AnswersInTurn}
+use Rattle.trace_check.specs.Messages.{talk_in}
 use Rattle.trace_check.specs.declared.both.Both.{Both}
 use Rattle.trace_check.specs.declared.notice.Notice.{Notice}
 use Rattle.trace_check.specs.declared.side.Side.{Side}
@@ -226,3 +230,20 @@ both_after notice both = both_by notice.from notice both
 -- a message by its end and its number
 abbrev pub turn_value : End × ℕ → Turn
 turn_value turn = record { end = turn.0; number = turn.1 }
+
+-- both ends knew that what they said was taken, before they went on
+abbrev pub BothKnow : Talk → (ℕ → Bool) → List Sent → Type 0
+BothKnow talk came past = KnowsBefore Handheld Desktop talk came past × KnowsBefore Desktop Handheld talk came past
+
+-- what their messages answer was taken, before these began
+abbrev pub BothAnswer : Talk → (ℕ → Bool) → List Sent → Type 0
+BothAnswer talk came past = AnswersInTurn Handheld talk came past × AnswersInTurn Desktop talk came past
+
+-- the first so many frames were walked
+pub record IsWalked (frames : List FrameValue) (count : ℕ) (both : BothValue) (knows answers : Bool) : Type 0 where
+  pub past : List Sent
+  pub rest_is : past_behind past (drop count frames) ≡ past_of frames
+  pub counted : length past ≡ count
+  pub are : AreSides (talk_in frames) (came_in frames) past both
+  pub knows_is : knows ≡ true ↔ BothKnow (talk_in frames) (came_in frames) past
+  pub answers_is : answers ≡ true ↔ BothAnswer (talk_in frames) (came_in frames) past
