@@ -2,6 +2,7 @@ pub mod FateLaws
 pub mod FilledLaws
 pub mod JudgeLaws
 pub mod LineLaws
+pub mod NoticeLaws
 pub mod PlainLaws
 pub mod ReachLaws
 pub mod RuleLaws

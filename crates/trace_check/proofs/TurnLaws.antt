@@ -118,7 +118,7 @@ module _ (talk : Talk) (came : ℕ → Bool) (frame : Sent) (past : List Sent) (
         known_or
         ∙ second_from _ _ _
         (λ new none. let parts = new_parts new in
-            let some = some_said none in by_known X talk came past both are some (knows parts.0 parts.1 some))
+        let some = some_said none in by_known X talk came past both are some (knows parts.0 parts.1 some))
 
     answers_or : answers_after notice both ≡ (not (is_new notice (side_of notice.from both)) || has_answer X both)
     answers_or = ap (λ Z. not (is_new notice (side_of notice.from both)) || has_answer Z both) (says.from_is ∙ from)
@@ -132,8 +132,8 @@ module _ (talk : Talk) (came : ℕ → Bool) (frame : Sent) (past : List Sent) (
         answers_or
         ∙ or_from _ _
         (λ new. let parts = new_parts new in
-            let it = new_part X frame past talk messages parts.0 parts.2 in
-            has-answer X talk came past both are (omega (arith, it.2, session-length 0 (messages_of X talk))) (answers parts.0 parts.1))
+        let it = new_part X frame past talk messages parts.0 parts.2 in
+        has-answer X talk came past both are (omega (arith, it.2, session-length 0 (messages_of X talk))) (answers parts.0 parts.1))
 
   -- the other end says nothing
   silent : (X : End) → frame.from ≡ X → is_data_of (other_end X) frame ≡ true → ⊥

@@ -1,14 +1,15 @@
 -- What of a past is enough to judge the next frame by: for each fragment of an end, whether a frame with it is free, and where its messages begin.
 use Rattle.std.specs.Prelude.{◌≡◌, ◌↔◌, ℕ, ◌+◌, ◌-◌, ◌<◌, ◌≤◌, Bool, true, false, not, ◌&&◌, ◌||◌, List, [], ◌∷◌, ◌++◌, length, drop, nat_eq, nat_lt, slice_index_or, slice_set, Option, Some, None, if◌then◌else◌}
 use Rattle.padp_link.specs.declared.piece.Key.{Key}
-use Rattle.padp_link.specs.Pieces.{piece_count}
+use Rattle.slp_frames.specs.PacketScan.{packet_at}
+use Rattle.padp_link.specs.Pieces.{piece_count, key_of}
 use Rattle.trace_text.specs.declared.frame.End.{End}
 use Rattle.trace_text.specs.declared.frame.End.TheVariants.{Handheld, Desktop}
 use Rattle.trace_text.specs.Past.{Sent, is_data_of, is_newest_key, first, said, same_key}
 use Rattle.trace_text.specs.Faults.{is_late, late_of, newest, newest_repeat}
 use Rattle.trace_text.specs.Proper.{is_ack_of}
 use Rattle.trace_text.specs.Talks.{Talk, Turn, messages_of, pieces_before, answered_by, answer_to}
-use Rattle.trace_text.specs.Frames.{past_of, past_behind, came_in}
+use Rattle.trace_text.specs.Frames.{past_of, past_behind, came_in, course_of, fragment_in, is_data_kind}
 use Rattle.trace_text.specs.TraceLines.{FrameValue}
 use Rattle.trace_check.specs.Judging.{KnowsBefore, AnswersInTurn}
 use Rattle.trace_check.specs.Messages.{talk_in}
@@ -123,6 +124,15 @@ pub record IsNotice (notice : Notice) (frame : Sent) (came : ℕ → Bool) (past
   pub late_is : notice.late ≡ is_late frame.course
   pub number_is : notice.number ≡ length past + 1
   pub came_is : notice.came ≡ came (length past + 1)
+
+-- the same of a frame of a trace, by its number
+pub record IsNoticeOf (notice : Notice) (frame : FrameValue) (number : ℕ) : Type 0 where
+  pub from_is : notice.from ≡ frame.from
+  pub is_data_is : notice.is_data ≡ is_data_kind (fragment_in frame).kind
+  pub key_is : notice.key ≡ key_of (packet_at frame.bytes).id (fragment_in frame)
+  pub late_is : notice.late ≡ is_late (course_of frame.fate)
+  pub number_is : notice.number ≡ number
+  pub came_is : notice.came ≡ frame.came
 
 -- the newest late frame of the end that sends it
 abbrev pub late_after : Notice → SideValue → ℕ
