@@ -15,12 +15,14 @@ use Rattle.trace_text.specs.Fates as fate
 use Rattle.padp_link.specs.declared.fragment.PadpKind.{PadpKind}
 use Rattle.padp_link.specs.declared.fragment.PadpKind.TheVariants.{Data, Ack, Tickle, Abort}
 use Rattle.line_laws.proofs.PastLaws.{is_end-same}
+use Rattle.trace_text.specs.TraceLines.{frame_value}
+use Rattle.trace_text.specs.declared.frame.Frame.{Frame}
 use Rattle.trace_check.specs.Judging.{KnowsBefore, AnswersInTurn, Keeps, SayMessages}
 use Rattle.trace_check.specs.Messages.{talk_in, fates_in}
 use Rattle.trace_check.specs.declared.rule.Rule.TheVariants.{A, B, D, E, F}
 use Rattle.trace_check.specs.declared.notice.Notice.{Notice}
 use Rattle.trace_check.specs.Turns.{first_late, SideValue, IsSide, BothValue, side_of, other_end, AreSides, IsNotice, is_key, is_new, is_known, has_answer, knows_after}
-use Rattle.trace_check.specs.Turns.{answers_after, both_after, both_by, BothKnow, BothAnswer, IsWalked, no_side}
+use Rattle.trace_check.specs.Turns.{answers_after, both_after, both_by, BothKnow, BothAnswer, IsWalked, IsNoticeOf, no_side}
 use Rattle.trace_check.proofs.StartLaws.{says_before, new_part, session-length}
 use Rattle.trace_check.proofs.SideLaws.{side-speaks, side-hears, repeat-after, key-newest}
 use Rattle.trace_check.proofs.JudgeLaws.{known_by, by_known, answered, has-answer, side-is}
@@ -175,3 +177,159 @@ module _ (talk : Talk) (came : ℕ → Bool) (frame : Sent) (past : List Sent) (
         ((λ it. absurd (silent Desktop from it), before.0), (answers_forth Desktop from parts.1, before.1)),
     λ now. and_from _ _ (is.1 (now.0.1, now.1.1)) (answers_back Desktop from messages now.1.0),
   )
+
+-- ---- the whole walk
+
+side_none : (X Y : End) (talk : Talk) (came : ℕ → Bool) → IsSide X Y talk came [] no_side
+side_none X Y talk came = record {
+  starts_are = record {
+    begun = 0;
+    there = omega arith;
+    counted = refl;
+    places = none;
+    inside = omega arith;
+    behind = λ some. absurd (omega (arith, some));
+  };
+  said_all = refl;
+  told_is = λ j less. absurd (omega (arith, less));
+  key_is = refl;
+  acked_is = refl;
+  late_is = refl;
+} where
+  none : (k : ℕ) → k ≤ 0 → get_or (0 ∷ []) k 0 ≡ pieces_before (messages_of X talk) k
+  none zero inside = refl
+  none (suc k) inside = absurd (omega arith)
+
+pub walk_begins : (frames : List FrameValue) → IsWalked frames 0 (record { handheld = no_side; desktop = no_side; repeat = 0 }) true true
+walk_begins frames = record {
+  past = [];
+  rest_is = refl;
+  counted = refl;
+  are = record {
+    handheld = side_none Handheld Desktop (talk_in frames) (came_in frames);
+    desktop = side_none Desktop Handheld (talk_in frames) (came_in frames);
+    repeat_is = refl;
+  };
+  knows_is = (λ it. (tt, tt), λ it. refl);
+  answers_is = (λ it. (tt, tt), λ it. refl);
+}
+
+says_behind : (X : End) (talk : Talk) (later : List FrameValue) (past : List Sent) → SaysMessages X talk (past_behind past later) → SaysMessages X talk past
+says_behind X talk [] past says = says
+says_behind X talk (frame ∷ later) past says = elim (cases_Bool (is_abort (fragment_in frame).kind)) [
+  | inl abort ↦
+      says_behind X talk later past (subst (λ p. SaysMessages X talk (past_behind p later)) (cond-true _ _ _ abort) says)
+  | inr other ↦
+      says_before X (sent_in frame) past talk
+      (says_behind X talk later (sent_in frame ∷ past) (subst (λ p. SaysMessages X talk (past_behind p later)) (cond-false _ _ _ other) says))
+]
+
+messages-say : (frames : List FrameValue) → Keeps D frames → (X : End) → SaysMessages X (talk_in frames) (past_of frames)
+messages-say frames keeps Handheld = keeps.handheld
+messages-say frames keeps Desktop = keeps.desktop
+
+drop-next : (frames : List FrameValue) (index : ℕ) {frame : FrameValue} {later : List FrameValue} → drop index frames ≡ frame ∷ later
+    → slice_index_or (map (λ (f : FrameValue). f.came) frames) index false ≡ frame.came
+drop-next [] zero {frame} is = absurd cc
+drop-next [] (suc index) {frame} is = absurd cc
+drop-next (first ∷ rest) zero {frame} is = (let e : first ≡ frame = cc in ap (λ (f : FrameValue). f.came) e)
+drop-next (first ∷ rest) (suc index) {frame} is = drop-next rest index is
+
+notice-is : (notice : Notice) (frames : List FrameValue) (frame : FrameValue) (later : List FrameValue) (index : ℕ) (past : List Sent) → length past ≡ index
+    → drop index frames ≡ frame ∷ later → IsNoticeOf notice frame (index + 1) → IsNotice notice (sent_in frame) (came_in frames) past
+notice-is notice frames frame later index past counted here says = record {
+  from_is = says.from_is;
+  is_data_is = says.is_data_is;
+  key_is = says.key_is;
+  late_is = says.late_is;
+  number_is = says.number_is ∙ ap (λ n. n + 1) (sym counted);
+  came_is = says.came_is
+      ∙ (sym (drop-next frames index here)
+      ∙ ap (λ n. slice_index_or (map (λ (f : FrameValue). f.came) frames) n false) (let e : index ≡ length past + 1 - 1 = omega (arith, counted) in e));
+}
+
+-- one frame more
+pub walk_goes : (frames : List FrameValue) (index : ℕ) (frame : FrameValue) (later : List FrameValue) (notice : Notice) (both : BothValue)
+    (knows answers : Bool) → Keeps D frames → IsWalked frames index both knows answers → drop index frames ≡ frame ∷ later → drop (index + 1) frames ≡ later
+    → is_abort (fragment_in frame).kind ≡ false → IsNoticeOf notice frame (index + 1)
+    → IsWalked frames (index + 1) (both_after notice both) (knows && knows_after notice both) (answers && answers_after notice both)
+walk_goes frames index frame later notice both knows answers keeps was here behind no_abort says =
+    let past = was.past in
+    let sent = sent_in frame in
+    let it = notice-is notice frames frame later index past was.counted here says in
+    let rest : past_behind (sent ∷ past) later ≡ past_of frames =
+    ap (λ p. past_behind p later) (sym (cond-false (is_abort (fragment_in frame).kind) past (sent ∷ past) no_abort))
+    ∙ (ap (past_behind past) (sym here) ∙ was.rest_is) in
+    let messages : (X : End) → SaysMessages X (talk_in frames) (sent ∷ past) =
+    λ X. says_behind X (talk_in frames) later (sent ∷ past) (subst (SaysMessages X (talk_in frames)) (sym rest) (messages-say frames keeps X)) in
+    record {
+      past = sent ∷ past;
+      rest_is = ap (past_behind (sent ∷ past)) behind ∙ rest;
+      counted = omega (arith, was.counted);
+      are = both-after (talk_in frames) (came_in frames) sent past notice both it was.are messages;
+      knows_is = know_next (talk_in frames) (came_in frames) sent past notice both it was.are sent.from refl knows was.knows_is;
+      answers_is = answer_next (talk_in frames) (came_in frames) sent past notice both it was.are sent.from refl (messages sent.from) answers was.answers_is;
+    }
+
+-- all frames were walked
+pub record IsJudged (frames : List FrameValue) (knows answers : Bool) : Type 0 where
+  pub knows_is : knows ≡ true ↔ Keeps E frames
+  pub answers_is : answers ≡ true ↔ Keeps F frames
+
+judged : (frames : List FrameValue) (index : ℕ) (both : BothValue) (knows answers : Bool) (was : IsWalked frames index both knows answers)
+    → was.past ≡ past_of frames → IsJudged frames knows answers
+judged frames index both knows answers was all = record {
+  knows_is = subst (λ p. knows ≡ true ↔ BothKnow (talk_in frames) (came_in frames) p) all was.knows_is;
+  answers_is = subst (λ p. answers ≡ true ↔ BothAnswer (talk_in frames) (came_in frames) p) all was.answers_is;
+}
+
+pub walk_ends : (frames : List FrameValue) (index : ℕ) (both : BothValue) (knows answers : Bool) → IsWalked frames index both knows answers
+    → drop index frames ≡ [] → IsJudged frames knows answers
+walk_ends frames index both knows answers was none =
+    judged frames index both knows answers was (ap (past_behind was.past) (sym none) ∙ was.rest_is)
+
+-- ---- an abort is the last frame
+
+abort-fate : (given : FateValue) (kind : PadpKind) → MayBear given kind → is_abort kind ≡ true → given ≡ fate.Abort
+abort-fate given Data may is = absurd cc
+abort-fate given Ack may is = absurd cc
+abort-fate given Tickle may is = absurd cc
+abort-fate given Abort may is = may
+
+pub bears-next : (frames : List FrameValue) (index : ℕ) {frame : FrameValue} {later : List FrameValue} → AllByRecursion BearsFragment frames
+    → drop index frames ≡ frame ∷ later → BearsFragment frame
+bears-next [] zero all is = absurd cc
+bears-next [] (suc index) all is = absurd cc
+bears-next (first ∷ rest) zero {frame} all is = (let e : first ≡ frame = cc in subst BearsFragment e all.0)
+bears-next (first ∷ rest) (suc index) all is = bears-next rest index all.1 is
+
+ends-last : (frames : List FrameValue) (number index : ℕ) (script : ℕ → FateValue) {frame : FrameValue} {later : List FrameValue}
+    → AreNumbered number script frames → drop index frames ≡ frame ∷ later → ends_run frame.fate frame.bytes ≡ true → later ≡ []
+ends-last [] number zero script all is ends = absurd cc
+ends-last [] number (suc index) script all is ends = absurd cc
+ends-last (first ∷ rest) number zero script {frame} {later} all is ends =
+    let e : first ≡ frame = cc in
+    let same : rest ≡ later = cc in
+    sym same ∙ all.2 (ap (λ (f : FrameValue). ends_run f.fate f.bytes) e ∙ ends)
+ends-last (first ∷ rest) number (suc index) script all is ends = ends-last rest (number + 1) index script all.3 is ends
+
+pub walk_aborts : (frames : List FrameValue) (index : ℕ) (frame : FrameValue) (later : List FrameValue) (both : BothValue) (knows answers : Bool)
+    → Keeps A frames → Keeps B frames → IsWalked frames index both knows answers → drop index frames ≡ frame ∷ later
+    → is_abort (fragment_in frame).kind ≡ true → IsJudged frames knows answers
+walk_aborts frames index frame later both knows answers numbered bear was here abort =
+    let bears = bears-next frames index bear here in
+    let given : frame.fate ≡ fate.Abort = abort-fate frame.fate (fragment_in frame).kind bears.kind abort in
+    let ends : ends_run frame.fate frame.bytes ≡ true = ap (λ f. ends_run f frame.bytes) given in
+    let none : later ≡ [] = ends-last frames 1 index (fates_in frames) numbered here ends in
+    judged frames index both knows answers was
+    (sym (cond-true (is_abort (fragment_in frame).kind) was.past (sent_in frame ∷ was.past) abort)
+    ∙ (ap (past_behind (add_frame frame was.past)) (sym none) ∙ (ap (past_behind was.past) (sym here) ∙ was.rest_is)))
+
+-- the frame at an index of the program's frames
+pub drop_at : (frames : List Frame) (index : ℕ) (frame : Frame) → index < length frames → frame ≡ get_or frames index frame
+    → drop index (map frame_value frames) ≡ frame_value frame ∷ drop (index + 1) (map frame_value frames)
+drop_at [] index frame less is = absurd (omega arith)
+drop_at (first ∷ rest) zero frame less is = ap (λ f. frame_value f ∷ map frame_value rest) (sym is)
+drop_at (first ∷ rest) (suc index) frame less is =
+    let next : suc index + 1 ≡ suc (index + 1) = omega arith in
+    drop_at rest index frame (omega arith) is ∙ ap (λ n. frame_value frame ∷ drop n (map frame_value (first ∷ rest))) (sym next)

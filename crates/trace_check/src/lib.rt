@@ -17,6 +17,7 @@ mod notice;
 mod reader;
 mod rule;
 mod side;
+mod turns;
 mod word;
 
 pub use fault::TraceFault;

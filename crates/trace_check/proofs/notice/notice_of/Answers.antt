@@ -26,14 +26,14 @@ returns-in_default-clause-none c =
 pub returns-then-is_abort-clause-none : goal.returns-then-is_abort-clause-none
 returns-then-is_abort-clause-none c =
     let same = c.in-Ok.ensures.only (fragment_in (frame_value c.args.frame.now))
-        (text-there (frame_value c.args.frame.now) _ c.as_slice-bytes.ensures.value c.requires) in
+    (text-there (frame_value c.args.frame.now) _ c.as_slice-bytes.ensures.value c.requires) in
     ap (λ (f : FragmentValue). is_abort f.kind) (sym same) ∙ (sym c.is_abort.ensures ∙ c.if-is_abort.true)
 
 pub returns-clause-some : goal.returns-clause-some
 unfolding fields_at
 returns-clause-some c =
     let same = c.in-Ok.ensures.only (fragment_in (frame_value c.args.frame.now))
-        (text-there (frame_value c.args.frame.now) _ c.as_slice-bytes.ensures.value c.requires) in
+    (text-there (frame_value c.args.frame.now) _ c.as_slice-bytes.ensures.value c.requires) in
     let bytes : c.as_slice-bytes.result.now ≡ c.args.frame.now.bytes.items = c.as_slice-bytes.ensures.value in
     record {
       from_is = refl;
@@ -48,5 +48,5 @@ returns-clause-some c =
 pub returns-clause-said : goal.returns-clause-said
 returns-clause-said c =
     let same = c.in-Ok.ensures.only (fragment_in (frame_value c.args.frame.now))
-        (text-there (frame_value c.args.frame.now) _ c.as_slice-bytes.ensures.value c.requires) in
+    (text-there (frame_value c.args.frame.now) _ c.as_slice-bytes.ensures.value c.requires) in
     ap (λ (f : FragmentValue). is_abort f.kind) (sym same) ∙ (sym c.is_abort.ensures ∙ c.if-is_abort.false)
