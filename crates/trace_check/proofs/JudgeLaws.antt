@@ -1,21 +1,23 @@
 -- What is known of both ends tells whether a new fragment may go out.
-use Rattle.line_laws.proofs.Names.{◌≡◌, ◌⊎◌, ℕ, zero, suc, ◌+◌, ◌-◌, ◌<◌, ◌≤◌, Bool, true, false, not, ◌&&◌, cond, List, [], ◌∷◌, length, Option, Some, None}
-use Rattle.line_laws.proofs.Names.{refl, sym, ap, subst, ◌∙◌, arith, inl, inr, cases_Bool, cases_lt, cond-true, cond-false, and_parts, and_from, both_ways, nat_eq}
-use Rattle.line_laws.proofs.Names.{End, Handheld, Desktop, Sent, Key, at, is_end, first, said, data_of, is_data_of, IsDataOf, IsAckOf, newest_repeat, pieces_before}
-use Rattle.line_laws.proofs.Names.{messages_of, Talk, Turn, is_ack_of, answered_by, answer_to, IsKnown, AcksNewest, AnswersNewest, EndReached, IfAnswers, AnswersReached}
-use Rattle.line_laws.proofs.Names.{Reaches, session_parts, same_key}
-use Rattle.std.proofs.Common.{◌||◌, eqb, ltb, get_or}
-use Rattle.std.proofs.lemmas.Bool.{eqb-true, eq-eqb, ne_eqb, ltb-true, lt-ltb}
+use Rattle.line_laws.proofs.Names.{◌≡◌, ◌⊎◌, ℕ, ◌+◌, ◌-◌, ◌<◌, ◌≤◌, Bool, true, false, not, ◌&&◌, List, [], ◌∷◌, length, Option, Some, None}
+use Rattle.line_laws.proofs.Names.{refl, sym, ap, subst, ◌∙◌, arith, inl, inr, cases_Bool, cases_lt, cond-true, cond-false, and_parts, and_from, nat_eq}
+use Rattle.line_laws.proofs.Names.{End, Handheld, Desktop, Sent, Key, at, is_end, first, said, data_of, is_data_of, newest_repeat, pieces_before}
+use Rattle.line_laws.proofs.Names.{messages_of, Talk, Turn, is_ack_of, answered_by, answer_to, IsKnown, AcksNewest, AnswersNewest, IfAnswers, AnswersReached}
+use Rattle.line_laws.proofs.Names.{Reaches, same_key}
+use Rattle.std.proofs.Common.{◌||◌, ltb, get_or}
+use Rattle.std.proofs.lemmas.Bool.{eqb-true, eq-eqb, ltb-true, lt-ltb}
 use Rattle.std.proofs.lemmas.List.{get_or_past}
 use Rattle.trace_text.specs.Past.{is_newest_key}
-use Rattle.trace_text.specs.Proper.{BearsNumber, SaysMessages}
-use Rattle.line_laws.proofs.PastLaws.{keys_below, keys_end_all, ends_all, is_end-same, same_key-same}
+use Rattle.trace_text.specs.Proper.{BearsNumber}
+use Rattle.line_laws.proofs.PastLaws.{keys_below, keys_end_all, ends_all, same_key-same}
 use Rattle.line_laws.proofs.CameLaws.{same_end}
 use Rattle.line_laws.proofs.MessageLaws.{pieces-grow, pieces-more}
-use Rattle.trace_check.specs.Turns.{first_late, is_free, bears, acks, SideValue, AreStarts, IsSide, last_start, is_start, BothValue, side_of, other_end, AreSides}
-use Rattle.trace_check.specs.Turns.{is_start_free, is_end_free, is_answered_by, is_known, is_end_reached, has_answer}
-use Rattle.trace_check.proofs.ReachLaws.{IsReached, reached-free, free-reached}
+use Rattle.trace_check.proofs.ReachLaws.{reached-free, free-reached}
 use Rattle.trace_check.proofs.SideLaws.{newest_first}
+use Rattle.trace_check.specs.Arrivals.{acks, bears, is_free}
+use Rattle.trace_check.specs.Sides.{IsSide, SideValue, is_end_free, is_start, is_start_free, last_start}
+use Rattle.trace_check.specs.BothEnds.{AreSides, BothValue, other_end, side_of}
+use Rattle.trace_check.specs.Turns.{has_answer, is_answered_by, is_end_reached, is_known}
 
 -- ---- a fragment that reached an end
 
@@ -39,14 +41,14 @@ module _ (Y X : End) (talk : Talk) (came : ℕ → Bool) (past : List Sent) (sid
   taken-said : (number : ℕ) → IsTaken Y came past number → number ≤ length (said Y past)
   taken-said number it = omega (arith, keys_below (data_of Y) it.n past, it.bears.number_is)
 
-  free-taken : (j : ℕ) → is_free (newest_repeat past) (get_or side.told j None) ≡ true → IsTaken Y came past (j + 1)
+  free-taken : (j : ℕ) → is_free (newest_repeat past) (get_or side.arrivals j None) ≡ true → IsTaken Y came past (j + 1)
   free-taken j free = elim (cases_lt j (length (said Y past))) [
     | inr none ↦
-        let e : false ≡ true = ap (is_free (newest_repeat past)) (sym (get_or_past side.told j None (omega (arith, none, are.said_all)))) ∙ free in
+        let e : false ≡ true = ap (is_free (newest_repeat past)) (sym (get_or_past side.arrivals j None (omega (arith, none, are.said_all)))) ∙ free in
         absurd cc
     | inl inside ↦
         let it = free-reached (bears Y (j + 1)) Y came past (bears-from Y (j + 1))
-        (ap (is_free (newest_repeat past)) (sym (are.told_is j inside)) ∙ free) in
+        (ap (is_free (newest_repeat past)) (sym (are.arrivals_are j inside)) ∙ free) in
         let parts = and_parts (is_data_of Y it.reaches.frame) (nat_eq (length (said Y (it.reaches.frame ∷ it.reaches.older))) (j + 1)) it.passes in
         record {
           n = it.n;
@@ -55,12 +57,12 @@ module _ (Y X : End) (talk : Talk) (came : ℕ → Bool) (past : List Sent) (sid
         }
   ]
 
-  taken-free : (j : ℕ) → IsTaken Y came past (j + 1) → is_free (newest_repeat past) (get_or side.told j None) ≡ true
+  taken-free : (j : ℕ) → IsTaken Y came past (j + 1) → is_free (newest_repeat past) (get_or side.arrivals j None) ≡ true
   taken-free j it =
       let inside : j < length (said Y past) = omega (arith, taken-said (j + 1) it) in
       let number : length (said Y (it.reaches.frame ∷ it.reaches.older)) ≡ j + 1 =
       ap (λ p. length (said Y p)) (sym it.reaches.here) ∙ it.bears.number_is in
-      ap (is_free (newest_repeat past)) (are.told_is j inside)
+      ap (is_free (newest_repeat past)) (are.arrivals_are j inside)
       ∙ reached-free (bears Y (j + 1)) Y came past it.n it.reaches (data-from Y it.reaches.frame it.bears.is)
       (and_from _ _ it.bears.is (eq-eqb _ _ number))
 
@@ -73,7 +75,7 @@ module _ (Y X : End) (talk : Talk) (came : ℕ → Bool) (past : List Sent) (sid
       let parts = and_parts (ltb number (length side.starts)) _ free in
       let less = ltb-true number (length side.starts) parts.0 in
       let it = free-taken (pieces_before (messages_of Y talk) number)
-      (ap (λ k. is_free (newest_repeat past) (get_or side.told k None)) (sym (place_of number less)) ∙ parts.1) in
+      (ap (λ k. is_free (newest_repeat past) (get_or side.arrivals k None)) (sym (place_of number less)) ∙ parts.1) in
       let said_it = taken-said _ it in
       elim (cases_lt number are.starts_are.begun) [
         | inl before ↦ (omega (arith, before, are.starts_are.there), it)
@@ -87,7 +89,7 @@ module _ (Y X : End) (talk : Talk) (came : ℕ → Bool) (past : List Sent) (sid
     | inl before ↦
         let less : number < length side.starts = omega (arith, before, are.starts_are.counted) in
         and_from _ _ (lt-ltb _ _ less)
-        (ap (λ k. is_free (newest_repeat past) (get_or side.told k None)) (place_of number less) ∙ taken-free (pieces_before (messages_of Y talk) number) it)
+        (ap (λ k. is_free (newest_repeat past) (get_or side.arrivals k None)) (place_of number less) ∙ taken-free (pieces_before (messages_of Y talk) number) it)
     | inr behind ↦ absurd (omega (
       arith,
       taken-said _ it,
@@ -105,7 +107,7 @@ module _ (Y X : End) (talk : Talk) (came : ℕ → Bool) (past : List Sent) (sid
       let some = pieces-more (messages_of Y talk) number (number + 1) (omega arith) (omega (arith, inside)) in
       let e : pieces_before (messages_of Y talk) (number + 1) - 1 + 1 ≡ pieces_before (messages_of Y talk) (number + 1) = omega (arith, some) in
       let it = free-taken (pieces_before (messages_of Y talk) (number + 1) - 1)
-      (ap (λ k. is_free (newest_repeat past) (get_or side.told (k - 1) None)) (sym (place_of (number + 1) less)) ∙ parts.1) in
+      (ap (λ k. is_free (newest_repeat past) (get_or side.arrivals (k - 1) None)) (sym (place_of (number + 1) less)) ∙ parts.1) in
       (inside, subst (IsTaken Y came past) e it)
 
   taken-end : (number : ℕ) → number < length (messages_of Y talk) → IsTaken Y came past (pieces_before (messages_of Y talk) (number + 1))
@@ -122,7 +124,7 @@ module _ (Y X : End) (talk : Talk) (came : ℕ → Bool) (past : List Sent) (sid
         let some = pieces-more (messages_of Y talk) number (number + 1) (omega arith) (omega (arith, inside)) in
         let e : pieces_before (messages_of Y talk) (number + 1) ≡ pieces_before (messages_of Y talk) (number + 1) - 1 + 1 = omega (arith, some) in
         and_from _ _ (lt-ltb _ _ less)
-        (ap (λ k. is_free (newest_repeat past) (get_or side.told (k - 1) None)) (place_of (number + 1) less)
+        (ap (λ k. is_free (newest_repeat past) (get_or side.arrivals (k - 1) None)) (place_of (number + 1) less)
         ∙ taken-free (pieces_before (messages_of Y talk) (number + 1) - 1) (subst (IsTaken Y came past) e it))
   ]
 
@@ -163,11 +165,11 @@ module _ (X Y : End) (talk : Talk) (came : ℕ → Bool) (past : List Sent) (sid
     pub reaches : Reaches came n past
     pub acks : AcksNewest X Y past n reaches.frame
 
-  free-acked : is_free (newest_repeat past) side.acked ≡ true → IsAcked
+  free-acked : is_free (newest_repeat past) side.ack ≡ true → IsAcked
   free-acked free =
       let it = free-reached (acks X Y (length (said X past))) Y came past
       (λ frame older passes. ack-from Y frame (parts_of frame older passes).0)
-      (ap (is_free (newest_repeat past)) (sym are.acked_is) ∙ free) in
+      (ap (is_free (newest_repeat past)) (sym are.ack_is) ∙ free) in
       let parts = parts_of it.reaches.frame it.reaches.older it.passes in
       let behind : length (said X (at it.n past)) ≡ length (said X past) = ap (λ p. length (said X p)) it.reaches.here ∙ parts.1 in
       let same : said X (it.reaches.frame ∷ it.reaches.older) ≡ said X past =
@@ -186,7 +188,7 @@ module _ (X Y : End) (talk : Talk) (came : ℕ → Bool) (past : List Sent) (sid
           let back = and_parts (is_ack_of Y frame) (nat_eq (length (said X (frame ∷ older))) (length (said X past))) front.0 in
           (back.0, eqb-true _ _ back.1, front.1)
 
-  acked-free : IsAcked → is_free (newest_repeat past) side.acked ≡ true
+  acked-free : IsAcked → is_free (newest_repeat past) side.ack ≡ true
   acked-free it =
       let number : length (said X (it.reaches.frame ∷ it.reaches.older)) ≡ length (said X past) =
       ap (λ p. length (said X p)) (sym it.reaches.here) ∙ it.acks.behind in
@@ -194,7 +196,7 @@ module _ (X Y : End) (talk : Talk) (came : ℕ → Bool) (past : List Sent) (sid
       sym (ends_all (keys_end_all (data_of X) it.n past) it.acks.behind) ∙ ap (said X) it.reaches.here in
       let key : is_newest_key it.reaches.frame.key (said X (it.reaches.frame ∷ it.reaches.older)) ≡ true =
       ap (is_newest_key it.reaches.frame.key) (sym same) ∙ newest_is_key it.reaches.frame.key (said X past) it.acks.key_is in
-      ap (is_free (newest_repeat past)) are.acked_is
+      ap (is_free (newest_repeat past)) are.ack_is
       ∙ reached-free (acks X Y (length (said X past))) Y came past it.n it.reaches (ack-from Y it.reaches.frame it.acks.is)
       (and_from _ _ (and_from _ _ it.acks.is (eq-eqb _ _ number)) key)
     where
@@ -205,7 +207,7 @@ module _ (X Y : End) (talk : Talk) (came : ℕ → Bool) (past : List Sent) (sid
 -- ---- known
 
 abbrev known_with : ℕ → End → SideValue → SideValue → Bool
-known_with repeat X side other = is_free repeat side.acked || (is_start side && is_answered_by (answer_to X (length side.starts - 2)) repeat other)
+known_with repeat X side other = is_free repeat side.ack || (is_start side && is_answered_by (answer_to X (length side.starts - 2)) repeat other)
 
 or_cases : (a b : Bool) → (a || b) ≡ true → (a ≡ true) ⊎ (b ≡ true)
 or_cases true b is = inl refl
@@ -227,7 +229,7 @@ answered_by-start (Some answer) repeat other is = (answer, refl, is)
 module _ (X Y : End) (talk : Talk) (came : ℕ → Bool) (past : List Sent) (side other : SideValue) (are : IsSide X Y talk came past side)
     (theirs : IsSide Y X talk came past other) (some : 0 < length (said X past)) where
   known-is : known_with (newest_repeat past) X side other ≡ true → IsKnown X Y talk came past
-  known-is known = elim (or_cases (is_free (newest_repeat past) side.acked) _ known) [
+  known-is known = elim (or_cases (is_free (newest_repeat past) side.ack) _ known) [
     | inl free ↦ (let it = free-acked X Y talk came past side are free in record { n = it.n; reaches = it.reaches; cause = inl it.acks })
     | inr answered ↦
         let parts = and_parts (is_start side) _ answered in
@@ -263,13 +265,13 @@ module _ (X Y : End) (talk : Talk) (came : ℕ → Bool) (past : List Sent) (sid
     go : (n : ℕ) (reaches : Reaches came n past) → AcksNewest X Y past n reaches.frame ⊎ AnswersNewest X Y talk past n reaches.frame
         → known_with (newest_repeat past) X side other ≡ true
     go n reaches (inl ack) =
-        or_left (is_free (newest_repeat past) side.acked) _ (acked-free X Y talk came past side are (record { n = n; reaches = reaches; acks = ack }))
+        or_left (is_free (newest_repeat past) side.ack) _ (acked-free X Y talk came past side are (record { n = n; reaches = reaches; acks = ack }))
     go n reaches (inr answer) =
         let begins = place-start X Y talk came past side are (answer.number + 1) (omega (arith, answer.asked)) answer.newest_ends in
         let number : answer.number ≡ length side.starts - 2 = omega (arith, begins.1, are.starts_are.counted) in
         let asked : answer_to X (length side.starts - 2) ≡ Some answer.answer = ap (answer_to X) (sym number) ∙ answer.answers in
         let free = taken-start Y X talk came past other theirs answer.answer (record { n = n; reaches = reaches; bears = answer.bears }) in
-        or_right (is_free (newest_repeat past) side.acked) _
+        or_right (is_free (newest_repeat past) side.ack) _
         (and_from _ _ begins.0 (ap (λ o. is_answered_by o (newest_repeat past) other) asked ∙ free))
 
 -- ---- by what is known of both ends

@@ -1,12 +1,16 @@
 -- Where the fragment stands in the bytes of a frame that bears one.
 use Rattle.std.proofs.Common.{◌≡◌, ℕ, ◌+◌, ◌-◌, List, [], ◌++◌, length, take, drop, refl, sym, ap, ◌∙◌, arith}
-use Rattle.std.proofs.lemmas.List.{append-nil, length-append}
+use Rattle.std.proofs.lemmas.List.{append-nil}
 use Rattle.std.proofs.Math.Seq.{drop-append_seam, take-append_seam}
 use Rattle.slp_frames.specs.PacketText.{PacketValue, header_text, header_of, packet_text}
 use Rattle.slp_frames.specs.PacketScan.{packet_at}
 use Rattle.slp_frames.proofs.PlaceLaws.{length-header_text, length-packet_text, packet_text-parts, crc_bytes}
 use Rattle.padp_link.specs.FragmentText.{FragmentText, fragment_text}
-use Rattle.trace_text.specs.Frames.{BearsFragment, fragment_in}
+use Rattle.padp_link.specs.contracts.fragment.PadpKind.{the_type}
+use Rattle.padp_link.specs.declared.fragment.PadpKind.{PadpKind}
+use Rattle.padp_link.specs.declared.fragment.PadpKind.TheVariants.{Data, Ack, Tickle, Abort}
+use denote.Enum.Bare.{sameb}
+use Rattle.trace_text.specs.Frames.{BearsFragment, fragment_in, is_abort, is_data_kind}
 use Rattle.trace_text.specs.TraceLines.{FrameValue}
 
 -- the packet that such a frame is
@@ -42,3 +46,16 @@ text-there frame bytes is bears = record {
   size_fits = bears.fragment.size_fits;
   is = packet-body frame bytes is bears;
 }
+
+-- the tests of a kind
+pub same-abort : (kind : PadpKind) → sameb the_type kind Abort ≡ is_abort kind
+same-abort Data = refl
+same-abort Ack = refl
+same-abort Tickle = refl
+same-abort Abort = refl
+
+pub same-data : (kind : PadpKind) → sameb the_type kind Data ≡ is_data_kind kind
+same-data Data = refl
+same-data Ack = refl
+same-data Tickle = refl
+same-data Abort = refl

@@ -1,12 +1,14 @@
 -- What has reached an end: where a frame that passes did, the first such frame that came did, and that one by its newest late frame alone.
 use Rattle.line_laws.proofs.Names.{◌≡◌, ◌⊎◌, ℕ, ◌+◌, ◌-◌, ◌<◌, ◌≤◌, Bool, true, false, ◌&&◌, List, [], ◌∷◌, length, drop, Option, Some, None, refl, sym, ap, subst, ◌∙◌}
-use Rattle.line_laws.proofs.Names.{arith, inl, inr, cases_Bool, cases_lt, cond-true, cond-false, and_parts, and_from, both_ways, End, Sent, at, is_end}
+use Rattle.line_laws.proofs.Names.{arith, inl, inr, cases_Bool, cases_lt, cond-true, cond-false, and_parts, and_from, End, Sent, at}
 use Rattle.line_laws.proofs.Names.{late_of, newest, newest_repeat, IsHeldIn, Reaches}
 use Rattle.std.proofs.Common.{◌||◌, eqb, ltb}
 use Rattle.std.proofs.lemmas.Bool.{eqb-true, ltb-true, eq-eqb, lt-ltb}
 use Rattle.line_laws.proofs.PastLaws.{at_all, at_push, at_at, length-at}
 use Rattle.line_laws.proofs.FaultLaws.{newest_inside, newest_push, newest_from}
-use Rattle.trace_check.specs.Turns.{or_later, some_if, first_late, is_free}
+use Rattle.trace_check.specs.Arrivals.{first_late, is_free}
+use Rattle.std.specs.Option.{option_or}
+use Rattle.std.specs.Bool.{then_some}
 
 -- ---- the newest that passes
 
@@ -61,22 +63,22 @@ pub either : (o : Option ℕ) → (o ≡ None) ⊎ ((number : ℕ) × (o ≡ Som
 either None = inl refl
 either (Some number) = inr (number, refl)
 
-pub or_none : (o : Option ℕ) → or_later o None ≡ o
+pub or_none : (o : Option ℕ) → option_or o None ≡ o
 or_none None = refl
 or_none (Some number) = refl
 
 module _ (p : List Sent → Bool) (Y : End) (came : ℕ → Bool) where
   pub first-older : (top : Sent) (past : List Sent) (late : ℕ) → first_late p Y came past ≡ Some late → first_late p Y came (top ∷ past) ≡ Some late
-  first-older top past late is = ap (λ o. or_later o (some_if (p (top ∷ past) && came (length past + 1)) (newest (late_of Y) (top ∷ past)))) is
+  first-older top past late is = ap (λ o. option_or o (then_some (p (top ∷ past) && came (length past + 1)) (newest (late_of Y) (top ∷ past)))) is
 
   pub first-none : (top : Sent) (past : List Sent) → first_late p Y came past ≡ None
-      → first_late p Y came (top ∷ past) ≡ some_if (p (top ∷ past) && came (length past + 1)) (newest (late_of Y) (top ∷ past))
-  first-none top past is = ap (λ o. or_later o (some_if (p (top ∷ past) && came (length past + 1)) (newest (late_of Y) (top ∷ past)))) is
+      → first_late p Y came (top ∷ past) ≡ then_some (p (top ∷ past) && came (length past + 1)) (newest (late_of Y) (top ∷ past))
+  first-none top past is = ap (λ o. option_or o (then_some (p (top ∷ past) && came (length past + 1)) (newest (late_of Y) (top ∷ past)))) is
 
   -- one that doesn't pass changes nothing
   pub first-other : (top : Sent) (past : List Sent) → p (top ∷ past) ≡ false → first_late p Y came (top ∷ past) ≡ first_late p Y came past
   first-other top past not_so =
-      ap (λ b. or_later (first_late p Y came past) (some_if (b && came (length past + 1)) (newest (late_of Y) (top ∷ past)))) not_so
+      ap (λ b. option_or (first_late p Y came past) (then_some (b && came (length past + 1)) (newest (late_of Y) (top ∷ past)))) not_so
       ∙ or_none (first_late p Y came past)
 
   pub found : (past : List Sent) (late : ℕ) → first_late p Y came past ≡ Some late → IsFound p Y came past late
@@ -99,7 +101,7 @@ module _ (p : List Sent → Bool) (Y : End) (came : ℕ → Bool) where
     | inl none ↦ elim (cases_Bool (p (top ∷ past) && came (length past + 1))) [
       | inl so ↦
           let e : Some (newest (late_of Y) (top ∷ past)) ≡ Some late =
-          ap (λ b. some_if b (newest (late_of Y) (top ∷ past))) (sym so) ∙ (sym (first-none top past none) ∙ is) in
+          ap (λ b. then_some b (newest (late_of Y) (top ∷ past))) (sym so) ∙ (sym (first-none top past none) ∙ is) in
           let same : newest (late_of Y) (top ∷ past) ≡ late = cc in
           let parts = and_parts (p (top ∷ past)) (came (length past + 1)) so in
           let all : length past + 1 ≡ length (top ∷ past) = omega arith in
@@ -114,7 +116,7 @@ module _ (p : List Sent → Bool) (Y : End) (came : ℕ → Bool) where
             late_is = sym same;
           }
       | inr not_so ↦
-          let e : None ≡ Some late = ap (λ b. some_if b (newest (late_of Y) (top ∷ past))) (sym not_so) ∙ (sym (first-none top past none) ∙ is) in
+          let e : None ≡ Some late = ap (λ b. then_some b (newest (late_of Y) (top ∷ past))) (sym not_so) ∙ (sym (first-none top past none) ∙ is) in
           absurd cc
     ]
   ]
@@ -157,7 +159,7 @@ module _ (p : List Sent → Bool) (Y : End) (came : ℕ → Bool) where
           | inl none ↦ record {
             late = newest (late_of Y) (top ∷ past);
             is = first-none top past none
-                ∙ ap (λ b. some_if b (newest (late_of Y) (top ∷ past))) (and_from _ _ passes_here comes_here);
+                ∙ ap (λ b. then_some b (newest (late_of Y) (top ∷ past))) (and_from _ _ passes_here comes_here);
             below = omega (arith, late_is);
           }
         ]

@@ -1,19 +1,23 @@
 -- What is known of the ends, from one frame to the next.
-use Rattle.line_laws.proofs.Names.{◌≡◌, ◌⊎◌, ℕ, zero, suc, ◌+◌, ◌-◌, ◌<◌, ◌≤◌, Bool, true, false, not, ◌&&◌, cond, List, [], ◌∷◌, ◌++◌, length, Option, Some, None}
+use Rattle.line_laws.proofs.Names.{◌≡◌, ◌⊎◌, ℕ, ◌+◌, ◌-◌, ◌<◌, ◌≤◌, Bool, true, false, not, ◌&&◌, cond, List, [], ◌∷◌, ◌++◌, length, Option, Some, None}
 use Rattle.line_laws.proofs.Names.{refl, sym, ap, subst, ◌∙◌, arith, inl, inr, cases_Bool, cases_lt, cond-true, cond-false, and_parts, and_from, both_ways, nat_eq}
-use Rattle.line_laws.proofs.Names.{drop, piece_count, End, Handheld, Desktop, Sent, Key, at, is_end, first, said, keys, add, data_of, same_key, is_data_of, is_repeat}
+use Rattle.line_laws.proofs.Names.{drop, piece_count, End, Handheld, Desktop, Sent, Key, at, is_end, first, said, add, data_of, is_data_of, is_repeat}
 use Rattle.line_laws.proofs.Names.{late_of, newest, last_repeat, newest_repeat, is_late, Part, part_of, session_parts, pieces_before, messages_of, Talk, is_ack_of}
-use Rattle.std.proofs.Common.{eqb, get_or, set}
+use Rattle.std.proofs.Common.{get_or, set}
 use Rattle.std.proofs.lemmas.Bool.{eqb-true, eq-eqb, ne_eqb}
 use Rattle.std.proofs.lemmas.List.{get_or_push, get_or_append_left, length-append, length-set, get_or-set_same, get_or-set_other}
 use Rattle.trace_text.specs.Past.{is_newest_key}
 use Rattle.trace_text.specs.Proper.{SaysMessages}
-use Rattle.line_laws.proofs.PastLaws.{keys_below, add_new, add_first, same_key-true, same_key-same, first_is, is_end-same}
-use Rattle.trace_check.specs.Turns.{or_later, some_if, first_late, bears, acks, SideValue, AreStarts, IsSide, last_start, is_start, begins, repeats, is_key, hears}
-use Rattle.trace_check.specs.Turns.{IsNotice, late_after, told_by, speaker_after, hearer_after, repeat_after}
+use Rattle.line_laws.proofs.PastLaws.{keys_below, add_new, add_first, same_key-true, is_end-same}
 use Rattle.trace_check.specs.declared.notice.Notice.{Notice}
 use Rattle.trace_check.proofs.ReachLaws.{first-other, first-none, none_found, or_none, IsFound}
 use Rattle.trace_check.proofs.StartLaws.{newest_apart, new_part, session-length, start-part}
+use Rattle.trace_check.specs.Arrivals.{acks, bears, first_late}
+use Rattle.trace_check.specs.Notices.{IsNotice}
+use Rattle.trace_check.specs.Sides.{AreStarts, IsSide, SideValue, is_key, last_start, with_ack, with_fragment, with_repeat}
+use Rattle.trace_check.specs.BothEnds.{arrival_of, hearer_after, late_after, repeat_after, speaker_after}
+use Rattle.std.specs.Option.{option_or}
+use Rattle.std.specs.Bool.{then_some}
 
 -- ---- what is said
 
@@ -114,18 +118,18 @@ starts-begin messages said size starts were same less some next = record {
 side-quiet : (X Y : End) (talk : Talk) (came : ℕ → Bool) (frame : Sent) (past : List Sent) (side : SideValue) (acked : Option ℕ) (late : ℕ)
     → IsSide X Y talk came past side → is_data_of X frame ≡ false
     → acked ≡ first_late (acks X Y (length (said X past))) Y came (frame ∷ past) → late ≡ newest (late_of X) (frame ∷ past)
-    → IsSide X Y talk came (frame ∷ past) (record { starts = side.starts; told = side.told; key = side.key; acked = acked; late = late })
-side-quiet X Y talk came frame past side acked late was other acked_is late_is =
+    → IsSide X Y talk came (frame ∷ past) (record { starts = side.starts; arrivals = side.arrivals; key = side.key; ack = acked; late = late })
+side-quiet X Y talk came frame past side acked late was other ack_is late_is =
     let same = said-same X frame past other in
     let count = ap length same in
     record {
       starts_are = subst (λ n. AreStarts (messages_of X talk) n side.starts) (sym count) was.starts_are;
       said_all = was.said_all ∙ sym count;
-      told_is = λ j less.
-          was.told_is j (omega (arith, less, count))
+      arrivals_are = λ j less.
+          was.arrivals_are j (omega (arith, less, count))
           ∙ sym (first-other (bears X (j + 1)) X came frame past (bears-other X (j + 1) frame past other));
       key_is = was.key_is ∙ ap first (sym same);
-      acked_is = acked_is ∙ ap (λ n. first_late (acks X Y n) Y came (frame ∷ past)) (sym count);
+      ack_is = ack_is ∙ ap (λ n. first_late (acks X Y n) Y came (frame ∷ past)) (sym count);
       late_is = late_is;
     }
 
@@ -133,45 +137,45 @@ side-quiet X Y talk came frame past side acked late was other acked_is late_is =
 side-repeats : (X Y : End) (talk : Talk) (came : ℕ → Bool) (frame : Sent) (past : List Sent) (side : SideValue)
     → IsSide X Y talk came past side → is_data_of X frame ≡ true → is_ack_of Y frame ≡ false → is_newest_key frame.key (said X past) ≡ true
     → IsSide X Y talk came (frame ∷ past)
-    (repeats (some_if (came (length past + 1)) (newest (late_of X) (frame ∷ past))) (record side { late = newest (late_of X) (frame ∷ past) }))
+    (with_repeat (then_some (came (length past + 1)) (newest (late_of X) (frame ∷ past))) (record side { late = newest (late_of X) (frame ∷ past) }))
 side-repeats X Y talk came frame past side was is no_ack again =
     let same = said-again X frame past is again in
     let count : length (said X (frame ∷ past)) ≡ length (said X past) = ap length same in
     let some : 0 < length (said X past) = (newest_first frame.key (said X past) again).1 in
-    let told = some_if (came (length past + 1)) (newest (late_of X) (frame ∷ past)) in
-    let last = length side.told - 1 in
-    let value = or_later (get_or side.told last None) told in
+    let arrival = then_some (came (length past + 1)) (newest (late_of X) (frame ∷ past)) in
+    let last = length side.arrivals - 1 in
+    let value = option_or (get_or side.arrivals last None) arrival in
     record {
       starts_are = subst (λ n. AreStarts (messages_of X talk) n side.starts) (sym count) was.starts_are;
-      said_all = length-set side.told last value ∙ (was.said_all ∙ sym count);
-      told_is = λ j less. go j (omega (arith, less, count)) some count;
+      said_all = length-set side.arrivals last value ∙ (was.said_all ∙ sym count);
+      arrivals_are = λ j less. go j (omega (arith, less, count)) some count;
       key_is = was.key_is ∙ ap first (sym same);
-      acked_is = was.acked_is
+      ack_is = was.ack_is
           ∙ (sym (first-other (acks X Y (length (said X past))) Y came frame past (acks-other X Y (length (said X past)) frame past no_ack))
           ∙ ap (λ n. first_late (acks X Y n) Y came (frame ∷ past)) (sym count));
       late_is = refl;
     }
   where
     go : (j : ℕ) → j < length (said X past) → 0 < length (said X past) → length (said X (frame ∷ past)) ≡ length (said X past)
-        → get_or (set side.told (length side.told - 1)
-        (or_later (get_or side.told (length side.told - 1) None) (some_if (came (length past + 1)) (newest (late_of X) (frame ∷ past))))) j None
+        → get_or (set side.arrivals (length side.arrivals - 1)
+        (option_or (get_or side.arrivals (length side.arrivals - 1) None) (then_some (came (length past + 1)) (newest (late_of X) (frame ∷ past))))) j None
         ≡ first_late (bears X (j + 1)) X came (frame ∷ past)
     go j less some count = elim (cases_lt (j + 1) (length (said X past))) [
       | inl old ↦
-          let apart : j ≡ length side.told - 1 → ⊥ = λ e. omega (arith, e, old, was.said_all) in
+          let apart : j ≡ length side.arrivals - 1 → ⊥ = λ e. omega (arith, e, old, was.said_all) in
           let differ : nat_eq (length (said X (frame ∷ past))) (j + 1) ≡ false = ne_eqb _ _ (λ e. omega (arith, e, count, old)) in
-          get_or-set_other side.told (length side.told - 1) j _ None apart
-          ∙ (was.told_is j less
+          get_or-set_other side.arrivals (length side.arrivals - 1) j _ None apart
+          ∙ (was.arrivals_are j less
           ∙ sym (first-other (bears X (j + 1)) X came frame past (bears-number X (j + 1) frame past is ∙ differ)))
       | inr new ↦
-          let j_is : length side.told - 1 ≡ j = omega (arith, new, less, was.said_all) in
+          let j_is : length side.arrivals - 1 ≡ j = omega (arith, new, less, was.said_all) in
           let passes : bears X (j + 1) (frame ∷ past) ≡ true =
           bears-number X (j + 1) frame past is ∙ eq-eqb _ _ (omega (arith, count, new, less)) in
-          let value = λ (n : ℕ). or_later (get_or side.told n None) (some_if (came (length past + 1)) (newest (late_of X) (frame ∷ past))) in
-          ap (λ n. get_or (set side.told n (value n)) j None) j_is
-          ∙ (get_or-set_same side.told j (value j) None (omega (arith, less, was.said_all))
-          ∙ (ap (λ o. or_later o (some_if (came (length past + 1)) (newest (late_of X) (frame ∷ past)))) (was.told_is j less)
-          ∙ ap (λ b. or_later (first_late (bears X (j + 1)) X came past) (some_if (b && came (length past + 1)) (newest (late_of X) (frame ∷ past))))
+          let value = λ (n : ℕ). option_or (get_or side.arrivals n None) (then_some (came (length past + 1)) (newest (late_of X) (frame ∷ past))) in
+          ap (λ n. get_or (set side.arrivals n (value n)) j None) j_is
+          ∙ (get_or-set_same side.arrivals j (value j) None (omega (arith, less, was.said_all))
+          ∙ (ap (λ o. option_or o (then_some (came (length past + 1)) (newest (late_of X) (frame ∷ past)))) (was.arrivals_are j less)
+          ∙ ap (λ b. option_or (first_late (bears X (j + 1)) X came past) (then_some (b && came (length past + 1)) (newest (late_of X) (frame ∷ past))))
           (sym passes)))
     ]
 
@@ -180,17 +184,17 @@ side-begins : (X Y : End) (talk : Talk) (came : ℕ → Bool) (frame : Sent) (pa
     → IsSide X Y talk came past side → is_data_of X frame ≡ true → is_ack_of Y frame ≡ false → is_newest_key frame.key (said X past) ≡ false
     → SaysMessages X talk (frame ∷ past)
     → IsSide X Y talk came (frame ∷ past)
-    (begins frame.key (some_if (came (length past + 1)) (newest (late_of X) (frame ∷ past))) (record side { late = newest (late_of X) (frame ∷ past) }))
+    (with_fragment frame.key (then_some (came (length past + 1)) (newest (late_of X) (frame ∷ past))) (record side { late = newest (late_of X) (frame ∷ past) }))
 side-begins X Y talk came frame past side was is no_ack new says =
     let same = said-new X frame past is new in
     let count : length (said X (frame ∷ past)) ≡ length (said X past) + 1 = ap length same ∙ omega arith in
-    let told = some_if (came (length past + 1)) (newest (late_of X) (frame ∷ past)) in
+    let arrival = then_some (came (length past + 1)) (newest (late_of X) (frame ∷ past)) in
     record {
-      starts_are = subst (λ n. AreStarts (messages_of X talk) n (begins frame.key told side).starts) (sym count) (starts);
-      said_all = omega (arith, length-append side.told (told ∷ []), was.said_all, count);
-      told_is = λ j less. go j (omega (arith, less, count)) count;
+      starts_are = subst (λ n. AreStarts (messages_of X talk) n (with_fragment frame.key arrival side).starts) (sym count) (starts);
+      said_all = omega (arith, length-append side.arrivals (arrival ∷ []), was.said_all, count);
+      arrivals_are = λ j less. go j (omega (arith, less, count)) count;
       key_is = ap first (sym same);
-      acked_is = sym (ap (λ n. first_late (acks X Y n) Y came (frame ∷ past)) count
+      ack_is = sym (ap (λ n. first_late (acks X Y n) Y came (frame ∷ past)) count
           ∙ (first-other (acks X Y (length (said X past) + 1)) Y came frame past (acks-other X Y (length (said X past) + 1) frame past no_ack)
           ∙ acks-none X Y (length (said X past) + 1) came past (omega arith)));
       late_is = refl;
@@ -201,8 +205,8 @@ side-begins X Y talk came frame past side was is no_ack new says =
     it = new_part X frame past talk says is new
 
     starts : AreStarts (messages_of X talk) (length (said X past) + 1)
-        (cond (nat_eq (length side.told) (last_start side)) (side.starts ++ (last_start side + piece_count frame.key.size) ∷ []) side.starts)
-    starts = elim (cases_Bool (nat_eq (length side.told) (last_start side))) [
+        (cond (nat_eq (length side.arrivals) (last_start side)) (side.starts ++ (last_start side + piece_count frame.key.size) ∷ []) side.starts)
+    starts = elim (cases_Bool (nat_eq (length side.arrivals) (last_start side))) [
       | inl first_one ↦
           let e : length (said X past) ≡ last_start side = sym was.said_all ∙ eqb-true _ _ first_one in
           let last : length side.starts - 1 ≡ was.starts_are.begun = omega (arith, was.starts_are.counted) in
@@ -234,20 +238,20 @@ side-begins X Y talk came frame past side was is no_ack new says =
         ]
 
     go : (j : ℕ) → j < length (said X past) + 1 → length (said X (frame ∷ past)) ≡ length (said X past) + 1
-        → get_or (side.told ++ some_if (came (length past + 1)) (newest (late_of X) (frame ∷ past)) ∷ []) j None
+        → get_or (side.arrivals ++ then_some (came (length past + 1)) (newest (late_of X) (frame ∷ past)) ∷ []) j None
         ≡ first_late (bears X (j + 1)) X came (frame ∷ past)
     go j less count = elim (cases_lt j (length (said X past))) [
       | inl old ↦
           let differ : nat_eq (length (said X (frame ∷ past))) (j + 1) ≡ false = ne_eqb _ _ (λ e. omega (arith, e, count, old)) in
-          get_or_append_left side.told _ None j (omega (arith, old, was.said_all))
-          ∙ (was.told_is j old
+          get_or_append_left side.arrivals _ None j (omega (arith, old, was.said_all))
+          ∙ (was.arrivals_are j old
           ∙ sym (first-other (bears X (j + 1)) X came frame past (bears-number X (j + 1) frame past is ∙ differ)))
       | inr newest_one ↦
           let j_is : j ≡ length (said X past) = omega (arith, newest_one, less) in
           let passes : bears X (j + 1) (frame ∷ past) ≡ true =
           bears-number X (j + 1) frame past is ∙ eq-eqb _ _ (omega (arith, count, j_is)) in
-          get_or_push side.told _ None j (was.said_all ∙ sym j_is)
-          ∙ (ap (λ b. some_if (b && came (length past + 1)) (newest (late_of X) (frame ∷ past))) (sym passes)
+          get_or_push side.arrivals _ None j (was.said_all ∙ sym j_is)
+          ∙ (ap (λ b. then_some (b && came (length past + 1)) (newest (late_of X) (frame ∷ past))) (sym passes)
           ∙ sym (first-none (bears X (j + 1)) X came frame past (bears-none X (j + 1) came past (omega (arith, j_is)))))
     ]
 
@@ -262,8 +266,8 @@ key-newest key [] = refl
 key-newest key (newest ∷ older) = refl
 
 abbrev after : Bool → Key → Option ℕ → ℕ → SideValue → SideValue
-after is_data key told late side =
-    cond is_data (cond (is_key key side.key) (repeats told (record side { late = late })) (begins key told (record side { late = late })))
+after is_data key arrival late side =
+    cond is_data (cond (is_key key side.key) (with_repeat arrival (record side { late = late })) (with_fragment key arrival (record side { late = late })))
     (record side { late = late })
 
 module _ (X Y : End) (talk : Talk) (came : ℕ → Bool) (frame : Sent) (past : List Sent) (notice : Notice) (apart : is_end Y X ≡ false)
@@ -282,10 +286,10 @@ module _ (X Y : End) (talk : Talk) (came : ℕ → Bool) (frame : Sent) (past : 
         ∙ (was.late_is ∙ sym (cond-false (late_of X frame) (length past + 1) (newest (late_of X) past) (and_none (is_end X frame.from) (is_late frame.course) prompt)))
   ]
 
-  told-by : (side : SideValue) → IsSide X Y talk came past side
-      → told_by notice side ≡ some_if (came (length past + 1)) (newest (late_of X) (frame ∷ past))
-  told-by side was =
-      ap (λ b. some_if b (late_after notice side)) says.came_is ∙ ap (some_if (came (length past + 1))) (late-after side was)
+  arrival-of : (side : SideValue) → IsSide X Y talk came past side
+      → arrival_of notice side ≡ then_some (came (length past + 1)) (newest (late_of X) (frame ∷ past))
+  arrival-of side was =
+      ap (λ b. then_some b (late_after notice side)) says.came_is ∙ ap (then_some (came (length past + 1))) (late-after side was)
 
   no_data_of : frame.is_data ≡ false → is_data_of X frame ≡ false
   no_data_of other = and_none (is_end X frame.from) frame.is_data other
@@ -303,16 +307,16 @@ module _ (X Y : End) (talk : Talk) (came : ℕ → Bool) (frame : Sent) (past : 
       → IsSide X Y talk came (frame ∷ past) (speaker_after notice side)
   side-speaks side messages was =
       let late = newest (late_of X) (frame ∷ past) in
-      let told = some_if (came (length past + 1)) late in
-      let same : after frame.is_data frame.key told late side ≡ speaker_after notice side =
-      sym (ap (λ b. after b notice.key (told_by notice side) (late_after notice side) side) says.is_data_is
-      ∙ (ap (λ k. after frame.is_data k (told_by notice side) (late_after notice side) side) says.key_is
-      ∙ (ap (λ o. after frame.is_data frame.key o (late_after notice side) side) (told-by side was)
-      ∙ ap (λ n. after frame.is_data frame.key told n side) (late-after side was)))) in
+      let arrival = then_some (came (length past + 1)) late in
+      let same : after frame.is_data frame.key arrival late side ≡ speaker_after notice side =
+      sym (ap (λ b. after b notice.key (arrival_of notice side) (late_after notice side) side) says.is_data_is
+      ∙ (ap (λ k. after frame.is_data k (arrival_of notice side) (late_after notice side) side) says.key_is
+      ∙ (ap (λ o. after frame.is_data frame.key o (late_after notice side) side) (arrival-of side was)
+      ∙ ap (λ n. after frame.is_data frame.key arrival n side) (late-after side was)))) in
       subst (IsSide X Y talk came (frame ∷ past)) same (elim (cases_Bool frame.is_data) [
         | inr other ↦ subst (IsSide X Y talk came (frame ∷ past)) (sym (cond-false frame.is_data _ _ other))
-            (side-quiet X Y talk came frame past side side.acked late was (no_data_of other)
-            (was.acked_is ∙ sym (first-other (acks X Y (length (said X past))) Y came frame past (acks-other X Y (length (said X past)) frame past other_ack)))
+            (side-quiet X Y talk came frame past side side.ack late was (no_data_of other)
+            (was.ack_is ∙ sym (first-other (acks X Y (length (said X past))) Y came frame past (acks-other X Y (length (said X past)) frame past other_ack)))
             refl)
         | inl is ↦ subst (IsSide X Y talk came (frame ∷ past)) (sym (cond-true frame.is_data _ _ is))
             (elim (cases_Bool (is_newest_key frame.key (said X past))) [
@@ -336,16 +340,16 @@ module _ (X Y : End) (talk : Talk) (came : ℕ → Bool) (frame : Sent) (past : 
     | inl is ↦
         let no_ack : is_ack_of X frame ≡ false = and_none (is_end X frame.from) (not frame.is_data) (ap not is) in
         subst (IsSide Y X talk came (frame ∷ past)) (sym (cond-true notice.is_data _ _ (says.is_data_is ∙ is)))
-        (side-quiet Y X talk came frame past side side.acked side.late was other_data
-        (was.acked_is ∙ sym (first-other (acks Y X (length (said Y past))) X came frame past (acks-other Y X (length (said Y past)) frame past no_ack)))
+        (side-quiet Y X talk came frame past side side.ack side.late was other_data
+        (was.ack_is ∙ sym (first-other (acks Y X (length (said Y past))) X came frame past (acks-other Y X (length (said Y past)) frame past no_ack)))
         (was.late_is ∙ other_late))
     | inr other ↦
         subst (IsSide Y X talk came (frame ∷ past)) (sym (cond-false notice.is_data _ _ (says.is_data_is ∙ other)))
-        (side-quiet Y X talk came frame past side (hears notice.key (told_by notice speaker) side).acked side.late was other_data
+        (side-quiet Y X talk came frame past side (with_ack notice.key (arrival_of notice speaker) side).ack side.late was other_data
         (ack_is other) (was.late_is ∙ other_late))
   ] where
     ack_is : frame.is_data ≡ false
-        → (hears notice.key (told_by notice speaker) side).acked ≡ first_late (acks Y X (length (said Y past))) X came (frame ∷ past)
+        → (with_ack notice.key (arrival_of notice speaker) side).ack ≡ first_late (acks Y X (length (said Y past))) X came (frame ∷ past)
     ack_is other =
         let is_ack : is_ack_of X frame ≡ true = and_from _ _ mine (ap not other) in
         let same : said Y (frame ∷ past) ≡ said Y past = said-same Y frame past other_data in
@@ -355,13 +359,13 @@ module _ (X Y : End) (talk : Talk) (came : ℕ → Bool) (frame : Sent) (past : 
         ∙ (ap (λ b. b && is_newest_key frame.key (said Y past)) (eq-eqb (length (said Y past)) _ refl)
         ∙ (sym (key-newest frame.key (said Y past)) ∙ (ap (is_key frame.key) (sym was.key_is) ∙ ap (λ k. is_key k side.key) (sym says.key_is))))) in
         let late = newest (late_of X) (frame ∷ past) in
-        sym (ap (λ b. or_later (first_late (acks Y X (length (said Y past))) X came past) (some_if (b && came (length past + 1)) late)) passes
-        ∙ (ap (λ o. or_later o (some_if (is_key notice.key side.key && came (length past + 1)) late)) (sym was.acked_is)
-        ∙ (picked (is_key notice.key side.key) side.acked ∙ ap (λ o. cond (is_key notice.key side.key) (or_later side.acked o) side.acked) (sym (told-by speaker spoke)))))
+        sym (ap (λ b. option_or (first_late (acks Y X (length (said Y past))) X came past) (then_some (b && came (length past + 1)) late)) passes
+        ∙ (ap (λ o. option_or o (then_some (is_key notice.key side.key && came (length past + 1)) late)) (sym was.ack_is)
+        ∙ (picked (is_key notice.key side.key) side.ack ∙ ap (λ o. cond (is_key notice.key side.key) (option_or side.ack o) side.ack) (sym (arrival-of speaker spoke)))))
       where
         picked : (b : Bool) (o : Option ℕ)
-            → or_later o (some_if (b && came (length past + 1)) (newest (late_of X) (frame ∷ past)))
-            ≡ cond b (or_later o (some_if (came (length past + 1)) (newest (late_of X) (frame ∷ past)))) o
+            → option_or o (then_some (b && came (length past + 1)) (newest (late_of X) (frame ∷ past)))
+            ≡ cond b (option_or o (then_some (came (length past + 1)) (newest (late_of X) (frame ∷ past)))) o
         picked true o = refl
         picked false o = or_none o
 

@@ -1,8 +1,8 @@
 -- Where the messages of an end begin among its fragments.
-use Rattle.line_laws.proofs.Names.{◌≡◌, ◌⊎◌, ℕ, zero, suc, ◌+◌, ◌-◌, ◌<◌, ◌≤◌, Bool, true, false, List, [], ◌∷◌, ◌++◌, length, drop, map, reverse, Option, Some, None}
-use Rattle.line_laws.proofs.Names.{refl, sym, ap, subst, ◌∙◌, arith, inl, inr, cases_Bool, cond-true, cond-false, append_assoc, length-map, range_with_len, piece_count}
+use Rattle.line_laws.proofs.Names.{◌≡◌, ◌⊎◌, ℕ, zero, suc, ◌+◌, ◌-◌, ◌<◌, true, false, List, [], ◌∷◌, ◌++◌, length, drop, map, reverse, Some}
+use Rattle.line_laws.proofs.Names.{refl, sym, ap, ◌∙◌, arith, inl, inr, cases_Bool, cond-true, cond-false, append_assoc, length-map, range_with_len, piece_count}
 use Rattle.line_laws.proofs.Names.{piece_of, pieces, fragment_of, session_id, End, Sent, Key, Part, key_of_part, part_of, add_part, spoken, message_parts, session_parts}
-use Rattle.line_laws.proofs.Names.{first, said, same_key, is_data_of, is_repeat, pieces_before, messages_of, Talk, part_at, length-map-range_with_len}
+use Rattle.line_laws.proofs.Names.{first, said, same_key, is_data_of, pieces_before, messages_of, Talk, length-map-range_with_len}
 use Rattle.std.proofs.lemmas.List.{length-reverse, length-append, reverse-append}
 use Rattle.std.proofs.Math.Seq.{drop-append_seam, drop-append-add}
 use Rattle.trace_text.specs.Past.{is_newest_key}

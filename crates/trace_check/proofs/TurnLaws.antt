@@ -1,14 +1,14 @@
 -- The walk over the frames: what is known of both ends goes on with each, and so do the two answers.
-use Rattle.line_laws.proofs.Names.{◌≡◌, ◌⊎◌, ℕ, zero, suc, ◌+◌, ◌-◌, ◌<◌, ◌≤◌, Bool, true, false, not, ◌&&◌, cond, List, [], ◌∷◌, length, drop, map, Option, Some, None}
+use Rattle.line_laws.proofs.Names.{◌≡◌, ℕ, zero, suc, ◌+◌, ◌-◌, ◌<◌, ◌≤◌, Bool, true, false, not, ◌&&◌, List, [], ◌∷◌, length, drop, map}
 use Rattle.line_laws.proofs.Names.{refl, sym, ap, subst, ◌∙◌, arith, inl, inr, cases_Bool, cases_lt, cond-true, cond-false, and_parts, and_from, both_ways, nat_eq}
-use Rattle.line_laws.proofs.Names.{End, Handheld, Desktop, Sent, Key, is_end, first, said, is_data_of, is_repeat, newest_repeat, pieces_before, messages_of, Talk}
-use Rattle.line_laws.proofs.Names.{session_parts, is_late, FrameValue, past_behind, past_of, came_in, sent_in, course_of, AreNumbered, AllByRecursion}
+use Rattle.line_laws.proofs.Names.{End, Handheld, Desktop, Sent, is_end, first, said, is_data_of, is_repeat, pieces_before, messages_of, Talk}
+use Rattle.line_laws.proofs.Names.{FrameValue, past_behind, past_of, came_in, sent_in, AreNumbered, AllByRecursion}
 use Rattle.line_laws.proofs.Names.{slice_index_or, FateValue, IsKnown, AnswersReached}
 use Rattle.std.proofs.Common.{◌||◌, eqb, get_or}
-use Rattle.std.proofs.lemmas.Bool.{eqb-true, eq-eqb, ne_eqb}
+use Rattle.std.proofs.lemmas.Bool.{eqb-true, eq-eqb}
 use Rattle.std.specs.Prelude.{◌↔◌}
 use Rattle.trace_text.specs.Past.{is_newest_key}
-use Rattle.trace_text.specs.Frames.{BearsFragment, MayBear, is_abort, is_data_kind, add_frame, fragment_in}
+use Rattle.trace_text.specs.Frames.{BearsFragment, MayBear, is_abort, add_frame, fragment_in}
 use Rattle.trace_text.specs.Fates.{ends_run}
 use Rattle.trace_text.specs.Proper.{SaysMessages}
 use Rattle.trace_text.specs.Fates as fate
@@ -17,15 +17,17 @@ use Rattle.padp_link.specs.declared.fragment.PadpKind.TheVariants.{Data, Ack, Ti
 use Rattle.line_laws.proofs.PastLaws.{is_end-same}
 use Rattle.trace_text.specs.TraceLines.{frame_value}
 use Rattle.trace_text.specs.declared.frame.Frame.{Frame}
-use Rattle.trace_check.specs.Judging.{KnowsBefore, AnswersInTurn, Keeps, SayMessages}
+use Rattle.trace_check.specs.Judging.{Keeps}
 use Rattle.trace_check.specs.Messages.{talk_in, fates_in}
 use Rattle.trace_check.specs.declared.rule.Rule.TheVariants.{A, B, D, E, F}
 use Rattle.trace_check.specs.declared.notice.Notice.{Notice}
-use Rattle.trace_check.specs.Turns.{first_late, SideValue, IsSide, BothValue, side_of, other_end, AreSides, IsNotice, is_key, is_new, is_known, has_answer, knows_after}
-use Rattle.trace_check.specs.Turns.{answers_after, both_after, both_by, BothKnow, BothAnswer, IsWalked, IsNoticeOf, no_side}
 use Rattle.trace_check.proofs.StartLaws.{says_before, new_part, session-length}
 use Rattle.trace_check.proofs.SideLaws.{side-speaks, side-hears, repeat-after, key-newest}
 use Rattle.trace_check.proofs.JudgeLaws.{known_by, by_known, answered, has-answer, side-is}
+use Rattle.trace_check.specs.Notices.{IsNotice, IsNoticeOf}
+use Rattle.trace_check.specs.Sides.{IsSide, is_key, no_side}
+use Rattle.trace_check.specs.BothEnds.{AreSides, BothValue, both_after, both_by, other_end, side_of}
+use Rattle.trace_check.specs.Turns.{BothAnswer, BothKnow, IsWalked, answers_after, has_answer, is_known, is_new, knows_after}
 
 -- ---- one frame
 
@@ -88,14 +90,14 @@ module _ (talk : Talk) (came : ℕ → Bool) (frame : Sent) (past : List Sent) (
         let fresh : is_newest_key frame.key (said X past) ≡ false = sym (ap (λ b. b && is_newest_key frame.key (said X past)) is) ∙ new in
         new_test ∙ and_from _ _ (and_parts (is_end X frame.from) frame.is_data is).1 (ap not fresh)
 
-    some_said : (eqb (length (side_of X both).told) 0 ≡ true → ⊥) → 0 < length (said X past)
+    some_said : (eqb (length (side_of X both).arrivals) 0 ≡ true → ⊥) → 0 < length (said X past)
     some_said some = elim (cases_lt 0 (length (said X past))) [
       | inl more ↦ more
       | inr none ↦ absurd (some (eq-eqb _ _ (omega (arith, none, mine.said_all))))
     ]
 
-    known_or : knows_after notice both ≡ (not (is_new notice (side_of notice.from both)) || nat_eq (length (side_of X both).told) 0 || is_known X both)
-    known_or = ap (λ Z. not (is_new notice (side_of notice.from both)) || nat_eq (length (side_of Z both).told) 0 || is_known Z both) (says.from_is ∙ from)
+    known_or : knows_after notice both ≡ (not (is_new notice (side_of notice.from both)) || nat_eq (length (side_of X both).arrivals) 0 || is_known X both)
+    known_or = ap (λ Z. not (is_new notice (side_of notice.from both)) || nat_eq (length (side_of Z both).arrivals) 0 || is_known Z both) (says.from_is ∙ from)
 
     or_second : (a b c : Bool) → (not a || b || c) ≡ true → a ≡ true → (b ≡ true → ⊥) → c ≡ true
     or_second true true c is it none = absurd (none refl)
@@ -191,9 +193,9 @@ side_none X Y talk came = record {
     behind = λ some. absurd (omega (arith, some));
   };
   said_all = refl;
-  told_is = λ j less. absurd (omega (arith, less));
+  arrivals_are = λ j less. absurd (omega (arith, less));
   key_is = refl;
-  acked_is = refl;
+  ack_is = refl;
   late_is = refl;
 } where
   none : (k : ℕ) → k ≤ 0 → get_or (0 ∷ []) k 0 ≡ pieces_before (messages_of X talk) k

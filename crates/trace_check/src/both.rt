@@ -1,8 +1,10 @@
 // What is known of both ends of the line while their frames are judged.
-ghost use Rattle.std.specs.Prelude.{◌≡◌, ◌<◌, ◌≤◌, ◌+◌, ◌^◌, IfOk, IfSome, OnOk, [], ◌∷◌, None, length};
+ghost use Rattle.std.specs.Prelude.{◌≡◌, ◌<◌, ◌≤◌, ◌+◌, ◌^◌, IfOk, IfSome, OnOk};
 ghost use Rattle.std.specs.Option.{option_map};
 ghost use Rattle.trace_text.specs.Talks.{answer_to as answer_of, answered_by as asked_by};
-ghost use Rattle.trace_check.specs.Turns.{answers_after, both_after, both_value, has_answer, hearer_after, is_answered_by, is_end_reached, is_known, is_new as is_new_by, knows_after, no_side, other_end, repeat_after, side_of, side_value, speaker_after, turn_value};
+ghost use Rattle.trace_check.specs.BothEnds.{both_after, both_value, hearer_after, repeat_after, side_of, speaker_after};
+ghost use Rattle.trace_check.specs.Sides.{no_side, side_value};
+ghost use Rattle.trace_check.specs.Turns.{answers_after, has_answer, is_known, is_new as is_new_by, knows_after, turn_value};
 
 use crate::notice::Notice;
 use crate::side::{Side, is_free};
@@ -75,36 +77,24 @@ impl Both {
         }
     }
 
-    // Whether this message was taken, if it is one.
-    fn is_end_reached(&self, turn: Option<(End, usize)>) -> bool
-        requires { IfSome turn (λ turn. turn.1 + 1 < 2 ^ 64) }
-        ensures { result ≡ is_end_reached (option_map turn_value turn) (both_value self.now) }
-    {
-        match turn {
-            Some((end, number)) => self.side(end).is_end_free(self.repeat, number),
-            None => true,
-        }
-    }
-
-    // Whether the other end's message that answers this one began, and that reached its end.
-    fn is_answered(&self, from: End, answer: Option<usize>) -> bool
-        ensures { result ≡ is_answered_by answer self.now.repeat
-            (side_of (other_end from) (both_value self.now)) }
-    {
-        match answer {
-            Some(number) => self.side(other(from)).is_start_free(self.repeat, number),
-            None => false,
-        }
-    }
-
     // Whether an end knows that its newest fragment was taken.
     fn is_known(&self, from: End) -> bool
         ensures { result ≡ is_known from (both_value self.now) }
     {
         let side = self.side(from);
-        let begun = side.starts.len();
-        is_free(self.repeat, side.acked)
-            || side.is_start() && self.is_answered(from, answer_to(from, begun.saturating_sub(2)))
+        if is_free(self.repeat, side.ack) {
+            return true;
+        }
+        if !side.is_start() {
+            return false;
+        }
+        let Some(answer) = answer_to(from, side.starts.len().saturating_sub(2)) else {
+            return false;
+        };
+        match from {
+            End::Handheld => self.desktop.is_start_free(self.repeat, answer),
+            End::Desktop => self.handheld.is_start_free(self.repeat, answer),
+        }
     }
 
     // Whether what its next message answers was taken, where its next fragment begins one.
@@ -115,7 +105,10 @@ impl Both {
         if !side.is_start() {
             return true;
         }
-        self.is_end_reached(answered_by(from, side.starts.len().saturating_sub(1)))
+        match answered_by(from, side.starts.len().saturating_sub(1)) {
+            Some((end, number)) => self.side(end).is_end_free(self.repeat, number),
+            None => true,
+        }
     }
 
     // Whether the frame bears a new fragment.
@@ -125,14 +118,16 @@ impl Both {
         notice.is_data && !self.side(notice.from).is_newest(notice.key)
     }
 
-    // Whether the end that sends the frame knows that its fragment before was taken, where this is a new one.
+    // Whether its end knows that the fragment before was taken, where the frame bears a new one.
     pub(crate) fn knows(&self, notice: &Notice) -> bool
         ensures { result ≡ knows_after notice.now (both_value self.now) }
     {
-        !self.is_new(notice) || self.side(notice.from).told.is_empty() || self.is_known(notice.from)
+        !self.is_new(notice)
+            || self.side(notice.from).arrivals.is_empty()
+            || self.is_known(notice.from)
     }
 
-    // Whether what its message answers was taken, where this is a new fragment.
+    // Whether what its message answers was taken, where the frame bears a new fragment.
     pub(crate) fn answers(&self, notice: &Notice) -> bool
         ensures { result ≡ answers_after notice.now (both_value self.now) }
     {
@@ -162,16 +157,6 @@ impl Both {
     }
 }
 
-// The other end.
-fn other(end: End) -> End
-    ensures { result ≡ other_end end }
-{
-    match end {
-        End::Handheld => End::Desktop,
-        End::Desktop => End::Handheld,
-    }
-}
-
 // One end sends the frame to the other.
 fn step(
     notice: &Notice,
@@ -179,29 +164,25 @@ fn step(
     hearer: &mut Side,
     repeat: &mut u32,
 ) -> Result<(), AllocError>
-    ensures speaks { OnOk result (side_value speaker.new
-        ≡ speaker_after notice.now (side_value speaker.old)) }
-    ensures hears { OnOk result (side_value hearer.new
+    ensures speaker { OnOk result
+        (side_value speaker.new ≡ speaker_after notice.now (side_value speaker.old)) }
+    ensures hearer { OnOk result (side_value hearer.new
         ≡ hearer_after notice.now (side_value speaker.old) (side_value hearer.old)) }
-    ensures repeats { OnOk result (repeat.new
-        ≡ repeat_after notice.now (side_value speaker.old) repeat.old) }
+    ensures repeat { OnOk result
+        (repeat.new ≡ repeat_after notice.now (side_value speaker.old) repeat.old) }
 {
     if notice.late {
         speaker.late = notice.number;
     }
-    let told = if notice.came {
-        Some(speaker.late)
-    } else {
-        None
-    };
+    let arrival = notice.came.then_some(speaker.late);
     if !notice.is_data {
-        hearer.hear(notice.key, told);
+        hearer.hear(notice.key, arrival);
         return Ok(());
     }
     if speaker.is_newest(notice.key) {
         *repeat = notice.number;
-        speaker.repeat(told);
+        speaker.repeat(arrival);
         return Ok(());
     }
-    speaker.begin(notice.key, told)
+    speaker.begin(notice.key, arrival)
 }

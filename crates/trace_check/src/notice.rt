@@ -2,9 +2,9 @@
 ghost use Rattle.std.specs.Prelude.{◌≡◌, true, false, IfSome, IfNone};
 ghost use Rattle.trace_text.specs.Fates.{fate_value};
 ghost use Rattle.trace_text.specs.Faults.{is_late as comes_late};
-ghost use Rattle.trace_text.specs.Frames.{BearsFragment, course_of, fragment_in, is_abort as aborts, is_data_kind};
+ghost use Rattle.trace_text.specs.Frames.{BearsFragment, course_of, fragment_in, is_abort};
 ghost use Rattle.trace_text.specs.TraceLines.{frame_value};
-ghost use Rattle.trace_check.specs.Turns.{IsNoticeOf};
+ghost use Rattle.trace_check.specs.Notices.{IsNoticeOf};
 
 use padp_link::{Key, PadpKind, read_fragment};
 use slp_frames::{CRC_LEN, HEADER_LEN};
@@ -37,38 +37,26 @@ fn is_late(fate: &Fate) -> bool
     matches!(fate, Fate::Late)
 }
 
-fn is_abort(kind: PadpKind) -> bool
-    ensures { result ≡ aborts kind }
-{
-    matches!(kind, PadpKind::Abort)
-}
-
-fn is_data(kind: PadpKind) -> bool
-    ensures { result ≡ is_data_kind kind }
-{
-    matches!(kind, PadpKind::Data)
-}
-
 // What the frame of this number says; nothing where it is an abort.
 pub(crate) fn notice_of(number: u32, frame: &Frame) -> Option<Notice>
     requires { BearsFragment (frame_value frame.now) }
     ensures some { IfSome result (λ notice. IsNoticeOf notice (frame_value frame.now) number) }
     ensures said { IfSome result (λ _.
-        aborts (fragment_in (frame_value frame.now)).kind ≡ false) }
+        is_abort (fragment_in (frame_value frame.now)).kind ≡ false) }
     ensures none { IfNone result
-        (aborts (fragment_in (frame_value frame.now)).kind ≡ true) }
+        (is_abort (fragment_in (frame_value frame.now)).kind ≡ true) }
 {
     let bytes = frame.bytes.as_slice();
     let Ok(fragment) = read_fragment(&bytes[HEADER_LEN..bytes.len() - CRC_LEN]) else {
         return None;
     };
-    if is_abort(fragment.kind) {
+    if fragment.kind == PadpKind::Abort {
         return None;
     }
     Some(Notice {
         number,
         from: frame.from,
-        is_data: is_data(fragment.kind),
+        is_data: fragment.kind == PadpKind::Data,
         key: fragment.key(bytes[ID]),
         late: is_late(&frame.fate),
         came: frame.came,

@@ -1,22 +1,24 @@
 // What is known of an end of the line while its frames are judged.
-ghost use Rattle.std.specs.Prelude.{◌≡◌, ◌<◌, ◌+◌, ◌^◌, IfOk, OnOk, [], ◌∷◌, slice_index_or};
+ghost use Rattle.std.specs.Prelude.{◌≡◌, ◌<◌, ◌+◌, ◌^◌, IfOk, OnOk};
 ghost use Rattle.padp_link.specs.Pieces.{piece_count as pieces_of};
-ghost use Rattle.trace_check.specs.Turns.{begins, hears, is_end_free, is_free as frees, is_key, is_start as starts_message, is_start_free, last_start as last_place, no_side, or_later as first_of, repeats, side_value};
+ghost use Rattle.trace_check.specs.Arrivals.{is_free as frees};
+ghost use Rattle.trace_check.specs.Sides.{arrival_at as arrival_in, is_end_free as end_frees, is_key, is_start as starts, is_start_free as start_frees, no_side, side_value, with_ack, with_fragment, with_repeat};
 
-use padp_link::Key;
+use padp_link::{Key, MAX_DATA};
 use std::alloc::{AllocError, Global};
 
-// What is known of an end.
+// What is known of an end. An arrival is that of the first frame with something that came: the newest late frame of its end
+// up to it, or 0.
 #[derive(Drop)]
 pub(crate) struct Side {
     // How many fragments stand before each message that it began, and before the next.
     pub(crate) starts: Vec<usize>,
-    // For each fragment that it said, the newest late frame of its own, or 0, when the first frame with it came that did.
-    pub(crate) told: Vec<Option<u32>>,
+    // The arrival of each fragment that it said.
+    pub(crate) arrivals: Vec<Option<u32>>,
     // The key of its newest fragment.
     pub(crate) key: Option<Key>,
-    // The other end's newest late frame, or 0, when the first acknowledgement of that came that did.
-    pub(crate) acked: Option<u32>,
+    // The arrival of the acknowledgement of that.
+    pub(crate) ack: Option<u32>,
     // Its newest late frame, or 0.
     pub(crate) late: u32,
 }
@@ -25,36 +27,14 @@ pub(crate) struct Side {
 fn piece_count(size: u16) -> usize
     ensures { result ≡ pieces_of size }
 {
-    usize::from(size).div_ceil(1024).max(1)
+    usize::from(size).div_ceil(MAX_DATA).max(1)
 }
 
-// Whether two keys are the same.
-fn is_same(key: Key, newest: Option<Key>) -> bool
-    ensures { result ≡ is_key key newest }
+// Whether what has this arrival isn't held, by the newest repeat.
+pub(crate) fn is_free(repeat: u32, arrival: Option<u32>) -> bool
+    ensures { result ≡ frees repeat arrival }
 {
-    match newest {
-        Some(newest) => {
-            key.id == newest.id && key.flags == newest.flags && key.size == newest.size
-        }
-        None => false,
-    }
-}
-
-// The first number, or else the later one.
-fn or_later(first: Option<u32>, later: Option<u32>) -> Option<u32>
-    ensures { result ≡ first_of first later }
-{
-    match first {
-        Some(number) => Some(number),
-        None => later,
-    }
-}
-
-// Whether a frame with this late frame before it isn't held, by the newest repeat.
-pub(crate) fn is_free(repeat: u32, late: Option<u32>) -> bool
-    ensures { result ≡ frees repeat late }
-{
-    match late {
+    match arrival {
         Some(late) => late == 0 || late < repeat,
         None => false,
     }
@@ -69,9 +49,9 @@ impl Side {
         starts.push(0)?;
         Ok(Side {
             starts,
-            told: Vec::new(alloc),
+            arrivals: Vec::new(alloc),
             key: None,
-            acked: None,
+            ack: None,
             late: 0,
         })
     }
@@ -80,86 +60,85 @@ impl Side {
     pub(crate) fn is_newest(&self, key: Key) -> bool
         ensures { result ≡ is_key key self.now.key }
     {
-        is_same(key, self.key)
-    }
-
-    // How many fragments the messages have that it began.
-    fn last_start(&self) -> usize
-        ensures { result ≡ last_place (side_value self.now) }
-    {
-        match self.starts.last() {
-            Some(last) => *last,
-            None => 0,
+        match self.key {
+            Some(newest) => {
+                key.id == newest.id && key.flags == newest.flags && key.size == newest.size
+            }
+            None => false,
         }
     }
 
     // Whether its next fragment begins a message.
     pub(crate) fn is_start(&self) -> bool
-        ensures { result ≡ starts_message (side_value self.now) }
+        ensures { result ≡ starts (side_value self.now) }
     {
-        self.told.len() == self.last_start()
+        match self.starts.last() {
+            Some(start) => self.arrivals.len() == *start,
+            None => self.arrivals.is_empty(),
+        }
     }
 
     // It says a new fragment.
-    pub(crate) fn begin(&mut self, key: Key, told: Option<u32>) -> Result<(), AllocError>
-        ensures { OnOk result (side_value self.new ≡ begins key told (side_value self.old)) }
+    pub(crate) fn begin(&mut self, key: Key, arrival: Option<u32>) -> Result<(), AllocError>
+        ensures { OnOk result
+            (side_value self.new ≡ with_fragment key arrival (side_value self.old)) }
     {
         if self.is_start() {
-            let next = self.told.len() + piece_count(key.size);
+            let next = self.arrivals.len() + piece_count(key.size);
             self.starts.push(next)?;
         }
-        self.told.push(told)?;
+        self.arrivals.push(arrival)?;
         self.key = Some(key);
-        self.acked = None;
+        self.ack = None;
         Ok(())
     }
 
     // It says its newest fragment again.
-    pub(crate) fn repeat(&mut self, told: Option<u32>)
-        ensures { side_value self.new ≡ repeats told (side_value self.old) }
+    pub(crate) fn repeat(&mut self, arrival: Option<u32>)
+        ensures { side_value self.new ≡ with_repeat arrival (side_value self.old) }
     {
-        let count = self.told.len();
+        let count = self.arrivals.len();
         if count > 0 {
-            self.told[count - 1] = or_later(self.told[count - 1], told);
+            self.arrivals[count - 1] = self.arrivals[count - 1].or(arrival);
         }
     }
 
     // The other end acknowledges the fragment with this key.
-    pub(crate) fn hear(&mut self, key: Key, told: Option<u32>)
-        ensures { side_value self.new ≡ hears key told (side_value self.old) }
+    pub(crate) fn hear(&mut self, key: Key, arrival: Option<u32>)
+        ensures { side_value self.new ≡ with_ack key arrival (side_value self.old) }
     {
         if self.is_newest(key) {
-            self.acked = or_later(self.acked, told);
+            self.ack = self.ack.or(arrival);
         }
     }
 
-    // Whether the first fragment of this message reached the other end.
+    // Whether the first fragment of its message of this number reached the other end.
     pub(crate) fn is_start_free(&self, repeat: u32, number: usize) -> bool
-        ensures { result ≡ is_start_free repeat number (side_value self.now) }
+        ensures { result ≡ start_frees repeat number (side_value self.now) }
     {
         match self.starts.get(number) {
-            Some(place) => is_free(repeat, self.told_at(*place)),
+            Some(start) => is_free(repeat, self.arrival_at(*start)),
             None => false,
         }
     }
 
-    // Whether the last fragment of this message did.
+    // Whether the last one did.
     pub(crate) fn is_end_free(&self, repeat: u32, number: usize) -> bool
         requires { number + 1 < 2 ^ 64 }
-        ensures { result ≡ is_end_free repeat number (side_value self.now) }
+        ensures { result ≡ end_frees repeat number (side_value self.now) }
     {
         match self.starts.get(number + 1) {
-            Some(place) => is_free(repeat, self.told_at(place.saturating_sub(1))),
+            Some(next) => is_free(repeat, self.arrival_at(next.saturating_sub(1))),
             None => false,
         }
     }
 
-    // What is known of the fragment that stands behind so many.
-    fn told_at(&self, place: usize) -> Option<u32>
-        ensures { result ≡ slice_index_or self.now.told.items place None }
+    // The arrival of the fragment that stands behind so many.
+    fn arrival_at(&self, place: usize) -> Option<u32>
+        ensures { result ≡ arrival_in place (side_value self.now) }
     {
-        match self.told.get(place) {
-            Some(told) => *told,
+        match self.arrivals.get(place) {
+            Some(arrival) => *arrival,
             None => None,
         }
     }

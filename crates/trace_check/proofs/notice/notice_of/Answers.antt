@@ -1,12 +1,11 @@
 -- The fragment stands behind the header of the packet, and is read.
-use Rattle.std.proofs.Common.{◌≡◌, ◌+◌, ◌-◌, ◌≤◌, length, true, false, sym, ap, ◌∙◌, arith, refl, get_or}
+use Rattle.std.proofs.Common.{◌≡◌, sym, ap, ◌∙◌, arith, refl, get_or}
 use Rattle.padp_link.specs.Pieces.{key_of}
 use Rattle.slp_frames.specs.PacketScan.{fields_at}
 use Rattle.padp_link.specs.FragmentText.{FragmentValue}
-use Rattle.padp_link.specs.FragmentValues.{fragment_value}
 use Rattle.trace_text.specs.Frames.{fragment_in, is_abort, is_data_kind}
 use Rattle.trace_text.specs.TraceLines.{frame_value}
-use Rattle.trace_check.proofs.NoticeLaws.{packet-long, text-there}
+use Rattle.trace_check.proofs.NoticeLaws.{packet-long, text-there, same-abort, same-data}
 use Rattle.trace_check.proofs.notice.notice_of.Goals as goal
 
 pub overflow_sub-bytes : goal.overflow_sub-bytes
@@ -23,11 +22,11 @@ returns-in_default-clause-none c =
     absurd (c.in_default.ensures.only (fragment_in (frame_value c.args.frame.now))
     (text-there (frame_value c.args.frame.now) _ c.as_slice-bytes.ensures.value c.requires))
 
-pub returns-then-is_abort-clause-none : goal.returns-then-is_abort-clause-none
-returns-then-is_abort-clause-none c =
+pub returns-then-eq-clause-none : goal.returns-then-eq-clause-none
+returns-then-eq-clause-none c =
     let same = c.in-Ok.ensures.only (fragment_in (frame_value c.args.frame.now))
     (text-there (frame_value c.args.frame.now) _ c.as_slice-bytes.ensures.value c.requires) in
-    ap (λ (f : FragmentValue). is_abort f.kind) (sym same) ∙ (sym c.is_abort.ensures ∙ c.if-is_abort.true)
+    ap (λ (f : FragmentValue). is_abort f.kind) (sym same) ∙ (sym (same-abort c.in-Ok.fragment.kind) ∙ (sym c.eq.ensures ∙ c.if-eq.true))
 
 pub returns-clause-some : goal.returns-clause-some
 unfolding fields_at
@@ -37,7 +36,7 @@ returns-clause-some c =
     let bytes : c.as_slice-bytes.result.now ≡ c.args.frame.now.bytes.items = c.as_slice-bytes.ensures.value in
     record {
       from_is = refl;
-      is_data_is = c.is_data.ensures ∙ ap (λ (f : FragmentValue). is_data_kind f.kind) same;
+      is_data_is = c.eq-2.ensures ∙ (same-data c.in-Ok.fragment.kind ∙ ap (λ (f : FragmentValue). is_data_kind f.kind) same);
       key_is = c.key.ensures ∙ (ap (key_of (get_or c.as_slice-bytes.result.now 8 0)) same
           ∙ ap (λ s. key_of (get_or s 8 0) (fragment_in (frame_value c.args.frame.now))) bytes);
       late_is = c.is_late.ensures;
@@ -49,4 +48,4 @@ pub returns-clause-said : goal.returns-clause-said
 returns-clause-said c =
     let same = c.in-Ok.ensures.only (fragment_in (frame_value c.args.frame.now))
     (text-there (frame_value c.args.frame.now) _ c.as_slice-bytes.ensures.value c.requires) in
-    ap (λ (f : FragmentValue). is_abort f.kind) (sym same) ∙ (sym c.is_abort.ensures ∙ c.if-is_abort.false)
+    ap (λ (f : FragmentValue). is_abort f.kind) (sym same) ∙ (sym (same-abort c.in-Ok.fragment.kind) ∙ (sym c.eq.ensures ∙ c.if-eq.false))

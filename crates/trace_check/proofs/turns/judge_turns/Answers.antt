@@ -1,10 +1,12 @@
 -- A frame goes on with the walk, and an abort ends it.
-use Rattle.std.proofs.Common.{◌≡◌, ◌+◌, ◌&&◌, Bool, true, false, length, map, drop, refl, sym, ap, subst, ◌∙◌, arith}
+use Rattle.std.proofs.Common.{◌≡◌, ◌+◌, ◌&&◌, map, drop, refl, sym, ap, subst, ◌∙◌, arith}
 use Rattle.trace_text.specs.TraceLines.{frame_value}
-use Rattle.trace_check.specs.Turns.{IsNoticeOf, IsWalked, both_value, both_after, knows_after, answers_after}
 use Rattle.trace_check.proofs.TurnLaws.{drop_at, bears-next, walk_goes, walk_aborts}
 use Rattle.trace_check.proofs.turns.judge_turns.Goals.{then-knows, else-knows, then-answers, else-answers}
 use Rattle.trace_check.proofs.turns.judge_turns.Goals as goal
+use Rattle.trace_check.specs.Notices.{IsNoticeOf}
+use Rattle.trace_check.specs.BothEnds.{both_value}
+use Rattle.trace_check.specs.Turns.{IsWalked, answers_after, knows_after}
 
 pub notice_of-requires : goal.notice_of-requires
 notice_of-requires c =
@@ -40,8 +42,8 @@ loop-frame-preserved c =
     let says : IsNoticeOf c.in-Some.notice (frame_value c.frame-item.result) (c.loop-frame.frame-index + 1) =
     subst (λ n. IsNoticeOf c.in-Some.notice (frame_value c.frame-item.result) (n + 1)) c.loop-frame.invariant.number_is c.in-Some.ensures.some in
     let walked = walk_goes frames c.loop-frame.frame-index (frame_value c.frame-item.result) (drop (c.loop-frame.frame-index + 1) frames) c.in-Some.notice both
-        c.loop-frame.knows c.loop-frame.answers c.requires.says c.loop-frame.invariant.walked
-        (drop_at c.args.frames.now c.loop-frame.frame-index c.frame-item.result c.loop-frame-test.true c.frame-item.is) refl c.in-Some.ensures.said says in
+    c.loop-frame.knows c.loop-frame.answers c.requires.says c.loop-frame.invariant.walked
+    (drop_at c.args.frames.now c.loop-frame.frame-index c.frame-item.result c.loop-frame-test.true c.frame-item.is) refl c.in-Some.ensures.said says in
     record {
       walked =
           subst (λ k. IsWalked frames (c.loop-frame.frame-index + 1) (both_value c.take.new.self) k c.if-answers.answers) (sym knows)

@@ -1,8 +1,9 @@
 -- The frames up to this one were walked.
 use Rattle.std.proofs.Common.{◌≡◌, map}
 use Rattle.trace_text.specs.TraceLines.{frame_value}
-use Rattle.trace_check.specs.Turns.{IsWalked, both_value}
 use Rattle.trace_check.proofs.turns.judge_turns.Given as goal
+use Rattle.trace_check.specs.BothEnds.{both_value}
+use Rattle.trace_check.specs.Turns.{IsWalked}
 
 abbrev pub invariant-loop-frame : goal.invariant-loop-frame
 invariant-loop-frame l = record {
