@@ -89,7 +89,8 @@ module _ (Y X : End) (talk : Talk) (came : ℕ → Bool) (past : List Sent) (sid
     | inl before ↦
         let less : number < length side.starts = omega (arith, before, are.starts_are.counted) in
         and_from _ _ (lt-ltb _ _ less)
-        (ap (λ k. is_free (newest_repeat past) (get_or side.arrivals k None)) (place_of number less) ∙ taken-free (pieces_before (messages_of Y talk) number) it)
+        (ap (λ k. is_free (newest_repeat past) (get_or side.arrivals k None)) (place_of number less)
+        ∙ taken-free (pieces_before (messages_of Y talk) number) it)
     | inr behind ↦ absurd (omega (
       arith,
       taken-said _ it,
@@ -183,7 +184,8 @@ module _ (X Y : End) (talk : Talk) (came : ℕ → Bool) (past : List Sent) (sid
       parts_of : (frame : Sent) (older : List Sent) → acks X Y (length (said X past)) (frame ∷ older) ≡ true
           → (is_ack_of Y frame ≡ true) × (length (said X (frame ∷ older)) ≡ length (said X past)) × (is_newest_key frame.key (said X (frame ∷ older)) ≡ true)
       parts_of frame older passes =
-          let front = and_parts (is_ack_of Y frame && nat_eq (length (said X (frame ∷ older))) (length (said X past))) (is_newest_key frame.key (said X (frame ∷ older)))
+          let front = and_parts (is_ack_of Y frame && nat_eq (length (said X (frame ∷ older))) (length (said X past)))
+          (is_newest_key frame.key (said X (frame ∷ older)))
           passes in
           let back = and_parts (is_ack_of Y frame) (nat_eq (length (said X (frame ∷ older))) (length (said X past))) front.0 in
           (back.0, eqb-true _ _ back.1, front.1)
@@ -295,7 +297,8 @@ module _ (X : End) (talk : Talk) (came : ℕ → Bool) (past : List Sent) (both 
 
   pub known_by : 0 < length (said X past) → is_known X both ≡ true → IsKnown X (other_end X) talk came past
   known_by some known =
-      known-is X (other_end X) talk came past (side_of X both) (side_of (other_end X) both) mine (other-is X talk came past both are) some (sym repeats_as ∙ known)
+      known-is X (other_end X) talk came past (side_of X both) (side_of (other_end X) both) mine (other-is X talk came past both are) some
+      (sym repeats_as ∙ known)
 
   pub by_known : 0 < length (said X past) → IsKnown X (other_end X) talk came past → is_known X both ≡ true
   by_known some known =

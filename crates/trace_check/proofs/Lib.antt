@@ -1,3 +1,4 @@
+pub mod BothLaws
 pub mod FateLaws
 pub mod FilledLaws
 pub mod JudgeLaws

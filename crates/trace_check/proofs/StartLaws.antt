@@ -1,7 +1,7 @@
 -- Where the messages of an end begin among its fragments.
 use Rattle.line_laws.proofs.Names.{◌≡◌, ◌⊎◌, ℕ, zero, suc, ◌+◌, ◌-◌, ◌<◌, true, false, List, [], ◌∷◌, ◌++◌, length, drop, map, reverse, Some}
 use Rattle.line_laws.proofs.Names.{refl, sym, ap, ◌∙◌, arith, inl, inr, cases_Bool, cond-true, cond-false, append_assoc, length-map, range_with_len, piece_count}
-use Rattle.line_laws.proofs.Names.{piece_of, pieces, fragment_of, session_id, End, Sent, Key, Part, key_of_part, part_of, add_part, spoken, message_parts, session_parts}
+use Rattle.line_laws.proofs.Names.{Piece, piece_of, pieces, fragment_of, session_id, End, Sent, Key, Part, key_of_part, part_of, add_part, spoken, message_parts, session_parts}
 use Rattle.line_laws.proofs.Names.{first, said, same_key, is_data_of, pieces_before, messages_of, Talk, length-map-range_with_len}
 use Rattle.std.proofs.lemmas.List.{length-reverse, length-append, reverse-append}
 use Rattle.std.proofs.Math.Seq.{drop-append_seam, drop-append-add}
@@ -13,12 +13,15 @@ use Rattle.line_laws.proofs.MessageLaws.{some_pieces}
 
 -- ---- the part that begins a message
 
+abbrev part_by : List ℕ → Piece → Part
+part_by message piece = record { key = piece.key; bytes = (fragment_of message piece).bytes }
+
 abbrev piece_part : List ℕ → ℕ → ℕ → Part
-piece_part message id number = record { key = (piece_of id (length message) number).key; bytes = (fragment_of message (piece_of id (length message) number)).bytes }
+piece_part message id number = part_by message (piece_of id (length message) number)
 
 parts_count : (id : ℕ) (message : List ℕ) → length (message_parts id message) ≡ piece_count (length message)
 parts_count id message =
-    length-map (pieces id (length message)) (λ piece. record { key = piece.key; bytes = (fragment_of message piece).bytes })
+    length-map (pieces id (length message)) (part_by message)
     ∙ length-map-range_with_len (piece_of id (length message)) 0 (piece_count (length message))
 
 pub session-length : (number : ℕ) (messages : List (List ℕ)) → length (session_parts number messages) ≡ pieces_before messages (length messages)
@@ -30,8 +33,8 @@ session-length number (message ∷ later) =
 first_part : (id : ℕ) (message : List ℕ) (count : ℕ) → piece_count (length message) ≡ suc count
     → (more : List Part) × (message_parts id message ≡ piece_part message id 0 ∷ more)
 first_part id message count counted = (
-  map (λ piece. record { key = piece.key; bytes = (fragment_of message piece).bytes }) (map (piece_of id (length message)) (range_with_len 1 count)),
-  ap (λ n. map (λ piece. record { key = piece.key; bytes = (fragment_of message piece).bytes }) (map (piece_of id (length message)) (range_with_len 0 n))) counted,
+  map (part_by message) (map (piece_of id (length message)) (range_with_len 1 count)),
+  ap (λ n. map (part_by message) (map (piece_of id (length message)) (range_with_len 0 n))) counted,
 )
 
 -- its size is that of the message

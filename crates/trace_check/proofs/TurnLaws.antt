@@ -22,7 +22,7 @@ use Rattle.trace_check.specs.Messages.{talk_in, fates_in}
 use Rattle.trace_check.specs.declared.rule.Rule.TheVariants.{A, B, D, E, F}
 use Rattle.trace_check.specs.declared.notice.Notice.{Notice}
 use Rattle.trace_check.proofs.StartLaws.{says_before, new_part, session-length}
-use Rattle.trace_check.proofs.SideLaws.{side-speaks, side-hears, repeat-after, key-newest}
+use Rattle.trace_check.proofs.BothLaws.{side-speaks, side-hears, repeat-after, key-newest}
 use Rattle.trace_check.proofs.JudgeLaws.{known_by, by_known, answered, has-answer, side-is}
 use Rattle.trace_check.specs.Notices.{IsNotice, IsNoticeOf}
 use Rattle.trace_check.specs.Sides.{IsSide, is_key, no_side}

@@ -18,8 +18,11 @@ pub record BothValue : Type 0 where
 
 -- the same, wherever its lists lie
 abbrev pub both_value : Both → BothValue
-both_value both =
-    record { handheld = side_value both.handheld; desktop = side_value both.desktop; repeat = both.repeat }
+both_value both = record {
+  handheld = side_value both.handheld;
+  desktop = side_value both.desktop;
+  repeat = both.repeat;
+}
 
 -- what is known of an end
 abbrev pub side_of : End → BothValue → SideValue
@@ -32,7 +35,8 @@ other_end Handheld = Desktop
 other_end Desktop = Handheld
 
 -- that is known behind this past
-pub record AreSides (talk : Talk) (came : ℕ → Bool) (past : List Sent) (both : BothValue) : Type 0 where
+pub record AreSides (talk : Talk) (came : ℕ → Bool) (past : List Sent) (both : BothValue)
+    : Type 0 where
   pub handheld : IsSide Handheld Desktop talk came past both.handheld
   pub desktop : IsSide Desktop Handheld talk came past both.desktop
   pub repeat_is : both.repeat ≡ newest_repeat past
@@ -50,8 +54,9 @@ abbrev pub speaker_after : Notice → SideValue → SideValue
 speaker_after notice side =
     let later = record side { late = late_after notice side } in
     let arrival = arrival_of notice side in
-    if notice.is_data then (if is_key notice.key side.key then with_repeat arrival later else with_fragment notice.key arrival later)
-    else later
+    let again = is_key notice.key side.key in
+    let spoke = if again then with_repeat arrival later else with_fragment notice.key arrival later in
+    if notice.is_data then spoke else later
 
 -- and of the other end, where this is known of the one that sends
 abbrev pub hearer_after : Notice → SideValue → SideValue → SideValue

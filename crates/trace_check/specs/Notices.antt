@@ -18,7 +18,8 @@ pub record IsNoticeOf (notice : Notice) (frame : FrameValue) (number : ℕ) : Ty
   pub came_is : notice.came ≡ frame.came
 
 -- that is what a frame says that is sent behind this past
-pub record IsNotice (notice : Notice) (frame : Sent) (came : ℕ → Bool) (past : List Sent) : Type 0 where
+pub record IsNotice (notice : Notice) (frame : Sent) (came : ℕ → Bool) (past : List Sent)
+    : Type 0 where
   pub from_is : notice.from ≡ frame.from
   pub is_data_is : notice.is_data ≡ frame.is_data
   pub key_is : notice.key ≡ frame.key

@@ -11,8 +11,9 @@ use Rattle.trace_text.specs.Talks.{Talk, messages_of, pieces_before}
 use Rattle.trace_check.specs.Arrivals.{first_late, is_free, bears, acks}
 use Rattle.trace_check.specs.declared.side.Side.{Side}
 
--- What is known of an end: how many fragments stand before each message that it began and before the next, the arrival of each fragment that it said,
--- its newest key, the arrival of the acknowledgement of that, and its newest late frame.
+-- What is known of an end: how many fragments stand before each message that it began and before the next, the
+-- arrival of each fragment that it said, its newest key, the arrival of the acknowledgement of that, and its newest
+-- late frame.
 pub record SideValue : Type 0 where
   pub starts : List ℕ
   pub arrivals : List (Option ℕ)
@@ -40,7 +41,8 @@ pub record AreStarts (messages : List (List ℕ)) (said : ℕ) (starts : List �
   pub behind : 0 < begun → pieces_before messages (begun - 1) < said
 
 -- that is what is known of X behind this past
-pub record IsSide (X Y : End) (talk : Talk) (came : ℕ → Bool) (past : List Sent) (side : SideValue) : Type 0 where
+pub record IsSide (X Y : End) (talk : Talk) (came : ℕ → Bool) (past : List Sent) (side : SideValue)
+    : Type 0 where
   pub starts_are : AreStarts (messages_of X talk) (length (said X past)) side.starts
   pub said_all : length side.arrivals ≡ length (said X past)
   pub arrivals_are : (j : ℕ) → j < length (said X past)
@@ -64,7 +66,9 @@ is_start side = nat_eq (length side.arrivals) (last_start side)
 -- the end says a new fragment, whose first frame has this arrival
 abbrev pub with_fragment : Key → Option ℕ → SideValue → SideValue
 with_fragment key arrival side = record {
-  starts = if is_start side then side.starts ++ (last_start side + piece_count key.size) ∷ [] else side.starts;
+  starts =
+      if is_start side then side.starts ++ (last_start side + piece_count key.size) ∷ []
+      else side.starts;
   arrivals = side.arrivals ++ arrival ∷ [];
   key = Some key;
   ack = None;
@@ -79,7 +83,8 @@ arrival_at place side = slice_index_or side.arrivals place None
 abbrev pub with_repeat : Option ℕ → SideValue → SideValue
 with_repeat arrival side =
     let last = length side.arrivals - 1 in
-    record side { arrivals = slice_set side.arrivals last (option_or (arrival_at last side) arrival) }
+    let newest_one = option_or (arrival_at last side) arrival in
+    record side { arrivals = slice_set side.arrivals last newest_one }
 
 -- the key is the newest
 abbrev pub is_key : Key → Option Key → Bool
@@ -88,12 +93,14 @@ is_key key (Some newest) = same_key key newest
 
 -- the other end acknowledges a fragment with this key
 abbrev pub with_ack : Key → Option ℕ → SideValue → SideValue
-with_ack key arrival side = record side { ack = if is_key key side.key then option_or side.ack arrival else side.ack }
+with_ack key arrival side =
+    record side { ack = if is_key key side.key then option_or side.ack arrival else side.ack }
 
 -- the first fragment of its message of this number reached the other end, by the newest repeat
 abbrev pub is_start_free : ℕ → ℕ → SideValue → Bool
 is_start_free repeat number side =
-    nat_lt number (length side.starts) && is_free repeat (arrival_at (slice_index_or side.starts number 0) side)
+    nat_lt number (length side.starts)
+    && is_free repeat (arrival_at (slice_index_or side.starts number 0) side)
 
 -- the last one did
 abbrev pub is_end_free : ℕ → ℕ → SideValue → Bool

@@ -54,7 +54,8 @@ knows_after notice both =
 
 -- where it bears a new fragment, what its message answers was taken
 abbrev pub answers_after : Notice → BothValue → Bool
-answers_after notice both = not (is_new notice (side_of notice.from both)) || has_answer notice.from both
+answers_after notice both =
+    not (is_new notice (side_of notice.from both)) || has_answer notice.from both
 
 -- both ends knew, before they went on, that what they said was taken
 abbrev pub BothKnow : Talk → (ℕ → Bool) → List Sent → Type 0
@@ -63,10 +64,12 @@ BothKnow talk came past =
 
 -- what their messages answer was taken before these went out
 abbrev pub BothAnswer : Talk → (ℕ → Bool) → List Sent → Type 0
-BothAnswer talk came past = AnswersInTurn Handheld talk came past × AnswersInTurn Desktop talk came past
+BothAnswer talk came past =
+    AnswersInTurn Handheld talk came past × AnswersInTurn Desktop talk came past
 
 -- so many frames were walked
-pub record IsWalked (frames : List FrameValue) (count : ℕ) (both : BothValue) (knows answers : Bool) : Type 0 where
+pub record IsWalked (frames : List FrameValue) (count : ℕ) (both : BothValue) (knows answers : Bool)
+    : Type 0 where
   pub past : List Sent
   pub rest_is : past_behind past (drop count frames) ≡ past_of frames
   pub counted : length past ≡ count

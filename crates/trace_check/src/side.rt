@@ -2,13 +2,14 @@
 ghost use Rattle.std.specs.Prelude.{◌≡◌, ◌<◌, ◌+◌, ◌^◌, IfOk, OnOk};
 ghost use Rattle.padp_link.specs.Pieces.{piece_count as pieces_of};
 ghost use Rattle.trace_check.specs.Arrivals.{is_free as frees};
-ghost use Rattle.trace_check.specs.Sides.{arrival_at as arrival_in, is_end_free as end_frees, is_key, is_start as starts, is_start_free as start_frees, no_side, side_value, with_ack, with_fragment, with_repeat};
+ghost use Rattle.trace_check.specs.Sides.{arrival_at as arrival_in, is_end_free as end_frees, is_start_free as start_frees};
+ghost use Rattle.trace_check.specs.Sides.{is_key, is_start as starts, no_side, side_value, with_ack, with_fragment, with_repeat};
 
 use padp_link::{Key, MAX_DATA};
 use std::alloc::{AllocError, Global};
 
-// What is known of an end. An arrival is that of the first frame with something that came: the newest late frame of its end
-// up to it, or 0.
+// What is known of an end. What came has an arrival: the newest late frame, or 0, that its end sent up to the first frame
+// that came with it.
 #[derive(Drop)]
 pub(crate) struct Side {
     // How many fragments stand before each message that it began, and before the next.
