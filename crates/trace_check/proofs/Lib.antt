@@ -1,9 +1,16 @@
+pub mod BothLaws
 pub mod FateLaws
 pub mod FilledLaws
+pub mod JudgeLaws
 pub mod LineLaws
+pub mod NoticeLaws
 pub mod PlainLaws
+pub mod ReachLaws
 pub mod RuleLaws
 pub mod RunLaws
+pub mod SideLaws
+pub mod StartLaws
 pub mod StripLaws
 pub mod TalkLaws
 pub mod TraceLaws
+pub mod TurnLaws

@@ -1,4 +1,9 @@
+pub mod Arrivals
+pub mod BothEnds
 pub mod Judging
 pub mod Messages
+pub mod Notices
 pub mod Readings
+pub mod Sides
+pub mod Turns
 pub mod Words

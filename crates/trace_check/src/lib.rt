@@ -8,12 +8,16 @@
 //! the seven rules of `Rule`. So is the trace of every run, whatever its line did.
 #![tactic(auto)]
 
+mod both;
 mod fate;
 mod fault;
 mod frame;
 mod laws;
+mod notice;
 mod reader;
 mod rule;
+mod side;
+mod turns;
 mod word;
 
 pub use fault::TraceFault;
