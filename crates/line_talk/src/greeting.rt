@@ -1,12 +1,12 @@
 //! The two ends greet each other.
-ghost use Rattle.std.specs.Prelude.{◌≡◌, ◌∷◌, [], ℕ, List, OnOk, IfErr, Some};
+ghost use Rattle.std.specs.Prelude.{◌≡◌, ◌∷◌, [], ℕ, List, IfErr, IfOk, OnOk, Some};
 ghost use Rattle.cmp_hello.specs.declared.hello.Hello.{Hello};
 ghost use Rattle.cmp_hello.specs.HelloText.{HelloText, hello_bytes};
 ghost use Rattle.padp_link.specs.Receivers.{whole_of};
 ghost use Rattle.line_steps.specs.Telling.{no_talk};
 ghost use Rattle.line_talk.specs.Halting.{LineEnds};
 ghost use Rattle.line_talk.specs.Rests.{MayAsk, MayGreet};
-ghost use Rattle.line_talk.specs.Telling.{LineCounts, LineRecords, LineTells, greeted};
+ghost use Rattle.line_talk.specs.Telling.{LineCounts, LineRecords, LineTells, greeted, wake};
 
 use crate::over::send_over;
 use cmp_hello::{Hello, HelloKind, read_hello, write_hello};
@@ -26,6 +26,7 @@ const RATE: u32 = 9_600;
 pub fn greet(alloc: Global, line: &mut Line, script: &Script) -> Result<u32, Halt>
     requires { MayGreet line.old }
     ensures asks { OnOk result (MayAsk line.new 0) }
+    ensures rate { IfOk result (λ rate. rate ≡ wake.rate) }
 
     ensures recorded { LineRecords script.now line.old → LineRecords script.now line.new }
     ensures counted { LineCounts line.old → LineCounts line.new }

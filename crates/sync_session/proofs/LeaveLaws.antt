@@ -25,7 +25,7 @@ use Rattle.sync_session.specs.Commits.{Commits}
 use Rattle.sync_session.specs.Courses.{AfterCommit, AfterMeeting, AfterNews, AfterPreparing, AfterReading, MeetsOrNot, Prepares}
 use Rattle.sync_session.specs.Courses.{ReadsAll, Runs, closed, jobs_met, picked_for, stopped}
 use Rattle.sync_session.specs.Leaving.{IsSlotsFile, Leaves, LeavesFolder}
-use Rattle.sync_session.specs.PlannedLimits.{over_planned}
+use Rattle.sync_session.specs.PlannedLimits.{limit_planned}
 use Rattle.sync_session.specs.PlannedLosses.{loss_planned}
 use Rattle.sync_session.specs.PlannedReports.{reports_planned}
 use Rattle.sync_session.specs.Readings.{reads_under}
@@ -63,7 +63,7 @@ not_desk over loss reports stop.DeskFault judged is = judged
 nor_reading : {F : Type 0} (heads : List DbHead) (desk : DeskValue F) (user : UserInfo) (reading : Result (Vec Planned) SessionFault) (cause : Stop)
     → AfterReading heads desk user reading (Err cause) → cause ≡ stop.DeskFault → ⊥
 nor_reading heads desk user (Ok planned) cause goes is =
-    not_desk (over_planned (shelves_in desk) (length heads) (all_rows desk.slots) planned.items)
+    not_desk (limit_planned (shelves_in desk) (length heads) (all_rows desk.slots) planned.items)
     (loss_planned user (marks_in desk) (shelves_in desk) planned.items) (reports_planned (shelves_in desk) planned.items) cause goes.0 is
 nor_reading heads desk user (Err fault) cause goes is = cc
 

@@ -4,6 +4,7 @@ pub mod CloseLaws
 pub mod EachLaws
 pub mod EndLaws
 pub mod FilesLaws
+pub mod FitLaws
 pub mod FreeLaws
 pub mod HandleLaws
 pub mod IdsLaws
@@ -14,6 +15,7 @@ pub mod LossLaws
 pub mod MeetJoins
 pub mod MeetLaws
 pub mod MeetingWords
+pub mod MostLaws
 pub mod NamesLaws
 pub mod NewsJoins
 pub mod OnceLaws
@@ -22,9 +24,11 @@ pub mod PlannedLaws
 pub mod QuietLaws
 pub mod ReadJoins
 pub mod RestLaws
+pub mod RiseLaws
 pub mod RowLaws
 pub mod RunLaws
 pub mod SaidLaws
+pub mod SeatLaws
 pub mod SeenCountLaws
 pub mod SessionJoins
 pub mod SpanLaws

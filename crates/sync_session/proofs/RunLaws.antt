@@ -43,10 +43,11 @@ use Rattle.sync_session.proofs.CauseLaws.{later_by, later_refused}
 use Rattle.sync_session.proofs.MeetJoins.{jobs_meet, meets_join, user_read, user_told}
 use Rattle.sync_session.proofs.MeetLaws.{greeted_slot}
 use Rattle.sync_session.proofs.LossLaws.{loss_is_first_loss}
-use Rattle.sync_session.proofs.PlannedLaws.{plans_join, over_is_first_over, reports_are}
+use Rattle.sync_session.proofs.MostLaws.{limit_is_first_over}
+use Rattle.sync_session.proofs.PlannedLaws.{plans_join, reports_are}
 use Rattle.sync_session.proofs.ReadJoins.{jobs_for}
 use Rattle.sync_session.specs.Meets.{IsUnlisted}
-use Rattle.sync_session.specs.PlannedLimits.{over_planned}
+use Rattle.sync_session.specs.PlannedLimits.{limit_planned}
 use Rattle.sync_session.specs.PlannedLosses.{loss_planned}
 use Rattle.sync_session.specs.PlannedReports.{reports_planned}
 use Rattle.sync_session.proofs.OutcomeLaws.{EndsSo, SaysRefusal, cause_says, ends_unwritten, later_stop, news_ends, seated_says}
@@ -158,10 +159,10 @@ module _ {L F : Type 0} (talk : L → Option Talk) (since : L → L → Type 0) 
 
     -- what is found of the limits is what the meeting finds
     own_over : (planned : List Planned) → ArePlannedFor meeting planned
-        → over_planned (shelves_in desk) (length heads) (all_rows desk.slots) planned ≡ first_over meeting
+        → limit_planned (shelves_in desk) (length heads) (all_rows desk.slots) planned ≡ first_over meeting
     own_over planned are =
         rw (own_shelves, so.heads_are, length-map meeting.device.databases (λ (database : DatabaseValue). listed database.head), so.slots)
-        (over_is_first_over meeting so.rests.proper planned are)
+        (limit_is_first_over meeting so.rests.proper planned are)
 
     -- and so is what is found of a new handheld
     own_loss : (user : UserInfo) (planned : List Planned) → user ≡ meeting.device.user → ArePlannedFor meeting planned
@@ -180,7 +181,7 @@ module _ {L F : Type 0} (talk : L → Option Talk) (since : L → L → Type 0) 
         step answer are (own_over planned.items are) (own_loss then.user planned.items (reads.reads.user ∙ so.user) are) reach judged goes
       where
         step : (answer : Result Prepared Stop) → ArePlannedFor meeting planned.items
-            → over_planned (shelves_in desk) (length heads) (all_rows desk.slots) planned.items ≡ first_over meeting
+            → limit_planned (shelves_in desk) (length heads) (all_rows desk.slots) planned.items ≡ first_over meeting
             → loss_planned then.user (marks_in desk) (shelves_in desk) planned.items ≡ first_loss meeting
             → ReadsReach talk since fault downs meeting (map (λ (one : Planned). one.view) planned.items) old then.link
             → AfterReading heads desk then.user (Ok planned) answer

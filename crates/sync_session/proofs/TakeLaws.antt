@@ -1,14 +1,10 @@
 -- The changes of planned databases, one after another, and what a commit makes of them.
-use Rattle.std.proofs.Common.{◌≡◌, ◌∙◌, ◌<◌, ◌+◌, ap, refl, sym, subst, ℕ, Bool, true, false, List, [], ◌∷◌, ◌++◌, map, take, length}
+use Rattle.std.proofs.Common.{◌≡◌, ◌∙◌, ◌<◌, ◌+◌, ap, refl, sym, subst, ℕ, false, List, [], ◌∷◌, ◌++◌, take, length}
 use Rattle.std.proofs.Common.{get_or, append_assoc, arith}
-use Rattle.std.specs.Prelude.{◌&&◌, IfSome, Option, option_to_list}
+use Rattle.std.specs.Prelude.{IfSome, Option, option_to_list}
 use Rattle.std.specs.Global.{Vec}
 use Rattle.std.proofs.lemmas.List.{length-map, length-take-le, map-append, append-nil}
-use Rattle.std.proofs.lemmas.Bool.{and_parts}
-use Rattle.std.specs.List.{list_all}
 use Rattle.sync_session.proofs.MeetingWords.{DatabaseValue, ShelvesValue, Planned}
-use Rattle.pdb_values.specs.NamedDatabases.{NamesRise, comes_before}
-use Rattle.pdb_values.proofs.NamedLaws.{comes_before-trans}
 use Rattle.pdb_values.specs.Heads.{holds_resources}
 use Rattle.pdb_values.specs.declared.record.Record.{Record}
 use Rattle.palm_device.specs.Records.{with_records}
@@ -72,45 +68,3 @@ changes_step date shelves planned ids k one given lent before now change same wi
 pub changes_none : (date : ℕ) (shelves : ShelvesValue) → changes_of date shelves [] [] ≡ []
 unfolding changes_of
 changes_none date shelves = refl
-
--- ---- names in byte order
-
--- each of these comes behind a name
-abbrev are_behind : List ℕ → List DatabaseValue → Bool
-are_behind name xs = list_all (λ (later : DatabaseValue). comes_before name later.head.name) xs
-
-before_all : (name : List ℕ) (xs : List DatabaseValue) (last : DatabaseValue)
-    → are_behind name (xs ++ last ∷ []) ≡ true → comes_before name last.head.name ≡ true
-before_all name [] last all = (and_parts (comes_before name last.head.name) true all).0
-before_all name (x ∷ xs) last all =
-    before_all name xs last
-    (and_parts (comes_before name x.head.name) (are_behind name (xs ++ last ∷ [])) all).1
-
-all_more : (name : List ℕ) (xs : List DatabaseValue) (new : DatabaseValue)
-    → are_behind name xs ≡ true → comes_before name new.head.name ≡ true
-    → are_behind name (xs ++ new ∷ []) ≡ true
-all_more name [] new all next = ap (λ b. b && true) next
-all_more name (x ∷ xs) new all next =
-    let both = and_parts (comes_before name x.head.name) (are_behind name xs) all in
-    ap (λ b. b && are_behind name (xs ++ new ∷ [])) both.0 ∙ all_more name xs new both.1 next
-
-rise-push : (xs : List DatabaseValue) (last new : DatabaseValue) → NamesRise (xs ++ last ∷ []) → comes_before last.head.name new.head.name ≡ true
-    → NamesRise ((xs ++ last ∷ []) ++ new ∷ [])
-rise-push [] last new rise next = (ap (λ b. b && true) next, (refl, tt))
-rise-push (x ∷ xs) last new rise next = (
-  all_more x.head.name (xs ++ last ∷ []) new rise.0
-      (comes_before-trans x.head.name last.head.name new.head.name (before_all x.head.name xs last rise.0) next),
-  rise-push xs last new rise.1 next,
-)
-
-abbrev rows_in : DbChange → DatabaseValue
-rows_in change = change.rows
-
-pub rise_more : (changes : List DbChange) (k j : ℕ) (a b : DbChange) → k ≡ j + 1 → k < length changes → a ≡ get_or changes j a → b ≡ get_or changes k b
-    → comes_before a.rows.head.name b.rows.head.name ≡ true → NamesRise (map (λ (change : DbChange). change.rows) (take k changes))
-    → NamesRise (map (λ (change : DbChange). change.rows) (take (k + 1) changes))
-rise_more changes k j a b is within a_is b_is next rise =
-    let old : map rows_in (take k changes) ≡ map rows_in (take j changes) ++ a.rows ∷ []
-    = rw (is, (split_at changes j a (omega arith) a_is).next) (map-append rows_in (take j changes) (a ∷ [])) in
-    rw ((split_at changes k b within b_is).next, map-append rows_in (take k changes) (b ∷ []), old)
-    (rise-push (map rows_in (take j changes)) a.rows b.rows (rw old at rise) next)

@@ -40,7 +40,7 @@ use Rattle.sync_session.specs.Endings.{Ends}
 use Rattle.sync_session.specs.Jobs.{jobs_of}
 use Rattle.sync_session.specs.Meets.{Meets}
 use Rattle.sync_session.specs.Phases.{gained, news_under}
-use Rattle.sync_session.specs.PlannedLimits.{over_planned}
+use Rattle.sync_session.specs.PlannedLimits.{limit_planned}
 use Rattle.sync_session.specs.PlannedLosses.{loss_planned}
 use Rattle.sync_session.specs.PlannedReports.{reports_planned}
 use Rattle.sync_session.specs.Planning.{ArePlanned}
@@ -133,7 +133,7 @@ reported (Err cause) = Err cause
 -- the limits were looked at, and what a new handheld would cost, or not all was read
 abbrev pub AfterReading : {F : Type 0} → List DbHead → DeskValue F → UserInfo → Result (Vec Planned) SessionFault → Result Prepared Stop → Type 0
 AfterReading heads desk user (Ok planned) answer =
-    Judges (over_planned (shelves_in desk) (length heads) (all_rows desk.slots) planned.items)
+    Judges (limit_planned (shelves_in desk) (length heads) (all_rows desk.slots) planned.items)
     (loss_planned user (marks_in desk) (shelves_in desk) planned.items) (reports_planned (shelves_in desk) planned.items) (reported answer)
     × IfOk answer (λ prepared. prepared.planned ≡ planned)
 AfterReading heads desk user (Err cause) answer = answer ≡ Err (stop.Session cause)

@@ -4,6 +4,7 @@ pub mod Choosing
 pub mod Commits
 pub mod Courses
 pub mod Endings
+pub mod Fits
 pub mod Fronts
 pub mod Gains
 pub mod Given

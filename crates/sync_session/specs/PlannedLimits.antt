@@ -1,5 +1,8 @@
 -- Which planned database would pass a limit first.
-use Rattle.std.specs.Prelude.{ℕ, ◌+◌, Bool, false, List, [], ◌∷◌, ◌++◌, ◌==◌, length, nat_lt, if◌then◌else◌, is_none, is_some, Option, Some, None}
+use Rattle.std.specs.Prelude.{ℕ, ◌+◌, ◌-◌, Bool, false, List, [], ◌∷◌, ◌++◌, ◌==◌, filter, length, nat_lt, if◌then◌else◌, is_none, is_some}
+use Rattle.std.specs.Prelude.{Option, Some, None}
+use Rattle.std.specs.Option.{option_or}
+use Rattle.pdb_values.specs.Bounds.{most_databases}
 use Rattle.pdb_values.specs.Contents.{ContentValue}
 use Rattle.pdb_values.specs.NamedDatabases.{database_of}
 use Rattle.conduit_rules.specs.declared.view.Seen.{Seen}
@@ -65,3 +68,25 @@ over_planned shelves handhelds desktops (one ∷ later) =
     if is_some one.job.skip then over_planned shelves handhelds desktops later
     else (if is_over (sizes_planned shelves handhelds desktops one) then Some one.job.name
     else over_planned shelves (with_one one.job.handheld handhelds) (with_one one.job.rows desktops) later)
+
+-- ---- how many there are
+
+-- the planned databases that are not skipped
+abbrev pub unskipped : List Planned → List Planned
+unskipped planned = filter (λ (one : Planned). is_none one.job.skip) planned
+
+-- the one behind so many of them
+abbrev pub past_room : ℕ → List Planned → Option (List ℕ)
+past_room room [] = None
+past_room room (one ∷ later) =
+    if is_some one.job.skip then past_room room later
+    else (if room == 0 then Some one.job.name else past_room (room - 1) later)
+
+-- the 201st of them, which has no place on a handheld
+abbrev pub past_most : List Planned → Option (List ℕ)
+past_most planned = past_room most_databases planned
+
+-- the first that would pass a limit, or else that one
+abbrev pub limit_planned : ShelvesValue → ℕ → ℕ → List Planned → Option (List ℕ)
+limit_planned shelves handhelds desktops planned =
+    option_or (over_planned shelves handhelds desktops planned) (past_most planned)

@@ -13,6 +13,12 @@ abbrev pub stop_of : CommitFault → Stop
 stop_of commit.DeskFault = stop.DeskFault
 stop_of commit.NoMemory = stop.Session session.NoMemory
 
+-- why a session stops before it writes, if it does: the first database that would pass a limit, or else the first that would lose live rows
+abbrev pub refusal_by : Option (List ℕ) → Option (List ℕ) → Option Stop
+refusal_by (Some name) loss = Some (stop.Limit name)
+refusal_by None (Some name) = Some (stop.NewHandheld name)
+refusal_by None None = None
+
 -- what is told where the limits were looked at, and then what a new handheld would cost the desktop: the name of the first database that
 -- would pass a limit; else of the first one that would lose live rows; else the reports; unless memory ran out
 abbrev pub Judges : Option (List ℕ) → Option (List ℕ) → List DbReport → Result (Vec DbReport) Stop → Type 0

@@ -1,11 +1,10 @@
 // What the desktop commits.
-ghost use Rattle.std.specs.Prelude.{◌≡◌, ◌<◌, ◌≤◌, ◌++◌, IfOk, IsTrue, List, OnOk, length, map, option_to_list};
+ghost use Rattle.std.specs.Prelude.{◌≡◌, ◌++◌, IfOk, OnOk, option_to_list};
 ghost use Rattle.std.specs.List.{AllByRecursion};
-ghost use Rattle.pdb_values.specs.NamedDatabases.{NamesRise, comes_before};
 ghost use Rattle.desk_store.specs.Changes.{IsDbChange, IsDeskChange, MayBear};
-ghost use Rattle.desk_store.specs.declared.change.DbChange.{DbChange as Change};
 ghost use Rattle.desk_store.specs.Views.{marks_in, shelves_in};
 ghost use Rattle.sync_session.specs.Commits.{Commits};
+ghost use Rattle.sync_session.specs.Fits.{AreTakeable, CanTake};
 ghost use Rattle.sync_session.specs.Takes as takes;
 ghost use Rattle.sync_session.specs.Users as users;
 
@@ -14,9 +13,8 @@ use crate::taking::take_one;
 use crate::users::done_marks;
 use desk_store::{CommitFault, DbChange, Desk, DeskChange};
 use hs_folders::Folder;
-use pdb_values::{Database, PalmDate, RecordId, UserInfo};
+use pdb_values::{PalmDate, RecordId, UserInfo};
 use std::alloc::{AllocError, Global};
-use std::cmp::Ordering;
 
 // Puts a change behind others, where there is one.
 fn put_change(changes: &mut Vec<DbChange>, change: Option<DbChange>) -> Result<(), AllocError>
@@ -39,7 +37,7 @@ fn take_all<D: Folder>(
     planned: &[Planned],
     ids: &[Vec<RecordId>],
 ) -> Result<Vec<DbChange>, AllocError>
-    requires { length ids.now ≡ length planned.now }
+    requires { AreTakeable date (shelves_in desk.now) planned.now (takes.each_of ids.now) }
     ensures changes { IfOk result (λ changes. changes.items
         ≡ takes.changes_of date (shelves_in desk.now) planned.now (takes.each_of ids.now)) }
     ensures fit { IfOk result (λ changes. AllByRecursion IsDbChange changes.items) }
@@ -52,31 +50,7 @@ fn take_all<D: Folder>(
     Ok(changes)
 }
 
-// Whether the name of a change stands before that of another in byte order.
-fn comes_before_other(one: &DbChange, other: &DbChange) -> bool
-    ensures { result ≡ comes_before one.now.rows.head.name other.now.rows.head.name }
-{
-    let name = &other.rows.head().name;
-    match one.rows.head().name.as_bytes().cmp(name.as_bytes()) {
-        Ordering::Less => true,
-        _ => false,
-    }
-}
-
-// Whether the names of changes rise in byte order.
-fn names_rise(changes: &[DbChange]) -> bool
-    ensures { IsTrue result → NamesRise (map (λ (change : Change). change.rows) changes.now) }
-{
-    for index in 1..changes.len() {
-        if !comes_before_other(&changes[index - 1], &changes[index]) {
-            return false;
-        }
-    }
-    true
-}
-
-// The change of the picked slot, where the desktop takes it: at most 200 databases, in rising order of their names, and marks that the
-// slot may get. Else want of memory is answered.
+// The change of the picked slot, which the desktop takes.
 fn change_all<D: Folder>(
     alloc: Global,
     desk: &Desk<D>,
@@ -85,6 +59,8 @@ fn change_all<D: Folder>(
     user: &UserInfo,
     date: PalmDate,
 ) -> Result<DeskChange, AllocError>
+    requires { let each = takes.each_of ids.now in
+        CanTake date user.now planned.now each desk.now.picked desk.now.slots }
     ensures marks { IfOk result (λ change. change.marks
         ≡ users.done_marks date user.now (marks_in desk.now)) }
     ensures changes { IfOk result (λ change. change.databases.items
@@ -92,24 +68,14 @@ fn change_all<D: Folder>(
     ensures fit { IfOk result IsDeskChange }
     ensures bears { IfOk result (λ change. MayBear desk.now.slots desk.now.picked change.marks) }
 {
-    if ids.len() != planned.len() {
-        return Err(AllocError);
-    }
     let databases = take_all(alloc, desk, date, planned, ids)?;
     let marks = done_marks(date, user, desk.marks());
-    let few = databases.len() <= Database::MOST;
-    if !few || !names_rise(&databases) || !desk.may_bear(&marks) {
-        return Err(AllocError);
-    }
     Ok(DeskChange { marks, databases })
 }
 
 /// Commits what was planned for databases, whose new records got these ids, one list for each: in the desktop's picked slot each of them
 /// that is not skipped gets its rows, its base rows and its archive, and the slot the marks that end a session with this user at this
-/// date. A refusal hands the folder back.
-///
-/// Want of memory is also answered where the desktop does not take the change: more than 200 databases, names that don't rise, a
-/// database of resources, marks of another slot's user, or other numbers of ids than of new records. A session plans none such.
+/// date. A refusal hands the folder back. What a session planned, with the ids that its handheld gave, the slot of its user can take.
 pub fn commit_all<D: Folder>(
     alloc: Global,
     desk: Desk<D>,
@@ -118,6 +84,8 @@ pub fn commit_all<D: Folder>(
     user: &UserInfo,
     date: PalmDate,
 ) -> Result<Desk<D>, (CommitFault, D)>
+    requires { let each = takes.each_of ids.now in
+        CanTake date user.now planned.now each desk.picked desk.slots }
     ensures commits { let each = takes.each_of ids.now in
         Commits D.contents D.moments D.paths D.faults
         (takes.taken_slots date user.now planned.now each desk.picked desk.slots)

@@ -8,7 +8,7 @@ ghost use Rattle.desktop_session.specs.Acts.{text};
 ghost use Rattle.desktop_session.specs.Tellings.{IsProper, device_after};
 ghost use Rattle.sync_session.specs.Limits.{first_over};
 ghost use Rattle.sync_session.specs.Losses.{first_loss};
-ghost use Rattle.sync_session.specs.PlannedLimits.{over_planned};
+ghost use Rattle.sync_session.specs.PlannedLimits.{limit_planned, over_planned};
 ghost use Rattle.sync_session.specs.PlannedLosses.{loss_planned};
 ghost use Rattle.sync_session.specs.PlannedReports.{reports_planned};
 ghost use Rattle.sync_session.specs.PlannedTasks.{ArePlannedFor};
@@ -50,11 +50,17 @@ pub fn planned_rows_are_merged()
         → planned_base plan given ≡ merged_base (choice_for action sides) sides.handheld given }
 {}
 
-/// The first planned database that would pass a limit is the first one of the meeting, over a handheld whose values keep their bounds.
+/// The first planned database that would pass a limit is the first one of the meeting, over a handheld whose values keep their bounds, and
+/// so is the limit that a session tells: such a handheld never has a 201st database.
 pub fn the_first_over_is_the_meetings()
-    ensures { (meeting : Meeting) (planned : List Planned)
+    ensures over { (meeting : Meeting) (planned : List Planned)
         → IsProper meeting.device → ArePlannedFor meeting planned
         → over_planned (slot_of meeting).shelves (length meeting.device.databases)
+        (all_rows meeting.slots) planned
+        ≡ first_over meeting }
+    ensures told { (meeting : Meeting) (planned : List Planned)
+        → IsProper meeting.device → ArePlannedFor meeting planned
+        → limit_planned (slot_of meeting).shelves (length meeting.device.databases)
         (all_rows meeting.slots) planned
         ≡ first_over meeting }
 {}

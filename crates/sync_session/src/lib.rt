@@ -50,7 +50,7 @@ pub use laws::{
     requests_bear_no_given_id, the_first_loss_is_the_meetings, the_first_over_is_the_meetings,
     what_is_told_is_the_meetings,
 };
-pub use limits::{first_over, is_over};
+pub use limits::{first_limit, first_over, is_over};
 pub use losses::{first_loss, is_new_to};
 pub use marking::{begin, finish};
 pub use meeting::{Met, meet};

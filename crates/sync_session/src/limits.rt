@@ -193,3 +193,37 @@ pub fn first_over<D: Folder>(
     }
     Ok(None)
 }
+
+// The name of the 201st planned database that is not skipped, if there are so many. No handheld has them, so one that lists more than it
+// can have is told of.
+fn past_most(planned: &[Planned]) -> Option<DbName>
+    ensures { result ≡ planned_limits.past_most planned.now }
+{
+    let mut room = Database::MOST;
+    for one in planned {
+        if is_active(one) {
+            if room == 0 {
+                return Some(one.job.name.copy());
+            }
+            room -= 1;
+        }
+    }
+    None
+}
+
+/// The name of the first planned database that would pass a limit of a side, or of the 201st that is not skipped. At a meeting of a handheld
+/// with a desktop that is the first one's.
+pub fn first_limit<D: Folder>(
+    alloc: Global,
+    desk: &Desk<D>,
+    listed: usize,
+    planned: &[Planned],
+) -> Result<Option<DbName>, AllocError>
+    ensures { IfOk result (λ name. name ≡ planned_limits.limit_planned (shelves_in desk.now)
+        listed (all_rows desk.now.slots) planned.now) }
+{
+    match first_over(alloc, desk, listed, planned)? {
+        Some(name) => Ok(Some(name)),
+        None => Ok(past_most(planned)),
+    }
+}

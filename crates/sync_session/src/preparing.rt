@@ -1,15 +1,15 @@
 // What a session does before it writes.
-ghost use Rattle.std.specs.Prelude.{◌≡◌, None, OnOk, false};
+ghost use Rattle.std.specs.Prelude.{◌≡◌, OnOk, false};
 ghost use Rattle.desk_store.specs.Desks.{all_rows};
 ghost use Rattle.desk_store.specs.Views.{marks_in, shelves_in};
 ghost use Rattle.sync_session.specs.Courses.{Prepares, ReadsAll};
-ghost use Rattle.sync_session.specs.PlannedLimits.{over_planned};
+ghost use Rattle.sync_session.specs.PlannedLimits.{limit_planned};
 ghost use Rattle.sync_session.specs.PlannedLosses.{loss_planned};
 ghost use Rattle.sync_session.specs.PlannedReports.{reports_planned};
-ghost use Rattle.sync_session.specs.Stopping.{Judges};
+ghost use Rattle.sync_session.specs.Stopping.{Judges, refusal_by};
 
 use crate::jobs::jobs_of;
-use crate::limits::first_over;
+use crate::limits::first_limit;
 use crate::losses::first_loss;
 use crate::planned::Planned;
 use crate::planning::plan_all;
@@ -23,7 +23,7 @@ use desktop_session::{Linked, SessionFault};
 use dlp_commands::Link;
 use fast_mirror::agree;
 use hs_folders::Folder;
-use pdb_values::{DbHead, UserInfo};
+use pdb_values::{DbHead, DbName, UserInfo};
 use std::alloc::Global;
 
 /// The databases of a session once they are read and planned, and what is told of them once it has ended.
@@ -52,24 +52,27 @@ pub fn read_and_plan<L: Link, D: Folder>(
     Ok(plan_all(alloc, desk, agree, jobs, views)?)
 }
 
-// Looks at what a handheld would cost the desktop that never ended a session, and tells what will have been done.
-fn judge_losses<D: Folder>(
-    alloc: Global,
+// Why a session stops before it writes, if it does: for the limit that was found, or else for what a new handheld would cost the desktop.
+fn refusal_of<D: Folder>(
+    limit: Option<DbName>,
     desk: &Desk<D>,
     handheld: &UserInfo,
     planned: &[Planned],
-) -> Result<Vec<DbReport>, Stop>
-    ensures { Judges None
-        (loss_planned handheld.now (marks_in desk.now) (shelves_in desk.now) planned.now)
-        (reports_planned (shelves_in desk.now) planned.now) result }
+) -> Option<Stop>
+    ensures { result ≡ refusal_by limit
+        (loss_planned handheld.now (marks_in desk.now) (shelves_in desk.now) planned.now) }
 {
-    match first_loss(desk, handheld, planned) {
-        Some(name) => Err(Stop::NewHandheld(name)),
-        None => Ok(reports_of(alloc, desk, planned)?),
+    match limit {
+        Some(name) => Some(Stop::Limit(name)),
+        None => match first_loss(desk, handheld, planned) {
+            Some(name) => Some(Stop::NewHandheld(name)),
+            None => None,
+        },
     }
 }
 
-// Looks at the limits of both sides, then at what a new handheld would cost. `listed` is how many databases the handheld listed.
+// Looks at the limits of both sides, then at what a new handheld would cost, and tells what will have been done. `listed` is how many
+// databases the handheld listed.
 fn judge<D: Folder>(
     alloc: Global,
     desk: &Desk<D>,
@@ -77,14 +80,15 @@ fn judge<D: Folder>(
     listed: usize,
     planned: &[Planned],
 ) -> Result<Vec<DbReport>, Stop>
-    ensures { Judges (over_planned (shelves_in desk.now) listed
+    ensures { Judges (limit_planned (shelves_in desk.now) listed
         (all_rows desk.now.slots) planned.now)
         (loss_planned handheld.now (marks_in desk.now) (shelves_in desk.now) planned.now)
         (reports_planned (shelves_in desk.now) planned.now) result }
 {
-    match first_over(alloc, desk, listed, planned)? {
-        Some(name) => Err(Stop::Limit(name)),
-        None => judge_losses(alloc, desk, handheld, planned),
+    let limit = first_limit(alloc, desk, listed, planned)?;
+    match refusal_of(limit, desk, handheld, planned) {
+        Some(stop) => Err(stop),
+        None => Ok(reports_of(alloc, desk, planned)?),
     }
 }
 

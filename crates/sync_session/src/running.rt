@@ -1,15 +1,20 @@
 // A session of both sides, from the greeting to the end.
 ghost use Rattle.std.specs.Prelude.{◌≡◌, ◌≤◌, Some, false, length};
 ghost use Rattle.dlp_commands.specs.Talks.{Talk};
-ghost use Rattle.desk_store.specs.Shelves.{AreInOrder};
-ghost use Rattle.desk_store.specs.Views.{marks_in};
+ghost use Rattle.folder_files.specs.Slots.{AreSlots, users_of};
+ghost use Rattle.desk_store.specs.Shelves.{AreInOrder, marks_of};
+ghost use Rattle.desk_store.specs.Views.{marks_in, shelves_in};
+ghost use Rattle.pdb_values.specs.Bounds.{most_databases};
 ghost use Rattle.pdb_values.specs.Slots.{slot_for as slot_of};
 ghost use Rattle.sync_session.specs.Courses.{Carries, Closes, GoesOn, IsSeated, MeetsOrNot, Runs, Writes, stopped as left_by};
+ghost use Rattle.sync_session.specs.Fits.{AreOfSession, CanTake, IsSeat};
 ghost use Rattle.sync_session.specs.Leaving.{Leaves, LeavesFolder};
 ghost use Rattle.sync_session.specs.Outcomes.{SessionEnds, tellings};
+ghost use Rattle.sync_session.specs.PlannedLimits.{unskipped};
 ghost use Rattle.sync_session.specs.Rests.{IsAtRest};
 ghost use Rattle.sync_session.specs.Takes.{each_of};
 ghost use Rattle.sync_session.specs.Tasks.{meeting_of};
+ghost use Rattle.sync_session.specs.Users.{agreed_user};
 
 use crate::committing::commit_all;
 use crate::ending::end_all;
@@ -88,7 +93,9 @@ fn commit<L: Link, D: Folder>(
     ids: &[Vec<RecordId>],
     date: PalmDate,
 ) -> Outcome<L, D>
-    requires { linked.abandoned ≡ false }
+    requires open { linked.abandoned ≡ false }
+    requires takes { CanTake date linked.user prepared.planned.items (each_of ids.now) desk.picked
+        desk.slots }
     ensures { Carries L.talk L.since L.fault L.downs D.contents D.moments D.paths D.faults date
         prepared (each_of ids.now) linked desk result }
 {
@@ -111,7 +118,10 @@ fn write<L: Link, D: Folder>(
     prepared: Prepared,
     date: PalmDate,
 ) -> Outcome<L, D>
-    requires { linked.abandoned ≡ false }
+    requires open { linked.abandoned ≡ false }
+    requires planned { AreOfSession (shelves_in desk) prepared.planned.items }
+    requires few { length (unskipped prepared.planned.items) ≤ most_databases }
+    requires seat { IsSeat desk.slots desk.picked (agreed_user linked.user (marks_in desk)) }
     ensures { Writes L.talk L.since L.fault L.downs D.contents D.moments D.paths D.faults date
         prepared linked desk result }
 {
@@ -134,6 +144,8 @@ fn go_on<L: Link, D: Folder>(
     requires some { 1 ≤ length users.now }
     requires room { length users.now ≤ 16 }
     requires count { length users.now ≡ length desk.slots }
+    requires formed { AreSlots (marks_of desk.slots) }
+    requires users { users.now ≡ users_of (marks_of desk.slots) }
     requires seated { IsSeated (slot_of users.now met.linked.user.user wishes.now.add_user) }
     ensures { GoesOn L.talk L.since L.fault L.downs D.contents D.moments D.paths D.faults users.now
         wishes.now met desk result }

@@ -1,10 +1,11 @@
 // What the desktop takes of one planned database.
-ghost use Rattle.std.specs.Prelude.{◌≡◌, IfOk, None, Some, false, length, option_to_list};
+ghost use Rattle.std.specs.Prelude.{◌≡◌, IfOk, false, length, option_to_list};
 ghost use Rattle.std.specs.List.{AllByRecursion};
 ghost use Rattle.pdb_values.specs.Heads.{holds_resources};
 ghost use Rattle.desk_store.specs.Changes.{IsDbChange};
 ghost use Rattle.desk_store.specs.Views.{shelves_in};
 ghost use Rattle.palm_device.specs.Blocks.{empty_database};
+ghost use Rattle.sync_session.specs.Fits.{IsTakeable};
 ghost use Rattle.sync_session.specs.Heads as heads;
 ghost use Rattle.sync_session.specs.Merges.{archive_of};
 ghost use Rattle.sync_session.specs.Takes as takes;
@@ -63,25 +64,6 @@ fn planned_change(
     })
 }
 
-// The same for rows and ids of which nothing is known: want of memory is answered where the rows hold resources, or where there are not
-// as many ids as new records.
-fn change_from(
-    alloc: Global,
-    plan: &Plan,
-    given: &[RecordId],
-    old: &[Record],
-    rows: &Database,
-) -> Result<Option<DbChange>, AllocError>
-    ensures change { IfOk result (λ change. option_to_list change
-        ≡ takes.change_from plan.now given.now old.now (Some rows.now)) }
-    ensures fit { IfOk result (λ change. AllByRecursion IsDbChange (option_to_list change)) }
-{
-    if rows.head().holds_resources() || given.len() != plan.adds.len() {
-        return Err(AllocError);
-    }
-    Ok(Some(planned_change(alloc, plan, given, old, rows)?))
-}
-
 // New rows for a database of the handheld: none yet, without blocks.
 fn new_rows(alloc: Global, date: PalmDate, head: &DbHead) -> Database
     ensures { result ≡ empty_database (heads.rows_head date head.now) }
@@ -90,7 +72,7 @@ fn new_rows(alloc: Global, date: PalmDate, head: &DbHead) -> Database
 }
 
 /// The change that a planned database makes of the desktop's picked slot, where its new records got these ids. A database that is
-/// skipped makes none. Want of memory is also answered where its rows hold resources, or where there are not as many ids as new records.
+/// skipped makes none.
 #[tactic(auto, unfolding(crate::specs::Takes::change_of))]
 pub(crate) fn take_one<D: Folder>(
     alloc: Global,
@@ -99,6 +81,7 @@ pub(crate) fn take_one<D: Folder>(
     one: &Planned,
     given: &[RecordId],
 ) -> Result<Option<DbChange>, AllocError>
+    requires { IsTakeable date (shelves_in desk.now) one.now given.now }
     ensures change { IfOk result (λ change. option_to_list change
         ≡ takes.change_of date (shelves_in desk.now) one.now given.now) }
     ensures fit { IfOk result (λ change. AllByRecursion IsDbChange (option_to_list change)) }
@@ -108,11 +91,11 @@ pub(crate) fn take_one<D: Folder>(
     }
     let old = records_in(desk.archive(&one.job.name));
     match desk.rows(&one.job.name) {
-        Some(rows) => change_from(alloc, &one.plan, given, old, rows),
+        Some(rows) => Ok(Some(planned_change(alloc, &one.plan, given, old, rows)?)),
         None => match &one.job.handheld {
             Some(head) => {
                 let rows = new_rows(alloc, date, head);
-                change_from(alloc, &one.plan, given, old, &rows)
+                Ok(Some(planned_change(alloc, &one.plan, given, old, &rows)?))
             }
             None => Ok(None),
         },

@@ -31,6 +31,10 @@ returns-clause-recorded c recorded =
     let turned = recorded_turned (apart_turned c.in_ok-send_over.ensures.turn.settled.apart) (c.send_over.ensures.recorded recorded) in
     recorded_turned c.in_ok-settle.ensures.turn.settled.apart (c.settle.ensures.recorded (c.send_over-2.ensures.recorded turned))
 
+pub returns-clause-rate : goal.returns-clause-rate
+returns-clause-rate c =
+    c.rate_of-rate.ensures wake c.greeting-wake.result c.in_ok-send_over.ensures.whole c.greeting-wake.ensures.text
+
 pub returns-clause-tells : goal.returns-clause-tells
 returns-clause-tells c before =
     let first = c.in_ok-send_over.ensures in

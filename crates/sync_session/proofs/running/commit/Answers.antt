@@ -2,6 +2,9 @@
 use Rattle.std.proofs.Common.{◌∙◌, Ok, Err}
 use Rattle.sync_session.proofs.running.commit.Goals as goal
 
+pub commit_all-requires : goal.commit_all-requires
+commit_all-requires g c = rw (c.deref.ensures.value, c.user.ensures) c.requires.takes
+
 pub returns-in-Ok : goal.returns-in-Ok
 returns-in-Ok g c = record {
   answer = Ok c.in-Ok.desk;

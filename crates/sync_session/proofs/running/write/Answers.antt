@@ -1,6 +1,21 @@
 -- The handheld gets what is planned, and then the desktop.
-use Rattle.std.proofs.Common.{Ok, Err}
+use Rattle.std.proofs.Common.{[], ◌∷◌, Ok, Err}
+use Rattle.desktop_session.specs.Requests.{marking}
+use Rattle.desktop_session.specs.Says.{saying}
+use Rattle.sync_session.specs.Users.{begun_user}
+use Rattle.sync_session.proofs.FitLaws.{session-rises, session-takes}
 use Rattle.sync_session.proofs.running.write.Goals as goal
+
+pub commit-requires-clause-takes : goal.commit-requires-clause-takes
+commit-requires-clause-takes g c =
+    let sends = rw c.deref.ensures.value at c.in-Ok.ensures.sends in
+    rw (c.deref-in-Ok.ensures.value, sends.user) (record {
+      each = session-takes c.args.date (saying (marking (begun_user c.args.linked.user) 0x40 ∷ []) (g.L.Link.talk c.args.linked.link))
+          sends.stretches c.in-Ok.ids.items c.requires.planned sends.said;
+      rise = session-rises c.requires.planned;
+      few = c.requires.few;
+      seat = c.requires.seat;
+    })
 
 pub returns-in-Ok : goal.returns-in-Ok
 returns-in-Ok g c = record {
