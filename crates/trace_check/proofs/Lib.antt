@@ -1,9 +1,14 @@
+pub mod BearingLaws
+pub mod ClosingLaws
 pub mod FateLaws
 pub mod FilledLaws
+pub mod GreetingLaws
 pub mod LineLaws
 pub mod PlainLaws
 pub mod RuleLaws
 pub mod RunLaws
+pub mod StandingLaws
 pub mod StripLaws
 pub mod TalkLaws
 pub mod TraceLaws
+pub mod WalkLaws

@@ -8,18 +8,24 @@
 //! the seven rules of `Rule`. So is the trace of every run, whatever its line did.
 #![tactic(auto)]
 
+mod bearing;
 mod fate;
 mod fault;
 mod frame;
 mod laws;
+mod ordering;
 mod reader;
 mod rule;
+mod standing;
 mod word;
 
+pub use bearing::bear_fragments;
 pub use fault::TraceFault;
 pub use laws::{
     a_text_is_one_trace, a_trace_has_one_verdict, a_trace_speaks_for_itself,
     a_written_trace_is_read, the_rules_are_the_definition,
 };
+pub use ordering::come_in_order;
 pub use reader::{MOST_BYTES, read_trace};
 pub use rule::{Rule, Verdict};
+pub use standing::Standing;
