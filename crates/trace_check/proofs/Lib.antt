@@ -1,5 +1,6 @@
 pub mod BearingLaws
 pub mod ClosingLaws
+pub mod EndingLaws
 pub mod FateLaws
 pub mod FilledLaws
 pub mod GreetingLaws
@@ -12,3 +13,4 @@ pub mod StripLaws
 pub mod TalkLaws
 pub mod TraceLaws
 pub mod WalkLaws
+pub mod XorLaws

@@ -9,6 +9,7 @@
 #![tactic(auto)]
 
 mod bearing;
+mod ending;
 mod fate;
 mod fault;
 mod frame;
@@ -20,6 +21,7 @@ mod standing;
 mod word;
 
 pub use bearing::bear_fragments;
+pub use ending::end_at_last;
 pub use fault::TraceFault;
 pub use laws::{
     a_text_is_one_trace, a_trace_has_one_verdict, a_trace_speaks_for_itself,
