@@ -27,7 +27,7 @@ end_by number given (frame ∷ later) traced last same = (
       (λ k. ap given (let e : number + 1 + k ≡ number + suc k = omega arith in e) ∙ same (suc k)),
 )
 
-numbered-end : (number : ℕ) (given : ℕ → FateValue) (frames : List FrameValue) → AreNumbered number given frames → EndAtLast frames
+pub numbered-end : (number : ℕ) (given : ℕ → FateValue) (frames : List FrameValue) → AreNumbered number given frames → EndAtLast frames
 numbered-end number given [] all = tt
 numbered-end number given (frame ∷ later) all = (all.2, numbered-end (number + 1) given later all.3)
 

@@ -1,7 +1,11 @@
+pub mod Acking
 pub mod Bearing
 pub mod Closing
 pub mod Judging
 pub mod Messages
 pub mod Readings
+pub mod Sending
+pub mod Speaking
 pub mod Standings
+pub mod Talking
 pub mod Words

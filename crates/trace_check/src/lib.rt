@@ -8,7 +8,9 @@
 //! the seven rules of `Rule`. So is the trace of every run, whatever its line did.
 #![tactic(auto)]
 
+mod acking;
 mod bearing;
+mod came;
 mod ending;
 mod fate;
 mod fault;
@@ -16,10 +18,15 @@ mod frame;
 mod laws;
 mod ordering;
 mod reader;
+mod repeats;
 mod rule;
+mod sent;
+mod speaker;
 mod standing;
+mod talking;
 mod word;
 
+pub use acking::are_acked;
 pub use bearing::bear_fragments;
 pub use ending::end_at_last;
 pub use fault::TraceFault;
@@ -30,4 +37,4 @@ pub use laws::{
 pub use ordering::come_in_order;
 pub use reader::{MOST_BYTES, read_trace};
 pub use rule::{Rule, Verdict};
-pub use standing::Standing;
+pub use talking::{Wholes, whole_messages};
