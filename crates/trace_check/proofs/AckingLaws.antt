@@ -1,22 +1,21 @@
 -- The acknowledgements are those of the data frames that came, one after the other.
-use Rattle.std.proofs.Common.{◌≡◌, ◌⊎◌, ℕ, zero, suc, ◌+◌, ◌-◌, ◌<◌, ◌≤◌, Bool, true, false, ◌&&◌, ◌||◌, List, [], ◌∷◌, ◌++◌, length, take, drop, map, get_or, nat_eq, Option, Some, None, refl, sym, ap, subst, ◌∙◌, append_assoc, arith, inl, inr}
-use Rattle.std.specs.Prelude.{reverse, if◌then◌else◌, ◌↔◌, IsTrue}
+use Rattle.std.proofs.Common.{◌≡◌, ◌⊎◌, ℕ, suc, ◌+◌, ◌-◌, ◌<◌, ◌≤◌, Bool, true, false, List, [], ◌∷◌, ◌++◌, length, take, map, get_or, Option, Some, None, refl, sym, ap, subst, ◌∙◌, append_assoc, arith, inl, inr}
+use Rattle.std.specs.Prelude.{reverse, ◌↔◌}
 use Rattle.std.specs.Bool.{MatchBool}
 use Rattle.std.specs.Option.{MatchOption}
 use Rattle.std.specs.List.{AllByRecursion}
-use Rattle.std.proofs.lemmas.Bool.{cond-true, cond-false, cases_Bool, cases_lt, both_ways}
-use Rattle.std.proofs.lemmas.Bool.Decides.{when_true, when_false, nat_tests}
-use Rattle.std.proofs.lemmas.List.{length-map, length-reverse, length-take, reverse-append, reverse-reverse, take_more, map-append, take_at, append-nil, get_or-reverse, get_or_at, get_or-map, get_or_default, take_all, length-append}
+use Rattle.std.proofs.lemmas.Bool.{cond-true, cond-false, cases_Bool}
+use Rattle.std.proofs.lemmas.Bool.Decides.{when_true, when_false}
+use Rattle.std.proofs.lemmas.List.{length-map, length-reverse, length-take, reverse-append, reverse-reverse, take_more, map-append, get_or-reverse, get_or_at, get_or-map, get_or_default, take_all, length-append}
 use Rattle.std.proofs.lemmas.List.Elements.{All-from_recursion}
-use Rattle.padp_link.specs.declared.piece.Key.{Key}
 use Rattle.trace_text.specs.declared.frame.End.{End}
 use Rattle.trace_text.specs.Frames.{BearsFragment, sent_in, add_frame, is_abort, fragment_in, past_behind, past_of}
 use Rattle.trace_text.specs.Faults.{late_of, newest}
 use Rattle.trace_text.specs.Past.{Sent, at}
-use Rattle.trace_text.specs.Proper.{Reaches, Numbered, data_that_came, is_ack_of, AcksAreFor, AllButLastAcked, DataIsAcked}
+use Rattle.trace_text.specs.Proper.{Reaches, Numbered, data_that_came, is_ack_of, AcksAreFor, DataIsAcked}
 use Rattle.trace_text.specs.TraceLines.{FrameValue}
 use Rattle.line_laws.proofs.PastLaws.{at_push}
-use Rattle.trace_check.specs.Acking.{numbered_value, data_came, answered_of, repeats_after, IsRepeats, HasReached, AcksNext, Hears, HearsWrong, pushed, Passes}
+use Rattle.trace_check.specs.Acking.{numbered_value, data_came, answered_of, IsRepeats, Hears, HearsWrong, pushed, Passes}
 use Rattle.trace_check.specs.declared.acking.Acks.{Acks}
 use Rattle.trace_check.specs.declared.came.DataCame.{DataCame}
 use Rattle.trace_check.proofs.CameLaws.{StandsIn, data_came-stand, data_came-numbered, reached-reaches, reaches-reached}

@@ -1,5 +1,5 @@
 -- What stands in the bytes of a frame.
-use Rattle.std.proofs.Common.{◌≡◌, ◌⊎◌, ℕ, ◌+◌, ◌-◌, ◌≤◌, Bool, true, false, nat_eq, List, [], ◌∷◌, ◌++◌, length, take, drop, get_or, Option, Some, None, refl, sym, ap, subst, ◌∙◌, arith, rules, inl, inr, if◌then◌else◌}
+use Rattle.std.proofs.Common.{◌≡◌, ℕ, ◌+◌, ◌-◌, ◌≤◌, Bool, true, false, nat_eq, List, [], ◌∷◌, ◌++◌, length, take, drop, get_or, Option, Some, None, sym, ap, subst, ◌∙◌, arith, rules, inl, inr, if◌then◌else◌}
 use Rattle.std.specs.Prelude.{◌↔◌, IsTrue}
 use Rattle.std.proofs.lemmas.Bool.Decides.{nat_tests}
 use Rattle.std.proofs.lemmas.List.{append-nil, length-take, length-drop}
@@ -11,7 +11,6 @@ use Rattle.slp_frames.specs.declared.packet.PacketLent.{PacketLent}
 use Rattle.slp_frames.proofs.PlaceLaws.{place_of-packet, length-packet_text, length-behind, cases_place, place_of-open}
 use Rattle.slp_frames.proofs.ScanLaws.{scan-dead, scan-open, scan-packet, scan_packet_text}
 use Rattle.padp_link.specs.FragmentText.{FragmentValue, FragmentText, fragment_text}
-use Rattle.padp_link.proofs.TextLaws.{one_fragment}
 use Rattle.trace_text.specs.Frames.{BearsFragment, MayBear, fields_of, fragment_in, padp_packet}
 use Rattle.trace_text.specs.TraceLines.{FrameValue}
 use Rattle.trace_check.specs.Bearing.{IsPacket, Bears}

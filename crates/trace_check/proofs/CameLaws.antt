@@ -1,17 +1,14 @@
 -- The data frames that came: where each stands, and when it has reached what is sent.
-use Rattle.std.proofs.Common.{◌≡◌, ◌⊎◌, ℕ, zero, suc, ◌+◌, ◌-◌, ◌<◌, ◌≤◌, Bool, true, false, ◌&&◌, List, [], ◌∷◌, ◌++◌, length, take, drop, map, get_or, refl, sym, ap, subst, ◌∙◌, arith, inl, inr}
-use Rattle.std.specs.Prelude.{reverse, if◌then◌else◌, ◌↔◌}
+use Rattle.std.proofs.Common.{◌≡◌, ◌⊎◌, ℕ, ◌+◌, ◌-◌, ◌<◌, ◌≤◌, Bool, true, ◌&&◌, List, [], ◌∷◌, length, drop, map, refl, sym, ap, subst, ◌∙◌, arith, inl, inr}
 use Rattle.std.specs.List.{AllByRecursion}
-use Rattle.std.proofs.lemmas.Bool.{cond-true, cond-false, cases_Bool, cases_lt, both_ways, and_parts}
-use Rattle.std.proofs.lemmas.List.{length-map, length-reverse}
+use Rattle.std.proofs.lemmas.Bool.{cond-true, cond-false, cases_Bool, cases_lt, and_parts}
 use Rattle.trace_text.specs.declared.frame.End.{End}
-use Rattle.trace_text.specs.declared.frame.End.TheVariants.{Handheld, Desktop}
-use Rattle.trace_text.specs.Faults.{late_of, newest, newest_repeat, IsHeldIn}
+use Rattle.trace_text.specs.Faults.{late_of, newest, IsHeldIn}
 use Rattle.trace_text.specs.Past.{Sent, is_end, is_data_of, at}
-use Rattle.trace_text.specs.Proper.{Reaches, Numbered, data_that_came}
+use Rattle.trace_text.specs.Proper.{Reaches, data_that_came}
 use Rattle.line_laws.proofs.CameLaws.{same_end}
 use Rattle.line_laws.proofs.FaultLaws.{newest_inside, newest_from, at_top}
-use Rattle.line_laws.proofs.PastLaws.{at_push, at_at, at_all, length-at}
+use Rattle.line_laws.proofs.PastLaws.{at_push, at_at, length-at}
 use Rattle.trace_check.specs.Acking.{numbered_value, data_came, HasReached, IsRepeats}
 use Rattle.trace_check.specs.declared.came.DataCame.{DataCame}
 use Rattle.trace_check.specs.declared.repeats.Repeats.{Repeats}

@@ -1,5 +1,5 @@
 -- The data frames that came, gathered frame by frame.
-use Rattle.std.proofs.Common.{◌≡◌, ℕ, ◌+◌, ◌-◌, ◌<◌, Bool, true, false, ◌&&◌, List, [], ◌∷◌, ◌++◌, length, map, get_or, refl, sym, ap, subst, ◌∙◌, arith, inl, inr}
+use Rattle.std.proofs.Common.{◌≡◌, ℕ, ◌+◌, ◌-◌, ◌<◌, true, false, ◌&&◌, List, [], ◌∷◌, ◌++◌, length, map, get_or, refl, sym, ap, ◌∙◌, arith, inl, inr}
 use Rattle.std.specs.Prelude.{reverse, if◌then◌else◌}
 use Rattle.std.specs.List.{AllByRecursion}
 use Rattle.std.proofs.lemmas.Bool.{cond-true, cond-false, cases_Bool}
@@ -9,7 +9,6 @@ use Rattle.padp_link.specs.declared.fragment.PadpKind.TheVariants.{Data, Ack, Ti
 use Rattle.trace_text.specs.declared.frame.End.{End}
 use Rattle.trace_text.specs.declared.frame.Frame.{Frame}
 use Rattle.trace_text.specs.Fates.{FateValue, ends_run}
-use Rattle.trace_text.specs.Fates as fate
 use Rattle.trace_text.specs.Faults.{late_of, newest}
 use Rattle.trace_text.specs.Frames.{BearsFragment, MayBear, is_abort, fragment_in, sent_in, add_frame, past_behind, past_of, came_in}
 use Rattle.trace_text.specs.Past.{Sent, is_data_of}

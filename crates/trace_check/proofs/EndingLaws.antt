@@ -5,7 +5,7 @@ use Rattle.trace_text.specs.Fates.{FateValue, ends_run}
 use Rattle.trace_text.specs.Proper.{AreNumbered}
 use Rattle.trace_text.specs.TraceLines.{FrameValue}
 use Rattle.trace_check.specs.Messages.{fates_in}
-use Rattle.trace_check.specs.Readings.{IsTraced, AreTraced}
+use Rattle.trace_check.specs.Readings.{AreTraced}
 
 -- only the last frame ends the run
 abbrev pub EndAtLast : List FrameValue → Type 0

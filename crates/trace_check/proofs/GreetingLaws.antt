@@ -1,14 +1,12 @@
 -- The first parts of an end's messages may be said one after the other, and the first message is a greeting exactly where it may be.
-use Rattle.std.proofs.Common.{◌≡◌, ℕ, zero, suc, ◌+◌, ◌-◌, ◌*◌, ◌<◌, ◌≤◌, min, List, [], ◌∷◌, ◌++◌, length, take, drop, map, replicate, refl, sym, ap, subst, ◌∙◌, append_assoc, arith, inl, inr}
-use Rattle.std.specs.Prelude.{◌↔◌}
+use Rattle.std.proofs.Common.{◌≡◌, ℕ, zero, suc, ◌+◌, ◌-◌, ◌*◌, ◌<◌, ◌≤◌, min, List, [], ◌∷◌, ◌++◌, length, drop, map, replicate, refl, sym, ap, subst, ◌∙◌, arith, inl, inr}
 use Rattle.std.specs.List.{range_with_len}
 use Rattle.std.proofs.lemmas.Bool.{cases_lt}
 use Rattle.std.proofs.lemmas.List.{append-nil, length-append, length-take, length-drop, length-replicate}
 use Rattle.cmp_hello.specs.declared.hello.HelloKind.{HelloKind}
-use Rattle.padp_link.proofs.PieceLaws.{count_inside}
 use Rattle.padp_link.specs.Neighbours.{session_id}
-use Rattle.padp_link.specs.Pieces.{piece_count, piece_of}
-use Rattle.trace_text.specs.Parts.{Part, session_parts, message_parts}
+use Rattle.padp_link.specs.Pieces.{piece_count}
+use Rattle.trace_text.specs.Parts.{Part, session_parts}
 use Rattle.line_laws.specs.Talking.{part_at}
 use Rattle.trace_check.specs.Messages.{filled, parts_behind, messages_from, messages_in, wholes_from, wholes_in, IfFirst, IsGreeting}
 use Rattle.trace_check.specs.Standings.{start, IsPiece, GoesOnBy, GreetsBy, next, MaySayAll}

@@ -1,5 +1,5 @@
 -- What was sent in a frame is what its bytes bear.
-use Rattle.std.proofs.Common.{◌≡◌, ℕ, true, false, List, ◌∷◌, refl, sym, ap, ◌∙◌}
+use Rattle.std.proofs.Common.{◌≡◌, ℕ, true, false, List, ◌∷◌, ap, ◌∙◌}
 use Rattle.std.proofs.lemmas.Bool.{cond-true, cond-false}
 use Rattle.padp_link.specs.FragmentText.{FragmentValue}
 use Rattle.padp_link.specs.Pieces.{key_of}

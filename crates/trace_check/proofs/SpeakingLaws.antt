@@ -1,5 +1,5 @@
 -- What an end may say next is what the rule of messages asks of its next frame.
-use Rattle.std.proofs.Common.{◌≡◌, ℕ, ◌+◌, ◌<◌, ◌≤◌, Bool, true, false, ◌&&◌, List, [], ◌∷◌, ◌++◌, length, map, Option, Some, None, refl, sym, ap, subst, ◌∙◌, arith, inl, inr}
+use Rattle.std.proofs.Common.{◌≡◌, ◌+◌, ◌<◌, Bool, true, false, ◌&&◌, List, [], ◌∷◌, ◌++◌, length, map, Some, refl, sym, ap, subst, ◌∙◌, arith, inl, inr}
 use Rattle.std.specs.Bool.{MatchBool}
 use Rattle.std.specs.Prelude.{reverse, if◌then◌else◌}
 use Rattle.std.proofs.lemmas.Bool.{cond-true, cond-false, cases_Bool, both_ways, and_parts}
@@ -8,15 +8,14 @@ use Rattle.std.proofs.lemmas.List.{reverse-append}
 use Rattle.cmp_hello.specs.declared.hello.HelloKind.{HelloKind}
 use Rattle.padp_link.specs.declared.piece.Key.{Key}
 use Rattle.trace_text.specs.declared.frame.End.{End}
-use Rattle.trace_text.specs.Faults.{faulted, newest, last_repeat}
-use Rattle.trace_text.specs.Parts.{Part, part_of, add_part, spoken, key_of_part}
-use Rattle.trace_text.specs.Past.{Sent, same_key, first, said, data_of, is_data_of, is_newest_key, is_repeat, run}
-use Rattle.trace_text.specs.Proper.{AtMostTen}
+use Rattle.trace_text.specs.Faults.{faulted, newest}
+use Rattle.trace_text.specs.Parts.{Part, part_of, spoken, key_of_part}
+use Rattle.trace_text.specs.Past.{Sent, same_key, first, said, is_data_of, is_newest_key, is_repeat, run}
 use Rattle.line_laws.proofs.CameLaws.{ten-run}
 use Rattle.line_laws.proofs.PartLaws.{spoken_keys, add_part-new, add_part-again}
 use Rattle.line_laws.proofs.PastLaws.{same_key-true, same_key-same}
 use Rattle.trace_check.specs.Standings.{start, MaySay, next, standing_behind, MaySayAll}
-use Rattle.trace_check.specs.Speaking.{silent, is_again, MayRepeat, repeated_at, begun_with, SaysNext, IsSpeaker, SpeaksSo, HasFault}
+use Rattle.trace_check.specs.Speaking.{silent, is_again, repeated_at, begun_with, SaysNext, IsSpeaker, SpeaksSo, HasFault}
 use Rattle.trace_check.specs.declared.speaker.Speaker.{Speaker}
 use Rattle.trace_check.proofs.StandingLaws.{standing_behind-push, MaySayAll-push, MaySayAll-front, MaySayAll-last}
 

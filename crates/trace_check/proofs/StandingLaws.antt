@@ -1,19 +1,17 @@
 -- Parts that may be said one after the other are the first parts of an end's messages, and the first message a greeting.
-use Rattle.std.proofs.Common.{◌≡◌, ℕ, zero, suc, ◌+◌, ◌-◌, ◌*◌, ◌<◌, ◌≤◌, min, List, [], ◌∷◌, ◌++◌, length, take, drop, map, replicate, refl, sym, ap, subst, ◌∙◌, append_assoc, zero-add, arith}
-use Rattle.std.specs.Prelude.{◌↔◌}
-use Rattle.std.specs.List.{range_with_len}
+use Rattle.std.proofs.Common.{◌≡◌, ℕ, zero, suc, ◌+◌, ◌-◌, ◌*◌, ◌<◌, ◌≤◌, min, List, [], ◌∷◌, ◌++◌, length, take, drop, replicate, refl, sym, ap, subst, ◌∙◌, append_assoc, zero-add, arith}
 use Rattle.std.proofs.lemmas.List.{append-nil, length-append, length-replicate, take-append-drop, take_at, drop_at}
-use Rattle.std.proofs.lemmas.List.FromFn.{length-map-range_with_len, take-map-range_with_len, map-range_with_len_more}
+use Rattle.std.proofs.lemmas.List.FromFn.{take-map-range_with_len, map-range_with_len_more}
 use Rattle.cmp_hello.specs.declared.hello.HelloKind.{HelloKind}
 use Rattle.padp_link.proofs.PieceLaws.{count_inside}
 use Rattle.padp_link.specs.Neighbours.{session_id}
-use Rattle.padp_link.specs.Pieces.{piece_count, piece_of}
+use Rattle.padp_link.specs.Pieces.{piece_count}
 use Rattle.trace_text.specs.Parts.{Part, session_parts, message_parts}
 use Rattle.line_laws.specs.Talking.{part_at}
-use Rattle.trace_check.specs.Messages.{filled, parts_behind, messages_from, messages_in, wholes_from, wholes_in, IfFirst, IsGreeting}
-use Rattle.trace_check.specs.Standings.{start, IsPiece, GoesOnBy, GreetsBy, MaySay, next, standing_behind, MaySayAll, wholes_at}
+use Rattle.trace_check.specs.Messages.{parts_behind, messages_in, wholes_from, wholes_in}
+use Rattle.trace_check.specs.Standings.{start, IsPiece, MaySay, next, standing_behind, MaySayAll, wholes_at}
 use Rattle.trace_check.specs.declared.standing.Standing.{Standing}
-use Rattle.trace_check.proofs.FilledLaws.{firsts, message_parts-firsts, Heard, heard}
+use Rattle.trace_check.proofs.FilledLaws.{firsts, message_parts-firsts, heard}
 
 -- ---- how many are whole
 

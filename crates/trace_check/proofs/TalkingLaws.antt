@@ -1,31 +1,31 @@
 -- What both ends may say next is what the rule of messages asks, frame by frame.
-use Rattle.std.proofs.Common.{◌≡◌, ℕ, zero, suc, ◌+◌, ◌<◌, ◌≤◌, Bool, true, false, ◌&&◌, List, [], ◌∷◌, ◌++◌, length, refl, sym, ap, subst, ◌∙◌, arith, inl, inr}
+use Rattle.std.proofs.Common.{◌≡◌, ℕ, zero, suc, ◌+◌, ◌<◌, ◌≤◌, Bool, true, false, ◌&&◌, List, [], ◌∷◌, length, refl, sym, ap, subst, ◌∙◌, arith, inl, inr}
 use Rattle.std.specs.Prelude.{reverse, if◌then◌else◌, ◌↔◌}
 use Rattle.std.specs.Bool.{MatchBool}
 use Rattle.std.specs.List.{AllByRecursion}
-use Rattle.std.proofs.lemmas.Bool.{cond-true, cond-false, cases_Bool, both_ways, and_parts}
+use Rattle.std.proofs.lemmas.Bool.{cond-true, cond-false, cases_Bool}
 use Rattle.std.proofs.lemmas.Bool.Decides.{when_true, when_false}
 use Rattle.std.proofs.lemmas.List.{length-reverse}
 use Rattle.cmp_hello.specs.declared.hello.HelloKind.TheVariants.{Wake, Init}
 use Rattle.trace_text.specs.declared.frame.End.{End}
 use Rattle.trace_text.specs.declared.frame.End.TheVariants.{Handheld, Desktop}
-use Rattle.trace_text.specs.Faults.{is_faulty, faulted, newest, last_repeat, RepeatsHaveFaults}
+use Rattle.trace_text.specs.Faults.{is_faulty, newest}
 use Rattle.trace_text.specs.Frames.{BearsFragment, sent_in, add_frame, is_abort, fragment_in, past_behind, past_of}
 use Rattle.trace_text.specs.Parts.{Part, part_of, add_part, spoken, session_parts}
-use Rattle.trace_text.specs.Past.{Sent, is_end, same_key, is_data_of, is_repeat}
-use Rattle.trace_text.specs.Proper.{SaysMessages, AtMostTen}
+use Rattle.trace_text.specs.Past.{Sent, is_end, same_key, is_data_of}
+use Rattle.trace_text.specs.Proper.{SaysMessages}
 use Rattle.trace_text.specs.Talks.{messages_of}
 use Rattle.trace_text.specs.TraceLines.{FrameValue}
 use Rattle.line_laws.proofs.PastLaws.{is_end-same}
 use Rattle.trace_check.specs.Judging.{SayMessages}
 use Rattle.trace_check.specs.Messages.{messages_in, parts_in, talk_in, whole_count}
-use Rattle.trace_check.specs.Standings.{start, next, next_by, standing_behind, MaySayAll, wholes_at}
+use Rattle.trace_check.specs.Standings.{start, next, next_by, standing_behind, wholes_at}
 use Rattle.trace_check.specs.Speaking.{silent, SaysNext, IsSpeaker, SpeaksSo, HasFault}
 use Rattle.trace_check.specs.Talking.{greeting_of, speaker_of, with_speaker, EndSays, Says, IsTalking, TalksSo, HasRoom}
 use Rattle.trace_check.specs.declared.speaker.Speaker.{Speaker}
 use Rattle.trace_check.specs.declared.standing.Standing.{Standing}
 use Rattle.trace_check.specs.declared.talking.Talking.{Talking}
-use Rattle.trace_check.proofs.GreetingLaws.{Greeted, first-said, said-greets}
+use Rattle.trace_check.proofs.GreetingLaws.{first-said, said-greets}
 use Rattle.trace_check.proofs.SpeakingLaws.{silent-speaker, silent-so, other-speaker, other-so, other-fault, next-says, says-next, so-before}
 use Rattle.trace_check.proofs.StandingLaws.{wholes_in-standing, said-first}
 

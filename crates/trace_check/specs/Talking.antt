@@ -1,5 +1,5 @@
 -- What both ends said so far, and what a frame adds to it.
-use Rattle.std.specs.Prelude.{◌≡◌, ℕ, ◌+◌, ◌<◌, ◌≤◌, List, length}
+use Rattle.std.specs.Prelude.{◌≡◌, ◌+◌, ◌<◌, ◌≤◌, List, length}
 use Rattle.std.specs.Bool.{MatchBool}
 use Rattle.cmp_hello.specs.declared.hello.HelloKind.{HelloKind}
 use Rattle.cmp_hello.specs.declared.hello.HelloKind.TheVariants.{Wake, Init}

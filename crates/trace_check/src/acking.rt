@@ -18,13 +18,13 @@ use trace_text::{End, Frame};
 
 // The repeats so far, and how many data frames of an end were acknowledged.
 #[derive(Clone, Copy)]
-pub struct Acks {
-    pub repeats: Repeats,
-    pub acked: usize,
+pub(crate) struct Acks {
+    pub(crate) repeats: Repeats,
+    pub(crate) acked: usize,
 }
 
 // Whether the data that came is acknowledged in order, all of it or all but the last, in both directions.
-pub fn are_acked(alloc: Global, frames: &[Frame]) -> Result<bool, AllocError>
+pub(crate) fn are_acked(alloc: Global, frames: &[Frame]) -> Result<bool, AllocError>
     requires few { length frames.now ≤ 4294967295 }
     requires ends { Keeps A (map frame_value frames.now) }
     requires bear { Keeps B (map frame_value frames.now) }

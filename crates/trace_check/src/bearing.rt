@@ -32,7 +32,7 @@ pub(crate) struct Borne<'a> {
 }
 
 // Whether each frame bears a fragment in a packet.
-pub fn bear_fragments(frames: &[Frame]) -> bool
+pub(crate) fn bear_fragments(frames: &[Frame]) -> bool
     ensures { IsTrue result ↔ Keeps B (map frame_value frames.now) }
 {
     for frame in frames {

@@ -16,10 +16,10 @@ use trace_text::{End, Frame};
 
 // A data frame that came: its number, its key, and the number of the newest late frame of its end up to it, or 0.
 #[derive(Clone, Copy)]
-pub struct DataCame {
-    pub number: u32,
-    pub key: Key,
-    pub late: u32,
+pub(crate) struct DataCame {
+    pub(crate) number: u32,
+    pub(crate) key: Key,
+    pub(crate) late: u32,
 }
 
 // The data frames of an end that came, the oldest first.

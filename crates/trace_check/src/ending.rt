@@ -13,7 +13,7 @@ use slp_frames::{MAX_PACKET, SlpReader};
 use trace_text::{Fate, Frame};
 
 // Whether no frame stands behind one that ends the run.
-pub fn end_at_last(frames: &[Frame]) -> bool
+pub(crate) fn end_at_last(frames: &[Frame]) -> bool
     requires { AreTraced 1 (map frame_value frames.now) }
     ensures { IsTrue result ↔ Keeps A (map frame_value frames.now) }
 {

@@ -10,31 +10,32 @@
 
 mod acking;
 mod bearing;
+mod both;
 mod came;
 mod ending;
 mod fate;
 mod fault;
 mod frame;
+mod judge;
 mod laws;
+mod notice;
 mod ordering;
 mod reader;
 mod repeats;
 mod rule;
 mod sent;
+mod side;
 mod speaker;
 mod standing;
 mod talking;
+mod turns;
 mod word;
 
-pub use acking::are_acked;
-pub use bearing::bear_fragments;
-pub use ending::end_at_last;
 pub use fault::TraceFault;
+pub use judge::verdict;
 pub use laws::{
     a_text_is_one_trace, a_trace_has_one_verdict, a_trace_speaks_for_itself,
     a_written_trace_is_read, the_rules_are_the_definition,
 };
-pub use ordering::come_in_order;
 pub use reader::{MOST_BYTES, read_trace};
 pub use rule::{Rule, Verdict};
-pub use talking::{Wholes, whole_messages};

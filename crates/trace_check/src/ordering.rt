@@ -18,7 +18,7 @@ struct Closed {
 }
 
 // Whether the frames of a direction come in order.
-pub fn come_in_order(frames: &[Frame]) -> bool
+pub(crate) fn come_in_order(frames: &[Frame]) -> bool
     ensures { IsTrue result ↔ Keeps C (map frame_value frames.now) }
 {
     let mut closed = Closed {

@@ -11,11 +11,11 @@ use trace_text::End;
 
 // The newest keys of both ends, the number of the newest repeat of either, or 0, and how many frames there were.
 #[derive(Clone, Copy)]
-pub struct Repeats {
-    pub handheld: Option<Key>,
-    pub desktop: Option<Key>,
-    pub newest: u32,
-    pub count: u32,
+pub(crate) struct Repeats {
+    pub(crate) handheld: Option<Key>,
+    pub(crate) desktop: Option<Key>,
+    pub(crate) newest: u32,
+    pub(crate) count: u32,
 }
 
 impl Repeats {

@@ -13,7 +13,7 @@ use trace_text::{End, Fate, Frame};
 
 // What becomes of a frame: it comes, it doesn't or damaged, or it comes late.
 #[derive(Clone, Copy)]
-pub enum Course {
+pub(crate) enum Course {
     Came,
     Gone,
     Late,
@@ -21,12 +21,12 @@ pub enum Course {
 
 // What was sent in a frame: by whom, whether it is data, its key, its part of a message, and what became of it.
 #[derive(Clone, Copy)]
-pub struct SentFrame<'a> {
-    pub from: End,
-    pub is_data: bool,
-    pub key: Key,
-    pub bytes: &'a [u8],
-    pub course: Course,
+pub(crate) struct SentFrame<'a> {
+    pub(crate) from: End,
+    pub(crate) is_data: bool,
+    pub(crate) key: Key,
+    pub(crate) bytes: &'a [u8],
+    pub(crate) course: Course,
 }
 
 // What was sent in a frame; an abort says nothing.

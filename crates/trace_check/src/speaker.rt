@@ -11,14 +11,14 @@ use padp_link::Key;
 
 // What an end said.
 #[derive(Clone, Copy)]
-pub struct Speaker {
+pub(crate) struct Speaker {
     // The key of its newest fragment.
-    pub newest: Option<Key>,
+    pub(crate) newest: Option<Key>,
     // How many of its data frames in a row bear that key.
-    pub run: u8,
+    pub(crate) run: u8,
     // The number of its newest repeat, or 0.
-    pub last_repeat: u32,
-    pub standing: Standing,
+    pub(crate) last_repeat: u32,
+    pub(crate) standing: Standing,
 }
 
 impl Speaker {

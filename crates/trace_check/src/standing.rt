@@ -10,13 +10,13 @@ use padp_link::{FIRST, Key, LAST, MAX_DATA};
 
 // Where an end stands in its messages.
 #[derive(Clone, Copy)]
-pub struct Standing {
+pub(crate) struct Standing {
     // How many messages it began.
-    pub begun: u32,
+    pub(crate) begun: u32,
     // The size of the last one of them.
-    pub size: u16,
+    pub(crate) size: u16,
     // How many parts of that one are still to come.
-    pub wanted: u8,
+    pub(crate) wanted: u8,
 }
 
 impl Standing {

@@ -21,22 +21,22 @@ use trace_text::{End, Frame};
 
 // How many whole messages both ends said, with their greetings.
 #[derive(Clone, Copy)]
-pub struct Wholes {
-    pub handheld: u32,
-    pub desktop: u32,
+pub(crate) struct Wholes {
+    pub(crate) handheld: u32,
+    pub(crate) desktop: u32,
 }
 
 // What both ends said, in how many frames, and the number of the newest faulted one, or 0.
 #[derive(Clone, Copy)]
-pub struct Talking {
-    pub handheld: Speaker,
-    pub desktop: Speaker,
-    pub count: u32,
-    pub fault: u32,
+pub(crate) struct Talking {
+    pub(crate) handheld: Speaker,
+    pub(crate) desktop: Speaker,
+    pub(crate) count: u32,
+    pub(crate) fault: u32,
 }
 
 // How many whole messages both ends said, where they say messages as they may.
-pub fn whole_messages(frames: &[Frame]) -> Option<Wholes>
+pub(crate) fn whole_messages(frames: &[Frame]) -> Option<Wholes>
     requires few { length frames.now ≤ 4294967295 }
     requires bear { Keeps B (map frame_value frames.now) }
     ensures keeps { IfSome result (λ wholes. Keeps D (map frame_value frames.now)) }

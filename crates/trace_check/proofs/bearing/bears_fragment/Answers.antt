@@ -1,8 +1,6 @@
 -- What the bytes bear, and whether the fate lets the frame bear it.
-use Rattle.std.proofs.Common.{◌≡◌, ap, subst, ◌∙◌}
 use Rattle.trace_check.proofs.BearingLaws.{bears-fragment, fragment-bears, fragment-may}
 use Rattle.trace_text.specs.TraceLines.{frame_value}
-use Rattle.trace_check.specs.Bearing.{Bears}
 use Rattle.trace_check.proofs.bearing.bears_fragment.Goals as goal
 
 pub returns-in-Some : goal.returns-in-Some

@@ -1,5 +1,5 @@
 -- The bytes are as long as a packet, whose fields stand at their places.
-use Rattle.std.proofs.Common.{◌+◌, ◌≡◌, length, arith, refl}
+use Rattle.std.proofs.Common.{arith}
 use Rattle.trace_check.proofs.BearingLaws.{packet_length, packet-fields}
 use Rattle.trace_check.proofs.bearing.packet_in.Goals as goal
 

@@ -1,5 +1,5 @@
 -- Frame by frame, up to an abort, which is the last one.
-use Rattle.std.proofs.Common.{◌≡◌, ◌∷◌, [], ◌++◌, ◌+◌, sym, ap, subst, ◌∙◌, map, drop}
+use Rattle.std.proofs.Common.{◌∷◌, [], ◌++◌, ◌+◌, sym, ap, subst, ◌∙◌, map, drop}
 use Rattle.trace_text.specs.TraceLines.{frame_value}
 use Rattle.trace_check.specs.Sending.{sent_value}
 use Rattle.trace_check.proofs.CollectingLaws.{Collected, collected-first, collected-last, collected-came, collected-other, came-at}

@@ -1,6 +1,5 @@
 -- The frame bears what is read of its bytes.
-use Rattle.std.proofs.Common.{◌≡◌, ◌∷◌, true, false, sym, ap, ◌∙◌}
-use Rattle.trace_text.specs.Frames.{is_abort}
+use Rattle.std.proofs.Common.{sym, ◌∙◌}
 use Rattle.trace_text.specs.TraceLines.{frame_value}
 use Rattle.trace_check.proofs.BearingLaws.{fragment-bears}
 use Rattle.trace_check.proofs.SendingLaws.{sent-abort, sent-some}

@@ -1,5 +1,5 @@
 -- Frame by frame, up to the first that may not be said.
-use Rattle.std.proofs.Common.{◌≡◌, ◌∷◌, [], ◌+◌, ap, subst, ◌∙◌, drop, map, arith}
+use Rattle.std.proofs.Common.{ap, subst, ◌∙◌, map, arith}
 use Rattle.std.proofs.lemmas.List.{drop_all}
 use Rattle.trace_text.specs.declared.frame.End.TheVariants.{Handheld, Desktop}
 use Rattle.trace_text.specs.TraceLines.{frame_value}

@@ -1,7 +1,6 @@
 -- The frame is counted behind what was said.
 use Rattle.std.proofs.Common.{◌+◌, ap}
 use Rattle.trace_check.specs.Sending.{sent_value}
-use Rattle.trace_check.specs.declared.talking.Talking.{Talking}
 use Rattle.trace_check.proofs.TalkingLaws.{talks-take}
 use Rattle.trace_check.proofs.talking.Talking.take.Goals as goal
 
