@@ -24,7 +24,7 @@ parts_on : (id : ℕ) (message : List ℕ) (numbers : List ℕ)
 parts_on id message [] = refl
 parts_on id message (number ∷ numbers) = ap (λ xs. part_at id message number ∷ xs) (parts_on id message numbers)
 
-message_parts-firsts : (id : ℕ) (message : List ℕ) → message_parts id message ≡ firsts id message (piece_count (length message))
+pub message_parts-firsts : (id : ℕ) (message : List ℕ) → message_parts id message ≡ firsts id message (piece_count (length message))
 message_parts-firsts id message = parts_on id message (range_with_len 0 (piece_count (length message)))
 
 abbrev part_bytes : List Part → List ℕ
@@ -273,7 +273,7 @@ heard number (message ∷ later) (part ∷ parts) rest is = elim (begins number 
       (heard-whole number message later all.0 all.1 all.2 (heard (number + 1) later all.1 rest all.4))
 ]
 
-wholes-few : (parts : List Part) (wanted : ℕ) → length parts < wanted → wholes_from wanted parts ≡ 0
+pub wholes-few : (parts : List Part) (wanted : ℕ) → length parts < wanted → wholes_from wanted parts ≡ 0
 wholes-few [] zero few = absurd (omega arith)
 wholes-few [] (suc wanted) few = refl
 wholes-few (part ∷ parts) zero few = absurd (omega arith)

@@ -1,9 +1,16 @@
+pub mod Acking
 pub mod Arrivals
+pub mod Bearing
 pub mod BothEnds
+pub mod Closing
 pub mod Judging
 pub mod Messages
 pub mod Notices
 pub mod Readings
+pub mod Sending
 pub mod Sides
+pub mod Speaking
+pub mod Standings
+pub mod Talking
 pub mod Turns
 pub mod Words

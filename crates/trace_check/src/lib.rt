@@ -8,19 +8,31 @@
 //! the seven rules of `Rule`. So is the trace of every run, whatever its line did.
 #![tactic(auto)]
 
+mod acking;
+mod bearing;
 mod both;
+mod came;
+mod ending;
 mod fate;
 mod fault;
 mod frame;
+mod judge;
 mod laws;
 mod notice;
+mod ordering;
 mod reader;
+mod repeats;
 mod rule;
+mod sent;
 mod side;
+mod speaker;
+mod standing;
+mod talking;
 mod turns;
 mod word;
 
 pub use fault::TraceFault;
+pub use judge::verdict;
 pub use laws::{
     a_text_is_one_trace, a_trace_has_one_verdict, a_trace_speaks_for_itself,
     a_written_trace_is_read, the_rules_are_the_definition,

@@ -17,6 +17,7 @@ pub fn read_trace(alloc: Global, bytes: &[u8]) -> Result<Vec<Frame>, TraceFault>
     requires { length bytes.now ≤ 67108864 }
     ensures read { IfOk result (λ frames.
         IsTraceReading bytes.now (Ok (map frame_value frames.items))) }
+    ensures few { IfOk result (λ frames. length frames.items ≤ length bytes.now) }
     ensures refused { IfErr result (λ fault. IsTraceReading bytes.now (Err fault)) }
 {
     let mut frames = Vec::new(alloc);
