@@ -2,6 +2,7 @@ pub mod BadFiles
 pub mod Codes
 pub mod FolderFaults
 pub mod Lines
+pub mod LookTexts
 pub mod Looks
 pub mod Opening
 pub mod Printed

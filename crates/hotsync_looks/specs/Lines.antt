@@ -16,13 +16,15 @@ use Rattle.hotsync_looks.specs.declared.status.FileSide.TheVariants.{Handheld, D
 use Rattle.hotsync_looks.specs.declared.status.Status.{Status}
 use Rattle.hotsync_looks.specs.declared.status.Status.TheVariants.{Done, Usage, BadScript, TooLong, BadFile, TooMany, HandheldFolder, DesktopFolder, SourceRead}
 use Rattle.hotsync_looks.specs.declared.status.Status.TheVariants.{TraceWrite, OutWrite, NoMemory, LineDown, Unplugged, Aborted, Undetected, OtherUser}
-use Rattle.hotsync_looks.specs.declared.status.Status.TheVariants.{TooManyUsers, Limit, NewHandheld, WrongSide, InUse, CannotExport}
+use Rattle.hotsync_looks.specs.declared.status.Status.TheVariants.{TooManyUsers, Limit, NewHandheld, WrongSide, InUse, CannotExport, BadTrace, NotProper}
 use Rattle.sync_session.specs.declared.report.Counts.{Counts}
 use Rattle.sync_session.specs.declared.report.DbReport.{DbReport}
 use Rattle.sync_session.specs.declared.report.Did.{Did}
 use Rattle.sync_session.specs.declared.report.Did.TheVariants.{Synced, Skipped}
 use Rattle.sync_session.specs.declared.skip.Skip.{Skip}
 use Rattle.sync_session.specs.declared.skip.Skip.TheVariants as skip
+use Rattle.trace_check.specs.declared.rule.Rule.{Rule}
+use Rattle.trace_check.specs.declared.rule.Rule.TheVariants as rule
 use Rattle.trace_text.specs.declared.frame.End.{End}
 use Rattle.trace_text.specs.declared.frame.End.TheVariants as end
 
@@ -85,6 +87,16 @@ form_word Text = codes "txt"
 unfoldable pub export_line : List ℕ → ExportForm → List ℕ
 export_line name form = codes "cannot export " ++ stem_of name ++ codes " as " ++ form_word form ++ line_feed
 
+-- the letter of a rule
+abbrev pub rule_word : Rule → List ℕ
+rule_word rule.A = codes "a"
+rule_word rule.B = codes "b"
+rule_word rule.C = codes "c"
+rule_word rule.D = codes "d"
+rule_word rule.E = codes "e"
+rule_word rule.F = codes "f"
+rule_word rule.G = codes "g"
+
 -- the line of each refusal; a sink that failed gets none
 abbrev pub refusal_line : Status → List ℕ
 refusal_line Done = ended_line
@@ -93,6 +105,8 @@ refusal_line (BadScript line) = number_line (codes "bad script line ") line
 refusal_line TooLong = codes "source too long" ++ line_feed
 refusal_line (BadFile side name kind place) = bad_file_line side (string_bytes {Z = Global} name) kind place
 refusal_line (CannotExport name form) = export_line name form
+refusal_line (BadTrace line) = number_line (codes "bad trace line ") line
+refusal_line (NotProper rule) = word_line (codes "not proper ") (rule_word rule)
 refusal_line (TooMany end) = word_line (codes "too many databases ") (end_word end)
 refusal_line (WrongSide end) = word_line (codes "wrong side ") (folder_word end)
 refusal_line HandheldFolder = codes "handheld folder failed" ++ line_feed

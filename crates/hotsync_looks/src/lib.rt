@@ -12,6 +12,7 @@ mod printed_name;
 mod printing;
 mod source;
 mod status;
+mod verdict;
 
 pub use look::look_at;
 pub use packets::print_packets;

@@ -1,14 +1,16 @@
-// A look at a database file.
+// A look at a file: at the database in it, or at the trace.
 ghost use Rattle.std.specs.Prelude.{◌≡◌, ◌≤◌, IfErr, IfOk, IfSome, IsErrOf, OnOk, Some, length, string_bytes};
 ghost use Rattle.hs_folders.specs.Causes.{Rose};
-ghost use Rattle.hotsync_looks.specs.Looks as looks;
-ghost use Rattle.hotsync_looks.specs.Looks.{IsLook, IsLookRefusal, IsReadable, IsTextIn, NoTextSays, SourceShows, export_text, look_text as text_of_look, source_limit};
+ghost use Rattle.hotsync_looks.specs.LookTexts as texts;
+ghost use Rattle.hotsync_looks.specs.LookTexts.{IsDatabaseLook, IsDatabaseText, IsTextOf, Refuses, RefusesDatabase, export_text, look_text as text_of_look, source_limit};
+ghost use Rattle.hotsync_looks.specs.Looks.{IsLook, IsLookRefusal, IsTextIn, SourceShows};
 ghost use Rattle.hotsync_looks.specs.Opening.{Opens, OpensAtMost};
 
 use crate::bad_file::fault_status;
 use crate::printing::{print_refusal, print_text};
 use crate::source::read_source;
 use crate::status::{FileSide, Status};
+use crate::verdict::verdict_text;
 use file_text::{check_text, show_text};
 use hs_folders::{Sink, Source};
 use pdb_files::read_database;
@@ -17,7 +19,7 @@ use record_export::{ExportFault, Privacy, memos_text};
 use run_words::{Export, Look, LookWords};
 use std::alloc::Global;
 
-/// Reads the database of a file, and prints what the look wants of it.
+/// Reads a file, and prints what the look wants of it.
 pub fn look_at<S: Source, O: Sink>(
     alloc: Global,
     words: LookWords<'_>,
@@ -45,7 +47,8 @@ pub fn look_at<S: Source, O: Sink>(
     }
 }
 
-// The text of the database of a file.
+// The text of a file.
+#[tactic(auto, using(crate::proofs::LookLaws::text_told, crate::proofs::LookLaws::refusal_told, crate::proofs::LookLaws::refusal_known, crate::proofs::LookLaws::refusal_blames))]
 fn look_into<S: Source>(
     alloc: Global,
     look: Look,
@@ -53,7 +56,6 @@ fn look_into<S: Source>(
     source: &mut S,
 ) -> Result<String, Status>
     ensures text { IfOk result (λ text. IsTextIn look (S.left source.old) (string_bytes text)) }
-    ensures readable { OnOk result (IfSome (S.left source.old) (IsReadable look)) }
     ensures shown { IfErr result (λ refusal. IfSome (S.left source.old)
         (SourceShows look file.now refusal)) }
     ensures failed { IsErrOf result Status.SourceRead → Rose (S.faults source.old)
@@ -69,33 +71,45 @@ fn look_into<S: Source>(
     Ok(text)
 }
 
-// The text of the database in these bytes of a file.
+// The text of the bytes of a file.
 fn bytes_text(alloc: Global, look: Look, file: &str, bytes: &[u8]) -> Result<String, Status>
     requires { length bytes.now ≤ source_limit }
-    ensures text { IfOk result (λ text. IsTextIn look (Some bytes.now) (string_bytes text)) }
-    ensures readable { OnOk result (IsReadable look bytes.now) }
-    ensures shown { IfErr result (λ refusal. SourceShows look file.now refusal bytes.now) }
-    ensures failed { ¬ IsErrOf result Status.SourceRead }
-    ensures refusal { IfErr result IsLookRefusal }
+    ensures text { IfOk result (λ text. IsTextOf look bytes.now (string_bytes text)) }
+    ensures refused { IfErr result (λ refusal. Refuses look file.now bytes.now refusal) }
+{
+    match look {
+        Look::Verify => verdict_text(alloc, bytes),
+        Look::Check | Look::Show | Look::Export(_) => read_text(alloc, look, file, bytes),
+    }
+}
+
+// The text of the database in these bytes of a file.
+fn read_text(alloc: Global, look: Look, file: &str, bytes: &[u8]) -> Result<String, Status>
+    requires short { length bytes.now ≤ source_limit }
+    requires look { IsDatabaseLook look }
+    ensures text { IfOk result (λ text. IsDatabaseText look bytes.now (string_bytes text)) }
+    ensures refused { IfErr result (λ refusal.
+        RefusesDatabase look file.now bytes.now refusal) }
 {
     let database = match read_database(alloc, bytes) {
         Ok(database) => database,
         Err(fault) => return Err(fault_status(alloc, FileSide::Source, file, fault)),
     };
-    let text = database_text(alloc, look, &database)?;
-    Ok(text)
+    database_text(alloc, look, &database)
 }
 
 // What the look wants of a database.
 fn database_text(alloc: Global, look: Look, database: &Database) -> Result<String, Status>
+    requires { IsDatabaseLook look }
     ensures text { IfOk result (λ text. text_of_look look database.now
         ≡ Some (string_bytes text)) }
-    ensures refused { IfErr result (λ refusal. NoTextSays look database.now refusal) }
+    ensures refused { IfErr result (λ refusal. texts.NoTextSays look database.now refusal) }
 {
     let text = match look {
         Look::Check => check_text(alloc, database)?,
         Look::Show => show_text(alloc, database)?,
         Look::Export(export) => exported_text(alloc, export, database)?,
+        Look::Verify => unreachable!(),
     };
     Ok(text)
 }
@@ -105,7 +119,7 @@ fn exported_text(alloc: Global, export: Export, database: &Database) -> Result<S
     ensures text { IfOk result (λ text. export_text export export.form database.now
         ≡ Some (string_bytes text)) }
     ensures refused { IfErr result (λ refusal.
-        NoTextSays (Look.Export export) database.now refusal) }
+        texts.NoTextSays (Look.Export export) database.now refusal) }
 {
     match memos_text(alloc, database, privacy_of(export)) {
         Ok(text) => Ok(text),
@@ -119,7 +133,7 @@ fn exported_text(alloc: Global, export: Export, database: &Database) -> Result<S
 
 // Which records are exported.
 fn privacy_of(export: Export) -> Privacy
-    ensures { result ≡ looks.privacy_of export }
+    ensures { result ≡ texts.privacy_of export }
 {
     if export.without_private {
         Privacy::WithoutPrivate

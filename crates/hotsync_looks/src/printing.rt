@@ -1,6 +1,6 @@
 // The lines that a call prints, and the status that stands once they are printed.
 ghost use Rattle.std.specs.Prelude.{◌≡◌, ◌≢◌, ◌⊎◌, ◌≤◌, ◌++◌, IfOk, OnOk, string_bytes};
-ghost use Rattle.hotsync_looks.specs.Lines.{bad_file_line as line_of_bad_file, count_text, counts_text as text_of_counts, database_line as line_of_database, did_text as text_of_did, done_lines as lines_of_done, end_word as word_of_end, export_line as line_of_export, form_word as word_of_form, folder_word as word_of_folder, mode_word as word_of_mode, no_memory_line, number_line as line_of_number, refusal_line as line_of_refusal, skip_word, users_line as line_of_users, word_line as line_of_word};
+ghost use Rattle.hotsync_looks.specs.Lines.{bad_file_line as line_of_bad_file, count_text, counts_text as text_of_counts, database_line as line_of_database, did_text as text_of_did, done_lines as lines_of_done, end_word as word_of_end, export_line as line_of_export, form_word as word_of_form, folder_word as word_of_folder, mode_word as word_of_mode, no_memory_line, number_line as line_of_number, refusal_line as line_of_refusal, rule_word as word_of_rule, skip_word, users_line as line_of_users, word_line as line_of_word};
 ghost use Rattle.hotsync_looks.specs.Printed.{IsPrinted, IsPrintedStatus, IsRefusal};
 ghost use Rattle.hs_folders.specs.Appends.{AppendsPrefix};
 
@@ -13,6 +13,7 @@ use run_words::ExportForm;
 use std::alloc::{AllocError, Global};
 use std::fmt::Write;
 use sync_session::{Counts, DbReport, Did, Skip};
+use trace_check::Rule;
 use trace_text::End;
 
 /// How the program is called.
@@ -234,6 +235,8 @@ fn refusal_line(alloc: Global, refusal: &Status) -> Result<String, AllocError>
             place,
         } => bad_file_line(alloc, *side, name.as_str(), *kind, *place),
         Status::CannotExport { name, form } => export_line(alloc, name, *form),
+        Status::BadTrace(line) => number_line(alloc, "bad trace line ", u64::from(*line)),
+        Status::NotProper(rule) => word_line(alloc, "not proper ", rule_word(*rule)),
         Status::TooMany(end) => word_line(alloc, "too many databases ", end_word(*end)),
         Status::WrongSide(end) => word_line(alloc, "wrong side ", folder_word(*end)),
         Status::HandheldFolder => String::from_str(alloc, "handheld folder failed\n"),
@@ -251,6 +254,21 @@ fn refusal_line(alloc: Global, refusal: &Status) -> Result<String, AllocError>
         Status::TooManyUsers => String::from_str(alloc, "too many users\n"),
         Status::Limit(name) => limit_line(alloc, name),
         Status::NewHandheld(name) => new_handheld_line(alloc, name),
+    }
+}
+
+// The letter of a rule.
+fn rule_word(rule: Rule) -> &'static str
+    ensures { result.now ≡ word_of_rule rule }
+{
+    match rule {
+        Rule::A => "a",
+        Rule::B => "b",
+        Rule::C => "c",
+        Rule::D => "d",
+        Rule::E => "e",
+        Rule::F => "f",
+        Rule::G => "g",
     }
 }
 

@@ -1,7 +1,8 @@
 // The bytes of a source.
 ghost use Rattle.std.specs.Prelude.{◌≡◌, ◌≢◌, ◌<◌, ◌≤◌, IfErr, IfOk, IfSome, IsErrOf, OnOk, length};
 ghost use Rattle.hs_folders.specs.Causes.{Rose};
-ghost use Rattle.hotsync_looks.specs.Looks.{IsSourceRefusal, source_limit};
+ghost use Rattle.hotsync_looks.specs.LookTexts.{source_limit};
+ghost use Rattle.hotsync_looks.specs.Looks.{IsSourceRefusal};
 ghost use Rattle.hotsync_looks.specs.Opening.{Opens, OpensAtMost};
 
 use crate::status::Status;

@@ -9,6 +9,7 @@ use pdb_files::BadKind;
 use pdb_values::DbName;
 use run_words::ExportForm;
 use std::alloc::AllocError;
+use trace_check::Rule;
 use trace_text::End;
 
 /// Where a bad file lies.
@@ -43,6 +44,10 @@ pub enum Status {
         name: DbName,
         form: ExportForm,
     },
+    /// The first line of the source, from 1 on, that is none of a trace.
+    BadTrace(u32),
+    /// The trace breaks this rule, and keeps those before it.
+    NotProper(Rule),
     /// A side has more than 200 databases.
     TooMany(End),
     /// The handheld's folder failed.
@@ -152,11 +157,13 @@ impl Status {
     {
         match self {
             Status::Done => 0,
+            Status::NotProper(_) => 1,
             Status::Usage => 2,
             Status::BadScript(_)
             | Status::TooLong
             | Status::BadFile { .. }
             | Status::CannotExport { .. }
+            | Status::BadTrace(_)
             | Status::TooMany(_) => 3,
             Status::HandheldFolder
             | Status::DesktopFolder

@@ -3,7 +3,7 @@ use Rattle.std.specs.Prelude.{◌≡◌, ◌⊎◌, ⊤, ◌<◌, ◌≤◌, ℕ
 use Rattle.line_script.specs.Rules.{RuleValue}
 use Rattle.line_script.specs.Scripts.{IsReading}
 use Rattle.line_script.specs.declared.fault.ScriptFault.TheVariants as fault
-use Rattle.hotsync_looks.specs.Looks.{source_limit}
+use Rattle.hotsync_looks.specs.LookTexts.{source_limit}
 use Rattle.hotsync_looks.specs.declared.status.Status.{Status}
 use Rattle.hotsync_looks.specs.declared.status.Status.TheVariants.{BadScript, TooLong, SourceRead, NoMemory}
 

@@ -1,7 +1,7 @@
 // The script of a run.
 ghost use Rattle.std.specs.Prelude.{◌≡◌, ◌≤◌, IfErr, IfOk, IfSome, IsErrOf, None, OnOk, Some, length, option_copied};
 ghost use Rattle.hs_folders.specs.Causes.{Rose};
-ghost use Rattle.hotsync_looks.specs.Looks.{source_limit};
+ghost use Rattle.hotsync_looks.specs.LookTexts.{source_limit};
 ghost use Rattle.hotsync_looks.specs.Opening.{Opens, OpensAtMost, OpensGiven, OpensGivenAtMost};
 ghost use Rattle.hotsync_run.specs.Scripts.{IsScript, IsScriptRefusal, IsScripted, ScriptRefuses, ScriptShows};
 

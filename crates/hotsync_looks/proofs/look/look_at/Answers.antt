@@ -8,7 +8,7 @@ pub returns-in-Ok : goal.returns-in-Ok
 returns-in-Ok g c =
     let left = g.S.Source.left c.args.source.now in
     let found = c.in-Ok.ensures in
-    look_done c.args.words.file.now _ _ c.print_text.ensures.status found.readable found.path found.opened
+    look_done c.args.words.file.now _ _ c.print_text.ensures.status found.text found.path found.opened
     (printed_weaken (IsTextIn c.args.words.look left) (λ text is. subst (IsTextIn c.args.words.look left) (sym (is ∙ c.as_str.ensures.value))
     found.text) c.print_text.ensures.printed)
 

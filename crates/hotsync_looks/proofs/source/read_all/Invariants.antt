@@ -1,6 +1,6 @@
 use Rattle.std.proofs.Common.{◌≡◌, ◌++◌, ◌≤◌, length}
 use Rattle.std.specs.Option.{option_map}
-use Rattle.hotsync_looks.specs.Looks.{source_limit}
+use Rattle.hotsync_looks.specs.LookTexts.{source_limit}
 use Rattle.hotsync_looks.proofs.source.read_all.Given as goal
 
 abbrev pub invariant-loop-turn : goal.invariant-loop-turn
