@@ -10,7 +10,7 @@ use Rattle.hotsync_run.specs.Looks.{IsBroken, IsLook, IsLookRefusal, IsReadable,
 use Rattle.hotsync_run.specs.Opening.{Opens, OpensAtMost}
 use Rattle.hotsync_run.specs.Printed.{IsPrinted}
 use Rattle.hotsync_run.specs.Told.{SinkTold, SourceTold}
-use Rattle.run_words.specs.declared.command.Look.{Look}
+use Rattle.run_words.specs.declared.look.Look.{Look}
 use Rattle.hotsync_run.specs.declared.status.FileSide.TheVariants.{Source}
 use Rattle.hotsync_run.specs.declared.status.Status.{Status}
 use Rattle.hotsync_run.specs.declared.status.Status.TheVariants.{Done, Usage, BadScript, TooLong, BadFile, TooMany, HandheldFolder, DesktopFolder, SourceRead}

@@ -14,8 +14,8 @@ use Rattle.hotsync_run.specs.Told.{SinkTold, SourceTold}
 use Rattle.hotsync_run.specs.declared.status.FileSide.TheVariants.{Source}
 use Rattle.hotsync_run.specs.declared.status.Status.{Status}
 use Rattle.hotsync_run.specs.declared.status.Status.TheVariants.{Done, BadFile, SourceRead, TooLong, OutWrite, NoMemory}
-use Rattle.run_words.specs.declared.command.Look.{Look}
-use Rattle.run_words.specs.declared.command.Look.TheVariants.{Check, Show}
+use Rattle.run_words.specs.declared.look.Look.{Look}
+use Rattle.run_words.specs.declared.look.Look.TheVariants.{Check, Show}
 
 -- the most bytes that a source may have
 abbrev pub source_limit : ℕ

@@ -4,7 +4,7 @@ ghost use Rattle.std.specs.Prelude.{◌≡◌, ◌<◌, ℕ, List, None, Some, t
 ghost use Rattle.std.specs.List.{AllByRecursion};
 ghost use Rattle.line_script.specs.Rules.{RuleValue};
 ghost use Rattle.run_words.specs.Commands.{LookAt, Make};
-ghost use Rattle.run_words.specs.declared.command.Look.{Look};
+ghost use Rattle.run_words.specs.declared.look.Look.{Look};
 ghost use Rattle.run_words.specs.Runs.{Run};
 ghost use Rattle.sync_session.specs.Tasks.{Meeting};
 ghost use Rattle.session_fronts.specs.Answered.{IsAnsweredExchange};
