@@ -1,6 +1,6 @@
 // What words say.
 use pdb_values::DbName;
-use run_clap::{Command, Look, RunWords, WordsFault, read_command};
+use run_clap::{Command, ExportForm, Look, LookWords, RunWords, WordsFault, read_command};
 use run_words::{ActionWord, Target, action_of, command_of, read_actions};
 use std::alloc::{AllocError, Global};
 use std::fmt::Write;
@@ -14,21 +14,28 @@ pub fn words_text(alloc: Global, now: Option<u32>, line: &str) -> Result<String,
     let in_form = command_of(now, &words).is_some();
     match read_command(alloc, now, &words) {
         Ok(Command::Run(run)) => run_text(alloc, &run),
-        Ok(Command::Look(look)) => {
-            let word = match look.look {
-                Look::Check => "check",
-                Look::Show => "show",
-                Look::Export(export) if export.without_private => "export without private",
-                Look::Export(_) => "export",
-            };
-            format!(in alloc; "{word} file {}\n", look.file)
-        }
+        Ok(Command::Look(look)) => look_text(alloc, &look),
         Ok(Command::Packet(packet)) => format!(in alloc; "packet hex {}\n", packet.hex),
         Ok(Command::Make(make)) => {
             format!(in alloc; "make seed {} count {}\n", make.seed, make.count)
         }
         Err(WordsFault::Usage) if !in_form => String::from_str(alloc, "usage\n"),
         Err(_) => String::from_str(alloc, "no memory\n"),
+    }
+}
+
+fn look_text(alloc: Global, words: &LookWords<'_>) -> Result<String, AllocError> {
+    let file = words.file;
+    match words.look {
+        Look::Check => format!(in alloc; "check file {file}\n"),
+        Look::Show => format!(in alloc; "show file {file}\n"),
+        Look::Export(export) => {
+            let form = match export.form {
+                ExportForm::Text => "txt",
+            };
+            let without = export.without_private;
+            format!(in alloc; "export file {file} as {form} without-private {without}\n")
+        }
     }
 }
 

@@ -1,84 +1,217 @@
--- Words in the form are taken by the command of what they ask for, and its matches hold that.
-use Rattle.std.proofs.lemmas.Grind.{common_steps}
-use Rattle.std.proofs.Common.{◌≡◌, ℕ, ◌<◌, ◌==◌, ◌&&◌, Bool, true, cond, List, length, refl, ap, ◌∙◌, arith, Option, Some, None}
-use Rattle.std.specs.Prelude.{option_and_then, not}
-use Rattle.std.specs.Char.{is_ascii_digit}
-use Rattle.std.specs.List.{list_all}
+-- What words ask for, by the form of their command.
+use Rattle.std.proofs.Common.{◌≡◌, ℕ, Bool, true, false, cond, List, [], ◌∷◌, refl, subst, sym, ap, ◌∙◌, arith, Option, Some, None, option_map, codes}
+use Rattle.std.specs.Prelude.{bytes_eq, option_and_then, ◌&&◌}
 use Rattle.std.proofs.lemmas.Bool.{and_parts}
-use Rattle.std.proofs.lemmas.Bool.Decides.{nat_tests}
-use Rattle.clap.specs.Walk.{Text, rows_of}
-use Rattle.clap.specs.Simple.{matches_of, is_simple}
+use Rattle.clap.specs.Simple.{is_simple, matches_of}
 use Rattle.clap.specs.Takes.{takes}
+use Rattle.clap.specs.Walk.{rows_of}
 use Rattle.clap.specs.declared.parser.matches.Found.{Found}
-use Rattle.run_words.specs.Commands.{Task, Sync, LookAt, Scan, Make, task_of}
-use Rattle.run_words.specs.Numbers.{as_count, count_of, is_number, number_of}
-use Rattle.run_words.specs.Words.{is_hex, is_hex_length, is_lower_digit, is_plain}
-use Rattle.run_clap.specs.Apps.{file_app, make_app, packet_app, run_app}
-use Rattle.run_clap.specs.Reads.{HoldsTask, task_app}
-use Rattle.run_clap.proofs.FormLaws.{takes_run, matches_run, run_is_simple}
-use Rattle.run_clap.proofs.PlainLaws.{file_takes, file_matches, packet_takes, packet_matches, make_takes, make_matches}
-use Rattle.run_clap.proofs.TaskLaws.{Asks, words_ask}
+use Rattle.run_words.specs.Commands.{Task, Sync, LookAt, Scan, Make, export_form, export_of, export_task_in, file_form, file_of, hex_bytes, make_form, make_in, make_of, packet_form, packet_of, task_of}
+use Rattle.run_words.specs.Exports.{export_in}
+use Rattle.run_words.specs.Forms.{is_of_form, plain_at}
+use Rattle.run_words.specs.Runs.{are_actions_right, run_form, run_in, run_of}
+use Rattle.run_words.specs.declared.look.Export.{Export as ExportWords}
+use Rattle.run_words.specs.declared.look.Look.{Look}
+use Rattle.run_words.specs.declared.look.Look.TheVariants.{Check, Show, Export}
+use Rattle.run_clap.specs.Apps.{form_app}
+use Rattle.run_clap.specs.Reads.{Asks, HoldsTask, look_form, task_form}
+use Rattle.run_clap.proofs.EndLaws.{form_holds, form_is_simple, form_takes}
+use Rattle.run_clap.proofs.UseLaws.{Proper}
 
--- ---- hexadecimal and numbers are plain words
+-- the words of a task, at the date now
+pub record IsAsked (now : Option ℕ) (words : List (List ℕ)) (task : Task) : Type 0 where
+  pub first : List ℕ
+  pub rest : List (List ℕ)
+  pub are : words ≡ first ∷ rest
+  pub right : is_of_form (task_form task) rest ≡ true
+  pub asks : Asks now rest task
 
-plain_digits : (word : Text) → list_all is_lower_digit word ≡ true → 0 < length word → is_plain word ≡ true
-plain_digits word e f = grind (arith, common_steps)
+kept : {A : Type 0} (b : Bool) (o : Option A) {a : A} → cond b o None ≡ Some a → (b ≡ true) × (o ≡ Some a)
+kept true o e = (refl, e)
+kept false o e = cc
 
-long_hex : (count : ℕ) → is_hex_length count ≡ true → 0 < count
-long_hex count e = grind (arith, nat_tests, e)
+mapped : {A : Type 0} (f : A → Task) (o : Option A) {task : Task} → option_map f o ≡ Some task → (a : A) × (o ≡ Some a) × (f a ≡ task)
+mapped f None e = cc
+mapped f (Some a) e = (a, refl, cc)
 
-hex_is_plain : (word : Text) → is_hex word ≡ true → is_plain word ≡ true
-hex_is_plain word e =
-    let parts = and_parts (is_hex_length (length word)) (list_all is_lower_digit word) e in
-    plain_digits word parts.1 (long_hex (length word) parts.0)
+module _ (now : Option ℕ) (first : List ℕ) (rest : List (List ℕ)) {task : Task} where
+  run_asked : option_map Sync (run_of now rest) ≡ Some task → IsAsked now (first ∷ rest) task
+  unfolding run_of
+  run_asked e =
+      let run = mapped Sync (run_of now rest) e in
+      let right = kept (is_of_form run_form rest && are_actions_right rest) (run_in now rest) run.1 in
+      let parts = and_parts (is_of_form run_form rest) (are_actions_right rest) right.0 in
+      subst (IsAsked now (first ∷ rest)) run.2 (record { first = first; rest = rest; are = refl; right = parts.0; asks = right.1 })
 
-plain_number : (word : Text) → list_all is_ascii_digit word ≡ true → not (length word == 0) ≡ true → is_plain word ≡ true
-plain_number word e f = grind (arith, common_steps)
+  check_asked : option_map (LookAt Check) (file_of rest) ≡ Some task → IsAsked now (first ∷ rest) task
+  unfolding file_of
+  check_asked e =
+      let file = mapped (LookAt Check) (file_of rest) e in
+      let right = kept (is_of_form file_form rest) (plain_at 0 rest) file.1 in
+      subst (IsAsked now (first ∷ rest)) file.2 (record { first = first; rest = rest; are = refl; right = right.0; asks = (right.1, tt) })
 
-tested : (b : Bool) (n : ℕ) {number : ℕ} → cond b (Some n) None ≡ Some number → b ≡ true
-tested b n e = grind arith
+  show_asked : option_map (LookAt Show) (file_of rest) ≡ Some task → IsAsked now (first ∷ rest) task
+  unfolding file_of
+  show_asked e =
+      let file = mapped (LookAt Show) (file_of rest) e in
+      let right = kept (is_of_form file_form rest) (plain_at 0 rest) file.1 in
+      subst (IsAsked now (first ∷ rest)) file.2 (record { first = first; rest = rest; are = refl; right = right.0; asks = (right.1, tt) })
 
-number_is_plain : (word : Text) {number : ℕ} → number_of word ≡ Some number → is_plain word ≡ true
-number_is_plain word e =
-    let passes = and_parts (is_number word) _ (tested _ _ e) in
-    let parts = and_parts (not (length word == 0) && list_all is_ascii_digit word) _ passes.0 in
-    let digits = and_parts (not (length word == 0)) (list_all is_ascii_digit word) parts.0 in
-    plain_number word digits.1 digits.0
+  export_in_asked : (file : Option (List ℕ)) (export : Option ExportWords) → is_of_form export_form rest ≡ true → plain_at 0 rest ≡ file → export_in rest ≡ export
+      → option_and_then (λ f. option_map (λ x. LookAt (Export x) f) export) file ≡ Some task → IsAsked now (first ∷ rest) task
+  export_in_asked None export right f x e = cc
+  export_in_asked (Some file) None right f x e = cc
+  export_in_asked (Some file) (Some export) right f x e =
+      let is : LookAt (Export export) file ≡ task = cc in
+      subst (IsAsked now (first ∷ rest)) is (record { first = first; rest = rest; are = refl; right = right; asks = (f, x) })
 
-some_number : (o : Option ℕ) {count : ℕ} → option_and_then as_count o ≡ Some count → (number : ℕ) × (o ≡ Some number)
-some_number o e = grind arith
+  export_asked : export_of rest ≡ Some task → IsAsked now (first ∷ rest) task
+  unfolding export_of
+  export_asked e =
+      let right = kept (is_of_form export_form rest) (export_task_in rest) e in
+      export_in_asked (plain_at 0 rest) (export_in rest) right.0 refl refl right.1
 
-count_is_plain : (word : Text) {count : ℕ} → count_of word ≡ Some count → is_plain word ≡ true
-count_is_plain word e = let number = some_number (number_of word) e in number_is_plain word number.1
+  packet_asked : option_map Scan (packet_of rest) ≡ Some task → IsAsked now (first ∷ rest) task
+  unfolding packet_of
+  packet_asked e =
+      let bytes = mapped Scan (packet_of rest) e in
+      let right = kept (is_of_form packet_form rest) (option_and_then hex_bytes (plain_at 0 rest)) bytes.1 in
+      subst (IsAsked now (first ∷ rest)) bytes.2 (record { first = first; rest = rest; are = refl; right = right.0; asks = right.1 })
 
--- ---- each command
+  made : (seed count : Option ℕ) → option_and_then (λ n. option_map (Make n) count) seed ≡ Some task → (n : ℕ) × (m : ℕ) × (Make n m ≡ task)
+  made None count e = cc
+  made (Some n) None e = cc
+  made (Some n) (Some m) e = (n, m, cc)
 
-pub task_is_simple : (task : Task) → is_simple (task_app task) ≡ true
-unfolding file_app packet_app make_app
-task_is_simple (Sync run) = run_is_simple
-task_is_simple (LookAt look file) = refl
-task_is_simple (Scan bytes) = refl
-task_is_simple (Make seed count) = refl
+  make_asked : make_of rest ≡ Some task → IsAsked now (first ∷ rest) task
+  unfolding make_of
+  make_asked e =
+      let right = kept (is_of_form make_form rest) (make_in rest) e in
+      let numbers = made _ _ right.1 in
+      let is = numbers.2 in
+      subst (IsAsked now (first ∷ rest)) is (record {
+        first = first;
+        rest = rest;
+        are = refl;
+        right = right.0;
+        asks = right.1 ∙ ap Some (sym is);
+      })
 
-asked_takes : (now : Option ℕ) (words : List Text) (task : Task) → Asks now words task → takes (task_app task) words ≡ true
-asked_takes now words (Sync run) a = ap (takes run_app) a.2 ∙ takes_run now a.0 a.1 a.3
-asked_takes now words (LookAt look file) a = ap (takes file_app) a.1 ∙ file_takes a.0 file a.2
-asked_takes now words (Scan bytes) a = ap (takes packet_app) a.2 ∙ packet_takes a.0 a.1 (hex_is_plain a.1 a.3)
-asked_takes now words (Make seed count) a = ap (takes make_app) a.3 ∙ make_takes a.0 a.1 a.2 (number_is_plain a.1 a.4) (count_is_plain a.2 a.5)
+  chosen : (a b c d m n : Bool)
+      → cond a (option_map Sync (run_of now rest))
+      (cond b (option_map (LookAt Check) (file_of rest))
+      (cond c (option_map (LookAt Show) (file_of rest))
+      (cond d (export_of rest) (cond m (option_map Scan (packet_of rest)) (cond n (make_of rest) None))))) ≡ Some task
+      → IsAsked now (first ∷ rest) task
+  chosen true b c d m n e = run_asked e
+  chosen false true c d m n e = check_asked e
+  chosen false false true d m n e = show_asked e
+  chosen false false false true m n e = export_asked e
+  chosen false false false false true n e = packet_asked e
+  chosen false false false false false true e = make_asked e
+  chosen false false false false false false e = cc
 
-asked_matches : (now : Option ℕ) (words : List Text) (task : Task) (found : Found) → Asks now words task → rows_of found ≡ matches_of (task_app task) words
-    → HoldsTask now found task
-asked_matches now words (Sync run) found a rows = matches_run now a.0 a.1 run found a.3 (rows ∙ ap (matches_of run_app) a.2)
-asked_matches now words (LookAt look file) found a rows = file_matches a.0 file found a.2 (rows ∙ ap (matches_of file_app) a.1)
-asked_matches now words (Scan bytes) found a rows =
-    record { hex = a.1; held = packet_matches a.0 a.1 found (hex_is_plain a.1 a.3) (rows ∙ ap (matches_of packet_app) a.2); stands = a.4 }
-asked_matches now words (Make seed count) found a rows =
-    let matches = make_matches a.0 a.1 a.2 found (number_is_plain a.1 a.4) (count_is_plain a.2 a.5) (rows ∙ ap (matches_of make_app) a.3) in
-    record { one = a.1; two = a.2; held = matches.0; held_too = matches.1; number = a.4; counted = a.5 }
+words_ask : (now : Option ℕ) (words : List (List ℕ)) {task : Task} → task_of now words ≡ Some task → IsAsked now words task
+unfolding task_of
+words_ask now [] e = cc
+words_ask now (first ∷ rest) e =
+    chosen now first rest (bytes_eq first (codes "run")) (bytes_eq first (codes "check")) (bytes_eq first (codes "show")) (bytes_eq first (codes "export"))
+    (bytes_eq first (codes "packet")) (bytes_eq first (codes "make")) e
 
-pub task_takes : (now : Option ℕ) (words : List Text) (task : Task) → task_of now words ≡ Some task → takes (task_app task) words ≡ true
-task_takes now words task e = asked_takes now words task (words_ask now words e)
+-- ---- each of the forms has names that differ
 
-pub task_matches : (now : Option ℕ) (words : List Text) (task : Task) (found : Found) → task_of now words ≡ Some task
-    → rows_of found ≡ matches_of (task_app task) words → HoldsTask now found task
-task_matches now words task found e rows = asked_matches now words task found (words_ask now words e) rows
+run_proper : Proper run_form
+run_proper = record {
+  few = omega arith;
+  plain = refl;
+  options = refl;
+  flags = refl;
+  plain_options = refl;
+  plain_flags = refl;
+  options_flags = refl;
+  option_names = refl;
+  flag_names = refl;
+}
+
+file_proper : Proper file_form
+file_proper = record {
+  few = omega arith;
+  plain = refl;
+  options = refl;
+  flags = refl;
+  plain_options = refl;
+  plain_flags = refl;
+  options_flags = refl;
+  option_names = refl;
+  flag_names = refl;
+}
+
+export_proper : Proper export_form
+export_proper = record {
+  few = omega arith;
+  plain = refl;
+  options = refl;
+  flags = refl;
+  plain_options = refl;
+  plain_flags = refl;
+  options_flags = refl;
+  option_names = refl;
+  flag_names = refl;
+}
+
+packet_proper : Proper packet_form
+packet_proper = record {
+  few = omega arith;
+  plain = refl;
+  options = refl;
+  flags = refl;
+  plain_options = refl;
+  plain_flags = refl;
+  options_flags = refl;
+  option_names = refl;
+  flag_names = refl;
+}
+
+make_proper : Proper make_form
+make_proper = record {
+  few = omega arith;
+  plain = refl;
+  options = refl;
+  flags = refl;
+  plain_options = refl;
+  plain_flags = refl;
+  options_flags = refl;
+  option_names = refl;
+  flag_names = refl;
+}
+
+look_proper : (look : Look) → Proper (look_form look)
+look_proper Check = file_proper
+look_proper Show = file_proper
+look_proper (Export export) = export_proper
+
+task_proper : (task : Task) → Proper (task_form task)
+task_proper (Sync run) = run_proper
+task_proper (LookAt look file) = look_proper look
+task_proper (Scan bytes) = packet_proper
+task_proper (Make seed count) = make_proper
+
+-- ---- words in the form are taken by the command of their form, and its matches hold what they ask for
+
+pub task_takes : (now : Option ℕ) (words : List (List ℕ)) (task : Task) → task_of now words ≡ Some task → takes (form_app (task_form task)) words ≡ true
+task_takes now words task e =
+    let asked = words_ask now words e in
+    ap (takes (form_app (task_form task))) asked.are ∙ form_takes (task_form task) (task_proper task) asked.first asked.rest asked.right
+
+pub task_holds : (now : Option ℕ) (words : List (List ℕ)) (task : Task) (found : Found) → task_of now words ≡ Some task
+    → rows_of found ≡ matches_of (form_app (task_form task)) words → HoldsTask now found task
+task_holds now words task found e rows =
+    let asked = words_ask now words e in
+    record {
+      words = asked.rest;
+      holds = form_holds (task_form task) (task_proper task) asked.first asked.rest found asked.right (rows ∙ ap (matches_of (form_app (task_form task))) asked.are);
+      asks = asked.asks;
+    }
+
+pub task_is_simple : (task : Task) → is_simple (form_app (task_form task)) ≡ true
+task_is_simple task = form_is_simple (task_form task) (task_proper task)

@@ -1,362 +1,228 @@
--- Words that ask for a run are taken by `clap`, which gives the same run.
-use Rattle.std.proofs.Common.{◌≡◌, ℕ, ◌==◌, Bool, true, false, List, [], ◌∷◌, ◌++◌, subst, cond, refl, sym, ap, ◌∙◌, codes, Option, Some, None}
-use Rattle.std.proofs.Common.{option_map, arith}
-use Rattle.clap.specs.Walk.{row_text, rows_of}
-use Rattle.clap.specs.Simple.{matches_of, is_simple}
-use Rattle.clap.specs.Matches.{first_value, one_text}
-use Rattle.clap.specs.declared.parser.matches.Found.{Found}
-use Rattle.clap.proofs.WalkLemmas.{first_value-rows, one_text-rows}
-use Rattle.run_clap.specs.Reads.{HoldsRun}
-use Rattle.std.specs.Prelude.{slice_get, is_some, option_and_then, bytes_eq, fold}
-use Rattle.std.proofs.lemmas.Bool.Decides.{nat_tests}
-use Rattle.std.proofs.lemmas.Slice.Eq.{bytes_eq-Decides}
-use Rattle.clap.specs.Walk.{Held, Row, Text, walked, nothing_held, settled, finished, with_values, has_row, more_values, first_of, one_of}
-use Rattle.clap.specs.declared.parser.matches.ValueSource.TheVariants.{DefaultValue}
-use Rattle.clap.specs.declared.builder.value_parser.Reading.TheVariants.{AsWritten}
-use Rattle.clap.specs.Takes.{takes, walk_passes}
-use Rattle.run_words.specs.Runs.{Given, Run, date_at, whole, whole_of, run_of, nothing, once, actions_once, with_plain, with_word, with_words}
-use Rattle.run_words.specs.Words.{after, Kind, plain_word, date_value, script_value, trace_value, actions_value, slow_word, add_user_word, unknown_word}
-use Rattle.run_words.specs.Words.{or_kind, is_plain, kind_of}
-use Rattle.run_clap.specs.Apps.{run_app}
-use Rattle.run_clap.proofs.WalkLaws.{find_row, row_for, flag_row, find-append, at_row-none, Argument, of_handheld, of_desktop, of_date, of_script}
-use Rattle.run_clap.proofs.WalkLaws.{of_trace, of_actions, of_slow, of_add_user, id_of, row_in, Fits, Turns, at, shape, rules, named_turns}
-use Rattle.run_clap.proofs.WalkLaws.{handheld_turns, desktop_turns}
+-- Words of a form are taken by `clap`, whose matches have what they hold: for all forms whose names differ.
+use Rattle.std.proofs.Common.{◌≡◌, inl, inr, ◌<◌, ◌≤◌, ℕ, zero, suc, Bool, true, false, List, [], ◌∷◌, ◌++◌, ◌||◌, subst, cond, length, append_assoc, append-nil}
+use Rattle.std.proofs.Common.{map, refl, sym, ap, ◌∙◌, codes, arith, Option, Some, None, option_map}
+use Rattle.std.proofs.lemmas.Bool.{and_parts}
+use Rattle.std.proofs.lemmas.List.{length-append, map-append}
+use Rattle.std.proofs.lemmas.List.Elements.{filter-append}
+use Rattle.std.specs.Option.{option_or}
+use Rattle.std.proofs.lemmas.List.Folds.{list_all-append}
+use Rattle.std.specs.Prelude.{find, fold, is_some, slice_get}
+use Rattle.std.specs.Str.{bytes_eq}
+use Rattle.std.specs.List.{filter, list_all, list_any}
+use Rattle.clap.specs.Walk.{Held, Row, Rule, has_row, nothing_held, walked}
+use Rattle.clap.specs.Takes.{walk_passes}
+use Rattle.run_words.specs.Forms.{Form, NamedOption, flag_count, has_flag, is_flag, is_option, is_word, option_count, plain_at, plain_words, value_in, value_of}
+use Rattle.run_words.specs.Words.{is_plain}
+use Rattle.run_clap.proofs.Lists.{IsIn, Text, disjoint_in}
+use Rattle.run_clap.proofs.RuleLaws.{at_place, by_flag, by_id, by_option, names_of, rules_of}
+use Rattle.run_clap.proofs.UseLaws.{IsWord, Proper, id_at, place_after, place_after-is, place_after-more, next_place, at_id, name_in, use-long, use-plain, used, used_flag, used_option, used_plain, use_of, uses, uses-more, word_is}
+use Rattle.run_clap.proofs.WalkLaws.{Fits, Turns, at, flag_turns, option_turns, plain_turns, row, shape_of}
 
-kept : (b : Bool) (o : Option Text) {rest : Text} → cond b o None ≡ Some rest → (b ≡ true) × (o ≡ Some rest)
-kept b o e = grind arith
+-- ---- rows and uses
 
--- ---- what a word of a kind is
+abbrev pub find_row : Text → List Row → Option Row
+find_row id rows = find (λ r. bytes_eq r.id id) rows
 
-after-is : (name text rest : Text) → after name text ≡ Some rest → text ≡ name ++ rest
-after-is [] text rest e = cc
-after-is (x ∷ xs) [] rest e = cc
-after-is (x ∷ xs) (y ∷ ys) rest e = grind (arith, after-is xs ys rest (kept (x == y) (after xs ys) e).1)
+cond_row : (b : Bool) (u : Text × Text) (o : Option (Text × Text)) → cond b (Some (row u)) (option_map row o) ≡ option_map row (cond b (Some u) o)
+cond_row true u o = refl
+cond_row false u o = refl
 
-pub record IsPlain (word : Text) : Type 0 where
-  pub first : ℕ
-  pub rest : Text
-  pub is : word ≡ first ∷ rest
-  pub no_dash : (first == 45) ≡ false
+-- the row of a name, by its use
+pub row_used : (id : Text) (us : List (Text × Text)) → find_row id (map row us) ≡ option_map row (find (λ (u : Text × Text). bytes_eq u.0 id) us)
+row_used id [] = refl
+row_used id (u ∷ us) =
+    ap (λ o. cond (bytes_eq u.0 id) (Some (row u)) o) (row_used id us)
+    ∙ cond_row (bytes_eq u.0 id) u (find (λ (v : Text × Text). bytes_eq v.0 id) us)
 
-abbrev IsOfKind : Kind → Text → Type 0
-IsOfKind (plain_word same) word = (same ≡ word) × IsPlain word
-IsOfKind (date_value value) word = word ≡ codes "--date=" ++ value
-IsOfKind (script_value value) word = word ≡ codes "--script=" ++ value
-IsOfKind (trace_value value) word = word ≡ codes "--trace=" ++ value
-IsOfKind (actions_value value) word = word ≡ codes "--actions=" ++ value
-IsOfKind slow_word word = word ≡ codes "--slow"
-IsOfKind add_user_word word = word ≡ codes "--add-user"
-IsOfKind unknown_word word = Unit {0}
-
-pub plain-is : (word : Text) → is_plain word ≡ true → IsPlain word
-plain-is [] e = cc
-plain-is (x ∷ xs) e = record { first = x; rest = xs; is = refl; no_dash = grind (arith, nat_tests, e) }
-
-chain : (word : Text) (a b c d : Option Text) (s u p : Bool)
-    → ((v : Text) → a ≡ Some v → word ≡ codes "--date=" ++ v) → ((v : Text) → b ≡ Some v → word ≡ codes "--script=" ++ v)
-    → ((v : Text) → c ≡ Some v → word ≡ codes "--trace=" ++ v) → ((v : Text) → d ≡ Some v → word ≡ codes "--actions=" ++ v)
-    → (s ≡ true → word ≡ codes "--slow") → (u ≡ true → word ≡ codes "--add-user") → (p ≡ true → IsPlain word)
-    → IsOfKind (or_kind (option_map date_value a) (or_kind (option_map script_value b) (or_kind (option_map trace_value c) (or_kind (option_map actions_value d)
-    (cond s slow_word (cond u add_user_word (cond p (plain_word word) unknown_word))))))) word
-chain word (Some v) b c d s u p ha hb hc hd hs hu hp = ha v refl
-chain word None (Some v) c d s u p ha hb hc hd hs hu hp = hb v refl
-chain word None None (Some v) d s u p ha hb hc hd hs hu hp = hc v refl
-chain word None None None (Some v) s u p ha hb hc hd hs hu hp = hd v refl
-chain word None None None None true u p ha hb hc hd hs hu hp = hs refl
-chain word None None None None false true p ha hb hc hd hs hu hp = hu refl
-chain word None None None None false false true ha hb hc hd hs hu hp = (refl, hp refl)
-chain word None None None None false false false ha hb hc hd hs hu hp = tt
-
-kind-is : (word : Text) → IsOfKind (kind_of word) word
-unfolding kind_of
-kind-is word =
-    chain word (after (codes "--date=") word) (after (codes "--script=") word) (after (codes "--trace=") word) (after (codes "--actions=") word)
-    (bytes_eq word (codes "--slow")) (bytes_eq word (codes "--add-user")) (is_plain word)
-    (λ v. after-is (codes "--date=") word v) (λ v. after-is (codes "--script=") word v) (λ v. after-is (codes "--trace=") word v)
-    (λ v. after-is (codes "--actions=") word v)
-    (λ e. (bytes_eq-Decides word (codes "--slow")).0 e) (λ e. (bytes_eq-Decides word (codes "--add-user")).0 e) (plain-is word)
-
--- ---- what a word gave
-
-one_not : (b : Bool) {one more : Given} → cond b None (Some one) ≡ Some more → (b ≡ false) × (one ≡ more)
-one_not b e = grind arith
-
-once-is : (slot : Option Text) (value : Text) (f : Option Text → Given) {more : Given} → option_map f (once slot value) ≡ Some more
-    → (slot ≡ None) × (f (Some value) ≡ more)
-once-is slot value f e = grind arith
-
-actions-is : (slot : Option Text) (value : Text) (f : Option Text → Given) {more : Given} → option_map f (actions_once slot value) ≡ Some more
-    → (slot ≡ None) × (f (Some value) ≡ more)
-actions-is slot value f e = grind arith
-
--- ---- one word
-
-module _ {given more : Given} (word : Text) {place : ℕ} {h : Held} (f : Fits given place h) where
-  turned : {other : Text} {as_given : Given} → word ≡ other → as_given ≡ more → Turns other as_given place h → Turns word more place h
-  turned {as_given = as_given} is same turns = subst (λ g. Turns word g place h) same (subst (λ w. Turns w as_given place h) (sym is) turns)
-
-  plain_turns : (a b : Option Text) → IsPlain word → given.handheld ≡ a → given.desktop ≡ b → with_plain given a b word ≡ Some more
-      → Turns word more place h
-  plain_turns None b plain handheld desktop e = turned plain.is (rw (sym plain.is) cc) (handheld_turns plain.first plain.rest f plain.no_dash handheld)
-  plain_turns (Some first) None plain handheld desktop e =
-      turned plain.is (rw (sym plain.is) cc) (desktop_turns plain.first plain.rest f plain.no_dash handheld desktop)
-  plain_turns (Some first) (Some second) plain handheld desktop e = cc
-
-  kind_turns : (k : Kind) → IsOfKind k word → with_word given k ≡ Some more → Turns word more place h
-  unfolding with_word
-  kind_turns (plain_word same) is e = plain_turns given.handheld given.desktop is.1 refl refl (rw is.0 at e)
-  kind_turns (date_value value) is e =
-      let parts = once-is given.date value (λ slot. record given { date = slot }) e in
-      turned is parts.1 (named_turns of_date value refl f (ap (row_for (codes "date")) parts.0))
-  kind_turns (script_value value) is e =
-      let parts = once-is given.script value (λ slot. record given { script = slot }) e in
-      turned is parts.1 (named_turns of_script value refl f (ap (row_for (codes "script")) parts.0))
-  kind_turns (trace_value value) is e =
-      let parts = once-is given.trace value (λ slot. record given { trace = slot }) e in
-      turned is parts.1 (named_turns of_trace value refl f (ap (row_for (codes "trace")) parts.0))
-  kind_turns (actions_value value) is e =
-      let parts = actions-is given.actions value (λ slot. record given { actions = slot }) e in
-      turned is parts.1 (named_turns of_actions value refl f (ap (row_for (codes "actions")) parts.0))
-  kind_turns slow_word is e =
-      let parts = one_not given.slow e in turned is parts.1 (named_turns of_slow [] refl f (ap (flag_row (codes "slow")) parts.0))
-  kind_turns add_user_word is e =
-      let parts = one_not given.add_user e in turned is parts.1 (named_turns of_add_user [] refl f (ap (flag_row (codes "add-user")) parts.0))
-  kind_turns unknown_word is e = cc
-
-  word_turns : with_word given (kind_of word) ≡ Some more → Turns word more place h
-  word_turns e = kind_turns (kind_of word) (kind-is word) e
-
--- ---- all words
-
-record Ends (words : List Text) (more : Given) (place : ℕ) (h : Held) : Type 0 where
-  pub next_place : ℕ
-  pub next_held : Held
-  pub passes : walk_passes shape [] (at place h) words ≡ true
-  pub goes : fold (walked rules []) (at place h) words ≡ at next_place next_held
-  pub fits : Fits more next_place next_held
-
-after_one : (o : Option Given) (f : Given → Option Given) {more : Given} → option_and_then f o ≡ Some more
-    → (mid : Given) × (o ≡ Some mid) × (f mid ≡ Some more)
-after_one o f e = grind arith
-
-words_end : (words : List Text) {given more : Given} {place : ℕ} {h : Held} → Fits given place h → with_words given words ≡ Some more
-    → Ends words more place h
-unfolding with_words walk_passes run_app
-words_end [] {given} {more} {place} {h} f e =
-    let same : given ≡ more = cc in
-    record { next_place = place; next_held = h; passes = refl; goes = refl; fits = subst (λ g. Fits g place h) same f }
-words_end (word ∷ words) {given} f e =
-    let mid = after_one (with_word given (kind_of word)) (λ g. with_words g words) e in
-    let turns = word_turns word f mid.1 in
-    let rest = words_end words turns.fits mid.2 in
-    let passes = turns.passes in
-    let goes = turns.goes in
-    record {
-      next_place = rest.next_place;
-      next_held = rest.next_held;
-      passes = rw (passes, goes) rest.passes;
-      goes = rw goes rest.goes;
-      fits = rest.fits;
-    }
-
-fits_nothing : Fits nothing 1 nothing_held
-fits_nothing = record {
-  settles = refl;
-  holds = record { each = elim [ of_handheld ↦ refl | argument ↦ refl ] };
-  position = refl;
-  order = λ e. refl;
-}
-
--- ---- the defaults
-
-cond_same : (b : Bool) (rows : List Row) → cond b rows rows ≡ rows
-cond_same b rows = grind arith
-
--- a flag that wasn't given is `false`
-abbrev with_default : Text → Bool → List Row → List Row
-with_default id b rows = cond b rows (with_values id AsWritten DefaultValue (codes "false" ∷ []) rows)
-
-abbrev with_slow : List Row → List Row
-with_slow rows = with_default (codes "slow") (has_row (codes "slow") rows) rows
-
-abbrev with_both : List Row → List Row
-with_both rows = with_default (codes "add-user") (has_row (codes "add-user") (with_slow rows)) (with_slow rows)
-
-finished-is : (h : Held) → finished rules h ≡ with_both (settled rules h).rows
-finished-is h =
-    let rows = (settled rules h).rows in
-    rw (
-      cond_same (has_row (codes "handheld") rows) rows,
-      cond_same (has_row (codes "desktop") rows) rows,
-      cond_same (has_row (codes "date") rows) rows,
-      cond_same (has_row (codes "script") rows) rows,
-      cond_same (has_row (codes "trace") rows) rows,
-      cond_same (has_row (codes "actions") rows) rows,
-    ) refl
-
-abbrev default_row : Text → Row
-default_row id = record { id = id; values = codes "false" ∷ []; count = None; source = Some DefaultValue; reading = AsWritten }
-
-find_default : (flag id : Text) (b : Bool) (rows : List Row) → has_row flag rows ≡ b → bytes_eq flag id ≡ false
-    → find_row id (with_default flag b rows) ≡ find_row id rows
-find_default flag id true rows has apart = refl
-find_default flag id false rows none apart =
-    grind (arith, at_row-none flag (more_values DefaultValue (codes "false" ∷ [])) (default_row flag ∷ []) rows none, find-append id rows (default_row flag))
-
-find_both : (id : Text) (rows : List Row) → bytes_eq (codes "slow") id ≡ false → bytes_eq (codes "add-user") id ≡ false
-    → find_row id (with_both rows) ≡ find_row id rows
-find_both id rows slow add_user =
-    find_default (codes "add-user") id (has_row (codes "add-user") (with_slow rows)) (with_slow rows) refl add_user
-    ∙ find_default (codes "slow") id (has_row (codes "slow") rows) rows refl slow
-
-find_finished : (id : Text) (h : Held) → bytes_eq (codes "slow") id ≡ false → bytes_eq (codes "add-user") id ≡ false
-    → find_row id (finished rules h) ≡ find_row id (settled rules h).rows
-find_finished id h slow add_user = ap (find_row id) (finished-is h) ∙ find_both id (settled rules h).rows slow add_user
-
--- ---- all of it
-
--- the date word that is given has this date
-record IsDated (now : Option ℕ) (given : Given) (date : ℕ) : Type 0 where
-  pub word : Text
-  pub given_word : given.date ≡ Some word
-  pub is : date_at now word ≡ Some date
-
--- what is given is a run
-record IsRun (now : Option ℕ) (given : Given) (run : Run) : Type 0 where
-  pub handheld : given.handheld ≡ Some run.handheld
-  pub desktop : given.desktop ≡ Some run.desktop
-  pub date : IsDated now given run.date
-  pub script : given.script ≡ run.script
-  pub trace : given.trace ≡ run.trace
-  pub actions : given.actions ≡ run.actions
-  pub slow : given.slow ≡ run.slow
-  pub add_user : given.add_user ≡ run.add_user
-
-dated_by : (now : Option ℕ) (given : Given) (word : Option Text) {date : ℕ} → given.date ≡ word → option_and_then (date_at now) word ≡ Some date
-    → IsDated now given date
-dated_by now given None g e = cc
-dated_by now given (Some word) g e = record { word = word; given_word = g; is = e }
-
-whole-is : (now : Option ℕ) (given : Given) (a b : Option Text) (d : Option ℕ) {run : Run} → given.handheld ≡ a → given.desktop ≡ b
-    → option_and_then (date_at now) given.date ≡ d → whole_of given a b d ≡ Some run → IsRun now given run
-whole-is now given (Some a) (Some b) (Some d) ea eb ed e = record {
-  handheld = ea ∙ cc;
-  desktop = eb ∙ cc;
-  date = dated_by now given given.date refl (ed ∙ cc);
-  script = cc;
-  trace = cc;
-  actions = cc;
-  slow = cc;
-  add_user = cc;
-}
-whole-is now given None b d ea eb ed e = cc
-whole-is now given (Some a) None d ea eb ed e = cc
-whole-is now given (Some a) (Some b) None ea eb ed e = cc
-
--- `clap` takes the words of a run
-takes_given : {now : Option ℕ} (first : Text) (words : List Text) {given : Given} {run : Run} → with_words nothing words ≡ Some given
-    → IsRun now given run → takes run_app (first ∷ words) ≡ true
-unfolding run_app
-takes_given first words e is =
-    let end = words_end words fits_nothing e in
-    let passes = end.passes in
-    let goes = end.goes in
-    let settles = end.fits.settles in
-    let holds = end.fits.holds in
-    let handheld = find_finished (codes "handheld") end.next_held refl refl ∙ holds.each of_handheld ∙ ap (row_for (codes "handheld")) is.handheld in
-    let desktop = find_finished (codes "desktop") end.next_held refl refl ∙ holds.each of_desktop ∙ ap (row_for (codes "desktop")) is.desktop in
-    let date = find_finished (codes "date") end.next_held refl refl ∙ holds.each of_date ∙ ap (row_for (codes "date")) is.date.given_word in
-    rw (goes, passes, settles, handheld, desktop, date) refl
-
--- and gives the run
-abbrev value_in : Option Row → Option Text
-value_in = option_and_then (λ r. slice_get r.values 0)
-
-in_row : (id : Text) (o : Option Text) → value_in (row_for id o) ≡ o
-in_row id o = grind arith
-
-has_row-find : (id : Text) (rows : List Row) → has_row id rows ≡ is_some (find_row id rows)
+pub has_row-find : (id : Text) (rows : List Row) → has_row id rows ≡ is_some (find_row id rows)
 has_row-find id [] = refl
 has_row-find id (x ∷ xs) = grind (arith, has_row-find id xs)
 
-flag_in : (id : Text) (b c : Bool) (rows : List Row) → bytes_eq id id ≡ true → find_row id rows ≡ flag_row id b → has_row id rows ≡ c
-    → option_and_then row_text (find_row id (with_default id c rows)) ≡ Some (cond b (codes "true") (codes "false"))
-flag_in id true true rows same e has = rw e refl
-flag_in id true false rows same e has = let none = sym has ∙ has_row-find id rows ∙ ap is_some e in cc
-flag_in id false true rows same e has = let none = sym has ∙ has_row-find id rows ∙ ap is_some e in cc
-flag_in id false false rows same e has =
-    grind (arith, at_row-none id (more_values DefaultValue (codes "false" ∷ [])) (default_row id ∷ []) rows has, find-append id rows (default_row id))
+some_row : (o : Option (Text × Text)) → is_some (option_map row o) ≡ is_some (option_map (λ (u : Text × Text). u.1) o)
+some_row None = refl
+some_row (Some u) = refl
 
-slow_in : (b : Bool) (rows : List Row) → find_row (codes "slow") rows ≡ flag_row (codes "slow") b
-    → option_and_then row_text (find_row (codes "slow") (with_both rows)) ≡ Some (cond b (codes "true") (codes "false"))
-slow_in b rows e =
-    grind (
-      arith,
-      find_default (codes "add-user") (codes "slow") (has_row (codes "add-user") (with_slow rows)) (with_slow rows) refl refl,
-      flag_in (codes "slow") b (has_row (codes "slow") rows) rows refl e refl,
-    )
+pub has_use : (id : Text) (us : List (Text × Text)) → has_row id (map row us) ≡ is_some (used id us)
+has_use id us = has_row-find id (map row us) ∙ ap is_some (row_used id us) ∙ some_row (find (λ (u : Text × Text). bytes_eq u.0 id) us)
 
-add_user_in : (b : Bool) (rows : List Row) → find_row (codes "add-user") rows ≡ flag_row (codes "add-user") b
-    → option_and_then row_text (find_row (codes "add-user") (with_both rows)) ≡ Some (cond b (codes "true") (codes "false"))
-add_user_in b rows e =
-    flag_in (codes "add-user") b (has_row (codes "add-user") (with_slow rows)) (with_slow rows) refl
-    (find_default (codes "slow") (codes "add-user") (has_row (codes "slow") rows) rows refl refl ∙ e) refl
+not_among : (options : List NamedOption) (name : Text) → ((option : NamedOption) → IsIn option options → bytes_eq option.name name ≡ false)
+    → list_any (λ (option : NamedOption). bytes_eq option.name name) options ≡ false
+not_among [] name h = refl
+not_among (option ∷ options) name h = let first = h option (inl refl) in rw first (not_among options name (λ o i. h o (inr i)))
 
-matches_given : {now : Option ℕ} (first : Text) (words : List Text) {given : Given} (run : Run) (found : Found) → with_words nothing words ≡ Some given
-    → IsRun now given run → rows_of found ≡ matches_of run_app (first ∷ words) → HoldsRun now found run
-unfolding run_app
-matches_given first words {given} run found e is rows =
-    let end = words_end words fits_nothing e in
-    let goes = end.goes in
-    let holds = end.fits.holds in
-    let last = (settled rules end.next_held).rows in
-    let at_end : rows_of found ≡ finished rules end.next_held = rows ∙ rw goes refl in
-    let value : (argument : Argument) → bytes_eq (codes "slow") (id_of argument) ≡ false → bytes_eq (codes "add-user") (id_of argument) ≡ false
-    → first_value found (id_of argument) ≡ value_in (row_in given argument) =
-    λ argument slow add_user. first_value-rows found (id_of argument) ∙ ap (first_of (id_of argument)) at_end
-    ∙ ap value_in (find_finished (id_of argument) end.next_held slow add_user ∙ holds.each argument) in
-    let flag : (argument : Argument) → one_text found (id_of argument) ≡ option_and_then row_text (find_row (id_of argument) (with_both last)) =
-    λ argument. one_text-rows found (id_of argument) ∙ ap (one_of (id_of argument)) (at_end ∙ finished-is end.next_held) in
-    record {
-      handheld = value of_handheld refl refl ∙ in_row (codes "handheld") given.handheld ∙ is.handheld;
-      desktop = value of_desktop refl refl ∙ in_row (codes "desktop") given.desktop ∙ is.desktop;
-      date = record {
-        word = is.date.word;
-        held = value of_date refl refl ∙ in_row (codes "date") given.date ∙ is.date.given_word;
-        is = is.date.is;
-      };
-      script = value of_script refl refl ∙ in_row (codes "script") given.script ∙ is.script;
-      trace = value of_trace refl refl ∙ in_row (codes "trace") given.trace ∙ is.trace;
-      actions = value of_actions refl refl ∙ in_row (codes "actions") given.actions ∙ is.actions;
-      slow = flag of_slow ∙ slow_in given.slow last (holds.each of_slow) ∙ ap (λ b. Some (cond b (codes "true") (codes "false"))) is.slow;
-      add_user = flag of_add_user ∙ add_user_in given.add_user last (holds.each of_add_user)
-          ∙ ap (λ b. Some (cond b (codes "true") (codes "false"))) is.add_user;
-    }
+-- ---- how often a word stands
 
--- the same of the words as a whole
-given_is : (now : Option ℕ) (o : Option Given) {run : Run} → option_and_then (whole now) o ≡ Some run
-    → (given : Given) × (o ≡ Some given) × (whole now given ≡ Some run)
-given_is now o e = grind arith
+-- one that stands here stood not before, where it stands at most once
+stood_not : (p : Text → Bool) (seen : List Text) (word : Text) (rest : List Text) → length (filter p (seen ++ word ∷ rest)) ≤ 1 → p word ≡ true
+    → length (filter p seen) ≡ 0
+stood_not p seen word rest le e =
+    let whole = ap length (filter-append p seen (word ∷ rest)) ∙ length-append (filter p seen) (filter p (word ∷ rest)) in
+    let here : length (filter p (word ∷ rest)) ≡ suc (length (filter p rest)) = ap (λ b. length (cond b (word ∷ filter p rest) (filter p rest))) e in
+    omega arith
 
-run_parts : (now : Option ℕ) (words : List Text) {run : Run} → run_of now words ≡ Some run
-    → (given : Given) × (with_words nothing words ≡ Some given) × IsRun now given run
-unfolding run_of whole
-run_parts now words e =
-    let given = given_is now (with_words nothing words) e in
-    let date = option_and_then (date_at now) given.0.date in
-    (given.0, given.1, whole-is now given.0 given.0.handheld given.0.desktop date refl refl refl given.2)
+no_more : (b : Bool) (word : Text) (words : List Text) → length (cond b (word ∷ words) words) ≡ 0 → (b ≡ false) × (length words ≡ 0)
+no_more true word words e = absurd (omega arith)
+no_more false word words e = (refl, e)
 
-pub takes_run : (now : Option ℕ) (first : Text) (words : List Text) {run : Run} → run_of now words ≡ Some run → takes run_app (first ∷ words) ≡ true
-takes_run now first words e =
-    let parts = run_parts now words e in
-    takes_given first words parts.1 parts.2
+no_value : (o : Option Text) → is_some o ≡ false → o ≡ None
+no_value None e = refl
+no_value (Some v) e = cc
 
-pub matches_run : (now : Option ℕ) (first : Text) (words : List Text) (run : Run) (found : Found) → run_of now words ≡ Some run
-    → rows_of found ≡ matches_of run_app (first ∷ words) → HoldsRun now found run
-matches_run now first words run found e rows =
-    let parts = run_parts now words e in
-    matches_given first words run found parts.1 parts.2 rows
+none_of : (name : Text) (words : List Text) → option_count name words ≡ 0 → value_of name words ≡ None
+none_of name [] e = refl
+none_of name (word ∷ words) e =
+    let parts = no_more (is_option name word) word (filter (is_option name) words) e in
+    ap (λ o. option_or o (value_of name words)) (no_value (value_in name word) parts.0) ∙ none_of name words parts.1
 
-pub run_is_simple : is_simple run_app ≡ true
-unfolding run_app
-run_is_simple = refl
+one_of_some : (o : Option Text) (word : Text) (words : List Text) (rest : Option Text) → 1 ≤ length (cond (is_some o) (word ∷ words) words)
+    → (1 ≤ length words → is_some rest ≡ true) → is_some (option_or o rest) ≡ true
+one_of_some None word words rest le h = h le
+one_of_some (Some v) word words rest le h = refl
+
+pub some_of : (name : Text) (words : List Text) → 1 ≤ option_count name words → is_some (value_of name words) ≡ true
+some_of name [] le = absurd (omega arith)
+some_of name (word ∷ words) le = one_of_some (value_in name word) word (filter (is_option name) words) (value_of name words) le (some_of name words)
+
+no_flag : (name : Text) (words : List Text) → flag_count name words ≡ 0 → has_flag name words ≡ false
+no_flag name [] e = refl
+no_flag name (word ∷ words) e =
+    let parts = no_more (is_flag name word) word (filter (is_flag name) words) e in
+    ap (λ b. b || has_flag name words) parts.0 ∙ no_flag name words parts.1
+
+-- what is counted of words of a form
+pub record Counted (form : Form) (words : List Text) : Type 0 where
+  pub all : list_all (is_word form) words ≡ true
+  pub plain : length (plain_words words) ≤ length form.plain
+  pub options : (option : NamedOption) → IsIn option form.options → option_count option.name words ≤ 1
+  pub flags : (flag : Text) → IsIn flag form.flags → flag_count flag words ≤ 1
+
+part_counted : (form : Form) (seen words : List Text) → Counted form (seen ++ words) → Counted form seen
+part_counted form seen words c = record {
+  all = (and_parts (list_all (is_word form) seen) (list_all (is_word form) words) (sym (list_all-append (is_word form) seen words) ∙ c.all)).0;
+  plain =
+      let le = c.plain in
+      let whole = ap length (filter-append is_plain seen words) ∙ length-append (plain_words seen) (plain_words words) in
+      omega arith;
+  options = λ option i.
+      let le = c.options option i in
+      let whole = ap length (filter-append (is_option option.name) seen words) ∙ length-append (filter (is_option option.name) seen) (filter (is_option option.name) words) in
+      omega arith;
+  flags = λ flag i.
+      let le = c.flags flag i in
+      let whole = ap length (filter-append (is_flag flag) seen words) ∙ length-append (filter (is_flag flag) seen) (filter (is_flag flag) words) in
+      omega arith;
+}
+
+-- ---- the walk
+
+module _ (form : Form) (proper : Proper form) where
+  abbrev pub rules : List Rule
+  rules = rules_of form
+
+  abbrev pub rows_after : List Text → List Row
+  rows_after seen = map row (uses form.plain 0 seen)
+
+  rows-more : (seen : List Text) (word : Text) → rows_after seen ++ row (use_of form.plain (place_after 0 seen) word) ∷ [] ≡ rows_after (seen ++ word ∷ [])
+  rows-more seen word =
+      sym (map-append row (uses form.plain 0 seen) (use_of form.plain (place_after 0 seen) word ∷ [])) ∙ ap (map row) (sym (uses-more form.plain 0 seen word))
+
+  -- the plain words before one are fewer than the form has
+  place_below : (seen : List Text) (word : Text) (rest : List Text) → is_plain word ≡ true → Counted form (seen ++ word ∷ rest) → place_after 0 seen < length form.plain
+  place_below seen word rest plain c =
+      let le = c.plain in
+      let here = place_after-is 0 seen in
+      let whole = ap length (filter-append is_plain seen (word ∷ rest)) ∙ length-append (plain_words seen) (plain_words (word ∷ rest)) in
+      let more : length (plain_words (word ∷ rest)) ≡ suc (length (plain_words rest)) = ap (λ b. length (cond b (word ∷ plain_words rest) (plain_words rest))) plain in
+      omega arith
+
+  at_end : (seen : List Text) (n : ℕ) → n ≡ length (plain_words seen) → plain_at n seen ≡ None
+  at_end seen n e = past (plain_words seen) n e
+    where
+      past : (xs : List Text) (n : ℕ) → n ≡ length xs → slice_get xs n ≡ None
+      past [] n e = refl
+      past (x ∷ xs) zero e = absurd (omega arith)
+      past (x ∷ xs) (suc n) e = past xs n (omega arith)
+
+  word_turns : (seen : List Text) (word : Text) (rest : List Text) (h : Held) → IsWord form word → Counted form (seen ++ word ∷ rest) → Fits rules (rows_after seen) h
+      → Turns rules word (suc (place_after 0 seen)) (suc (next_place (place_after 0 seen) word)) (rows_after (seen ++ word ∷ [])) h
+  word_turns seen word rest h (inl p) c f =
+      let k = place_after 0 seen in
+      let few = proper.few in
+      let below = place_below seen word rest p.plain c in
+      let id = id_at form.plain k in
+      let at_k = at_id form proper k below in
+      let before = part_counted form seen (word ∷ rest) c in
+      let le = before.plain in
+      let counted = place_after-is 0 seen in
+      let none : has_row id (rows_after seen) ≡ false = has_use id (uses form.plain 0 seen)
+      ∙ ap is_some (used_plain form proper k k 0 seen (omega arith) below before.all (omega arith) ∙ at_end seen k (omega arith)) in
+      let turned = plain_turns rules id p.first p.rest (suc k) (rows_after seen) h
+      (at_place 1 k (suc k) form.plain _ (omega arith) at_k) (by_id 1 k (suc k) form.plain _ (omega arith) proper.plain at_k) p.no_dash (omega arith) f none in
+      let same = subst (λ w. Turns rules w (suc k) (suc (suc k)) (rows_after seen ++ row (id, w) ∷ []) h) (sym p.is) turned in
+      let used_so = subst (λ u. Turns rules word (suc k) (suc (suc k)) (rows_after seen ++ row u ∷ []) h) (sym (use-plain form proper k p)) same in
+      let placed = subst (λ n. Turns rules word (suc k) (suc n) (rows_after seen ++ row (use_of form.plain k word) ∷ []) h) (sym (ap (λ b. cond b (suc k) k) p.plain)) used_so in
+      subst (λ rows. Turns rules word (suc k) (suc (next_place k word)) rows h) (rows-more seen word) placed
+  word_turns seen word rest h (inr (inl o)) c f =
+      let k = place_after 0 seen in
+      let name = o.option.name in
+      let before = part_counted form seen (word ∷ rest) c in
+      let le = before.plain in
+      let stands : is_option name word ≡ true = ap is_some o.gives in
+      let none : has_row name (rows_after seen) ≡ false = has_use name (uses form.plain 0 seen)
+      ∙ ap is_some (used_option form proper o.option o.among 0 seen before.all (omega arith)
+      ∙ none_of name seen (stood_not (is_option name) seen word rest (c.options o.option o.among) stands)) in
+      let turned = option_turns rules o.option o.value word (suc k) (rows_after seen) h (by_option form o.option proper.options o.among) o.long f none in
+      let used_so = subst (λ u. Turns rules word (suc k) (suc k) (rows_after seen ++ row u ∷ []) h) (sym (use-long form proper k word o.other o.long)) turned in
+      let placed = subst (λ n. Turns rules word (suc k) (suc n) (rows_after seen ++ row (use_of form.plain k word) ∷ []) h) (sym (ap (λ b. cond b (suc k) k) o.other)) used_so in
+      subst (λ rows. Turns rules word (suc k) (suc (next_place k word)) rows h) (rows-more seen word) placed
+  word_turns seen word rest h (inr (inr g)) c f =
+      let k = place_after 0 seen in
+      let before = part_counted form seen (word ∷ rest) c in
+      let le = before.plain in
+      let apart_names = not_among form.options g.flag (λ option i. disjoint_in (names_of form.options) form.flags option.name g.flag proper.options_flags
+      (name_in form proper option i) g.among) in
+      let none : has_row g.flag (rows_after seen) ≡ false = has_use g.flag (uses form.plain 0 seen)
+      ∙ ap is_some (used_flag form proper g.flag g.among 0 seen before.all (omega arith)
+      ∙ ap (λ b. cond b (Some (codes "true")) None) (no_flag g.flag seen (stood_not (is_flag g.flag) seen word rest (c.flags g.flag g.among) g.is))) in
+      let turned = flag_turns rules g.flag word (suc k) (rows_after seen) h (by_flag form g.flag proper.flags apart_names g.among) g.long f none in
+      let used_so = subst (λ u. Turns rules word (suc k) (suc k) (rows_after seen ++ row u ∷ []) h) (sym (use-long form proper k word g.other g.long)) turned in
+      let placed = subst (λ n. Turns rules word (suc k) (suc n) (rows_after seen ++ row (use_of form.plain k word) ∷ []) h) (sym (ap (λ b. cond b (suc k) k) g.other)) used_so in
+      subst (λ rows. Turns rules word (suc k) (suc (next_place k word)) rows h) (rows-more seen word) placed
+
+  pub record Ends (place : ℕ) (seen words : List Text) (h : Held) : Type 0 where
+    pub next_place : ℕ
+    pub next_held : Held
+    pub passes : walk_passes (shape_of rules) [] (at place h) words ≡ true
+    pub goes : fold (walked rules []) (at place h) words ≡ at next_place next_held
+    pub fits : Fits rules (rows_after (seen ++ words)) next_held
+
+  words_end : (words seen : List Text) (place : ℕ) (h : Held) → place ≡ suc (place_after 0 seen) → Counted form (seen ++ words) → Fits rules (rows_after seen) h
+      → Ends place seen words h
+  unfolding walk_passes
+  words_end [] seen place h is c f = record {
+    next_place = place;
+    next_held = h;
+    passes = refl;
+    goes = refl;
+    fits = subst (λ ws. Fits rules (rows_after ws) h) (sym (append-nil seen)) f;
+  }
+  words_end (word ∷ words) seen place h is c f =
+      let all = and_parts (list_all (is_word form) seen) _ (sym (list_all-append (is_word form) seen (word ∷ words)) ∙ c.all) in
+      let kind = word_is form word proper (and_parts (is_word form word) _ all.1).0 in
+      let turned = subst (λ p. Turns rules word p (suc (next_place (place_after 0 seen) word)) (rows_after (seen ++ word ∷ [])) h) (sym is)
+      (word_turns seen word words h kind c f) in
+      let further = ap suc (sym (place_after-more 0 seen word)) in
+      let counted = subst (Counted form) (sym (append_assoc seen (word ∷ []) words)) c in
+      let rest = words_end words (seen ++ word ∷ []) (suc (next_place (place_after 0 seen) word)) turned.next_held further counted turned.fits in
+      let passes = turned.passes in
+      let goes = turned.goes in
+      record {
+        next_place = rest.next_place;
+        next_held = rest.next_held;
+        passes = rw (passes, goes) rest.passes;
+        goes = rw goes rest.goes;
+        fits = subst (λ ws. Fits rules (rows_after ws) rest.next_held) (append_assoc seen (word ∷ []) words) rest.fits;
+      }
+
+  pub walk_ends : (words : List Text) → Counted form words → Ends 1 [] words nothing_held
+  walk_ends words c = words_end words [] 1 nothing_held refl c (record { settles = refl; are = refl })

@@ -1,5 +1,8 @@
+pub mod AppLaws
 pub mod CommandLaws
+pub mod EndLaws
 pub mod FormLaws
-pub mod PlainLaws
-pub mod TaskLaws
+pub mod Lists
+pub mod RuleLaws
+pub mod UseLaws
 pub mod WalkLaws

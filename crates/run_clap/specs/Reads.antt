@@ -1,56 +1,59 @@
 -- What the matches of words hold.
-use Rattle.std.specs.Prelude.{◌≡◌, ℕ, List, Option, Some, codes, if◌then◌else◌}
+use Rattle.std.specs.Prelude.{◌≡◌, ℕ, suc, Bool, List, [], ◌∷◌, Option, Some, codes, option_and_then, if◌then◌else◌}
+use Rattle.std.specs.List.{AllByRecursion}
 use Rattle.clap.specs.Matches.{first_value, one_text}
-use Rattle.clap.specs.Words.{App}
 use Rattle.clap.specs.declared.parser.matches.Found.{Found}
-use Rattle.run_words.specs.Commands.{Task, Sync, LookAt, Scan, Make}
-use Rattle.run_words.specs.Numbers.{number_of, count_of}
-use Rattle.run_words.specs.Runs.{Run, date_at}
-use Rattle.run_words.specs.Words.{bytes_of}
-use Rattle.run_clap.specs.Apps.{run_app, file_app, packet_app, make_app}
+use Rattle.run_words.specs.Commands.{Task, Sync, LookAt, Scan, Make, export_form, file_form, hex_bytes, make_form, make_in, packet_form}
+use Rattle.run_words.specs.Exports.{export_in}
+use Rattle.run_words.specs.Forms.{Form, has_flag, plain_at, value_of}
+use Rattle.run_words.specs.Runs.{run_form, run_in}
+use Rattle.run_words.specs.declared.look.Look.{Look}
+use Rattle.run_words.specs.declared.look.Look.TheVariants.{Check, Show, Export}
 
--- they have a date word, which has this date where the date now is this
-pub record HoldsDate (now : Option ℕ) (found : Found) (date : ℕ) : Type 0 where
-  pub word : List ℕ
-  pub held : first_value found (codes "date") ≡ Some word
-  pub is : date_at now word ≡ Some date
+-- they have the plain words from a place on, under these names
+abbrev pub HoldsPlain : Found → List (List ℕ) → ℕ → List (List ℕ) → Type 0
+HoldsPlain found words place [] = Unit {0}
+HoldsPlain found words place (name ∷ names) =
+    (first_value found name ≡ plain_at place words) × HoldsPlain found words (suc place) names
 
--- the matches have the values of the run
-pub record HoldsRun (now : Option ℕ) (found : Found) (run : Run) : Type 0 where
-  pub handheld : first_value found (codes "handheld") ≡ Some run.handheld
-  pub desktop : first_value found (codes "desktop") ≡ Some run.desktop
-  pub date : HoldsDate now found run.date
-  pub script : first_value found (codes "script") ≡ run.script
-  pub trace : first_value found (codes "trace") ≡ run.trace
-  pub actions : first_value found (codes "actions") ≡ run.actions
-  pub slow : one_text found (codes "slow") ≡ Some (if run.slow then codes "true" else codes "false")
-  pub add_user : one_text found (codes "add-user") ≡ Some (if run.add_user then codes "true" else codes "false")
+-- the text of a flag
+abbrev pub flag_text : Bool → List ℕ
+flag_text given = if given then codes "true" else codes "false"
 
--- they have a word of hexadecimal for these bytes
-pub record HoldsBytes (found : Found) (bytes : List ℕ) : Type 0 where
-  pub hex : List ℕ
-  pub held : first_value found (codes "hex") ≡ Some hex
-  pub stands : bytes_of hex ≡ bytes
+-- they have what words of a form hold
+pub record HoldsWords (form : Form) (words : List (List ℕ)) (found : Found) : Type 0 where
+  pub plain : HoldsPlain found words 0 form.plain
+  pub options : AllByRecursion (λ option. first_value found option.name ≡ value_of option.name words) form.options
+  pub flags : AllByRecursion (λ flag. one_text found flag ≡ Some (flag_text (has_flag flag words))) form.flags
 
--- they have two words for these numbers
-pub record HoldsNumbers (found : Found) (seed count : ℕ) : Type 0 where
-  pub one : List ℕ
-  pub two : List ℕ
-  pub held : first_value found (codes "seed") ≡ Some one
-  pub held_too : first_value found (codes "count") ≡ Some two
-  pub number : number_of one ≡ Some seed
-  pub counted : count_of two ≡ Some count
+-- the form of the words of a look
+abbrev pub look_form : Look → Form
+look_form Check = file_form
+look_form Show = file_form
+look_form (Export export) = export_form
 
--- they have what is asked for
-abbrev pub HoldsTask : Option ℕ → Found → Task → Type 0
-HoldsTask now found (Sync run) = HoldsRun now found run
-HoldsTask now found (LookAt look file) = first_value found (codes "file") ≡ Some file
-HoldsTask now found (Scan bytes) = HoldsBytes found bytes
-HoldsTask now found (Make seed count) = HoldsNumbers found seed count
+-- the form of the words of a task
+abbrev pub task_form : Task → Form
+task_form (Sync run) = run_form
+task_form (LookAt look file) = look_form look
+task_form (Scan bytes) = packet_form
+task_form (Make seed count) = make_form
 
--- the command of a task
-abbrev pub task_app : Task → App
-task_app (Sync run) = run_app
-task_app (LookAt look file) = file_app
-task_app (Scan bytes) = packet_app
-task_app (Make seed count) = make_app
+-- what words of its form ask for is this look
+abbrev pub AsksLook : List (List ℕ) → Look → Type 0
+AsksLook words Check = Unit {0}
+AsksLook words Show = Unit {0}
+AsksLook words (Export export) = export_in words ≡ Some export
+
+-- what words of its form ask for is this task, at the date now
+abbrev pub Asks : Option ℕ → List (List ℕ) → Task → Type 0
+Asks now words (Sync run) = run_in now words ≡ Some run
+Asks now words (LookAt look file) = (plain_at 0 words ≡ Some file) × AsksLook words look
+Asks now words (Scan bytes) = option_and_then hex_bytes (plain_at 0 words) ≡ Some bytes
+Asks now words (Make seed count) = make_in words ≡ Some (Make seed count)
+
+-- the matches have what words hold that ask for this task, at the date now
+pub record HoldsTask (now : Option ℕ) (found : Found) (task : Task) : Type 0 where
+  pub words : List (List ℕ)
+  pub holds : HoldsWords (task_form task) words found
+  pub asks : Asks now words task

@@ -1,10 +1,11 @@
 // Arguments, as `clap` is told of them.
-ghost use Rattle.std.specs.Prelude.{◌≡◌, IfOk, false, true, Some};
-ghost use Rattle.clap.specs.Words.{app_of, new_rule, rule_of, with_rule};
-ghost use Rattle.clap.specs.declared.builder.ArgAction.TheVariants.{SetTrue};
-ghost use Rattle.run_clap.specs.Apps.{empty_app, plain_rule};
+ghost use Rattle.std.specs.Prelude.{◌≡◌, IfOk, false};
+ghost use Rattle.clap.specs.Words.{app_of, rule_of, with_rule};
+ghost use Rattle.run_clap.specs.Apps.{empty_app, flag_rule, option_rule, plain_rule};
+ghost use Rattle.run_words.specs.Views.{option_view};
 
 use clap::{Arg, ArgAction, Command};
+use run_words::ValueOption;
 use std::alloc::{AllocError, Global};
 
 // A plain word that has to stand.
@@ -16,26 +17,17 @@ pub fn plain_arg<'a>(alloc: Global, id: &'a str) -> Arg<'a>
 }
 
 // An option with a value.
-pub fn option_arg<'a>(alloc: Global, id: &'a str) -> Arg<'a>
-    ensures rule { rule_of result ≡ record (new_rule id.entry.now) { long = Some id.entry.now } }
+pub fn option_arg<'a>(alloc: Global, option: &ValueOption<'a>) -> Arg<'a>
+    ensures rule { rule_of result ≡ option_rule (option_view option.now) }
     ensures local { result.global ≡ false }
 {
-    Arg::new(alloc, id).long(id)
+    let arg = Arg::new(alloc, option.name).long(option.name);
+    arg.required(option.is_required)
 }
 
-// An option with a value that has to stand.
-pub fn required_arg<'a>(alloc: Global, id: &'a str) -> Arg<'a>
-    ensures rule { rule_of result
-        ≡ record (new_rule id.entry.now) { long = Some id.entry.now; required = true } }
-    ensures local { result.global ≡ false }
-{
-    Arg::new(alloc, id).long(id).required(true)
-}
-
-// An option that stands alone.
+// A flag.
 pub fn flag_arg<'a>(alloc: Global, id: &'a str) -> Arg<'a>
-    ensures rule { rule_of result
-        ≡ record (new_rule id.entry.now) { long = Some id.entry.now; action = Some SetTrue } }
+    ensures rule { rule_of result ≡ flag_rule id.entry.now }
     ensures local { result.global ≡ false }
 {
     Arg::new(alloc, id).long(id).action(ArgAction::SetTrue)
@@ -52,8 +44,8 @@ pub fn with_arg<'a>(command: Command<'a>, arg: Arg<'a>) -> Result<Command<'a>, A
 }
 
 // With no argument, and no help.
-pub fn empty_command<'a>(alloc: Global, name: &'a str) -> Command<'a>
-    ensures { app_of result ≡ empty_app name.entry.now }
+pub fn empty_command<'a>(alloc: Global) -> Command<'a>
+    ensures { app_of result ≡ empty_app }
 {
-    Command::new(alloc, name).disable_help_flag(true)
+    Command::new(alloc, "hotsync").disable_help_flag(true)
 }

@@ -5,9 +5,11 @@
 #![tactic(auto)]
 
 mod argument;
-mod plain;
+mod form;
 mod read;
-mod run;
+mod values;
 
 pub use read::{WordsFault, read_command};
-pub use run_words::{Command, Look, LookWords, MakeWords, PacketWords, RunWords};
+pub use run_words::{
+    Command, Export, ExportForm, Look, LookWords, MakeWords, PacketWords, RunWords,
+};

@@ -1,16 +1,18 @@
 // Words, read by the command of what they ask for.
-ghost use Rattle.std.specs.Prelude.{◌≡◌, ◌↔◌, IfErr, IfOk, IsErrOf, None, Some, map, option_map, string_bytes};
+ghost use Rattle.std.specs.Prelude.{◌≡◌, ◌↔◌, ℕ, List, IfErr, IfOk, IsErrOf, None, Some, map, option_map, string_bytes};
 ghost use Rattle.clap.specs.Words.{app_of, found_of, kind_of};
-ghost use Rattle.run_clap.specs.Reads.{HoldsTask, task_app};
+ghost use Rattle.run_clap.specs.Reads.{AsksLook, HoldsTask, HoldsWords, look_form, task_form};
 ghost use Rattle.run_words.specs.Commands.{task_of};
-ghost use Rattle.run_words.specs.Views.{task_view};
+ghost use Rattle.run_words.specs.Views.{form_view, task_view};
 
-use crate::plain::{file_command, make_command, make_in, packet_command};
-use crate::run::{run_command, run_in};
+use crate::form::form_command;
+use crate::values::{export_in, make_in, run_in};
 use clap::error::ErrorKind;
-use clap::{ArgMatches, Command as Reader, Error};
-use run_words::{Command, LookWords, PacketWords, command_of};
-use std::alloc::{AllocError, Global};
+use clap::{ArgMatches, Error};
+use run_words::{
+    Command, EXPORT, FILE, Look, LookWords, MAKE, PACKET, PacketWords, RUN, WordForm, command_of,
+};
+use std::alloc::Global;
 
 /// Why words give no command.
 #[derive(Clone, Copy, PartialEq, Eq)]
@@ -21,56 +23,72 @@ pub enum WordsFault {
     NoMemory,
 }
 
-// What reads the words of a command.
-fn reader_of<'a>(alloc: Global, form: &Command<'a>) -> Result<Reader<'a>, AllocError>
-    ensures { IfOk result (λ reader. app_of reader ≡ task_app (task_view form.now)) }
+// The form of the words of a command.
+fn form_of(command: &Command<'_>) -> WordForm<'static>
+    ensures { form_view result ≡ task_form (task_view command.now) }
 {
-    let reader = match form {
-        Command::Run(_) => run_command(alloc)?,
-        Command::Look(_) => file_command(alloc)?,
-        Command::Packet(_) => packet_command(alloc)?,
-        Command::Make(_) => make_command(alloc)?,
-    };
-    Ok(reader)
+    match command {
+        Command::Run(_) => RUN,
+        Command::Look(words) => match words.look {
+            Look::Check => FILE,
+            Look::Show => FILE,
+            Look::Export(_) => EXPORT,
+        },
+        Command::Packet(_) => PACKET,
+        Command::Make(_) => MAKE,
+    }
 }
 
 // The matches of words in the form. They are refused only for want of memory.
 fn matches_of<'a>(
     alloc: Global,
     now: Option<u32>,
-    form: &Command<'a>,
+    command: &Command<'a>,
     words: &'a [String],
 ) -> Result<ArgMatches<'a>, Error>
-    requires { task_of now (map string_bytes words.now) ≡ Some (task_view form.now) }
+    requires { task_of now (map string_bytes words.now) ≡ Some (task_view command.now) }
     ensures taken { IfErr result (λ error. kind_of error ≡ ErrorKind.OutOfMemory) }
     ensures read { IfOk result (λ matches.
-        HoldsTask now (found_of matches) (task_view form.now)) }
+        HoldsTask now (found_of matches) (task_view command.now)) }
 {
-    let reader = reader_of(alloc, form)?;
+    let reader = form_command(alloc, &form_of(command))?;
     reader.try_get_matches_from(words)
+}
+
+// The look that matches hold.
+fn look_in<'a>(look: Look, matches: &ArgMatches<'a>) -> Option<Look>
+    ensures { (words : List (List ℕ)) → HoldsWords (look_form look) words (found_of matches.now)
+        → AsksLook words look → result ≡ Some look }
+{
+    match look {
+        Look::Check => Some(Look::Check),
+        Look::Show => Some(Look::Show),
+        Look::Export(_) => {
+            let export = export_in(matches)?;
+            Some(Look::Export(export))
+        }
+    }
 }
 
 // The command that matches hold.
 fn command_in<'a>(
     now: Option<u32>,
-    form: &Command<'a>,
+    command: &Command<'a>,
     matches: &ArgMatches<'a>,
 ) -> Option<Command<'a>>
-    ensures { HoldsTask now (found_of matches.now) (task_view form.now)
-        → option_map task_view result ≡ Some (task_view form.now) }
+    ensures { HoldsTask now (found_of matches.now) (task_view command.now)
+        → option_map task_view result ≡ Some (task_view command.now) }
 {
-    match form {
+    match command {
         Command::Run(_) => match run_in(now, matches) {
             Some(run) => Some(Command::Run(run)),
             None => None,
         },
-        Command::Look(words) => match matches.get_str("file") {
-            Some(file) => Some(Command::Look(LookWords {
-                look: words.look,
-                file,
-            })),
-            None => None,
-        },
+        Command::Look(words) => {
+            let file = matches.get_str("file")?;
+            let look = look_in(words.look, matches)?;
+            Some(Command::Look(LookWords { look, file }))
+        }
         Command::Packet(_) => match matches.get_str("hex") {
             Some(hex) => Some(Command::Packet(PacketWords { hex })),
             None => None,

@@ -20,11 +20,11 @@ abbrev pub plain_form : List (List ℕ) → Form
 plain_form names = record { plain = names; options = []; flags = [] }
 
 -- `FILE`, behind `check` and `show`
-unfoldable pub file_form : Form
+abbrev pub file_form : Form
 file_form = plain_form (codes "file" ∷ [])
 
 -- `FILE --as=FORM [--without-private]`, behind `export`
-unfoldable pub export_form : Form
+abbrev pub export_form : Form
 export_form = record {
   plain = codes "file" ∷ [];
   options = record { name = codes "as"; is_required = true } ∷ [];
@@ -32,11 +32,11 @@ export_form = record {
 }
 
 -- `HEX`, behind `packet`
-unfoldable pub packet_form : Form
+abbrev pub packet_form : Form
 packet_form = plain_form (codes "hex" ∷ [])
 
 -- `SEED N`, behind `make`
-unfoldable pub make_form : Form
+abbrev pub make_form : Form
 make_form = plain_form (codes "seed" ∷ codes "count" ∷ [])
 
 -- the file that the words behind `check` or `show` name

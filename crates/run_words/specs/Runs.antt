@@ -10,7 +10,7 @@ abbrev pub date_at : Option ℕ → List ℕ → Option ℕ
 date_at now word = if bytes_eq word (codes "now") then if_later now else read_text word
 
 -- `HANDHELD DESKTOP --date=D [--script=F] [--trace=F] [--actions=L] [--slow] [--add-user]`
-unfoldable pub run_form : Form
+abbrev pub run_form : Form
 run_form = record {
   plain = codes "handheld" ∷ codes "desktop" ∷ [];
   options = record { name = codes "date"; is_required = true } ∷ record { name = codes "script"; is_required = false }

@@ -103,7 +103,7 @@ fn run_command<'a>(now: Option<u32>, words: &'a [String]) -> Option<Command<'a>>
 }
 
 // The look at the file that stands behind `check` or `show`.
-#[tactic(auto, unfolding(crate::specs::Commands::file_of, crate::specs::Commands::file_form))]
+#[tactic(auto, unfolding(crate::specs::Commands::file_of))]
 fn look_command<'a>(look: Look, words: &'a [String]) -> Option<Command<'a>>
     ensures { option_map task_view result
         ≡ option_map (LookAt look) (file_of (map string_bytes words.entry.now)) }
@@ -127,7 +127,7 @@ fn export_in(words: &[String]) -> Option<Export>
 }
 
 // The look at the file that stands behind `export`.
-#[tactic(auto, unfolding(crate::specs::Commands::export_of, crate::specs::Commands::export_form))]
+#[tactic(auto, unfolding(crate::specs::Commands::export_of))]
 fn export_command<'a>(words: &'a [String]) -> Option<Command<'a>>
     ensures { option_map task_view result ≡ export_of (map string_bytes words.entry.now) }
 {
@@ -141,7 +141,7 @@ fn export_command<'a>(words: &'a [String]) -> Option<Command<'a>>
 }
 
 // The hexadecimal behind `packet`.
-#[tactic(auto, unfolding(crate::specs::Commands::packet_of, crate::specs::Commands::packet_form))]
+#[tactic(auto, unfolding(crate::specs::Commands::packet_of))]
 fn packet_command<'a>(words: &'a [String]) -> Option<Command<'a>>
     ensures { option_map task_view result
         ≡ option_map Scan (packet_of (map string_bytes words.entry.now)) }
@@ -157,7 +157,7 @@ fn packet_command<'a>(words: &'a [String]) -> Option<Command<'a>>
 }
 
 // The seed and the count behind `make`.
-#[tactic(auto, unfolding(crate::specs::Commands::make_of, crate::specs::Commands::make_form))]
+#[tactic(auto, unfolding(crate::specs::Commands::make_of))]
 fn make_command<'a>(words: &'a [String]) -> Option<Command<'a>>
     ensures { option_map task_view result ≡ make_of (map string_bytes words.entry.now) }
 {

@@ -107,7 +107,7 @@ fn run_in<'a>(now: Option<u32>, words: &'a [String]) -> Option<RunWords<'a>>
 }
 
 /// The run that the words behind `run` ask for, in any order, at the date now.
-#[tactic(auto, unfolding(crate::specs::Runs::run_of, crate::specs::Runs::run_form))]
+#[tactic(auto, unfolding(crate::specs::Runs::run_of))]
 pub fn run_words<'a>(now: Option<u32>, words: &'a [String]) -> Option<RunWords<'a>>
     ensures { option_map run_view result ≡ run_of now (map string_bytes words.entry.now) }
 {

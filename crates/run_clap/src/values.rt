@@ -1,0 +1,53 @@
+// What the matches of words hold, command by command.
+ghost use Rattle.std.specs.Prelude.{◌≡◌, ℕ, List, option_copied, option_map};
+ghost use Rattle.clap.specs.Words.{found_of};
+ghost use Rattle.run_clap.specs.Reads.{HoldsWords};
+ghost use Rattle.run_words.specs.Commands.{Make, export_form, make_form, make_in as make_of_words};
+ghost use Rattle.run_words.specs.Exports.{export_in as export_of_words};
+ghost use Rattle.run_words.specs.Runs.{run_form, run_in as run_of_words};
+ghost use Rattle.run_words.specs.Views.{run_view};
+
+use clap::ArgMatches;
+use run_words::{Export, MakeWords, RunWords, count_in, date_in, number_in, text_form_in};
+
+// The run that matches hold, at the date now.
+pub fn run_in<'a>(now: Option<u32>, matches: &ArgMatches<'a>) -> Option<RunWords<'a>>
+    ensures { (words : List (List ℕ)) → HoldsWords run_form words (found_of matches.now)
+        → option_map run_view result ≡ run_of_words now words }
+{
+    let handheld = matches.get_str("handheld")?;
+    let desktop = matches.get_str("desktop")?;
+    let date = date_in(now, matches.get_str("date")?)?;
+    Some(RunWords {
+        handheld,
+        desktop,
+        date,
+        script: matches.get_str("script"),
+        trace: matches.get_str("trace"),
+        actions: matches.get_str("actions"),
+        slow: matches.get_flag("slow"),
+        add_user: matches.get_flag("add-user"),
+    })
+}
+
+// How the words that matches hold want a database exported.
+pub fn export_in<'a>(matches: &ArgMatches<'a>) -> Option<Export>
+    ensures { (words : List (List ℕ)) → HoldsWords export_form words (found_of matches.now)
+        → result ≡ export_of_words words }
+{
+    let form = text_form_in(matches.get_str("as")?)?;
+    Some(Export {
+        form,
+        without_private: matches.get_flag("without-private"),
+    })
+}
+
+// The numbers that matches hold.
+pub fn make_in<'a>(matches: &ArgMatches<'a>) -> Option<MakeWords>
+    ensures { (words : List (List ℕ)) → HoldsWords make_form words (found_of matches.now)
+        → option_map (λ make. Make make.seed make.count) result ≡ make_of_words words }
+{
+    let seed = number_in(matches.get_str("seed")?)?;
+    let count = count_in(matches.get_str("count")?)?;
+    Some(MakeWords { seed, count })
+}
