@@ -11,7 +11,7 @@ ghost use Rattle.session_fronts.specs.Answered.{IsAnsweredExchange};
 ghost use Rattle.hotsync_run.specs.Again.{AllRan, AreOfOneKind, AreTold, EndsAsOne};
 ghost use Rattle.hotsync_run.specs.Calls.{Call, IsAnsweredCall, IsNothing};
 ghost use Rattle.hotsync_run.specs.Causes.{HasBegun};
-ghost use Rattle.hotsync_run.specs.Clean.{GoesThrough};
+ghost use Rattle.hotsync_run.specs.Clean.{GoesThrough, HasNoLines};
 ghost use Rattle.hotsync_run.specs.Equal.{EndsEqual};
 ghost use Rattle.hotsync_run.specs.Headline.{ActsOnce, FairStaysUp, Headline, IsAnsweredRun, IsWhatItSays, LeavesTheMerge, RunCall, TellsCause};
 ghost use Rattle.hotsync_run.specs.LineRuns.{exchanges_in};
@@ -102,10 +102,11 @@ pub fn folders_make_one_meeting()
         → Meets run before meeting → Meets run before other → AreOfOneKind meeting other }
 {}
 
-/// A run without a script: neither end says anything twice, and the line stops nothing.
+/// A run without a script, or by one of no lines, as an empty file is: neither end says anything twice, and the line stops
+/// nothing.
 pub fn a_line_without_harm_repeats_nothing()
-    ensures { (call : RunCall) → call.run.script ≡ None → IsAnsweredRun call
-        → GoesThrough call.status call.report }
+    ensures { (call : RunCall) → HasNoLines call.run.script call.before.source.left
+        → IsAnsweredRun call → GoesThrough call.status call.report }
 {}
 
 /// The handheld of a run refuses no request: each reply in the report is no error, but error 5 where the
