@@ -1,3 +1,4 @@
+pub mod AgainCalls
 pub mod AgainLaws
 pub mod AnsweredRuns
 pub mod CallLaws
@@ -25,7 +26,9 @@ pub mod PickLaws
 pub mod PrintedLaws
 pub mod PrintedNameLaws
 pub mod QuietRuns
+pub mod RefusedRuns
 pub mod RunLaws
+pub mod SessionRuns
 pub mod SideLaws
 pub mod SlotLaws
 pub mod SkippedLaws

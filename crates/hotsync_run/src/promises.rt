@@ -83,8 +83,8 @@ pub fn an_ended_run_leaves_both_sides_equal()
     ensures { (call : RunCall) → IsAnsweredRun call → call.report.end ≡ Ended → EndsEqual call }
 {}
 
-/// Stopped and run again: any number of runs of one pair of folders, one behind another, of which each stopped but the last, leave
-/// on both sides what one whole session would have left, up to the ids of new records.
+/// Stopped and run again: any number of runs of one pair of folders, one behind another, whatever became of each but the last,
+/// which ended, leave on both sides what one whole session would have left, up to the ids of new records.
 pub fn stopped_runs_end_as_one()
     ensures { (call : RunCall) (later : List RunCall) → AllRan call later → EndsAsOne call later }
 {}
