@@ -5,10 +5,13 @@ pub mod CallLaws
 pub mod CleanLaws
 pub mod EndLaws
 pub mod EqualLaws
+pub mod FinishedFiles
 pub mod FrontLaws
 pub mod FrontMoments
+pub mod GoodHandheldLaws
 pub mod HeadlineLaws
 pub mod KeptLaws
+pub mod LeftGoodLaws
 pub mod LeftLaws
 pub mod LineLaws
 pub mod LookLaws

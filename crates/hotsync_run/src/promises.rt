@@ -6,9 +6,11 @@ ghost use Rattle.line_script.specs.Rules.{RuleValue};
 ghost use Rattle.run_words.specs.Commands.{LookAt, Make};
 ghost use Rattle.run_words.specs.declared.command.Look.{Look};
 ghost use Rattle.run_words.specs.Runs.{Run};
+ghost use Rattle.desk_store.specs.Desks.{StaysOpenable};
+ghost use Rattle.sync_session.specs.Limits.{first_over};
 ghost use Rattle.sync_session.specs.Tasks.{Meeting};
 ghost use Rattle.session_fronts.specs.Answered.{IsAnsweredExchange};
-ghost use Rattle.hotsync_run.specs.Again.{AllRan, AreOfOneKind, AreTold, EndsAsOne};
+ghost use Rattle.hotsync_run.specs.Again.{AllRan, AreOfOneKind, AreTold, EndsAsOne, IsRepeat};
 ghost use Rattle.hotsync_run.specs.Calls.{Call, IsAnsweredCall, IsNothing};
 ghost use Rattle.hotsync_run.specs.Causes.{HasBegun};
 ghost use Rattle.hotsync_run.specs.Clean.{GoesThrough, HasNoLines};
@@ -21,7 +23,7 @@ ghost use Rattle.hotsync_run.specs.PrintedNames.{is_printable, printed_name};
 ghost use Rattle.hotsync_run.specs.Runs.{SentNothing};
 ghost use Rattle.hotsync_run.specs.Scripts.{IsScripted};
 ghost use Rattle.hotsync_run.specs.Told.{CallTold};
-ghost use Rattle.hotsync_run.specs.Undisturbed.{EndsWell, IsUndisturbed};
+ghost use Rattle.hotsync_run.specs.Undisturbed.{AreGood, EndsWell, IsCalm, IsUndisturbed};
 ghost use Rattle.hotsync_run.specs.declared.report.SessionEnd.TheVariants.{Ended, NotStarted};
 
 /// What is promised of each run whose session began, on one page.
@@ -61,6 +63,22 @@ pub fn a_run_that_nothing_disturbs_is_done()
     ensures { (call : RunCall) → IsAnsweredRun call
         → IsUndisturbed call.run call.before call.after call.out call.out_after call.report
         → EndsWell call.status call.report }
+{}
+
+/// What a run leaves can be opened, however it ended: good folders stay good. So a run over what one left,
+/// which nothing else disturbs, is done. And where no limit would be passed, the desktop's folder could be
+/// opened at each moment.
+pub fn what_a_run_leaves_can_be_opened()
+    ensures after { (call : RunCall) → IsAnsweredRun call → AreGood call.before
+        → AreGood call.after }
+    ensures again { (call next : RunCall) → IsAnsweredRun call → AreGood call.before
+        → IsAnsweredRun next → IsRepeat call next
+        → IsCalm next.run next.before next.after next.out next.out_after next.report
+        → EndsWell next.status next.report }
+    ensures moments { (call : RunCall) → IsAnsweredRun call → AreGood call.before
+        → ((meeting : Meeting) → Meets call.run call.before meeting → first_over meeting ≡ None)
+        → let desk = call.after.desk in
+        StaysOpenable desk.contents call.before.desk.moments desk.moments }
 {}
 
 /// What is refused changes nothing: a run before its session, and words that are out of the form.
