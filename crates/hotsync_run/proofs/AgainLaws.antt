@@ -1,4 +1,4 @@
--- What a stopped run left is what the next one meets: so the last one takes up all that stopped.
+-- What a run left is what the next one meets: so the last one takes up all that came before.
 use Rattle.std.proofs.Common.{◌≡◌, ◌⊎◌, ◌∙◌, ◌≤◌, ◌<◌, ap, refl, sym, subst, arith, inl, inr, ℕ, Bool, List, [], ◌∷◌, length, map}
 use Rattle.std.specs.Prelude.{Option, Some, None, IfSome, IsSome, filter, replicate}
 use Rattle.std.specs.Option.{option_map}
@@ -8,7 +8,7 @@ use Rattle.pdb_values.specs.declared.user.UserInfo.{UserInfo}
 use Rattle.dlp_commands.specs.Changes.{changes}
 use Rattle.dlp_commands.proofs.StepLaws.{changes-text}
 use Rattle.handheld_files.specs.Openings.{HoldsAll, Stands}
-use Rattle.desk_journal.specs.Overlays.{StandsAs, finished}
+use Rattle.desk_journal.specs.Overlays.{FinishesAs, finished}
 use Rattle.desk_store.specs.Desks.{IsDesk}
 use Rattle.desk_store.specs.Shelves.{slot_at}
 use Rattle.desk_store.proofs.OpenLaws.{picked_number}
@@ -18,7 +18,7 @@ use Rattle.sync_session.specs.Fronts.{Front}
 use Rattle.sync_session.specs.Limits.{first_over}
 use Rattle.sync_session.specs.Merges.{merged_device, merged_slot, merged_slots}
 use Rattle.sync_session.specs.News.{all_news}
-use Rattle.sync_session.specs.Outcomes.{StandsForSlots}
+use Rattle.sync_session.proofs.OutcomeLaws.{desk_stands}
 use Rattle.sync_session.specs.Sessions.{adds_of, after_commit, before_commit, before_writes, requests, writes_before_commit}
 use Rattle.sync_session.specs.Skips.{active}
 use Rattle.sync_session.specs.Tasks.{Meeting, place_for, slot_of}
@@ -28,27 +28,23 @@ use Rattle.session_laws.specs.Repeats.{GotAllIds}
 use Rattle.session_fronts.specs.Again.{AllRunAgain, HasSlot, Later, RunsAgain, last_run}
 use Rattle.session_fronts.specs.Stops.{StandsAmongNews, StandsBehindCommit}
 use Rattle.session_fronts.proofs.FrontLaws.{front-among, front-behind}
-use Rattle.session_fronts.proofs.ManyLaws.{all-run_again}
+use Rattle.session_fronts.proofs.ManyLaws.{all-merged, all-run_again}
+use Rattle.session_fronts.proofs.NewIdsLaws.{new-given}
+use Rattle.session_fronts.proofs.SkippedLaws.{left-again}
 use Rattle.session_fronts.proofs.StopLaws.{active-among, active-behind}
-use Rattle.hotsync_run.specs.Again.{AllMeet, AllRan, AreTold, EndsAsOne, TakesUp, last_call}
-use Rattle.hotsync_run.specs.Causes.{ByEnd}
+use Rattle.hotsync_run.specs.Again.{AreTold, TakesUp}
 use Rattle.hotsync_run.specs.Ends.{EndedSession, SessionLeft, StoppedBefore, StoppedBehind}
-use Rattle.hotsync_run.specs.Headline.{IsAnsweredRun, RunCall}
 use Rattle.hotsync_run.specs.LineRuns.{LineRan, log_in, write_count}
-use Rattle.hotsync_run.specs.Meetings.{Meets}
-use Rattle.hotsync_run.specs.Runs.{SentNothing, SessionRan}
 use Rattle.hotsync_run.specs.Told.{CallTold}
-use Rattle.hotsync_run.specs.Wishes.{actions_by}
 use Rattle.hotsync_run.specs.declared.report.Report.{Report}
-use Rattle.hotsync_run.specs.declared.report.SessionEnd.{SessionEnd}
 use Rattle.hotsync_run.proofs.EndLaws.{count-append}
 use Rattle.hotsync_run.proofs.FrontLaws.{front_of}
 use Rattle.hotsync_run.proofs.LeftLaws.{no-limit, parts-are, writes-before}
-use Rattle.hotsync_run.proofs.OneLaws.{IsOne, merged_met, same_handheld, same_slots}
+use Rattle.hotsync_run.proofs.OneLaws.{IsOne, same_handheld, same_slots, told_slots}
 use Rattle.hotsync_run.proofs.OverLaws.{MeetsTheSame, over-same}
 use Rattle.hotsync_run.proofs.QuietRuns.{IsKept, quiet-run}
 use Rattle.hotsync_run.proofs.SkippedLaws.{no-changes}
-use Rattle.hotsync_run.proofs.SlotLaws.{merged-ordered, merged-picked, merged-place, picked-near, same-place}
+use Rattle.hotsync_run.proofs.SlotLaws.{merged-picked, merged-place, picked-near, same-place}
 
 -- ---- a session
 
@@ -117,13 +113,19 @@ wrote_none ran over =
 
 -- ---- what the next one meets
 
--- a session stopped, and the next one is that of the folders that it left, where the same is asked
+-- one that ended stands behind the commit too
+pub ended-behind : (ran : Ran) → EndedSession ran.meeting ran.after.palm ran.after.desk ran.report
+    → StoppedBehind ran.meeting ran.after.desk ran.report
+ended-behind ran ended =
+    record { stands = desk_stands ran.after.desk.contents (merged_slots ran.meeting (given_in ran)) ended.desktop; writes = all-written ran ended }
+
+-- a session went before, and the next one is that of the folders that it left, where the same is asked
 pub record Precedes (ran next : Ran) : Type 0 where
   pub told : AreTold ran.before
   pub next_told : AreTold next.before
   pub asks : AsksTheSame ran.meeting next.meeting
   pub palm : next.before.palm.contents ≡ ran.after.palm.contents
-  pub desk : next.before.desk.contents ≡ ran.after.desk.contents
+  pub desk : FinishesAs ran.after.desk.contents next.before.desk.contents
   pub stopped : StoppedBefore ran.meeting ran.before.desk ran.after.desk ran.report ⊎ StoppedBehind ran.meeting ran.after.desk ran.report
 
 -- the handheld is the one that the stopped session left
@@ -140,15 +142,24 @@ met-front {ran} is = grind (arith, met-device is, front_of ran.meeting ran.line 
 slots-before : {ran next : Ran} → Precedes ran next → StoppedBefore ran.meeting ran.before.desk ran.after.desk ran.report
     → next.meeting.slots ≡ ran.meeting.slots
 slots-before {ran} {next} is b =
-    same_slots ran.before.desk.contents next.before.desk.contents is.told.desk is.next_told.desk
-    (subst (λ (told : Option FileMap). StandsAs ran.before.desk.contents told) (sym is.desk) b.stands) ran.desktop next.desktop
+    same_slots ran.before.desk.contents next.before.desk.contents is.told.desk is.next_told.desk (is.desk ∙ b.stands) ran.desktop next.desktop
 
 slots-behind : (ran next : Ran) → Precedes ran next → StoppedBehind ran.meeting ran.after.desk ran.report
     → next.meeting.slots ≡ merged_slots ran.meeting (given_in ran)
 slots-behind ran next is b =
-    merged_met next.before.desk.contents (merged_slots ran.meeting (given_in ran)) is.next_told.desk
-    (subst (λ (told : Option FileMap). StandsForSlots (merged_slots ran.meeting (given_in ran)) told) (sym is.desk) b.stands)
-    (merged-ordered ran.meeting (given_in ran) (picked-near ran.meeting ran.add ran.picked) ran.desktop.ordered) next.desktop
+    told_slots next.before.desk.contents is.next_told.desk
+    (subst (λ (told : Option FileMap). IsDesk told (merged_slots ran.meeting (given_in ran))) (sym is.desk) b.stands) next.desktop
+
+-- a session that came to the commit passed no limit
+pub first-within : (ran : Ran) → StoppedBehind ran.meeting ran.after.desk ran.report → first_over ran.meeting ≡ None
+first-within ran b = by (first_over ran.meeting) refl
+  where
+    by : (o : Option (List ℕ)) → first_over ran.meeting ≡ o → first_over ran.meeting ≡ None
+    by None none = none
+    by (Some name) over =
+        let wrote = wrote_none ran (subst IsSome (sym over) refl) in
+        let some = some_writes ran.meeting in
+        absurd (omega (arith, some, b.writes, wrote.none))
 
 -- where the next session passes no limit, the stopped one passed none: else the next would meet the same
 first-none : (ran next : Ran) → Precedes ran next → first_over next.meeting ≡ None → first_over ran.meeting ≡ None
@@ -172,9 +183,8 @@ first-none ran next is none_next = by (first_over ran.meeting) refl
         let no : ◌≡◌ {A = Option (List ℕ)} (Some name) None = sym over ∙ sym (over-same same) ∙ none_next in
         cc
     met name over (inr b) =
-        let wrote = wrote_none ran (subst IsSome (sym over) refl) in
-        let some = some_writes ran.meeting in
-        omega (arith, some, b.writes, wrote.none)
+        let no : ◌≡◌ {A = Option (List ℕ)} (Some name) None = sym over ∙ first-within ran b in
+        cc
 
     by : (o : Option (List ℕ)) → first_over ran.meeting ≡ o → first_over ran.meeting ≡ None
     by None none = none
@@ -234,16 +244,16 @@ got-of ran ended name active =
 
 -- ---- one behind another
 
--- all stopped but the last, which ended
-abbrev AllPrecede : Ran → List Ran → Type 0
+-- whatever became of the others, the last one ended
+abbrev pub AllPrecede : Ran → List Ran → Type 0
 AllPrecede ran [] = EndedSession ran.meeting ran.after.palm ran.after.desk ran.report
 AllPrecede ran (next ∷ later) = Precedes ran next × AllPrecede next later
 
-abbrev last_ran : Ran → List Ran → Ran
+abbrev pub last_ran : Ran → List Ran → Ran
 last_ran ran [] = ran
 last_ran ran (next ∷ later) = last_ran next later
 
-abbrev laters : Ran → List Ran → List Later
+abbrev pub laters : Ran → List Ran → List Later
 laters ran [] = []
 laters ran (next ∷ later) = record { next = next.meeting; writes = ran.report.writes; given = given_in ran } ∷ laters next later
 
@@ -276,7 +286,7 @@ goes-on : (ran : Ran) (later : List Ran) → AllPrecede ran later → GoesOn ran
 goes-on ran [] all = record { picked = refl; kept = λ name active. active; action = λ name. refl }
 goes-on ran (next ∷ later) all = grind (arith, goes-on next later all.1, is-found all.0 (none-all ran (next ∷ later) all))
 
-taken-up : (ran : Ran) (later : List Ran) → AllPrecede ran later
+pub taken-up : (ran : Ran) (later : List Ran) → AllPrecede ran later
     → TakesUp ran.meeting (laters ran later) (given_in (last_ran ran later)) (last_ran ran later).after
 taken-up ran later all =
     let last = last_ran ran later in
@@ -284,6 +294,12 @@ taken-up ran later all =
     let ended = ended-last ran later all in
     let on = goes-on ran later all in
     let now : last.meeting ≡ last_run ran.meeting (laters ran later) = sym (last-is ran later) in
+    let new = new-given ran.meeting ran.left.sound (none-all ran later all) in
+    let got : (name : List ℕ) → IsActive ran.meeting name → GotAllIds (action_at ran.meeting name)
+    (found_of (last_run ran.meeting (laters ran later)) name) (ids_at (last_run ran.meeting (laters ran later)) given name) =
+    λ name active. subst (λ (m : Meeting). GotAllIds (action_at ran.meeting name) (found_of m name) (ids_at m given name)) now
+    (subst (λ a. GotAllIds a (found_of last.meeting name) (ids_at last.meeting given name)) (on.action name)
+    (got-of last ended name (on.kept name active))) in
     record {
       handheld = subst (λ (m : Meeting). Stands last.after.palm.contents (merged_device m given).databases (merged_device m given).user) now ended.handheld;
       desktop = subst (λ (m : Meeting). IsDesk last.after.desk.contents (merged_slots m given)) now ended.desktop;
@@ -293,100 +309,9 @@ taken-up ran later all =
       kept = λ name active. subst (λ (m : Meeting). IsActive m name) now (on.kept name active);
       each = λ name new active fresh can.
           (all-run_again ran.meeting (laters ran later) given new name ran.left.sound (runs-all ran later all) active fresh
-          (subst (λ (m : Meeting). GotAllIds (action_at ran.meeting name) (found_of m name) (ids_at m given name)) now
-          (subst (λ a. GotAllIds a (found_of last.meeting name) (ids_at last.meeting given name)) (on.action name)
-          (got-of last ended name (on.kept name active)))) can.got can.unknown).1;
-    }
-
--- ---- calls
-
-pub session_in : (call : RunCall) {end : SessionEnd} → call.report.end ≡ end → IsAnsweredRun call
-    → ByEnd end (SentNothing call.run call.before call.after call.status call.report) (SessionRan call.run call.before call.after call.status call.report)
-session_in call is did = grind arith
-
-abbrev pub ran-of : (call : RunCall) → SessionRan call.run call.before call.after call.status call.report → Ran
-ran-of call ran = record {
-  rules = ran.rules;
-  meeting = ran.meeting;
-  add = ran.meeting.wishes.add_user;
-  before = call.before;
-  after = call.after;
-  report = call.report;
-  picked = ran.meets.picked;
-  handheld = ran.meets.handheld;
-  desktop = ran.meets.desktop;
-  line = ran.talked.line;
-  left = ran.talked.left;
-}
-
--- the sessions of calls
-record AreSessions (call : RunCall) (later : List RunCall) : Type 0 where
-  ran : Ran
-  others : List Ran
-  precede : AllPrecede ran others
-  meets : Meets call.run call.before ran.meeting
-  meet : AllMeet call later (laters ran others)
-  before : ran.before ≡ call.before
-  last_given : given_in (last_ran ran others) ≡ (log_in (last_call call later).report).given
-  last_after : (last_ran ran others).after ≡ (last_call call later).after
-
-first-told : (call : RunCall) (later : List RunCall) → AllRan call later → AreTold call.before
-first-told call [] all = all.0.0
-first-told call (next ∷ later) all = all.0.0
-
-are-sessions : (call : RunCall) (later : List RunCall) → AllRan call later → AreSessions call later
-are-sessions call [] all =
-    let session = session_in call all.1 all.0.1 in
-    let ran = ran-of call session in
-    record {
-      ran = ran;
-      others = [];
-      precede = ran.left.ended all.1;
-      meets = session.meets;
-      meet = tt;
-      before = refl;
-      last_given = refl;
-      last_after = refl;
-    }
-are-sessions call (next ∷ later) all =
-    let session = session_in call all.1 all.0.1 in
-    let ran = ran-of call session in
-    let rest = are-sessions next later all.3 in
-    let asked = rest.meets.asked in
-    record {
-      ran = ran;
-      others = rest.ran ∷ rest.others;
-      precede = (
-        record {
-          told = all.0.0;
-          next_told = subst AreTold (sym rest.before) (first-told next later all.3);
-          asks = record {
-            actions = asked.actions ∙ ap actions_by all.2.actions ∙ sym session.meets.asked.actions;
-            slow = asked.slow ∙ all.2.slow ∙ sym session.meets.asked.slow;
-          };
-          palm = ap (λ (told : CallTold). told.palm.contents) rest.before ∙ all.2.palm;
-          desk = ap (λ (told : CallTold). told.desk.contents) rest.before ∙ all.2.desk;
-          stopped = ran.left.stopped all.1;
-        },
-        rest.precede,
-      );
-      meets = session.meets;
-      meet = (rest.meets, refl, refl, rest.meet);
-      before = refl;
-      last_given = rest.last_given;
-      last_after = rest.last_after;
-    }
-
-pub end-as_one : (call : RunCall) (later : List RunCall) → AllRan call later → EndsAsOne call later
-end-as_one call later all =
-    let sessions = are-sessions call later all in
-    record {
-      meeting = sessions.ran.meeting;
-      meets = sessions.meets;
-      others = laters sessions.ran sessions.others;
-      meet = sessions.meet;
-      takes_up = subst (λ (after : CallTold). TakesUp sessions.ran.meeting (laters sessions.ran sessions.others)
-          (log_in (last_call call later).report).given after) sessions.last_after (subst
-          (λ (given : List ℕ). TakesUp sessions.ran.meeting (laters sessions.ran sessions.others) given
-          (last_ran sessions.ran sessions.others).after) sessions.last_given (taken-up sessions.ran sessions.others sessions.precede));
+          (got name active) can.got can.unknown).1;
+      merged = λ name active fresh.
+          all-merged ran.meeting (laters ran later) given name ran.left.sound (runs-all ran later all) active fresh (got name active);
+      can = (new.0, λ name active. record { got = (new.1 name active).0; unknown = (new.1 name active).1 });
+      skipped = λ name idle. left-again ran.meeting (laters ran later) given name (runs-all ran later all) idle;
     }

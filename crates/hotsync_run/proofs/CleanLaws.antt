@@ -1,6 +1,6 @@
--- A run without a script: each frame goes through, so nothing is said twice and the line stops nothing.
+-- A run by a script of no lines: each frame goes through, so nothing is said twice and the line stops nothing.
 use Rattle.std.proofs.Common.{◌≡◌, ◌+◌, ℕ, zero, suc, Bool, true, false, List, [], ◌∷◌, length, inl, refl, subst, ap, arith}
-use Rattle.std.specs.Prelude.{None, if◌then◌else◌}
+use Rattle.std.specs.Prelude.{Option, None, Some, if◌then◌else◌}
 use Rattle.std.specs.List.{AllByRecursion}
 use Rattle.trace_text.specs.declared.frame.End.{End}
 use Rattle.trace_text.specs.Fates.{FateValue, Untouched}
@@ -10,15 +10,18 @@ use Rattle.trace_text.specs.Past.{Sent, is_repeat}
 use Rattle.trace_text.specs.Proper.{AreNumbered}
 use Rattle.trace_text.specs.Tallies.{IsFairUpTo, faults_from}
 use Rattle.trace_text.specs.TraceLines.{FrameValue}
-use Rattle.line_script.specs.Scripts.{fate_by}
+use Rattle.line_script.specs.Lines.{lines_of}
+use Rattle.line_script.specs.Rules.{RuleValue}
+use Rattle.line_script.specs.Scripts.{AreLines, fate_by}
 use Rattle.line_steps.specs.declared.harm.Stop.{Stop}
 use Rattle.line_world.specs.Causes.{BearsOut}
 use Rattle.line_world.specs.Stops.{EndsBy}
 use Rattle.run_words.specs.Runs.{Run}
 use Rattle.hotsync_run.specs.Causes.{IsLineDown, cause_in}
-use Rattle.hotsync_run.specs.Clean.{AreSaidOnce, GoesThrough, IsLineStop}
+use Rattle.hotsync_run.specs.Clean.{AreSaidOnce, GoesThrough, HasNoLines, IsLineStop}
 use Rattle.hotsync_run.specs.LineRuns.{frames_in}
 use Rattle.hotsync_run.specs.Runs.{HasRun, SentNothing, SessionRan}
+use Rattle.hotsync_run.specs.Scripts.{IsScripted}
 use Rattle.hotsync_run.specs.Told.{CallTold}
 use Rattle.hotsync_run.specs.declared.report.Report.{Report}
 use Rattle.hotsync_looks.specs.declared.status.Status.{Status}
@@ -81,14 +84,26 @@ stands (Aborted number) numbers frames up caused are = λ is. none_ends are caus
 stands (Undetected number) numbers frames up caused are = λ is. none_ends are caused.1
 stands _ numbers frames up caused are = λ is. is
 
+-- ---- a script of no lines
+
+no_rule : (rules : List RuleValue) (lines : List (List ℕ)) → AreLines 0 [] lines → AreLines 0 rules lines → rules ≡ []
+no_rule [] lines none are = refl
+no_rule (rule ∷ rules) [] none are = absurd are
+no_rule (rule ∷ rules) (line ∷ later) none are = absurd none
+
+no-rules : (path left : Option (List ℕ)) {rules : List RuleValue} → HasNoLines path left → IsScripted path left rules → rules ≡ []
+no-rules None left none is = is
+no-rules (Some path) None none is = absurd none
+no-rules (Some path) (Some bytes) {rules} none is = no_rule rules (lines_of bytes) none.reads.1 is.reads.1
+
 -- ---- a run
 
 module _ {run : Run} {before after : CallTold} {status : Status} {report : Report} where
-  session_through : run.script ≡ None → SessionRan run before after status report → GoesThrough status report
+  session_through : HasNoLines run.script before.source.left → SessionRan run before after status report → GoesThrough status report
   session_through without ran =
       grind (
         arith,
-        [],
+        no-rules run.script before.source.left without ran.scripted,
         length (frames_in report),
         always_fair (length (frames_in report)),
         said_once (past_of (frames_in report)),
@@ -101,7 +116,7 @@ module _ {run : Run} {before after : CallTold} {status : Status} {report : Repor
   silent_through : SentNothing run before after status report → GoesThrough status report
   silent_through sent = grind (arith, stands, refused_not_stopped run before status)
 
-  pub goes_through_whole : run.script ≡ None → HasRun run before after status report → GoesThrough status report
+  pub goes_through_whole : HasNoLines run.script before.source.left → HasRun run before after status report → GoesThrough status report
   goes_through_whole without has =
       by_end_both report.end {A = SentNothing run before after status report} {B = SessionRan run before after status report} {C = GoesThrough status report}
       silent_through (session_through without) has.shown

@@ -8,7 +8,8 @@ use Rattle.session_fronts.proofs.EqualLaws.{holds-equal}
 use Rattle.hotsync_run.specs.Equal.{EndsEqual}
 use Rattle.hotsync_run.specs.Headline.{IsAnsweredRun, RunCall}
 use Rattle.hotsync_run.specs.declared.report.SessionEnd.TheVariants.{Ended}
-use Rattle.hotsync_run.proofs.AgainLaws.{given_in, got-of, ran-of, session_in}
+use Rattle.hotsync_run.proofs.AgainCalls.{ran-of, session_in}
+use Rattle.hotsync_run.proofs.AgainLaws.{given_in, got-of}
 use Rattle.hotsync_run.proofs.SlotLaws.{merged-picked, picked-near}
 
 pub ends-equal : (call : RunCall) → IsAnsweredRun call → call.report.end ≡ Ended → EndsEqual call

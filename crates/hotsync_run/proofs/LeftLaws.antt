@@ -19,7 +19,7 @@ use Rattle.handheld_files.proofs.BoundLaws.{opened-device}
 use Rattle.desk_store.specs.Bounds.{AreBounded}
 use Rattle.desk_store.specs.Shelves.{SlotValue}
 use Rattle.desk_store.proofs.BoundLaws.{bounded_at}
-use Rattle.desk_journal.specs.Overlays.{StandsAs}
+use Rattle.desk_journal.specs.Overlays.{FinishesAs}
 use Rattle.desk_store.specs.Desks.{IsDesk}
 use Rattle.desktop_session.specs.Acts.{text}
 use Rattle.desktop_session.specs.Says.{IsPrefix}
@@ -125,7 +125,7 @@ ended_left {meeting} given desk_after sound device tells none count free logged 
 
 before_left : {F : Type 0} (meeting : Meeting) {old : WorldValue F} (new : WorldValue F) {palm_after : FolderTold} (desk desk_after : FolderTold)
     {report : Report}
-    → Tells old new palm_after report → IsPrefix new.log.issued (requests_before_commit meeting) → StandsAs desk.contents desk_after.contents
+    → Tells old new palm_after report → IsPrefix new.log.issued (requests_before_commit meeting) → FinishesAs desk.contents desk_after.contents
     → StoppedBefore meeting desk desk_after report
 unfolding write_count writes_before_commit
 before_left meeting new desk desk_after tells prefix stands =
@@ -204,7 +204,7 @@ unseated-prefix contents moments paths faults fault downs meeting old new desk d
     the_error (Err why) unseated = (why, refl)
 
 stood_or_merged : (meeting : Meeting) (given : List ℕ) (desk desk_after : FolderTold) → MergedSince meeting given desk.moments desk_after.moments
-    → EachMomentSince (λ told. StandsAs desk.contents told ⊎ StandsForSlots (merged_slots meeting given) told) desk.moments desk_after.moments
+    → EachMomentSince (λ told. FinishesAs desk.contents told ⊎ StandsForSlots (merged_slots meeting given) told) desk.moments desk_after.moments
 stood_or_merged meeting given desk desk_after since = grind (arith, moments_weaken (StandsForSlots (merged_slots meeting given)))
 
 pub session_left : {F : Type 0} (contents : F → Option FileMap) (moments : F → Moments) (paths : F → Option (List (List ℕ))) (faults : F → ℕ)

@@ -1,13 +1,17 @@
+pub mod AgainCalls
 pub mod AgainLaws
 pub mod AnsweredRuns
 pub mod CallLaws
 pub mod CleanLaws
 pub mod EndLaws
 pub mod EqualLaws
+pub mod FinishedFiles
 pub mod FrontLaws
 pub mod FrontMoments
+pub mod GoodHandheldLaws
 pub mod HeadlineLaws
 pub mod KeptLaws
+pub mod LeftGoodLaws
 pub mod LeftLaws
 pub mod LineLaws
 pub mod MadeItems
@@ -22,7 +26,9 @@ pub mod OneLaws
 pub mod OverLaws
 pub mod PickLaws
 pub mod QuietRuns
+pub mod RefusedRuns
 pub mod RunLaws
+pub mod SessionRuns
 pub mod SideLaws
 pub mod SlotLaws
 pub mod SkippedLaws

@@ -1,9 +1,7 @@
 -- A folder stands for one handheld only, and for the slots of one desktop.
-use Rattle.std.proofs.lemmas.Grind.{common_steps}
 use Rattle.std.proofs.Common.{◌≡◌, ◌∙◌, ◌<◌, ap, refl, sym, subst, arith, ℕ, zero, suc, List, [], ◌∷◌, length, get_or}
-use Rattle.std.specs.Prelude.{Option, Some, None, IfSome, IsSome, is_some, if◌then◌else◌}
+use Rattle.std.specs.Prelude.{Option, Some, None, IfSome, IsSome}
 use Rattle.std.specs.Option.{option_map}
-use Rattle.std.specs.FinMap as finmap
 use Rattle.hs_folders.specs.FileMaps.{FileMap}
 use Rattle.pdb_values.specs.Databases.{DatabaseValue}
 use Rattle.pdb_values.specs.NamedDatabases.{database_of}
@@ -13,7 +11,7 @@ use Rattle.pdb_values.specs.declared.user.UserInfo.{UserInfo}
 use Rattle.pdb_values.proofs.NamedLaws.{database_of-name, database_of-same}
 use Rattle.palm_device.specs.Devices.{Device}
 use Rattle.pdb_files.proofs.FileLaws.{one_database}
-use Rattle.folder_files.specs.FileNames.{database_file, device_info_file, journal_file}
+use Rattle.folder_files.specs.FileNames.{database_file, device_info_file}
 use Rattle.folder_files.specs.InfoFiles.{IsDeviceFile}
 use Rattle.folder_files.proofs.InfoLaws.{device_only}
 use Rattle.handheld_files.specs.Handhelds.{Files, IsUserOf, StandFor}
@@ -21,8 +19,7 @@ use Rattle.handheld_files.specs.Openings.{HoldsAll, Stands}
 use Rattle.handheld_files.specs.Settled.{as_opened}
 use Rattle.handheld_files.proofs.ChangeLaws.{database_file_is}
 use Rattle.handheld_files.proofs.StandLaws.{as_opened-head}
-use Rattle.desk_journal.specs.Overlays.{HasNoJournal, StandsAs, bad_of, finished, overlay}
-use Rattle.desk_journal.specs.declared.bad_journal.BadJournal.{BadJournal}
+use Rattle.desk_journal.specs.Overlays.{FinishesAs, finished}
 use Rattle.desk_store.specs.Desks.{IsDesk, IsDeskOf}
 use Rattle.desk_store.specs.Shelves.{AreInOrder, SlotValue, database_at, marks_of, new_slot, number_of, shelf_at, slot_at}
 use Rattle.desk_store.specs.declared.role.Role.{Role}
@@ -30,7 +27,6 @@ use Rattle.desk_store.specs.declared.role.Role.TheVariants.{Rows, Base, Archive}
 use Rattle.desk_store.proofs.OrderLaws.{rising}
 use Rattle.desk_store.proofs.SlotListLaws.{marks-length, ordered_at, slot_at-any}
 use Rattle.run_words.specs.Runs.{Run}
-use Rattle.sync_session.specs.Outcomes.{StandsForSlots}
 use Rattle.sync_session.specs.Tasks.{Meeting}
 use Rattle.hotsync_run.specs.Again.{AreOfOneKind, AreTold}
 use Rattle.hotsync_run.specs.Meetings.{Meets}
@@ -77,17 +73,6 @@ one-handheld {files} {one} {other} {user} {user'} first second =
     )
 
 -- ---- a desktop
-
--- files without a journal are the whole
-finished_by : (held : FileMap) (o : Option (List ℕ)) → finmap.get held journal_file ≡ o → (b : Option BadJournal) → bad_of o ≡ b
-    → HasNoJournal (if is_some b then held else overlay held) → (if is_some b then held else overlay held) ≡ overlay held
-finished_by held o is b bad none = grind (arith, common_steps)
-
-finished-overlay : (held : FileMap) → HasNoJournal (finished held) → finished held ≡ overlay held
-finished-overlay held none = finished_by held (finmap.get held journal_file) refl (bad_of (finmap.get held journal_file)) refl none
-
-pub desk-overlay : (held : FileMap) {slots : List SlotValue} → IsDeskOf (finished held) slots → IsDeskOf (overlay held) slots
-desk-overlay held {slots} is = subst (λ files. IsDeskOf files slots) (finished-overlay held is.no_journal) is
 
 same_slot : (one other : SlotValue) → one.marks ≡ other.marks → one.shelves.rows ≡ other.shelves.rows → one.shelves.bases ≡ other.shelves.bases
     → one.shelves.archives ≡ other.shelves.archives → one ≡ other
@@ -152,7 +137,7 @@ one_told None one other there first second = absurd (let no : ⊥ = cc in no)
 one_told (Some held) one other there first second = one-handheld second.stands first.stands
 
 -- a folder that stands for what it stood for has the slots that it had
-pub same_slots : (first last : Option FileMap) {slots next : List SlotValue} → IsSome first → IsSome last → StandsAs first last
+pub same_slots : (first last : Option FileMap) {slots next : List SlotValue} → IsSome first → IsSome last → FinishesAs first last
     → IsDesk (option_map finished first) slots → IsDesk (option_map finished last) next → next ≡ slots
 same_slots None last there there' stands old new = absurd (let no : ⊥ = cc in no)
 same_slots (Some a) None there there' stands old new = absurd (let no : ⊥ = cc in no)
@@ -160,18 +145,13 @@ same_slots (Some a) (Some b) {slots} {next} there there' stands old new =
     grind (
       arith,
       same_some stands,
-      one-desktop (overlay a) next slots new.ordered old.ordered,
-      desk-overlay b new.stands,
-      desk-overlay a old.stands,
+      one-desktop (finished a) next slots new.ordered old.ordered,
+      new.stands,
+      old.stands,
     )
 
--- one that stands for the merge has its slots
-pub merged_met : (last : Option FileMap) (merged : List SlotValue) {next : List SlotValue} → IsSome last → StandsForSlots merged last
-    → AreInOrder merged → IsDesk (option_map finished last) next → next ≡ merged
-merged_met None merged there stands order new = absurd (let no : ⊥ = cc in no)
-merged_met (Some b) merged {next} there stands order new = one-desktop (overlay b) next merged new.ordered order (desk-overlay b new.stands) stands
-
-told_slots : (told : Option FileMap) {one other : List SlotValue} → IsSome told → IsDesk (option_map finished told) one
+-- what stands for slots stands for no others
+pub told_slots : (told : Option FileMap) {one other : List SlotValue} → IsSome told → IsDesk (option_map finished told) one
     → IsDesk (option_map finished told) other → other ≡ one
 told_slots told there first second = same_slots told told there there refl first second
 

@@ -1,60 +1,16 @@
--- The slots once the picked one is merged: they are in order, and it is picked again.
-use Rattle.std.proofs.Common.{◌≡◌, ◌⊎◌, ◌∙◌, ◌≤◌, refl, ap, sym, arith, ℕ, Bool, true, false, List, [], ◌∷◌, ◌++◌, length, set, take, drop, if◌then◌else◌}
-use Rattle.std.specs.Prelude.{Option, Some, None, nat_lt}
+-- The slots once the picked one is merged: it is picked again.
+use Rattle.std.proofs.Common.{◌≡◌, ◌⊎◌, ◌∙◌, ◌≤◌, refl, ap, sym, arith, ℕ, Bool, true, false, List, [], ◌∷◌, ◌++◌, length, set, if◌then◌else◌}
+use Rattle.std.specs.Prelude.{nat_lt}
 use Rattle.std.proofs.lemmas.List.{length-map, map-append, map-set}
-use Rattle.pdb_values.specs.Databases.{DatabaseValue}
 use Rattle.pdb_values.specs.declared.user.Marks.{Marks}
-use Rattle.pdb_values.proofs.NamedLaws.{NamesRise-with_put}
 use Rattle.folder_files.specs.Slots.{users_of}
 use Rattle.palm_device.specs.Devices.{Device}
-use Rattle.desk_store.specs.Shelves.{AreInOrder, AreOrdered, ShelvesValue, SlotValue, marks_of, new_slot, number_of, slot_at, with_place}
-use Rattle.desk_store.proofs.SlotListLaws.{each-set, ordered_at, place_there, slot_at-set_same, with_place-cases}
-use Rattle.sync_session.specs.Merges.{merged_of, merged_shelves, merged_slot, merged_slots, rows_before, shelve, shelved}
-use Rattle.sync_session.specs.News.{add_count}
-use Rattle.sync_session.specs.Skips.{active}
-use Rattle.sync_session.specs.Tasks.{Meeting, Task, place_for, slot_of}
+use Rattle.desk_store.specs.Shelves.{SlotValue, marks_of, new_slot, number_of, slot_at, with_place}
+use Rattle.desk_store.proofs.SlotListLaws.{place_there, slot_at-set_same}
+use Rattle.sync_session.specs.Merges.{merged_slot, merged_slots}
+use Rattle.sync_session.specs.Tasks.{Meeting, place_for, slot_of}
 use Rattle.sync_session.specs.Users.{agreed_user}
 use Rattle.hotsync_run.proofs.PickLaws.{agreed, both-again, place-any, place-near, place_in, placed}
-
--- ---- in order
-
-archive_ordered : (o : Option DatabaseValue) {shelves : ShelvesValue} (rows base : DatabaseValue) → AreOrdered shelves
-    → AreOrdered (shelved (record { rows = rows; base = base; archive = o }) shelves)
-archive_ordered None {shelves} rows base is =
-    record { rows = NamesRise-with_put rows shelves.rows is.rows; bases = NamesRise-with_put base shelves.bases is.bases; archives = is.archives }
-archive_ordered (Some archive) {shelves} rows base is = record {
-  rows = NamesRise-with_put rows shelves.rows is.rows;
-  bases = NamesRise-with_put base shelves.bases is.bases;
-  archives = NamesRise-with_put archive shelves.archives is.archives;
-}
-
-shelve_ordered : (m : Meeting) (t : Task) (given : List ℕ) (o : Option DatabaseValue) {shelves : ShelvesValue} → AreOrdered shelves
-    → AreOrdered (shelve m t given o shelves)
-shelve_ordered m t given None is = is
-shelve_ordered m t given (Some rows) is =
-    archive_ordered (merged_of m t given rows).archive (merged_of m t given rows).rows (merged_of m t given rows).base is
-
-shelves_ordered : (m : Meeting) (ts : List Task) (given : List ℕ) {shelves : ShelvesValue} → AreOrdered shelves
-    → AreOrdered (merged_shelves m ts given shelves)
-unfolding merged_shelves
-shelves_ordered m [] given is = is
-shelves_ordered m (t ∷ ts) given is =
-    shelves_ordered m ts (drop (add_count m t) given) (shelve_ordered m t (take (add_count m t) given) (rows_before m.wishes.date t.rows t.handheld) is)
-
-push_ordered : (slots : List SlotValue) (slot : SlotValue) → AreInOrder slots → AreOrdered slot.shelves → AreInOrder (slots ++ slot ∷ [])
-push_ordered [] slot is last = (last, tt)
-push_ordered (x ∷ slots) slot is last = (is.0, push_ordered slots slot is.1 last)
-
-place_ordered : (slots : List SlotValue) (place : ℕ) → place ≤ length slots → AreInOrder slots → AreInOrder (with_place slots place)
-place_ordered slots place near is =
-    with_place-cases AreInOrder slots place near (λ _. is)
-    (λ _. push_ordered slots (new_slot (number_of slots)) is (record { rows = tt; bases = tt; archives = tt }))
-
-pub merged-ordered : (m : Meeting) (given : List ℕ) → m.picked ≤ length m.slots → AreInOrder m.slots → AreInOrder (merged_slots m given)
-unfolding merged_slots merged_slot
-merged-ordered m given near is =
-    each-set (λ slot. AreOrdered slot.shelves) (with_place m.slots m.picked) m.picked (merged_slot m given) (place_ordered m.slots m.picked near is)
-    (shelves_ordered m (active m) given (ordered_at m.slots m.picked is))
 
 -- ---- the users
 

@@ -8,7 +8,7 @@ use Rattle.hs_folders.specs.Moments.{Moments}
 use Rattle.hs_folders.proofs.MomentLaws.{no_moment}
 use Rattle.palm_device.specs.Devices.{Device}
 use Rattle.handheld_files.specs.Openings.{Stands}
-use Rattle.desk_journal.specs.Overlays.{StandsAs}
+use Rattle.desk_journal.specs.Overlays.{FinishesAs}
 use Rattle.trace_text.specs.Tallies.{IsFairUpTo}
 use Rattle.trace_text.specs.declared.frame.End.{End}
 use Rattle.line_script.specs.Rules.{RuleValue}
@@ -117,7 +117,7 @@ desk_changed before after answer is changes = record {
   written = ended_ok answer is changes.written;
   stands = changes.stands;
   between = before.moments;
-  unchanged = no_moment (StandsAs before.contents) before.moments before.moments refl;
+  unchanged = no_moment (FinishesAs before.contents) before.moments before.moments refl;
   changed = changes.each_moment;
 }
 

@@ -132,9 +132,9 @@ failed_desktop blames (inr (inr e)) = e
 -- so it isn't refused
 judged : {run : Run} {before after : CallTold} {out out_after : SinkTold} {status : Status} {report : Report}
     → IsUndisturbed run before after out out_after report → BlamesNone status → IsRefused run before status → status ≡ NoMemory
-judged {run} {before} calm blames (inl refuses) = grind (arith, judged_script run.script before.source.left calm.script refuses)
-judged calm blames (inr (_, inl refuses)) = failed_handheld blames (judged_handheld calm.handheld refuses)
-judged calm blames (inr (_, inr (_, inl refuses))) = failed_desktop blames (judged_desktop calm.desktop refuses)
+judged {run} {before} calm blames (inl refuses) = grind (arith, judged_script run.script before.source.left calm.calm.script refuses)
+judged calm blames (inr (_, inl refuses)) = failed_handheld blames (judged_handheld calm.folders.handheld refuses)
+judged calm blames (inr (_, inr (_, inl refuses))) = failed_desktop blames (judged_desktop calm.folders.desktop refuses)
 judged calm blames (inr (_, inr (_, inr (_, refuses)))) = elim refuses.is [ inl e ↦ absurd (blames.trace e) | inr e ↦ e ]
 
 -- ---- a session
@@ -186,7 +186,7 @@ session_ends_well : {run : Run} {before after : CallTold} {out out_after : SinkT
     → IsUndisturbed run before after out out_after report → BlamesNone status → SessionRan run before after status report → EndsWell status report
 session_ends_well {status} {report} calm blames ran =
     let talked = ran.talked in
-    let kind = calm.line ran.rules ran.scripted in
+    let kind = calm.calm.line ran.rules ran.scripted in
     ends_well {meeting = ran.meeting} status {report = report} (record {
       ends = talked.ends;
       caused = talked.caused;
@@ -195,7 +195,7 @@ session_ends_well {status} {report} calm blames ran =
       up = talked.fair kind.fair;
       unplugged = never_unplugged (fate_by ran.rules) (frames_in report) talked.line.proper.numbered kind.goes_on;
       aborted = never_aborted (fate_by ran.rules) (frames_in report) talked.line.proper.numbered kind.goes_on;
-      may_meet = calm.sides ran.meeting ran.meets;
+      may_meet = calm.calm.sides ran.meeting ran.meets;
     })
 
 -- ---- both
@@ -213,7 +213,7 @@ module _ (run : Run) (before after : CallTold) (out out_after : SinkTold) (statu
   pub run_ends_well : {IsText : List ℕ → Type 0} → HasRun run before after status report → IsPrinted IsText out out_after status
       → IsUndisturbed run before after out out_after report → EndsWell status report
   run_ends_well has printed calm =
-      let failed = calm.none_failed in
+      let failed = calm.calm.none_failed in
       let blames : BlamesNone status = record {
         source = λ e. failed.reading (has.blames.source e);
         handheld = λ e. failed.handheld (has.blames.folders.handheld e);

@@ -1,4 +1,4 @@
--- Runs of one pair of folders, one behind another, of which each stopped but the last.
+-- Runs of one pair of folders, one behind another, whatever became of each but the last.
 use Rattle.std.specs.Prelude.{◌≡◌, ℕ, List, [], ◌∷◌, IsSome}
 use Rattle.handheld_files.specs.Openings.{Stands}
 use Rattle.desk_store.specs.Desks.{IsDesk}
@@ -8,12 +8,13 @@ use Rattle.sync_session.specs.Tasks.{Meeting}
 use Rattle.session_laws.specs.Meetings.{IsActive, action_at, found_of, holding_after, ids_at}
 use Rattle.session_laws.specs.Renaming.{AreUnknown, SameEnds}
 use Rattle.session_laws.specs.Repeats.{GotAllIds}
-use Rattle.session_fronts.specs.Again.{IsFreshBehind, Later, last_run}
+use Rattle.session_fronts.specs.Again.{AllSkip, EndsAtMerge, HoldsTheSame, IsFreshBehind, Later, last_run}
 use Rattle.hotsync_run.specs.Headline.{IsAnsweredRun, RunCall}
 use Rattle.hotsync_run.specs.LineRuns.{log_in}
 use Rattle.hotsync_run.specs.Meetings.{Meets}
 use Rattle.hotsync_run.specs.Told.{CallTold}
-use Rattle.hotsync_run.specs.declared.report.SessionEnd.TheVariants.{Ended, Stopped}
+use Rattle.hotsync_run.specs.declared.report.SessionEnd.{SessionEnd}
+use Rattle.hotsync_run.specs.declared.report.SessionEnd.TheVariants.{Ended, NotStarted}
 
 -- ---- both sides before a run
 
@@ -41,16 +42,26 @@ pub record IsRepeat (call next : RunCall) : Type 0 where
   pub palm : next.before.palm.contents ≡ call.after.palm.contents
   pub desk : next.before.desk.contents ≡ call.after.desk.contents
 
--- the session of each call stopped, and the last one's ended
+-- whatever became of each call, the session of the last one ended
 abbrev pub AllRan : RunCall → List RunCall → Type 0
 AllRan call [] = DidRun call × (call.report.end ≡ Ended)
-AllRan call (next ∷ later) = DidRun call × (call.report.end ≡ Stopped) × IsRepeat call next × AllRan next later
+AllRan call (next ∷ later) = DidRun call × IsRepeat call next × AllRan next later
+
+-- a call whose session began, or none
+abbrev pub if_begun : SessionEnd → RunCall → List RunCall → List RunCall
+if_begun NotStarted call later = later
+if_begun other call later = call ∷ later
+
+-- the calls whose session began, in order
+abbrev pub begun_of : List RunCall → List RunCall
+begun_of [] = []
+begun_of (call ∷ later) = if_begun call.report.end call (begun_of later)
 
 abbrev pub last_call : RunCall → List RunCall → RunCall
 last_call call [] = call
 last_call call (next ∷ later) = last_call next later
 
--- the calls behind a first one met these, each after the writes of the one before it and the ids that its new records got
+-- the sessions of the calls behind a first one met these, each after the writes of the one before it and the ids that its new records got
 abbrev pub AllMeet : RunCall → List RunCall → List Later → Type 0
 AllMeet call [] [] = Unit {0}
 AllMeet call [] (e ∷ es) = ⊥
@@ -65,9 +76,10 @@ pub record CanGive (meeting : Meeting) (name ids : List ℕ) : Type 0 where
   pub got : GotAllIds (action_at meeting name) (found_of meeting name) ids
   pub unknown : AreUnknown (found_of meeting name) ids
 
--- The last of the sessions behind a first one, where it gave these ids, takes up all that stopped. The folders stand for its merge. It skips no
--- database that the first one didn't, and each of these ends as one whole session of the first meeting would have ended it, whichever ids that
--- would have given.
+-- The last of the sessions behind a first one, where it gave these ids, takes up all that came before. The folders stand for its merge. It skips
+-- no database that the first one didn't, and each of these ends as one whole session of the first meeting would have ended it, whichever ids that
+-- would have given, and some it could have: at the merge of what the first one found, under the ids that all of them gave. What the first one
+-- skipped all of them skip, and both sides hold of it what the first one found.
 pub record TakesUp (meeting : Meeting) (others : List Later) (given : List ℕ) (after : CallTold) : Type 0 where
   pub handheld : Stands after.palm.contents (merged_device (last_run meeting others) given).databases (merged_device (last_run meeting others) given).user
   pub desktop : IsDesk after.desk.contents (merged_slots (last_run meeting others) given)
@@ -75,11 +87,19 @@ pub record TakesUp (meeting : Meeting) (others : List Later) (given : List ℕ) 
   pub kept : (name : List ℕ) → IsActive meeting name → IsActive (last_run meeting others) name
   pub each : (name new : List ℕ) → IsActive meeting name → IsFreshBehind meeting others given name → CanGive meeting name (ids_at meeting new name)
       → SameEnds (found_of meeting name) (holding_after (last_run meeting others) given name) (holding_after meeting new name)
+  pub merged : (name : List ℕ) → IsActive meeting name → IsFreshBehind meeting others given name → EndsAtMerge meeting others given name
+  pub can : (new : List ℕ) × ((name : List ℕ) → IsActive meeting name → CanGive meeting name (ids_at meeting new name))
+  pub skipped : (name : List ℕ) → (IsActive meeting name → ⊥) → AllSkip meeting others name
+      × HoldsTheSame meeting (merged_device (last_run meeting others) given) (merged_slot (last_run meeting others) given) name
 
--- each call met the sides that its folders held, and the last one took up all that stopped
+-- Calls of which some began a session: the first of these met the sides that the folders of the first call held, each other one those that its
+-- own held, and the last one took up all that came before.
 pub record EndsAsOne (call : RunCall) (later : List RunCall) : Type 0 where
+  pub first : RunCall
+  pub rest : List RunCall
+  pub begun : begun_of (call ∷ later) ≡ first ∷ rest
   pub meeting : Meeting
-  pub meets : Meets call.run call.before meeting
+  pub meets : Meets first.run call.before meeting
   pub others : List Later
-  pub meet : AllMeet call later others
+  pub meet : AllMeet first rest others
   pub takes_up : TakesUp meeting others (log_in (last_call call later).report).given (last_call call later).after

@@ -1,12 +1,19 @@
 -- A run over a line that does no frame harm.
-use Rattle.std.specs.Prelude.{◌≡◌, ⊤, false, List, [], ◌∷◌}
+use Rattle.std.specs.Prelude.{◌≡◌, ⊤, ℕ, false, List, [], ◌∷◌, Option, None, Some}
 use Rattle.trace_text.specs.declared.frame.End.{End}
 use Rattle.trace_text.specs.Frames.{past_of}
 use Rattle.trace_text.specs.Past.{Sent, is_repeat}
 use Rattle.hotsync_run.specs.LineRuns.{frames_in}
+use Rattle.hotsync_run.specs.Scripts.{IsScript}
 use Rattle.hotsync_run.specs.declared.report.Report.{Report}
 use Rattle.hotsync_looks.specs.declared.status.Status.{Status}
 use Rattle.hotsync_looks.specs.declared.status.Status.TheVariants.{LineDown, Unplugged, Aborted, Undetected}
+
+-- the words name no script, or the source shows that its script has no line
+abbrev pub HasNoLines : Option (List ℕ) → Option (List ℕ) → Type 0
+HasNoLines None left = ⊤
+HasNoLines (Some path) None = ⊥
+HasNoLines (Some path) (Some bytes) = IsScript bytes []
 
 -- no data frame has the key of the same end's data frame before it
 abbrev pub AreSaidOnce : List Sent → Type 0

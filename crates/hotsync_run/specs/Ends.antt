@@ -6,7 +6,7 @@ use Rattle.pdb_values.specs.declared.slot.Slot.TheVariants.{Full}
 use Rattle.pdb_values.specs.declared.user.UserInfo.{UserInfo}
 use Rattle.palm_device.specs.Devices.{Device}
 use Rattle.handheld_files.specs.Openings.{Stands}
-use Rattle.desk_journal.specs.Overlays.{StandsAs}
+use Rattle.desk_journal.specs.Overlays.{FinishesAs}
 use Rattle.desk_store.specs.Desks.{IsDesk}
 use Rattle.desktop_session.specs.Acts.{text}
 use Rattle.desktop_session.specs.Requests.{reading_user}
@@ -41,7 +41,7 @@ pub record EndedSession (meeting : Meeting) (palm_after desk_after : FolderTold)
 
 -- it stopped before the desktop's commit: its folder stands for what it stood for
 pub record StoppedBefore (meeting : Meeting) (desk desk_after : FolderTold) (report : Report) : Type 0 where
-  pub stands : StandsAs desk.contents desk_after.contents
+  pub stands : FinishesAs desk.contents desk_after.contents
   pub writes : report.writes ≤ writes_before_commit meeting
 
 -- it stopped behind it: the folder stands for the merge
@@ -61,7 +61,7 @@ pub record SessionLeft (meeting : Meeting) (palm_after desk desk_after : FolderT
   pub ended : report.end ≡ Ended → EndedSession meeting palm_after desk_after report
   pub stopped : report.end ≡ Stopped → StoppedBefore meeting desk desk_after report ⊎ StoppedBehind meeting desk_after report
   pub given : List ℕ
-  pub moments : EachMomentSince (λ told. StandsAs desk.contents told ⊎ StandsForSlots (merged_slots meeting given) told) desk.moments desk_after.moments
+  pub moments : EachMomentSince (λ told. FinishesAs desk.contents told ⊎ StandsForSlots (merged_slots meeting given) told) desk.moments desk_after.moments
 
 -- what a folder told stands for a handheld at a front of the session: behind some of its requests, with the writes among them and the ids that these gave
 pub record StandsAtFront (meeting : Meeting) (told : Option FileMap) : Type 0 where

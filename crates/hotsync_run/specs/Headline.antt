@@ -1,7 +1,7 @@
 -- What a run promises whose session began: the page behind the README's "What you can rely on".
 -- What it cites are chapters: the handheld's steps (`DeviceRun`), a proper trace (`IsProper`), what
 -- a session says (`requests`), its merge (`merged_device`, `merged_slots`), what folders stand for
--- (`Stands`, `StandsAs`, `StandsForSlots`).
+-- (`Stands`, `FinishesAs`, `StandsForSlots`).
 use Rattle.std.specs.Prelude.{◌≡◌, ◌⊎◌, ℕ, List, length, map, IsSome}
 use Rattle.std.specs.Option.{option_map}
 use Rattle.hs_folders.specs.Moments.{EachMomentSince}
@@ -16,7 +16,7 @@ use Rattle.line_script.specs.Scripts.{fate_by}
 use Rattle.line_world.specs.Causes.{BearsOut}
 use Rattle.line_world.specs.Logs.{said_in}
 use Rattle.line_world.specs.Worlds.{IsLog, TellBoth}
-use Rattle.desk_journal.specs.Overlays.{StandsAs, finished}
+use Rattle.desk_journal.specs.Overlays.{FinishesAs, finished}
 use Rattle.desktop_session.specs.Acts.{text}
 use Rattle.desktop_session.specs.Says.{IsPrefix}
 use Rattle.run_words.specs.Runs.{Run}
@@ -113,7 +113,7 @@ pub record LeavesTheMerge (meeting : Meeting) (call : RunCall) : Type 0 where
       ⊎ StoppedBehind meeting call.after.desk call.report
   pub given : List ℕ
   pub desktop : EachMomentSince
-      (λ told. StandsAs call.before.desk.contents told
+      (λ told. FinishesAs call.before.desk.contents told
       ⊎ StandsForSlots (merged_slots meeting given) told)
       call.before.desk.moments call.after.desk.moments
   pub commit : DesktopRan meeting (option_map finished call.before.desk.contents) call.before.desk

@@ -6,7 +6,7 @@ use Rattle.hs_folders.specs.Moments.{EachMomentSince}
 use Rattle.trace_text.specs.TraceLines.{trace_text}
 use Rattle.trace_text.specs.declared.frame.End.TheVariants as end
 use Rattle.line_script.specs.Rules.{RuleValue}
-use Rattle.desk_journal.specs.Overlays.{StandsAs, finished}
+use Rattle.desk_journal.specs.Overlays.{FinishesAs, finished}
 use Rattle.run_words.specs.Runs.{Run}
 use Rattle.sync_session.specs.Tasks.{Meeting}
 use Rattle.hotsync_run.specs.Causes.{ByEnd, HasBegun}
@@ -35,11 +35,11 @@ pub record StaysAsItWas (before after : FolderTold) : Type 0 where
   pub contents : after.contents ≡ before.contents
   pub moments : after.moments ≡ before.moments
 
--- the desktop's folder stands for what it stood for, at each moment; a journal that was left may
--- have been finished
+-- the desktop's folder stands for what it stood for, at each moment, once its journal is finished; one
+-- that was left may have been
 pub record StandsAsItDid (before after : FolderTold) : Type 0 where
-  pub stands : StandsAs before.contents after.contents
-  pub each_moment : EachMomentSince (StandsAs before.contents) before.moments after.moments
+  pub stands : FinishesAs before.contents after.contents
+  pub each_moment : EachMomentSince (FinishesAs before.contents) before.moments after.moments
 
 -- Memory ran out, or what is judged before a session refuses the run. Both sides stand for what
 -- they stood for, a desktop's folder that was not read is as it was, and the trace took nothing.

@@ -22,7 +22,7 @@ use Rattle.sync_session.specs.declared.report.DbReport.{DbReport}
 use Rattle.sync_session.specs.declared.stop.Stop.{Stop}
 use Rattle.sync_session.specs.declared.wishes.Wishes.{Wishes}
 use Rattle.desk_journal.specs.Entries.{EntryValue}
-use Rattle.desk_journal.specs.Overlays.{StandsAs, put_all}
+use Rattle.desk_journal.specs.Overlays.{FinishesAs, put_all}
 use Rattle.desk_store.specs.Shelves.{SlotValue}
 use Rattle.hotsync_run.specs.Causes.{ByEnd, EndsAs, IsLineDown, cause_in, numbers_by, stop_status}
 use Rattle.hotsync_run.specs.Ends.{IsToldRefusal, SessionLeft, StandsAtFront, StatusShows}
@@ -72,11 +72,11 @@ pub record DesktopRan (meeting : Meeting) (opened : Option FileMap) (before afte
   pub entries : List EntryValue
   pub files : AllByRecursion (λ (entry : EntryValue). IsCommitFile meeting entry.name) entries
   pub written : end ≡ Ended → after.contents ≡ option_map (put_all entries) opened
-  pub stands : StandsAs before.contents after.contents
-      ⊎ StandsAs (option_map (put_all entries) opened) after.contents
+  pub stands : FinishesAs before.contents after.contents
+      ⊎ FinishesAs (option_map (put_all entries) opened) after.contents
   pub between : Moments
-  pub unchanged : EachMomentSince (StandsAs before.contents) before.moments between
-  pub changed : EachMomentSince (StandsAs (option_map (put_all entries) opened)) between
+  pub unchanged : EachMomentSince (FinishesAs before.contents) before.moments between
+  pub changed : EachMomentSince (FinishesAs (option_map (put_all entries) opened)) between
       after.moments
 
 -- no frame is named, or these are the last ten that the line did harm, and it went down for them

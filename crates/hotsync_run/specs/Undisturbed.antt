@@ -74,14 +74,22 @@ pub record MayMeet (meeting : Meeting) : Type 0 where
   pub within : first_over meeting ≡ None
   pub keeps : first_loss meeting ≡ None
 
--- Good files on both sides and a good script, no object that failed, a kind line, and two sides that may meet.
-pub record IsUndisturbed (run : Run) (before after : CallTold) (out out_after : SinkTold) (report : Report) : Type 0 where
+-- both folders tell good files
+pub record AreGood (told : CallTold) : Type 0 where
+  pub handheld : IsGoodHandheld told.palm.contents
+  pub desktop : IsGoodDesktop told.desk.contents
+
+-- A good script, no object that failed, a kind line, and two sides that may meet.
+pub record IsCalm (run : Run) (before after : CallTold) (out out_after : SinkTold) (report : Report) : Type 0 where
   pub script : IsGoodScript run.script before.source.left
-  pub handheld : IsGoodHandheld before.palm.contents
-  pub desktop : IsGoodDesktop before.desk.contents
   pub none_failed : NoneFailed before after out out_after
   pub line : (rules : List RuleValue) → IsScripted run.script before.source.left rules → IsKindScript rules (length (frames_in report))
   pub sides : (meeting : Meeting) → Meets run before meeting → MayMeet meeting
+
+-- Good files on both sides, and nothing else that disturbs it.
+pub record IsUndisturbed (run : Run) (before after : CallTold) (out out_after : SinkTold) (report : Report) : Type 0 where
+  pub folders : AreGood before
+  pub calm : IsCalm run before after out out_after report
 
 -- ---- what follows
 

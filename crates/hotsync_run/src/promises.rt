@@ -6,12 +6,14 @@ ghost use Rattle.line_script.specs.Rules.{RuleValue};
 ghost use Rattle.run_words.specs.Commands.{LookAt, Make};
 ghost use Rattle.run_words.specs.declared.look.Look.{Look};
 ghost use Rattle.run_words.specs.Runs.{Run};
+ghost use Rattle.desk_store.specs.Desks.{StaysOpenable};
+ghost use Rattle.sync_session.specs.Limits.{first_over};
 ghost use Rattle.sync_session.specs.Tasks.{Meeting};
 ghost use Rattle.session_fronts.specs.Answered.{IsAnsweredExchange};
-ghost use Rattle.hotsync_run.specs.Again.{AllRan, AreOfOneKind, AreTold, EndsAsOne};
+ghost use Rattle.hotsync_run.specs.Again.{AllRan, AreOfOneKind, AreTold, EndsAsOne, IsRepeat};
 ghost use Rattle.hotsync_run.specs.Calls.{Call, IsAnsweredCall, IsNothing};
 ghost use Rattle.hotsync_run.specs.Causes.{HasBegun};
-ghost use Rattle.hotsync_run.specs.Clean.{GoesThrough};
+ghost use Rattle.hotsync_run.specs.Clean.{GoesThrough, HasNoLines};
 ghost use Rattle.hotsync_run.specs.Equal.{EndsEqual};
 ghost use Rattle.hotsync_run.specs.Headline.{ActsOnce, FairStaysUp, Headline, IsAnsweredRun, IsWhatItSays, LeavesTheMerge, RunCall, TellsCause};
 ghost use Rattle.hotsync_run.specs.LineRuns.{exchanges_in};
@@ -21,7 +23,7 @@ ghost use Rattle.hotsync_looks.specs.PrintedNames.{is_printable, printed_name};
 ghost use Rattle.hotsync_run.specs.Runs.{SentNothing};
 ghost use Rattle.hotsync_run.specs.Scripts.{IsScripted};
 ghost use Rattle.hotsync_run.specs.Told.{CallTold};
-ghost use Rattle.hotsync_run.specs.Undisturbed.{EndsWell, IsUndisturbed};
+ghost use Rattle.hotsync_run.specs.Undisturbed.{AreGood, EndsWell, IsCalm, IsUndisturbed};
 ghost use Rattle.hotsync_run.specs.declared.report.SessionEnd.TheVariants.{Ended, NotStarted};
 
 /// What is promised of each run whose session began, on one page.
@@ -63,6 +65,22 @@ pub fn a_run_that_nothing_disturbs_is_done()
         → EndsWell call.status call.report }
 {}
 
+/// What a run leaves can be opened, however it ended: good folders stay good. So a run over what one left,
+/// which nothing else disturbs, is done. And where no limit would be passed, the desktop's folder could be
+/// opened at each moment.
+pub fn what_a_run_leaves_can_be_opened()
+    ensures after { (call : RunCall) → IsAnsweredRun call → AreGood call.before
+        → AreGood call.after }
+    ensures again { (call next : RunCall) → IsAnsweredRun call → AreGood call.before
+        → IsAnsweredRun next → IsRepeat call next
+        → IsCalm next.run next.before next.after next.out next.out_after next.report
+        → EndsWell next.status next.report }
+    ensures moments { (call : RunCall) → IsAnsweredRun call → AreGood call.before
+        → ((meeting : Meeting) → Meets call.run call.before meeting → first_over meeting ≡ None)
+        → let desk = call.after.desk in
+        StaysOpenable desk.contents call.before.desk.moments desk.moments }
+{}
+
 /// What is refused changes nothing: a run before its session, and words that are out of the form.
 pub fn what_is_refused_changes_nothing()
     ensures run { (call : RunCall) → IsAnsweredRun call → call.report.end ≡ NotStarted
@@ -83,8 +101,8 @@ pub fn an_ended_run_leaves_both_sides_equal()
     ensures { (call : RunCall) → IsAnsweredRun call → call.report.end ≡ Ended → EndsEqual call }
 {}
 
-/// Stopped and run again: any number of runs of one pair of folders, one behind another, of which each stopped but the last, leave
-/// on both sides what one whole session would have left, up to the ids of new records.
+/// Stopped and run again: any number of runs of one pair of folders, one behind another, whatever became of each but the last,
+/// which ended, leave on both sides what one whole session would have left, up to the ids of new records.
 pub fn stopped_runs_end_as_one()
     ensures { (call : RunCall) (later : List RunCall) → AllRan call later → EndsAsOne call later }
 {}
@@ -102,10 +120,11 @@ pub fn folders_make_one_meeting()
         → Meets run before meeting → Meets run before other → AreOfOneKind meeting other }
 {}
 
-/// A run without a script: neither end says anything twice, and the line stops nothing.
+/// A run without a script, or by one of no lines, as an empty file is: neither end says anything twice, and the line stops
+/// nothing.
 pub fn a_line_without_harm_repeats_nothing()
-    ensures { (call : RunCall) → call.run.script ≡ None → IsAnsweredRun call
-        → GoesThrough call.status call.report }
+    ensures { (call : RunCall) → HasNoLines call.run.script call.before.source.left
+        → IsAnsweredRun call → GoesThrough call.status call.report }
 {}
 
 /// The handheld of a run refuses no request: each reply in the report is no error, but error 5 where the

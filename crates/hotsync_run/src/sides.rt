@@ -7,7 +7,7 @@ ghost use Rattle.hs_folders.specs.Causes.{HasCause, Rose};
 ghost use Rattle.hs_folders.specs.Moments.{EachMomentSince};
 ghost use Rattle.handheld_files.specs.Openings.{AreKept, HoldsAll, opened_device};
 ghost use Rattle.palm_device.specs.Bounds.{IsBounded};
-ghost use Rattle.desk_journal.specs.Overlays.{StandsAs, finished};
+ghost use Rattle.desk_journal.specs.Overlays.{FinishesAs, finished};
 ghost use Rattle.desk_store.specs.Bounds.{AreBounded};
 ghost use Rattle.desk_store.specs.Desks.{IsDesk};
 ghost use Rattle.desk_store.specs.Views.{folder_in as desk_in};
@@ -126,8 +126,8 @@ pub fn open_desktop<D: Folder>(alloc: Global, desk: D, path: &str) -> Result<Des
     ensures unread { IfErr result (λ refused. LeavesDesktopUnread refused.0
         → (D.contents refused.1 ≡ D.contents desk) × (D.moments refused.1 ≡ D.moments desk)) }
 
-    ensures stands { StandsAs (D.contents desk) (D.contents (desk_in result)) }
-    ensures each_moment { EachMomentSince (StandsAs (D.contents desk)) (D.moments desk)
+    ensures stands { FinishesAs (D.contents desk) (D.contents (desk_in result)) }
+    ensures each_moment { EachMomentSince (FinishesAs (D.contents desk)) (D.moments desk)
         (D.moments (desk_in result)) }
     ensures later { D.faults desk ≤ D.faults (desk_in result) }
     ensures opened { OnOk result (Opens path.now (D.paths desk) (D.paths (desk_in result))) }
@@ -157,8 +157,8 @@ fn judge_desktop<D: Folder>(alloc: Global, desk: D) -> Result<Desk<D>, (Status, 
     ensures unread { IfErr result (λ refused. LeavesDesktopUnread refused.0
         → (D.contents refused.1 ≡ D.contents desk) × (D.moments refused.1 ≡ D.moments desk)) }
 
-    ensures stands { StandsAs (D.contents desk) (D.contents (desk_in result)) }
-    ensures each_moment { EachMomentSince (StandsAs (D.contents desk)) (D.moments desk)
+    ensures stands { FinishesAs (D.contents desk) (D.contents (desk_in result)) }
+    ensures each_moment { EachMomentSince (FinishesAs (D.contents desk)) (D.moments desk)
         (D.moments (desk_in result)) }
     ensures later { D.faults desk ≤ D.faults (desk_in result) }
     ensures paths { D.paths (desk_in result) ≡ D.paths desk }
@@ -185,8 +185,8 @@ fn open_desk<D: Folder>(alloc: Global, desk: D) -> Result<Desk<D>, (Status, D)>
     ensures failed { IfErr result (λ refused. refused.0 ≡ Status.DesktopFolder
         → Rose (D.faults desk) (D.faults refused.1)) }
 
-    ensures stands { StandsAs (D.contents desk) (D.contents (desk_in result)) }
-    ensures each_moment { EachMomentSince (StandsAs (D.contents desk)) (D.moments desk)
+    ensures stands { FinishesAs (D.contents desk) (D.contents (desk_in result)) }
+    ensures each_moment { EachMomentSince (FinishesAs (D.contents desk)) (D.moments desk)
         (D.moments (desk_in result)) }
     ensures later { D.faults desk ≤ D.faults (desk_in result) }
     ensures paths { D.paths (desk_in result) ≡ D.paths desk }

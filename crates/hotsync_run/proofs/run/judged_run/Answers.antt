@@ -2,7 +2,8 @@ use Rattle.std.proofs.Common.{ap, refl, Err}
 use Rattle.run_words.specs.Views.{run_view}
 use Rattle.hotsync_looks.specs.Told.{sink_told, source_told}
 use Rattle.hotsync_run.specs.Told.{CallTold, folder_told}
-use Rattle.hotsync_run.proofs.RunLaws.{by_desktop, by_handheld, by_script, by_session, by_trace}
+use Rattle.hotsync_run.proofs.RefusedRuns.{by_desktop, by_handheld, by_script, by_trace}
+use Rattle.hotsync_run.proofs.SessionRuns.{by_session}
 use Rattle.hotsync_run.proofs.TraceLaws.{talk_not_handheld, talk_not_script}
 use Rattle.hotsync_run.proofs.run.judged_run.Goals as goal
 

@@ -1,0 +1,244 @@
+-- What is known of a run that is refused before its session.
+use Rattle.std.proofs.lemmas.Grind.{common_steps}
+use Rattle.std.proofs.Common.{◌≡◌, inl, inr, refl, sym, subst, ap, arith}
+use Rattle.std.specs.Prelude.{Option}
+use Rattle.hs_folders.specs.Causes.{Rose}
+use Rattle.hs_folders.specs.FileMaps.{FileMap}
+use Rattle.hs_folders.proofs.MomentLaws.{no_moment}
+use Rattle.handheld_files.specs.declared.fault.OpenFault.{OpenFault}
+use Rattle.desk_journal.specs.Overlays.{FinishesAs}
+use Rattle.desk_store.specs.declared.fault.DeskOpenFault.{DeskOpenFault}
+use Rattle.run_words.specs.Runs.{Run}
+use Rattle.trace_text.specs.declared.frame.End.{End}
+use Rattle.trace_text.specs.declared.frame.End.TheVariants as line_end
+use Rattle.hotsync_run.specs.Causes.{ByEnd, HasBegun}
+use Rattle.hotsync_looks.specs.Opening.{OpensAtMost, OpensGivenAtMost}
+use Rattle.hotsync_run.specs.Refusals.{BlamesHandheld, BlamesScript, DesktopRefuses, HandheldRefuses, HasDesktop, HasHandheld, IsDesktopFailure, IsHandheldFailure}
+use Rattle.hotsync_run.specs.Refusals.{IsTraceRefusal, LeavesDesktopUnread}
+use Rattle.hotsync_looks.specs.FolderFaults.{desktop_status, handheld_status}
+use Rattle.hotsync_run.specs.Refusals.{TraceRefuses}
+use Rattle.hotsync_run.specs.Reports.{IsNotStarted}
+use Rattle.hotsync_run.specs.Runs.{HasRun, OpensNamed, SentNothing, SessionRan, StandsAsItDid, StaysAsItWas}
+use Rattle.hotsync_run.specs.Scripts.{HasScript, IsScriptRefusal, ScriptRefuses}
+use Rattle.hotsync_run.specs.Told.{CallTold, FolderTold}
+use Rattle.hotsync_run.specs.declared.report.Report.{Report}
+use Rattle.hotsync_run.specs.declared.report.SessionEnd.{SessionEnd}
+use Rattle.hotsync_looks.specs.declared.status.Status.{Status}
+use Rattle.hotsync_looks.specs.declared.status.Status.TheVariants.{Done, HandheldFolder, DesktopFolder, SourceRead, TraceWrite, OutWrite}
+use Rattle.hotsync_looks.specs.declared.status.Status.TheVariants.{WrongSide, InUse}
+
+-- a refusal of a script is no other one
+pub record IsScriptAlone (refusal : Status) : Type 0 where
+  pub handheld : refusal ≡ HandheldFolder → ⊥
+  pub desktop : refusal ≡ DesktopFolder → ⊥
+  pub trace : refusal ≡ TraceWrite → ⊥
+  pub done : refusal ≡ Done → ⊥
+  pub out : refusal ≡ OutWrite → ⊥
+  pub in_use : (end : End) → refusal ≡ InUse end → ⊥
+  pub unread : LeavesDesktopUnread refusal → ⊥
+
+pub script_alone : (refusal : Status) → IsScriptRefusal refusal → IsScriptAlone refusal
+script_alone refusal is = grind arith
+
+-- a refusal of the handheld's folder is no other one
+pub record IsHandheldAlone (refusal : Status) : Type 0 where
+  pub source : refusal ≡ SourceRead → ⊥
+  pub desktop : refusal ≡ DesktopFolder → ⊥
+  pub trace : refusal ≡ TraceWrite → ⊥
+  pub done : refusal ≡ Done → ⊥
+  pub out : refusal ≡ OutWrite → ⊥
+  pub script : BlamesScript refusal → ⊥
+  pub in_use : refusal ≡ InUse line_end.Desktop → ⊥
+  pub unread : LeavesDesktopUnread refusal → ⊥
+
+handheld_cases : (fault : OpenFault) → IsHandheldAlone (handheld_status fault)
+handheld_cases fault = grind (arith, common_steps)
+
+handheld_failed : (refusal : Status) → IsHandheldFailure refusal → IsHandheldAlone refusal
+handheld_failed refusal is = grind (arith, common_steps)
+
+handheld_wrong : IsHandheldAlone (WrongSide line_end.Handheld)
+handheld_wrong = grind (arith, common_steps)
+
+pub handheld_alone : {held : Option FileMap} {refusal : Status} → HandheldRefuses held refusal → IsHandheldAlone refusal
+handheld_alone {refusal = refusal} (inl failed) = handheld_failed refusal failed
+handheld_alone (inr (inl wrong)) = subst IsHandheldAlone (sym wrong.is) handheld_wrong
+handheld_alone (inr (inr refuses)) = subst IsHandheldAlone (sym refuses.is) (handheld_cases refuses.fault)
+
+-- a refusal of the desktop's folder is no other one
+pub record IsDesktopAlone (refusal : Status) : Type 0 where
+  pub source : refusal ≡ SourceRead → ⊥
+  pub handheld : refusal ≡ HandheldFolder → ⊥
+  pub trace : refusal ≡ TraceWrite → ⊥
+  pub done : refusal ≡ Done → ⊥
+  pub out : refusal ≡ OutWrite → ⊥
+  pub script : BlamesScript refusal → ⊥
+  pub palm : BlamesHandheld refusal → ⊥
+  pub in_use : refusal ≡ InUse line_end.Handheld → ⊥
+
+desktop_cases : (fault : DeskOpenFault) → IsDesktopAlone (desktop_status fault)
+desktop_cases fault = grind (arith, common_steps)
+
+desktop_failed : (refusal : Status) → IsDesktopFailure refusal → IsDesktopAlone refusal
+desktop_failed refusal is = grind (arith, common_steps)
+
+desktop_wrong : IsDesktopAlone (WrongSide line_end.Desktop)
+desktop_wrong = grind (arith, common_steps)
+
+pub desktop_alone : {kept : Option FileMap} {refusal : Status} → DesktopRefuses kept refusal → IsDesktopAlone refusal
+desktop_alone {refusal = refusal} (inl failed) = desktop_failed refusal failed
+desktop_alone (inr (inl wrong)) = subst IsDesktopAlone (sym wrong.is) desktop_wrong
+desktop_alone (inr (inr refuses)) = subst IsDesktopAlone (sym refuses.is) (desktop_cases refuses.fault)
+
+-- a refusal of the trace is no other one
+pub record IsTraceAlone (refusal : Status) : Type 0 where
+  pub source : refusal ≡ SourceRead → ⊥
+  pub handheld : refusal ≡ HandheldFolder → ⊥
+  pub desktop : refusal ≡ DesktopFolder → ⊥
+  pub done : refusal ≡ Done → ⊥
+  pub out : refusal ≡ OutWrite → ⊥
+  pub script : BlamesScript refusal → ⊥
+  pub palm : BlamesHandheld refusal → ⊥
+  pub in_use : (end : End) → refusal ≡ InUse end → ⊥
+  pub unread : LeavesDesktopUnread refusal → ⊥
+
+pub trace_alone : (refusal : Status) → IsTraceRefusal refusal → IsTraceAlone refusal
+trace_alone refusal e = grind (arith, common_steps)
+
+-- a folder that was not touched
+pub stays_same : {before after : FolderTold} → after ≡ before → StaysAsItWas before after
+stays_same {before} same = subst (StaysAsItWas before) (sym same) (record { contents = refl; moments = refl })
+
+pub stands_same : {before after : FolderTold} → after ≡ before → StandsAsItDid before after
+stands_same {before} same = grind (arith, no_moment (FinishesAs before.contents) before.moments before.moments refl)
+
+-- what a run opened that sent nothing
+module _ (run : Run) (before after : CallTold) {report : Report} (is : IsNotStarted report) where
+  opens_refused : OpensAtMost run.handheld before.palm.paths after.palm.paths → OpensAtMost run.desktop before.desk.paths after.desk.paths
+      → OpensGivenAtMost run.script before.source.paths after.source.paths → OpensGivenAtMost run.trace before.trace.paths after.trace.paths
+      → OpensNamed run before after report.end
+  opens_refused handheld desktop script trace =
+      let none : HasBegun report.end → ⊥ = λ begun. subst HasBegun is.end begun in
+      record {
+        handheld = handheld;
+        desktop = desktop;
+        script = script;
+        trace = trace;
+        handheld_opened = λ begun. absurd (none begun);
+        desktop_opened = λ begun. absurd (none begun);
+        script_opened = λ begun. absurd (none begun);
+        trace_opened = λ begun. absurd (none begun);
+      }
+
+  shows_refused : (status : Status) → SentNothing run before after status report
+      → ByEnd report.end (SentNothing run before after status report) (SessionRan run before after status report)
+  shows_refused status sent =
+      subst (λ (e : SessionEnd). ByEnd e (SentNothing run before after status report) (SessionRan run before after status report)) (sym is.end) sent
+
+  -- a run whose script refuses it
+  pub by_script : {refusal : Status} → ScriptRefuses run.script before.source.left refusal
+      → (refusal ≡ SourceRead → Rose before.source.faults after.source.faults) → OpensGivenAtMost run.script before.source.paths after.source.paths
+      → after.palm ≡ before.palm → after.desk ≡ before.desk → after.trace ≡ before.trace → HasRun run before after refusal report
+  by_script {refusal} refuses failed opened palm desk trace =
+      let alone = script_alone refusal refuses.is in
+      record {
+        shown = shows_refused refusal (record {
+          judged = inr (inl refuses);
+          report_is = is;
+          handheld = stays_same palm;
+          desktop = stands_same desk;
+          unread = λ unread. stays_same desk;
+          trace = ap (λ told. told.taken) trace;
+        });
+        blames = record {
+          source = failed;
+          folders = record { handheld = λ e. absurd (alone.handheld e); desktop = λ e. absurd (alone.desktop e) };
+          handheld_in_use = λ e. absurd (alone.in_use line_end.Handheld e);
+          desktop_in_use = λ e. absurd (alone.in_use line_end.Desktop e);
+          trace = λ e. absurd (alone.trace e);
+        };
+        opened = opens_refused (inl (ap (λ told. told.paths) palm)) (inl (ap (λ told. told.paths) desk)) opened (inl (ap (λ told. told.paths) trace));
+      }
+
+  -- a run whose handheld refuses it
+  pub by_handheld : {refusal : Status} → HasScript run.script before.source.left → HandheldRefuses before.palm.contents refusal
+      → (refusal ≡ HandheldFolder → Rose before.palm.faults after.palm.faults)
+      → (refusal ≡ InUse line_end.Handheld → Rose before.palm.faults after.palm.faults) → OpensGivenAtMost run.script before.source.paths after.source.paths
+      → StaysAsItWas before.palm after.palm → OpensAtMost run.handheld before.palm.paths after.palm.paths → after.desk ≡ before.desk
+      → after.trace ≡ before.trace → HasRun run before after refusal report
+  by_handheld {refusal} script refuses failed in_use opened stays path desk trace =
+      let alone = handheld_alone refuses in
+      record {
+        shown = shows_refused refusal (record {
+          judged = inr (inr (script, inl refuses));
+          report_is = is;
+          handheld = stays;
+          desktop = stands_same desk;
+          unread = λ unread. stays_same desk;
+          trace = ap (λ told. told.taken) trace;
+        });
+        blames = record {
+          source = λ e. absurd (alone.source e);
+          folders = record { handheld = failed; desktop = λ e. absurd (alone.desktop e) };
+          handheld_in_use = in_use;
+          desktop_in_use = λ e. absurd (alone.in_use e);
+          trace = λ e. absurd (alone.trace e);
+        };
+        opened = opens_refused path (inl (ap (λ told. told.paths) desk)) opened (inl (ap (λ told. told.paths) trace));
+      }
+
+  -- a run whose desktop refuses it
+  pub by_desktop : {refusal : Status} → HasScript run.script before.source.left → HasHandheld before.palm.contents
+      → DesktopRefuses before.desk.contents refusal → (refusal ≡ DesktopFolder → Rose before.desk.faults after.desk.faults)
+      → (refusal ≡ InUse line_end.Desktop → Rose before.desk.faults after.desk.faults) → (LeavesDesktopUnread refusal → StaysAsItWas before.desk after.desk)
+      → OpensGivenAtMost run.script before.source.paths after.source.paths → StaysAsItWas before.palm after.palm
+      → OpensAtMost run.handheld before.palm.paths after.palm.paths → StandsAsItDid before.desk after.desk
+      → OpensAtMost run.desktop before.desk.paths after.desk.paths → after.trace ≡ before.trace → HasRun run before after refusal report
+  by_desktop {refusal} script handheld refuses failed in_use unread opened stays path stands desk_path trace =
+      let alone = desktop_alone refuses in
+      record {
+        shown = shows_refused refusal (record {
+          judged = inr (inr (script, inr (handheld, inl refuses)));
+          report_is = is;
+          handheld = stays;
+          desktop = stands;
+          unread = unread;
+          trace = ap (λ told. told.taken) trace;
+        });
+        blames = record {
+          source = λ e. absurd (alone.source e);
+          folders = record { handheld = λ e. absurd (alone.handheld e); desktop = failed };
+          handheld_in_use = λ e. absurd (alone.in_use e);
+          desktop_in_use = in_use;
+          trace = λ e. absurd (alone.trace e);
+        };
+        opened = opens_refused path desk_path opened (inl (ap (λ told. told.paths) trace));
+      }
+
+  -- a run whose trace was not opened
+  pub by_trace : {refusal : Status} → HasScript run.script before.source.left → HasHandheld before.palm.contents → HasDesktop before.desk.contents
+      → TraceRefuses run.trace refusal → (refusal ≡ TraceWrite → Rose before.trace.faults after.trace.faults)
+      → OpensGivenAtMost run.script before.source.paths after.source.paths → StaysAsItWas before.palm after.palm
+      → OpensAtMost run.handheld before.palm.paths after.palm.paths → StandsAsItDid before.desk after.desk
+      → OpensAtMost run.desktop before.desk.paths after.desk.paths → OpensGivenAtMost run.trace before.trace.paths after.trace.paths
+      → after.trace.taken ≡ before.trace.taken → HasRun run before after refusal report
+  by_trace {refusal} script handheld desktop refuses failed opened stays path stands desk_path trace_path taken =
+      let alone = trace_alone refusal refuses.is in
+      record {
+        shown = shows_refused refusal (record {
+          judged = inr (inr (script, inr (handheld, inr (desktop, refuses))));
+          report_is = is;
+          handheld = stays;
+          desktop = stands;
+          unread = λ unread. absurd (alone.unread unread);
+          trace = taken;
+        });
+        blames = record {
+          source = λ e. absurd (alone.source e);
+          folders = record { handheld = λ e. absurd (alone.handheld e); desktop = λ e. absurd (alone.desktop e) };
+          handheld_in_use = λ e. absurd (alone.in_use line_end.Handheld e);
+          desktop_in_use = λ e. absurd (alone.in_use line_end.Desktop e);
+          trace = failed;
+        };
+        opened = opens_refused path desk_path opened trace_path;
+      }
