@@ -33,6 +33,7 @@ fn form_of(command: &Command<'_>) -> WordForm<'static>
             Look::Check => FILE,
             Look::Show => FILE,
             Look::Export(_) => EXPORT,
+            Look::Verify => FILE,
         },
         Command::Packet(_) => PACKET,
         Command::Make(_) => MAKE,
@@ -63,6 +64,7 @@ fn look_in<'a>(look: Look, matches: &ArgMatches<'a>) -> Option<Look>
     match look {
         Look::Check => Some(Look::Check),
         Look::Show => Some(Look::Show),
+        Look::Verify => Some(Look::Verify),
         Look::Export(_) => {
             let export = export_in(matches)?;
             Some(Look::Export(export))

@@ -1,7 +1,7 @@
 //! The words of a command line: which are in the form, and what they ask for.
 //!
 //! The first word is the command: `run HANDHELD DESKTOP --date=D [--script=F] [--trace=F] [--slow] [--actions=L] [--add-user]`,
-//! `check FILE`, `show FILE`, `export FILE --as=txt [--without-private]`, `packet HEX` or `make SEED N`. The form of the words
+//! `check FILE`, `show FILE`, `verify FILE`, `export FILE --as=txt [--without-private]`, `packet HEX` or `make SEED N`. The form of the words
 //! behind it is a table, and they stand in any order. A plain word is not empty and does not begin with `-`. A date is written,
 //! or it is `now`, the date that the caller hands over. No call takes memory but for the list of actions.
 #![tactic(auto)]

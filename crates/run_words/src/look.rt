@@ -1,4 +1,4 @@
-// Looks at a database file.
+// Looks at a file.
 ghost use Rattle.std.specs.Prelude.{◌≡◌};
 ghost use Rattle.run_words.specs.Exports.{text_form_of};
 
@@ -18,7 +18,7 @@ pub struct Export {
     pub without_private: bool,
 }
 
-/// What is wanted of a database file.
+/// What is wanted of a file: of the database in it, or of the trace.
 #[derive(Clone, Copy, PartialEq, Eq)]
 pub enum Look {
     /// The number of its entries.
@@ -27,9 +27,11 @@ pub enum Look {
     Show,
     /// The text of what its records say.
     Export(Export),
+    /// Whether the trace in it is proper.
+    Verify,
 }
 
-/// A look at a database file.
+/// A look at a file.
 #[derive(Clone, Copy)]
 pub struct LookWords<'a> {
     /// What is wanted of it.
