@@ -25,6 +25,7 @@ pub mod MakeWords
 pub mod OneLaws
 pub mod OverLaws
 pub mod PickLaws
+pub mod ProperLaws
 pub mod QuietRuns
 pub mod RefusedRuns
 pub mod RunLaws

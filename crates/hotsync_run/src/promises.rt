@@ -3,6 +3,7 @@
 ghost use Rattle.std.specs.Prelude.{◌≡◌, ◌<◌, ℕ, List, None, Some, true};
 ghost use Rattle.std.specs.List.{AllByRecursion};
 ghost use Rattle.line_script.specs.Rules.{RuleValue};
+ghost use Rattle.trace_check.specs.Judging.{IsProperTrace};
 ghost use Rattle.run_words.specs.Commands.{LookAt, Make};
 ghost use Rattle.run_words.specs.declared.look.Look.{Look};
 ghost use Rattle.run_words.specs.Runs.{Run};
@@ -16,7 +17,7 @@ ghost use Rattle.hotsync_run.specs.Causes.{HasBegun};
 ghost use Rattle.hotsync_run.specs.Clean.{GoesThrough, HasNoLines};
 ghost use Rattle.hotsync_run.specs.Equal.{EndsEqual};
 ghost use Rattle.hotsync_run.specs.Headline.{ActsOnce, FairStaysUp, Headline, IsAnsweredRun, IsWhatItSays, LeavesTheMerge, RunCall, TellsCause};
-ghost use Rattle.hotsync_run.specs.LineRuns.{exchanges_in};
+ghost use Rattle.hotsync_run.specs.LineRuns.{exchanges_in, frames_in};
 ghost use Rattle.hotsync_looks.specs.Looks.{IsLook};
 ghost use Rattle.hotsync_run.specs.Meetings.{Meets};
 ghost use Rattle.hotsync_looks.specs.PrintedNames.{is_printable, printed_name};
@@ -43,6 +44,12 @@ pub fn a_line_is_what_it_says()
     ensures { (call : RunCall) → IsAnsweredRun call → HasBegun call.report.end
         → (rules : List RuleValue) × IsScripted call.run.script call.before.source.left rules
         × IsWhatItSays rules call }
+{}
+
+/// The trace of a run is proper by nothing but itself: whatever the script did, `verify` calls what `--trace` wrote proper.
+pub fn a_runs_trace_is_proper()
+    ensures { (call : RunCall) → IsAnsweredRun call → HasBegun call.report.end
+        → IsProperTrace (frames_in call.report) }
 {}
 
 /// A stop has the cause that is told.
