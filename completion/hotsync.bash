@@ -3,7 +3,7 @@ _hotsync() {
     local word=${COMP_WORDS[COMP_CWD]}
     COMPREPLY=()
     if [ "$COMP_CWD" -eq 1 ]; then
-        COMPREPLY=($(compgen -W 'run check show export packet make' -- "$word"))
+        COMPREPLY=($(compgen -W 'run check show export verify packet make' -- "$word"))
         return
     fi
     case ${COMP_WORDS[1]} in
@@ -18,7 +18,13 @@ _hotsync() {
         *) COMPREPLY=($(compgen -d -- "$word")) ;;
         esac
         ;;
-    check | show) COMPREPLY=($(compgen -f -- "$word")) ;;
+    export)
+        case $word in
+        -*) COMPREPLY=($(compgen -W '--as=txt --without-private' -- "$word")) ;;
+        *) COMPREPLY=($(compgen -f -- "$word")) ;;
+        esac
+        ;;
+    check | show | verify) COMPREPLY=($(compgen -f -- "$word")) ;;
     esac
 }
 complete -o filenames -F _hotsync hotsync
