@@ -1,3 +1,4 @@
 pub mod LookLaws
+pub mod PictureLaws
 pub mod PrintedLaws
 pub mod PrintedNameLaws

@@ -4,7 +4,9 @@ pub mod FolderFaults
 pub mod Lines
 pub mod Looks
 pub mod Opening
+pub mod Pictures
 pub mod Printed
 pub mod PrintedNames
 pub mod Scans
 pub mod Told
+pub mod Traces

@@ -16,7 +16,7 @@ use Rattle.hotsync_looks.specs.declared.status.FileSide.TheVariants.{Handheld, D
 use Rattle.hotsync_looks.specs.declared.status.Status.{Status}
 use Rattle.hotsync_looks.specs.declared.status.Status.TheVariants.{Done, Usage, BadScript, TooLong, BadFile, TooMany, HandheldFolder, DesktopFolder, SourceRead}
 use Rattle.hotsync_looks.specs.declared.status.Status.TheVariants.{TraceWrite, OutWrite, NoMemory, LineDown, Unplugged, Aborted, Undetected, OtherUser}
-use Rattle.hotsync_looks.specs.declared.status.Status.TheVariants.{TooManyUsers, Limit, NewHandheld, WrongSide, InUse, CannotExport}
+use Rattle.hotsync_looks.specs.declared.status.Status.TheVariants.{TooManyUsers, Limit, NewHandheld, WrongSide, InUse, CannotExport, BadTrace}
 use Rattle.sync_session.specs.declared.report.Counts.{Counts}
 use Rattle.sync_session.specs.declared.report.DbReport.{DbReport}
 use Rattle.sync_session.specs.declared.report.Did.{Did}
@@ -90,6 +90,7 @@ abbrev pub refusal_line : Status → List ℕ
 refusal_line Done = ended_line
 refusal_line Usage = usage_line
 refusal_line (BadScript line) = number_line (codes "bad script line ") line
+refusal_line (BadTrace line) = number_line (codes "bad trace line ") line
 refusal_line TooLong = codes "source too long" ++ line_feed
 refusal_line (BadFile side name kind place) = bad_file_line side (string_bytes {Z = Global} name) kind place
 refusal_line (CannotExport name form) = export_line name form

@@ -8,14 +8,18 @@
 mod bad_file;
 mod look;
 mod packets;
+mod picture;
 mod printed_name;
 mod printing;
 mod source;
 mod status;
+mod trace;
 
 pub use look::look_at;
 pub use packets::print_packets;
+pub use picture::picture_of;
 pub use printed_name::push_name;
 pub use printing::{print_no_memory, print_refusal, print_status, print_text};
 pub use source::read_source;
 pub use status::{FileSide, Status};
+pub use trace::trace_of;

@@ -226,6 +226,7 @@ fn refusal_line(alloc: Global, refusal: &Status) -> Result<String, AllocError>
         Status::Done => String::from_str(alloc, "ended\n"),
         Status::Usage => String::from_str(alloc, USAGE),
         Status::BadScript(line) => number_line(alloc, "bad script line ", u64::from(*line)),
+        Status::BadTrace(line) => number_line(alloc, "bad trace line ", u64::from(*line)),
         Status::TooLong => String::from_str(alloc, "source too long\n"),
         Status::BadFile {
             side,

@@ -28,6 +28,8 @@ pub enum Status {
     Usage,
     /// The first line of the script that is out of its form, from 1 on.
     BadScript(u32),
+    /// The first line of the trace that is none of a trace, from 1 on.
+    BadTrace(u32),
     /// The source has more than 67,108,864 bytes, or the script more than 100,000 lines.
     TooLong,
     /// A file breaks the rules of its format: its name, its first failing test, and the place of
@@ -154,6 +156,7 @@ impl Status {
             Status::Done => 0,
             Status::Usage => 2,
             Status::BadScript(_)
+            | Status::BadTrace(_)
             | Status::TooLong
             | Status::BadFile { .. }
             | Status::CannotExport { .. }
