@@ -17,7 +17,7 @@ use Rattle.trace_check.specs.declared.rule.Verdict.TheVariants.{Proper, Not}
 use Rattle.trace_check.proofs.RuleLaws.{one-verdict}
 use Rattle.trace_check.proofs.TraceLaws.{one_reading}
 use Rattle.run_words.specs.declared.look.Look.{Look}
-use Rattle.run_words.specs.declared.look.Look.TheVariants.{Check, Show, Export as Exported, Verify}
+use Rattle.run_words.specs.declared.look.Look.TheVariants.{Check, Show, Export as Exported, Verify, Picture}
 use Rattle.pdb_files.specs.BadKinds.{bad_file}
 use Rattle.pdb_files.specs.Faults.{Refuses as FileRefuses, file_fault}
 use Rattle.pdb_files.specs.declared.fault.FileFault.{FileFault}
@@ -25,7 +25,7 @@ use Rattle.pdb_files.specs.declared.fault.FileFault.TheVariants.{NoMemory as NoM
 use Rattle.hotsync_looks.specs.BadFiles.{BreaksRule, StandsFor}
 use Rattle.hotsync_looks.specs.declared.status.FileSide.TheVariants.{Source}
 use Rattle.hotsync_looks.specs.LookTexts.{Cause, Broken, Unfit, Untraced, Improper, IsCauseOf, IsDatabaseCause, IsDatabaseText}
-use Rattle.hotsync_looks.specs.LookTexts.{IsProperText, IsTextOf, IsTraceCause, NoTextSays, Refuses, RefusesDatabase, RefusesTrace, Says, look_text, source_limit}
+use Rattle.hotsync_looks.specs.LookTexts.{IsPageText, IsProperText, IsReadingCause, IsTextOf, IsTraceCause, NoTextSays, Refuses, RefusesDatabase, RefusesReading, RefusesTrace, Says, look_text, source_limit}
 use Rattle.hotsync_looks.specs.Looks.{IsLook, IsLookRefusal, IsReadable, IsTextIn, SourceShows}
 use Rattle.hotsync_looks.specs.Opening.{Opens, OpensAtMost}
 use Rattle.hotsync_looks.specs.Printed.{IsPrinted}
@@ -104,6 +104,15 @@ one_trace_cause bytes (Unfit name) b x y = absurd x
 one_trace_cause bytes a (Broken kind place) x y = absurd y
 one_trace_cause bytes a (Unfit name) x y = absurd y
 
+page_not_refused : (bytes text : List ℕ) (cause : Cause) → IsPageText bytes text → IsReadingCause bytes cause → ⊥
+page_not_refused bytes text (Untraced line) is refused = read_not_bad bytes is.frames line is.reading refused
+page_not_refused bytes text cause is refused = refused
+
+one_reading_cause : (bytes : List ℕ) (a b : Cause) → IsReadingCause bytes a → IsReadingCause bytes b → a ≡ b
+one_reading_cause bytes (Untraced line) (Untraced other) x y = ap Untraced (same_line bytes line other x y)
+one_reading_cause bytes (Untraced line) b x y = absurd y
+one_reading_cause bytes a b x y = absurd x
+
 -- ---- each look
 
 -- a look prints something, or there is a cause why not
@@ -112,6 +121,7 @@ text_not_refused Check bytes text cause is refused = database_not_refused Check 
 text_not_refused Show bytes text cause is refused = database_not_refused Show bytes text cause is refused
 text_not_refused (Exported export) bytes text cause is refused = database_not_refused (Exported export) bytes text cause is refused
 text_not_refused Verify bytes text cause is refused = trace_not_refused bytes text cause is refused
+text_not_refused Picture bytes text cause is refused = page_not_refused bytes text cause is refused
 
 -- and it is one
 one_cause : (look : Look) (bytes : List ℕ) (a b : Cause) → IsCauseOf look bytes a → IsCauseOf look bytes b → a ≡ b
@@ -119,6 +129,7 @@ one_cause Check bytes a b x y = one_database_cause Check bytes a b x y
 one_cause Show bytes a b x y = one_database_cause Show bytes a b x y
 one_cause (Exported export) bytes a b x y = one_database_cause (Exported export) bytes a b x y
 one_cause Verify bytes a b x y = one_trace_cause bytes a b x y
+one_cause Picture bytes a b x y = one_reading_cause bytes a b x y
 
 module _ (look : Look) (file bytes : List ℕ) where
   look_too_long : (status : Status) (Failed : Type 0) → SourceShows look file status bytes → (status ≡ SourceRead → Failed)
@@ -202,7 +213,27 @@ bad_file_refuses A look file bytes rule status why stands = absurd stands
 pub verdict_refuses : (bytes : List ℕ) (frames : List FrameValue) (verdict : Verdict) (rule : Rule) → IsTraceReading bytes (Ok frames)
     → IsVerdict frames verdict → verdict ≡ Not rule → RefusesTrace bytes (NotProper rule)
 verdict_refuses bytes frames verdict rule read is e =
-    inl (Improper rule, record { frames = frames; reading = read; verdict = subst (λ v. IsVerdict frames v) e is }, refl)
+    inl (rule, record { frames = frames; reading = read; verdict = subst (λ v. IsVerdict frames v) e is }, refl)
+
+-- what is refused as a trace is refused by the look that takes it as one
+reading_refuses : (file bytes : List ℕ) (status : Status) → RefusesReading bytes status → Refuses Picture file bytes status
+reading_refuses file bytes status (inl is) = inl (Untraced is.0, is.1, subst (λ s. Says Picture file (Untraced is.0) s) (sym is.2) refl)
+reading_refuses file bytes status (inr is) = inr is
+
+trace_refuses : (file bytes : List ℕ) (status : Status) → RefusesTrace bytes status → Refuses Verify file bytes status
+trace_refuses file bytes status (inl is) = inl (Improper is.0, is.1, subst (λ s. Says Verify file (Improper is.0) s) (sym is.2) refl)
+trace_refuses file bytes status (inr (inl is)) = inl (Untraced is.0, is.1, subst (λ s. Says Verify file (Untraced is.0) s) (sym is.2) refl)
+trace_refuses file bytes status (inr (inr is)) = inr is
+
+pub reading_result : {T : Type 0} (result : Result T Status) (look : Look) (file bytes : List ℕ) → look ≡ Picture
+    → IfErr result (RefusesReading bytes) → IfErr result (Refuses look file bytes)
+reading_result (Ok text) look file bytes is refuses = tt
+reading_result (Err status) look file bytes is refuses = subst (λ l. Refuses l file bytes status) (sym is) (reading_refuses file bytes status refuses)
+
+pub trace_result : {T : Type 0} (result : Result T Status) (look : Look) (file bytes : List ℕ) → look ≡ Verify
+    → IfErr result (RefusesTrace bytes) → IfErr result (Refuses look file bytes)
+trace_result (Ok text) look file bytes is refuses = tt
+trace_result (Err status) look file bytes is refuses = subst (λ l. Refuses l file bytes status) (sym is) (trace_refuses file bytes status refuses)
 
 -- the status of a database that has no text
 no_text_refuses : (look : Look) (file bytes : List ℕ) (database : DatabaseValue) (status : Status) → IsFileText database bytes

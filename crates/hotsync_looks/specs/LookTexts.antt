@@ -1,5 +1,5 @@
 -- What a look makes of the bytes of a file: a text, or a refusal.
-use Rattle.std.specs.Prelude.{◌≡◌, ◌⊎◌, ⊤, ℕ, List, [], ◌++◌, codes, Option, Some, None, Ok, if◌then◌else◌, string_bytes}
+use Rattle.std.specs.Prelude.{◌≡◌, ◌⊎◌, ⊤, ℕ, List, ◌++◌, codes, Option, Some, None, Ok, if◌then◌else◌, string_bytes}
 use Rattle.std.specs.Fmt.{decimal}
 use Rattle.std.specs.declared.alloc.Global.{Global}
 use Rattle.pdb_values.specs.Databases.{DatabaseValue}
@@ -14,10 +14,11 @@ use Rattle.record_export.specs.declared.export.Privacy.TheVariants.{All, Without
 use Rattle.trace_text.specs.TraceLines.{FrameValue}
 use Rattle.trace_check.specs.Judging.{IsVerdict}
 use Rattle.trace_check.specs.Readings.{IsBadLine, IsTraceReading}
+use Rattle.trace_page.specs.Pages.{page_text}
 use Rattle.trace_check.specs.declared.rule.Rule.{Rule}
 use Rattle.trace_check.specs.declared.rule.Verdict.TheVariants.{Proper, Not}
 use Rattle.run_words.specs.declared.look.Look.{Look}
-use Rattle.run_words.specs.declared.look.Look.TheVariants.{Check, Show, Export as Exported, Verify}
+use Rattle.run_words.specs.declared.look.Look.TheVariants.{Check, Show, Export as Exported, Verify, Picture}
 use Rattle.run_words.specs.declared.look.Export.{Export}
 use Rattle.run_words.specs.declared.look.ExportForm.{ExportForm}
 use Rattle.run_words.specs.declared.look.ExportForm.TheVariants.{Text}
@@ -48,10 +49,12 @@ look_text Check database = Some (check_text database)
 look_text Show database = Some (show_text database)
 look_text (Exported export) database = export_text export export.form database
 look_text Verify database = None
+look_text Picture database = None
 
 -- a look at a database
 abbrev pub IsDatabaseLook : Look → Type 0
 IsDatabaseLook Verify = ⊥
+IsDatabaseLook Picture = ⊥
 IsDatabaseLook _ = ⊤
 
 -- a look that exports in this form
@@ -99,6 +102,12 @@ pub record BreaksFirst (rule : Rule) (bytes : List ℕ) : Type 0 where
   pub reading : IsTraceReading bytes (Ok frames)
   pub verdict : IsVerdict frames (Not rule)
 
+-- the bytes are the text of a trace, and this is its page
+pub record IsPageText (bytes text : List ℕ) : Type 0 where
+  pub frames : List FrameValue
+  pub reading : IsTraceReading bytes (Ok frames)
+  pub is : text ≡ page_text frames
+
 -- ---- each look
 
 -- what a look prints of the bytes of a file
@@ -107,6 +116,7 @@ IsTextOf Check bytes text = IsDatabaseText Check bytes text
 IsTextOf Show bytes text = IsDatabaseText Show bytes text
 IsTextOf (Exported export) bytes text = IsDatabaseText (Exported export) bytes text
 IsTextOf Verify bytes text = IsProperText bytes text
+IsTextOf Picture bytes text = IsPageText bytes text
 
 -- why a look prints nothing of the bytes of a file: they break a rule of the format of a database, are a database that has no such text, have a
 -- line that is none of a trace, or are a trace that breaks a rule
@@ -122,11 +132,15 @@ IsDatabaseCause look bytes (Broken kind place) = BreaksRule bytes kind place
 IsDatabaseCause look bytes (Unfit name) = IsUnfit look name bytes
 IsDatabaseCause look bytes _ = ⊥
 
--- bytes that are looked at as a trace
+-- bytes that are read as a trace
+abbrev pub IsReadingCause : List ℕ → Cause → Type 0
+IsReadingCause bytes (Untraced line) = IsBadLine bytes line
+IsReadingCause bytes _ = ⊥
+
+-- bytes of which the trace is judged
 abbrev pub IsTraceCause : List ℕ → Cause → Type 0
-IsTraceCause bytes (Untraced line) = IsBadLine bytes line
 IsTraceCause bytes (Improper rule) = BreaksFirst rule bytes
-IsTraceCause bytes _ = ⊥
+IsTraceCause bytes cause = IsReadingCause bytes cause
 
 -- why a look prints nothing of these bytes
 abbrev pub IsCauseOf : Look → List ℕ → Cause → Type 0
@@ -134,6 +148,7 @@ IsCauseOf Check bytes cause = IsDatabaseCause Check bytes cause
 IsCauseOf Show bytes cause = IsDatabaseCause Show bytes cause
 IsCauseOf (Exported export) bytes cause = IsDatabaseCause (Exported export) bytes cause
 IsCauseOf Verify bytes cause = IsTraceCause bytes cause
+IsCauseOf Picture bytes cause = IsReadingCause bytes cause
 
 -- a status that says so, where the file bears this name
 abbrev pub Says : Look → List ℕ → Cause → Status → Type 0
@@ -152,6 +167,10 @@ Refuses look file bytes status = ((cause : Cause) × IsCauseOf look bytes cause 
 abbrev pub RefusesDatabase : Look → List ℕ → List ℕ → Status → Type 0
 RefusesDatabase look file bytes status = ((cause : Cause) × IsDatabaseCause look bytes cause × Says look file cause status) ⊎ (status ≡ NoMemory)
 
--- the same where they are looked at as a trace
+-- the same where they are read as a trace
+abbrev pub RefusesReading : List ℕ → Status → Type 0
+RefusesReading bytes status = ((line : ℕ) × IsBadLine bytes line × (status ≡ BadTrace line)) ⊎ (status ≡ NoMemory)
+
+-- the same where the trace is judged
 abbrev pub RefusesTrace : List ℕ → Status → Type 0
-RefusesTrace bytes status = ((cause : Cause) × IsTraceCause bytes cause × Says Verify [] cause status) ⊎ (status ≡ NoMemory)
+RefusesTrace bytes status = ((rule : Rule) × BreaksFirst rule bytes × (status ≡ NotProper rule)) ⊎ RefusesReading bytes status

@@ -12,7 +12,7 @@ mod printed_name;
 mod printing;
 mod source;
 mod status;
-mod verdict;
+mod traced;
 
 pub use look::look_at;
 pub use packets::print_packets;

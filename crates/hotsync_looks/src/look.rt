@@ -10,7 +10,7 @@ use crate::bad_file::fault_status;
 use crate::printing::{print_refusal, print_text};
 use crate::source::read_source;
 use crate::status::{FileSide, Status};
-use crate::verdict::verdict_text;
+use crate::traced::{picture_text, verdict_text};
 use file_text::{check_text, show_text};
 use hs_folders::{Sink, Source};
 use pdb_files::read_database;
@@ -79,6 +79,7 @@ fn bytes_text(alloc: Global, look: Look, file: &str, bytes: &[u8]) -> Result<Str
 {
     match look {
         Look::Verify => verdict_text(alloc, bytes),
+        Look::Picture => picture_text(alloc, bytes),
         Look::Check | Look::Show | Look::Export(_) => read_text(alloc, look, file, bytes),
     }
 }
@@ -109,7 +110,7 @@ fn database_text(alloc: Global, look: Look, database: &Database) -> Result<Strin
         Look::Check => check_text(alloc, database)?,
         Look::Show => show_text(alloc, database)?,
         Look::Export(export) => exported_text(alloc, export, database)?,
-        Look::Verify => unreachable!(),
+        Look::Verify | Look::Picture => unreachable!(),
     };
     Ok(text)
 }

@@ -52,8 +52,9 @@ few_behind now command words =
     (few_if (bytes_eq command (codes "show")) _ _ (few_map (LookAt _) (file_of words) (λ file. tt))
     (few_if (bytes_eq command (codes "export")) _ _ (few_exported words)
     (few_if (bytes_eq command (codes "verify")) _ _ (few_map (LookAt _) (file_of words) (λ file. tt))
+    (few_if (bytes_eq command (codes "picture")) _ _ (few_map (LookAt _) (file_of words) (λ file. tt))
     (few_if (bytes_eq command (codes "packet")) _ _ (few_map Scan (packet_of words) (λ bytes. tt))
-    (few_if (bytes_eq command (codes "make")) _ _ (few_made words) tt))))))
+    (few_if (bytes_eq command (codes "make")) _ _ (few_made words) tt)))))))
 
 few_words : (now : Option ℕ) (words : List (List ℕ)) → IsFew (task_of now words)
 unfolding task_of

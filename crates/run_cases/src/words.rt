@@ -30,6 +30,7 @@ fn look_text(alloc: Global, words: &LookWords<'_>) -> Result<String, AllocError>
         Look::Check => format!(in alloc; "check file {file}\n"),
         Look::Show => format!(in alloc; "show file {file}\n"),
         Look::Verify => format!(in alloc; "verify file {file}\n"),
+        Look::Picture => format!(in alloc; "picture file {file}\n"),
         Look::Export(export) => {
             let form = match export.form {
                 ExportForm::Text => "txt",

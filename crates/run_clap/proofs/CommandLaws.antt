@@ -12,7 +12,7 @@ use Rattle.run_words.specs.Forms.{is_of_form, plain_at}
 use Rattle.run_words.specs.Runs.{are_actions_right, run_form, run_in, run_of}
 use Rattle.run_words.specs.declared.look.Export.{Export as ExportWords}
 use Rattle.run_words.specs.declared.look.Look.{Look}
-use Rattle.run_words.specs.declared.look.Look.TheVariants.{Check, Show, Export, Verify}
+use Rattle.run_words.specs.declared.look.Look.TheVariants.{Check, Show, Export, Verify, Picture}
 use Rattle.run_clap.specs.Apps.{form_app}
 use Rattle.run_clap.specs.Reads.{Asks, HoldsTask, look_form, task_form}
 use Rattle.run_clap.proofs.EndLaws.{form_holds, form_is_simple, form_takes}
@@ -104,29 +104,38 @@ module _ (now : Option ℕ) (first : List ℕ) (rest : List (List ℕ)) {task : 
       let right = kept (is_of_form file_form rest) (plain_at 0 rest) file.1 in
       subst (IsAsked now (first ∷ rest)) file.2 (record { first = first; rest = rest; are = refl; right = right.0; asks = (right.1, tt) })
 
-  chosen : (a b c d v m n : Bool)
+  picture_asked : option_map (LookAt Picture) (file_of rest) ≡ Some task → IsAsked now (first ∷ rest) task
+  unfolding file_of
+  picture_asked e =
+      let file = mapped (LookAt Picture) (file_of rest) e in
+      let right = kept (is_of_form file_form rest) (plain_at 0 rest) file.1 in
+      subst (IsAsked now (first ∷ rest)) file.2 (record { first = first; rest = rest; are = refl; right = right.0; asks = (right.1, tt) })
+
+  chosen : (a b c d v p m n : Bool)
       → cond a (option_map Sync (run_of now rest))
       (cond b (option_map (LookAt Check) (file_of rest))
       (cond c (option_map (LookAt Show) (file_of rest))
       (cond d (export_of rest)
       (cond v (option_map (LookAt Verify) (file_of rest))
-      (cond m (option_map Scan (packet_of rest)) (cond n (make_of rest) None)))))) ≡ Some task
+      (cond p (option_map (LookAt Picture) (file_of rest))
+      (cond m (option_map Scan (packet_of rest)) (cond n (make_of rest) None))))))) ≡ Some task
       → IsAsked now (first ∷ rest) task
-  chosen true b c d v m n e = run_asked e
-  chosen false true c d v m n e = check_asked e
-  chosen false false true d v m n e = show_asked e
-  chosen false false false true v m n e = export_asked e
-  chosen false false false false true m n e = verify_asked e
-  chosen false false false false false true n e = packet_asked e
-  chosen false false false false false false true e = make_asked e
-  chosen false false false false false false false e = cc
+  chosen true b c d v p m n e = run_asked e
+  chosen false true c d v p m n e = check_asked e
+  chosen false false true d v p m n e = show_asked e
+  chosen false false false true v p m n e = export_asked e
+  chosen false false false false true p m n e = verify_asked e
+  chosen false false false false false true m n e = picture_asked e
+  chosen false false false false false false true n e = packet_asked e
+  chosen false false false false false false false true e = make_asked e
+  chosen false false false false false false false false e = cc
 
 words_ask : (now : Option ℕ) (words : List (List ℕ)) {task : Task} → task_of now words ≡ Some task → IsAsked now words task
 unfolding task_of
 words_ask now [] e = cc
 words_ask now (first ∷ rest) e =
     chosen now first rest (bytes_eq first (codes "run")) (bytes_eq first (codes "check")) (bytes_eq first (codes "show")) (bytes_eq first (codes "export"))
-    (bytes_eq first (codes "verify")) (bytes_eq first (codes "packet")) (bytes_eq first (codes "make")) e
+    (bytes_eq first (codes "verify")) (bytes_eq first (codes "picture")) (bytes_eq first (codes "packet")) (bytes_eq first (codes "make")) e
 
 -- ---- each of the forms has names that differ
 
@@ -200,6 +209,7 @@ look_proper Check = file_proper
 look_proper Show = file_proper
 look_proper (Export export) = export_proper
 look_proper Verify = file_proper
+look_proper Picture = file_proper
 
 task_proper : (task : Task) → Proper (task_form task)
 task_proper (Sync run) = run_proper

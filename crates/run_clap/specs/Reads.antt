@@ -8,7 +8,7 @@ use Rattle.run_words.specs.Exports.{export_in}
 use Rattle.run_words.specs.Forms.{Form, has_flag, plain_at, value_of}
 use Rattle.run_words.specs.Runs.{run_form, run_in}
 use Rattle.run_words.specs.declared.look.Look.{Look}
-use Rattle.run_words.specs.declared.look.Look.TheVariants.{Check, Show, Export, Verify}
+use Rattle.run_words.specs.declared.look.Look.TheVariants.{Check, Show, Export, Verify, Picture}
 
 -- they have the plain words from a place on, under these names
 abbrev pub HoldsPlain : Found → List (List ℕ) → ℕ → List (List ℕ) → Type 0
@@ -32,6 +32,7 @@ look_form Check = file_form
 look_form Show = file_form
 look_form (Export export) = export_form
 look_form Verify = file_form
+look_form Picture = file_form
 
 -- the form of the words of a task
 abbrev pub task_form : Task → Form
@@ -46,6 +47,7 @@ AsksLook words Check = Unit {0}
 AsksLook words Show = Unit {0}
 AsksLook words (Export export) = export_in words ≡ Some export
 AsksLook words Verify = Unit {0}
+AsksLook words Picture = Unit {0}
 
 -- what words of its form ask for is this task, at the date now
 abbrev pub Asks : Option ℕ → List (List ℕ) → Task → Type 0

@@ -34,6 +34,7 @@ fn form_of(command: &Command<'_>) -> WordForm<'static>
             Look::Show => FILE,
             Look::Export(_) => EXPORT,
             Look::Verify => FILE,
+            Look::Picture => FILE,
         },
         Command::Packet(_) => PACKET,
         Command::Make(_) => MAKE,
@@ -65,6 +66,7 @@ fn look_in<'a>(look: Look, matches: &ArgMatches<'a>) -> Option<Look>
         Look::Check => Some(Look::Check),
         Look::Show => Some(Look::Show),
         Look::Verify => Some(Look::Verify),
+        Look::Picture => Some(Look::Picture),
         Look::Export(_) => {
             let export = export_in(matches)?;
             Some(Look::Export(export))

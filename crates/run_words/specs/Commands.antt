@@ -1,7 +1,7 @@
 -- What words ask for, by the first of them.
 use Rattle.std.specs.Prelude.{ℕ, true, List, [], ◌∷◌, Option, Some, None, codes, bytes_eq, option_map, option_and_then, if◌then◌else◌}
 use Rattle.run_words.specs.declared.look.Look.{Look}
-use Rattle.run_words.specs.declared.look.Look.TheVariants.{Check, Show, Export, Verify}
+use Rattle.run_words.specs.declared.look.Look.TheVariants.{Check, Show, Export, Verify, Picture}
 use Rattle.run_words.specs.Exports.{export_in}
 use Rattle.run_words.specs.Forms.{Form, is_of_form, plain_at}
 use Rattle.run_words.specs.Numbers.{number_of, count_of}
@@ -19,7 +19,7 @@ pub data Task : Type 0 where
 abbrev pub plain_form : List (List ℕ) → Form
 plain_form names = record { plain = names; options = []; flags = [] }
 
--- `FILE`, behind `check`, `show` and `verify`
+-- `FILE`, behind `check`, `show`, `verify` and `picture`
 abbrev pub file_form : Form
 file_form = plain_form (codes "file" ∷ [])
 
@@ -39,7 +39,7 @@ packet_form = plain_form (codes "hex" ∷ [])
 abbrev pub make_form : Form
 make_form = plain_form (codes "seed" ∷ codes "count" ∷ [])
 
--- the file that the words behind `check`, `show` or `verify` name
+-- the file that the words behind `check`, `show`, `verify` or `picture` name
 unfoldable pub file_of : List (List ℕ) → Option (List ℕ)
 file_of words = if is_of_form file_form words then plain_at 0 words else None
 
@@ -76,8 +76,9 @@ task_behind now command words =
     else (if bytes_eq command (codes "show") then option_map (LookAt Show) (file_of words)
     else (if bytes_eq command (codes "export") then export_of words
     else (if bytes_eq command (codes "verify") then option_map (LookAt Verify) (file_of words)
+    else (if bytes_eq command (codes "picture") then option_map (LookAt Picture) (file_of words)
     else (if bytes_eq command (codes "packet") then option_map Scan (packet_of words)
-    else (if bytes_eq command (codes "make") then make_of words else None))))))
+    else (if bytes_eq command (codes "make") then make_of words else None)))))))
 
 -- what these words ask for, where the date now is this, if it can be told
 unfoldable pub task_of : Option ℕ → List (List ℕ) → Option Task

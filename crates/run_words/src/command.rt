@@ -11,7 +11,7 @@ use crate::look::{Export, Look, LookWords, text_form_in};
 use crate::number::{count_in, number_in};
 use crate::run::{RunWords, run_words};
 
-/// The form of the words behind `check`, `show` and `verify`.
+/// The form of the words behind `check`, `show`, `verify` and `picture`.
 pub const FILE: WordForm<'static> = WordForm {
     plain: &["file"],
     options: &[],
@@ -63,7 +63,7 @@ pub struct MakeWords {
 pub enum Command<'a> {
     /// `run`.
     Run(RunWords<'a>),
-    /// `check`, `show`, `export` or `verify`.
+    /// `check`, `show`, `export`, `verify` or `picture`.
     Look(LookWords<'a>),
     /// `packet`.
     Packet(PacketWords<'a>),
@@ -86,6 +86,7 @@ pub fn command_of<'a>(now: Option<u32>, words: &'a [String]) -> Option<Command<'
         "show" => look_command(Look::Show, words),
         "export" => export_command(words),
         "verify" => look_command(Look::Verify, words),
+        "picture" => look_command(Look::Picture, words),
         "packet" => packet_command(words),
         "make" => make_command(words),
         _ => None,
@@ -103,7 +104,7 @@ fn run_command<'a>(now: Option<u32>, words: &'a [String]) -> Option<Command<'a>>
     }
 }
 
-// The look at the file that stands behind `check`, `show` or `verify`.
+// The look at the file that stands behind `check`, `show`, `verify` or `picture`.
 #[tactic(auto, unfolding(crate::specs::Commands::file_of))]
 fn look_command<'a>(look: Look, words: &'a [String]) -> Option<Command<'a>>
     ensures { option_map task_view result

@@ -29,6 +29,8 @@ pub enum Look {
     Export(Export),
     /// Whether the trace in it is proper.
     Verify,
+    /// The page of the trace in it.
+    Picture,
 }
 
 /// A look at a file.

@@ -1,5 +1,5 @@
 use Rattle.hotsync_looks.proofs.LookLaws.{verdict_refuses}
-use Rattle.hotsync_looks.proofs.verdict.verdict_text.Goals as goal
+use Rattle.hotsync_looks.proofs.traced.verdict_text.Goals as goal
 
 pub returns-clause-refused : goal.returns-clause-refused
 returns-clause-refused c =

@@ -1,13 +1,14 @@
-// The verdict on a trace.
+// The verdict on a trace, and its page.
 ghost use Rattle.std.specs.Prelude.{◌≡◌, ◌≤◌, IfErr, IfOk, length, map, string_bytes, Ok as OkValue};
 ghost use Rattle.trace_check.specs.Readings.{IsTraceReading};
 ghost use Rattle.trace_text.specs.TraceLines.{frame_value};
-ghost use Rattle.hotsync_looks.specs.LookTexts.{IsProperText, RefusesTrace, proper_line as line_of_proper, source_limit};
+ghost use Rattle.hotsync_looks.specs.LookTexts.{IsPageText, IsProperText, RefusesReading, RefusesTrace, proper_line as line_of_proper, source_limit};
 
 use crate::status::Status;
 use std::alloc::{AllocError, Global};
 use std::fmt::Write;
 use trace_check::{TraceFault, Verdict, read_trace, verdict};
+use trace_page::page_text;
 use trace_text::Frame;
 
 /// The line that says that these bytes are a proper trace, with its requests and replies.
@@ -23,13 +24,23 @@ pub fn verdict_text(alloc: Global, bytes: &[u8]) -> Result<String, Status>
     }
 }
 
+/// The page of the trace that these bytes are the text of.
+pub fn picture_text(alloc: Global, bytes: &[u8]) -> Result<String, Status>
+    requires { length bytes.now ≤ source_limit }
+    ensures text { IfOk result (λ text. IsPageText bytes.now (string_bytes text)) }
+    ensures refused { IfErr result (λ refusal. RefusesReading bytes.now refusal) }
+{
+    let frames = frames_in(alloc, bytes)?;
+    Ok(page_text(alloc, &frames)?)
+}
+
 // The frames of the trace that these bytes are the text of.
 fn frames_in(alloc: Global, bytes: &[u8]) -> Result<Vec<Frame>, Status>
     requires { length bytes.now ≤ source_limit }
     ensures read { IfOk result (λ frames.
         IsTraceReading bytes.now (OkValue (map frame_value frames.items))) }
     ensures few { IfOk result (λ frames. length frames.items ≤ length bytes.now) }
-    ensures refused { IfErr result (λ refusal. RefusesTrace bytes.now refusal) }
+    ensures refused { IfErr result (λ refusal. RefusesReading bytes.now refusal) }
 {
     match read_trace(alloc, bytes) {
         Ok(frames) => Ok(frames),

@@ -1,7 +1,0 @@
-use Rattle.std.proofs.Common.{inl, refl}
-use Rattle.hotsync_looks.specs.LookTexts.{Untraced}
-use Rattle.hotsync_looks.proofs.verdict.frames_in.Goals as goal
-
-pub returns-in-Err-BadLine-clause-refused : goal.returns-in-Err-BadLine-clause-refused
-returns-in-Err-BadLine-clause-refused c =
-    inl (Untraced c.in-Err-BadLine.line, (rw c.in-Err-BadLine.field-0-is at c.in-Err-BadLine.ensures.refused), refl)

@@ -1,0 +1,4 @@
+pub mod CodeLaws
+pub mod PageLaws
+pub mod PlainLaws
+pub mod SeenLaws
