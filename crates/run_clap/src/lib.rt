@@ -1,4 +1,4 @@
-//! The words of a command line, read by `clap`: one simple command for each command word.
+//! The words of a command line, read by `clap`: by one simple command, made from the form of the words.
 //!
 //! Which words are in the form says `run_words`. What words in the form ask for is read out of the matches of `clap`, which
 //! refuses them only for want of memory.
