@@ -170,8 +170,9 @@ module _ (p : List Sent → Bool) (Y : End) (came : ℕ → Bool) where
 
 -- ---- held or free
 
-free_test : ℕ → ℕ → Bool
-free_test repeat late = is_free repeat (Some late)
+or_right : (a b : Bool) → b ≡ true → (a || b) ≡ true
+or_right true b is = refl
+or_right false b is = is
 
 pub free-lower : (repeat late limit : ℕ) → late ≤ limit → is_free repeat (Some limit) ≡ true → is_free repeat (Some late) ≡ true
 free-lower repeat late limit below free = elim (cases_Bool (eqb limit 0)) [
@@ -182,10 +183,7 @@ free-lower repeat late limit below free = elim (cases_Bool (eqb limit 0)) [
       let less : ltb limit repeat ≡ true = sym (ap (λ b. b || ltb limit repeat) some) ∙ free in
       let lower : ltb late repeat ≡ true = lt-ltb late repeat (omega (arith, ltb-true limit repeat less)) in
       or_right (eqb late 0) (ltb late repeat) lower
-] where
-  or_right : (a b : Bool) → b ≡ true → (a || b) ≡ true
-  or_right true b is = refl
-  or_right false b is = is
+]
 
 -- what is free isn't held
 pub free-unheld : (Y : End) (past : List Sent) (n : ℕ) {frame : Sent} {older : List Sent} → n ≤ length past → at n past ≡ frame ∷ older
@@ -235,10 +233,7 @@ unheld-free Y past n {frame} {older} inside here free = elim (cases_lt 0 (newest
           no_repeat = omega (arith, no_repeat, same);
         }))
   ]
-] where
-  or_right : (a b : Bool) → b ≡ true → (a || b) ≡ true
-  or_right true b is = refl
-  or_right false b is = is
+]
 
 -- ---- what reached an end
 

@@ -95,7 +95,8 @@ module _ (X : End) (frame : Sent) (past : List Sent) where
   one_more rest =
       ap (λ xs. xs ++ rest) (reverse-append (part_of frame ∷ []) (spoken X past)) ∙ append_assoc (reverse (spoken X past)) (part_of frame ∷ []) rest
 
-  says-back : (talk : Talk) → SaysMessages X talk (frame ∷ past) → SaysMessages X talk past
+  -- what is said at the end was said before, as far as it went
+  pub says-back : (talk : Talk) → SaysMessages X talk (frame ∷ past) → SaysMessages X talk past
   says-back talk says = elim spoken-either [
     | inl same ↦ record { rest = says.rest; is = ap (λ xs. reverse xs ++ says.rest) (sym same) ∙ says.is }
     | inr more ↦ record {
@@ -118,7 +119,3 @@ module _ (X : End) (frame : Sent) (past : List Sent) where
             ∙ (ap (drop (length (reverse (spoken X past)))) (sym all) ∙ drop-append_seam (reverse (spoken X past)) (part_of frame ∷ says.rest)),
         omega (arith, ap length all, size, inside),
       )
-
--- what is said at the end was said before, as far as it went
-pub says_before : (X : End) (frame : Sent) (past : List Sent) (talk : Talk) → SaysMessages X talk (frame ∷ past) → SaysMessages X talk past
-says_before X frame past talk says = says-back X frame past talk says

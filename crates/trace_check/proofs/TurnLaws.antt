@@ -21,7 +21,7 @@ use Rattle.trace_check.specs.Judging.{Keeps}
 use Rattle.trace_check.specs.Messages.{talk_in, fates_in}
 use Rattle.trace_check.specs.declared.rule.Rule.TheVariants.{A, B, D, E, F}
 use Rattle.trace_check.specs.declared.notice.Notice.{Notice}
-use Rattle.trace_check.proofs.StartLaws.{says_before, new_part, session-length}
+use Rattle.trace_check.proofs.StartLaws.{says-back, new_part, session-length}
 use Rattle.trace_check.proofs.BothLaws.{side-speaks, side-hears, repeat-after, key-newest}
 use Rattle.trace_check.proofs.JudgeLaws.{known_by, by_known, answered, has-answer, side-is}
 use Rattle.trace_check.specs.Notices.{IsNotice, IsNoticeOf}
@@ -222,7 +222,7 @@ says_behind X talk (frame ∷ later) past says = elim (cases_Bool (is_abort (fra
   | inl abort ↦
       says_behind X talk later past (subst (λ p. SaysMessages X talk (past_behind p later)) (cond-true _ _ _ abort) says)
   | inr other ↦
-      says_before X (sent_in frame) past talk
+      says-back X (sent_in frame) past talk
       (says_behind X talk later (sent_in frame ∷ past) (subst (λ p. SaysMessages X talk (past_behind p later)) (cond-false _ _ _ other) says))
 ]
 
