@@ -39,6 +39,11 @@ SaysNext greeting old part number fault new =
     MatchBool (is_again old.newest part.key) (MayRepeat old fault × (new ≡ repeated_at number old))
     (MaySay greeting old.standing part × (new ≡ begun_with part old))
 
+-- it says a new part and is so then, or may not
+abbrev pub BeginsOrNot : Bool → HelloKind → Part → Speaker → Speaker → Type 0
+BeginsOrNot began greeting part old new =
+    MatchBool began (MaySay greeting old.standing part × (new ≡ begun_with part old)) (¬ (MaySay greeting old.standing part))
+
 -- the end is so behind these frames
 pub record IsSpeaker (X : End) (past : List Sent) (speaker : Speaker) : Type 0 where
   pub newest_is : speaker.newest ≡ first (said X past)

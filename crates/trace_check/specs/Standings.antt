@@ -1,11 +1,16 @@
 -- Where an end stands in its messages, and the parts that it may say there.
 use Rattle.std.specs.Prelude.{◌≡◌, ℕ, zero, suc, ◌+◌, ◌-◌, List, [], ◌∷◌, length}
 use Rattle.cmp_hello.specs.declared.hello.HelloKind.{HelloKind}
+use Rattle.padp_link.specs.declared.piece.Key.{Key}
 use Rattle.padp_link.specs.Neighbours.{session_id}
 use Rattle.padp_link.specs.Pieces.{piece_count, piece_of}
 use Rattle.trace_text.specs.Parts.{Part}
 use Rattle.trace_check.specs.Messages.{parts_behind, IsGreeting}
 use Rattle.trace_check.specs.declared.standing.Standing.{Standing}
+
+-- the part with this key and these bytes
+abbrev pub part_with : Key → List ℕ → Part
+part_with key bytes = record { key = key; bytes = bytes }
 
 -- at first
 abbrev pub start : Standing

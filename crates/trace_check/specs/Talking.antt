@@ -1,5 +1,5 @@
 -- What both ends said so far, and what a frame adds to it.
-use Rattle.std.specs.Prelude.{◌≡◌, ◌+◌, ◌<◌, ◌≤◌, List, length}
+use Rattle.std.specs.Prelude.{◌≡◌, ◌+◌, ◌<◌, ◌≤◌, Bool, List, length}
 use Rattle.std.specs.Bool.{MatchBool}
 use Rattle.cmp_hello.specs.declared.hello.HelloKind.{HelloKind}
 use Rattle.cmp_hello.specs.declared.hello.HelloKind.TheVariants.{Wake, Init}
@@ -46,6 +46,11 @@ pub record IsTalking (past : List Sent) (talking : Talking) : Type 0 where
 pub record TalksSo (past : List Sent) : Type 0 where
   pub speaks : (X : End) → SpeaksSo (greeting_of X) X past
   pub faults : RepeatsHaveFaults past
+
+-- from a past that keeps the rule they went on to a longer one that does, or it doesn't
+abbrev pub GoesOnOrNot : Bool → List Sent → List Sent → Talking → Talking → Type 0
+GoesOnOrNot passed past longer old new =
+    IsTalking past old → TalksSo past → MatchBool passed (IsTalking longer new × TalksSo longer) (¬ (TalksSo longer))
 
 -- there is room for one frame more
 pub record HasRoom (talking : Talking) : Type 0 where

@@ -23,7 +23,7 @@ pub(crate) struct Acks {
     pub(crate) acked: usize,
 }
 
-// Whether the data that came is acknowledged in order, all of it or all but the last, in both directions.
+// Whether the data that came is acknowledged in order in both directions, all of it or all but the last.
 pub(crate) fn are_acked(alloc: Global, frames: &[Frame]) -> Result<bool, AllocError>
     requires few { length frames.now ≤ 4294967295 }
     requires ends { Keeps A (map frame_value frames.now) }

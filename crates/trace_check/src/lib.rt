@@ -5,7 +5,9 @@
 //! format is this program's own.
 //!
 //! A trace is proper by the fates and the messages that its own frames say (`specs/Judging.antt`), which is that it keeps
-//! the seven rules of `Rule`. So is the trace of every run, whatever its line did.
+//! the seven rules of `Rule`. So is the trace of every run, whatever its line did. `verdict` tests the rules in their order,
+//! each frame a few times and never the whole past: it calls a trace proper exactly where it is, and else names the first
+//! rule that is broken.
 #![tactic(auto)]
 
 mod acking;

@@ -1,8 +1,8 @@
 // What an end said, as far as what it may say next hangs on it.
 ghost use Rattle.std.specs.Prelude.{◌≡◌, ◌+◌, ◌<◌};
 ghost use Rattle.std.specs.Bool.{MatchBool};
-ghost use Rattle.trace_check.specs.Speaking.{MayRepeat, SaysNext, begun_with, repeated_at, silent};
-ghost use Rattle.trace_check.specs.Standings.{MaySay};
+ghost use Rattle.trace_check.specs.Speaking.{BeginsOrNot, MayRepeat, SaysNext, repeated_at, silent};
+ghost use Rattle.trace_check.specs.Standings.{part_with};
 ghost use Rattle.trace_check.specs.declared.speaker.Speaker.{Speaker};
 
 use crate::standing::Standing;
@@ -44,9 +44,9 @@ impl Speaker {
     ) -> bool
         requires { self.old.standing.begun < 4294967295 }
         ensures { MatchBool result
-            (SaysNext greeting self.old (record { key = key; bytes = bytes.now }) number fault self.new)
+            (SaysNext greeting self.old (part_with key bytes.now) number fault self.new)
             ((new : Speaker) → ¬ (SaysNext greeting self.old
-            (record { key = key; bytes = bytes.now }) number fault new)) }
+            (part_with key bytes.now) number fault new)) }
     {
         if self.newest == Some(key) {
             self.repeat(number, fault)
@@ -70,10 +70,7 @@ impl Speaker {
 
     fn begin(&mut self, greeting: HelloKind, key: Key, bytes: &[u8]) -> bool
         requires { self.old.standing.begun < 4294967295 }
-        ensures { MatchBool result
-            (MaySay greeting self.old.standing (record { key = key; bytes = bytes.now })
-            × (self.new ≡ begun_with (record { key = key; bytes = bytes.now }) self.old))
-            (¬ (MaySay greeting self.old.standing (record { key = key; bytes = bytes.now }))) }
+        ensures { BeginsOrNot result greeting (part_with key bytes.now) self.old self.new }
     {
         if !self.standing.may_say(greeting, key, bytes) {
             return false;

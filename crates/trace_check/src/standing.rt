@@ -3,7 +3,7 @@ ghost use Rattle.std.specs.Prelude.{◌≡◌, ◌↔◌, ◌+◌, ◌-◌, ◌*
 ghost use Rattle.padp_link.specs.Neighbours.{session_id as id_of_message};
 ghost use Rattle.padp_link.specs.Pieces.{piece_count as count_of_pieces, piece_flags, piece_size};
 ghost use Rattle.trace_check.specs.Messages.{IsGreeting};
-ghost use Rattle.trace_check.specs.Standings.{GoesOnBy, GreetsBy, IsPiece, MaySay, next, start, wholes_at};
+ghost use Rattle.trace_check.specs.Standings.{GoesOnBy, GreetsBy, IsPiece, MaySay, next, start, wholes_at, part_with};
 
 use cmp_hello::{HelloKind, read_hello};
 use padp_link::{FIRST, Key, LAST, MAX_DATA};
@@ -33,14 +33,14 @@ impl Standing {
     // Whether a part of this key and with these bytes may be said here.
     pub(crate) fn may_say(&self, greeting: HelloKind, key: Key, bytes: &[u8]) -> bool
         ensures { IsTrue result ↔ MaySay greeting self.now
-            (record { key = key; bytes = bytes.now }) }
+            (part_with key bytes.now) }
     {
         self.goes_on(key, bytes) && self.greets(greeting, key, bytes)
     }
 
     fn goes_on(&self, key: Key, bytes: &[u8]) -> bool
         ensures { IsTrue result ↔ GoesOnBy self.now.wanted self.now
-            (record { key = key; bytes = bytes.now }) }
+            (part_with key bytes.now) }
     {
         if self.wanted == 0 {
             return is_piece(session_id(self.begun), key.size, 0, key, bytes);
@@ -58,7 +58,7 @@ impl Standing {
     // Whether the first message, where it ends with this part, is a greeting of this kind.
     fn greets(&self, greeting: HelloKind, key: Key, bytes: &[u8]) -> bool
         ensures { IsTrue result ↔ GreetsBy greeting self.now.begun self.now.wanted
-            (record { key = key; bytes = bytes.now }) }
+            (part_with key bytes.now) }
     {
         match (self.begun, self.wanted) {
             (0, _) => piece_count(key.size) > 1 || is_greeting(greeting, bytes),
@@ -70,7 +70,7 @@ impl Standing {
     // Goes on behind a part of this size.
     pub(crate) fn add(&mut self, key: Key, bytes: &[u8])
         requires { self.old.begun < 4294967295 }
-        ensures { self.new ≡ next self.old (record { key = key; bytes = bytes.now }) }
+        ensures { self.new ≡ next self.old (part_with key bytes.now) }
     {
         if self.wanted == 0 {
             self.begun += 1;
@@ -95,7 +95,7 @@ impl Standing {
 
 // Whether this is the piece of this number of a message of this size.
 fn is_piece(id: u8, size: u16, number: u8, key: Key, bytes: &[u8]) -> bool
-    ensures { IsTrue result ↔ IsPiece id size number (record { key = key; bytes = bytes.now }) }
+    ensures { IsTrue result ↔ IsPiece id size number (part_with key bytes.now) }
 {
     key.id == id
         && key.flags == flags_at(size, number)

@@ -10,7 +10,7 @@ ghost use Rattle.trace_text.specs.declared.frame.End.TheVariants as end;
 ghost use Rattle.trace_check.specs.Judging.{Keeps};
 ghost use Rattle.trace_check.specs.Messages.{whole_count};
 ghost use Rattle.trace_check.specs.Sending.{course_value, sent_value};
-ghost use Rattle.trace_check.specs.Talking.{EndSays, HasRoom, IsTalking, Says, TalksSo};
+ghost use Rattle.trace_check.specs.Talking.{EndSays, GoesOnOrNot, HasRoom, IsTalking, Says};
 ghost use Rattle.trace_check.specs.declared.rule.Rule.TheVariants.{B, D};
 ghost use Rattle.trace_check.specs.declared.speaker.Speaker.{Speaker as SpeakerValue};
 
@@ -74,10 +74,8 @@ impl Talking {
     fn pass(&mut self, frame: &Frame) -> bool
         requires bears { BearsFragment (frame_value frame.now) }
         requires room { HasRoom self.old }
-        ensures { (past : List Sent) → IsTalking past self.old → TalksSo past → MatchBool result
-            (IsTalking (add_frame (frame_value frame.now) past) self.new
-            × TalksSo (add_frame (frame_value frame.now) past))
-            (¬ (TalksSo (add_frame (frame_value frame.now) past))) }
+        ensures { (past : List Sent) → GoesOnOrNot result past
+            (add_frame (frame_value frame.now) past) self.old self.new }
     {
         match sent_in(frame) {
             Some(sent) => self.take(&sent),
@@ -87,9 +85,8 @@ impl Talking {
 
     fn take(&mut self, sent: &SentFrame<'_>) -> bool
         requires { HasRoom self.old }
-        ensures { (past : List Sent) → IsTalking past self.old → TalksSo past → MatchBool result
-            (IsTalking (sent_value sent.now ∷ past) self.new × TalksSo (sent_value sent.now ∷ past))
-            (¬ (TalksSo (sent_value sent.now ∷ past))) }
+        ensures { (past : List Sent) → GoesOnOrNot result past
+            (sent_value sent.now ∷ past) self.old self.new }
     {
         let said = self.say(sent);
         self.count += 1;

@@ -4,7 +4,7 @@ use case_words::{bytes_in, number_in, short_in};
 use line_script::{Script, ScriptFault, read_script};
 use std::alloc::{AllocError, Global};
 use std::fmt::Write;
-use trace_check::{MOST_BYTES, TraceFault, read_trace};
+use trace_check::{MOST_BYTES, Rule, TraceFault, Verdict, read_trace, verdict};
 use trace_text::{End, Fate, Frame, write_trace};
 
 /// Does what a line asks for: what is about scripts and traces, or the name of a case.
@@ -17,6 +17,7 @@ pub fn obey(alloc: Global, words: &[&str]) -> Result<String, AllocError> {
             trace(alloc, number, (end, mark), text, fate)
         }
         ["trace", text] => read(alloc, &bytes_in(alloc, text)),
+        ["verdict", text] => judge(alloc, &bytes_in(alloc, text)),
         ["case", ..] => words.join(alloc, " "),
         _ => String::from_str(alloc, "no such line"),
     }
@@ -117,5 +118,41 @@ fn read(alloc: Global, text: &[u8]) -> Result<String, AllocError> {
         }
         Err(TraceFault::BadLine(number)) => format!(in alloc; "bad line {number}"),
         Err(TraceFault::NoMemory) => String::from_str(alloc, "no memory"),
+    }
+}
+
+// The verdict on the trace in some bytes, or its first bad line.
+fn judge(alloc: Global, text: &[u8]) -> Result<String, AllocError> {
+    if text.len() > MOST_BYTES {
+        return String::from_str(alloc, "too long");
+    }
+    match read_trace(alloc, text) {
+        Ok(frames) => said(alloc, verdict(alloc, &frames)?),
+        Err(TraceFault::BadLine(number)) => format!(in alloc; "bad trace line {number}"),
+        Err(TraceFault::NoMemory) => String::from_str(alloc, "no memory"),
+    }
+}
+
+fn said(alloc: Global, verdict: Verdict) -> Result<String, AllocError> {
+    match verdict {
+        Verdict::Proper { requests, replies } => {
+            format!(in alloc; "proper requests {requests} replies {replies}")
+        }
+        Verdict::Not(rule) => {
+            let letter = letter_of(rule);
+            format!(in alloc; "not proper {letter}")
+        }
+    }
+}
+
+fn letter_of(rule: Rule) -> char {
+    match rule {
+        Rule::A => 'a',
+        Rule::B => 'b',
+        Rule::C => 'c',
+        Rule::D => 'd',
+        Rule::E => 'e',
+        Rule::F => 'f',
+        Rule::G => 'g',
     }
 }
