@@ -3,7 +3,7 @@ _hotsync() {
     local word=${COMP_WORDS[COMP_CWD]}
     COMPREPLY=()
     if [ "$COMP_CWD" -eq 1 ]; then
-        COMPREPLY=($(compgen -W 'run check show export verify packet make' -- "$word"))
+        COMPREPLY=($(compgen -W 'run check show export verify picture packet make' -- "$word"))
         return
     fi
     case ${COMP_WORDS[1]} in
@@ -24,7 +24,7 @@ _hotsync() {
         *) COMPREPLY=($(compgen -f -- "$word")) ;;
         esac
         ;;
-    check | show | verify) COMPREPLY=($(compgen -f -- "$word")) ;;
+    check | show | verify | picture) COMPREPLY=($(compgen -f -- "$word")) ;;
     esac
 }
 complete -o filenames -F _hotsync hotsync
