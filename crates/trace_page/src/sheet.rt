@@ -20,7 +20,7 @@ h1{font-size:1.25rem;margin:0}
 p{margin:.25rem 0 .8rem;color:var(--soft)}
 nav{position:sticky;top:0;background:var(--bg);padding:.45rem 0;z-index:1;
 border-bottom:1px solid var(--line)}
-nav label{margin-right:1.2rem;cursor:pointer}
+nav label{display:inline-block;margin-right:1.2rem;cursor:pointer}
 input{position:absolute;opacity:0}
 label::before{content:'';display:inline-block;width:.8em;height:.8em;margin-right:.45em;
 border:1.5px solid var(--soft);border-radius:2px;vertical-align:-.05em}
@@ -33,7 +33,8 @@ overflow-wrap:anywhere;padding:0 .4rem .3rem}
 #bytes:checked~ol code{display:block}
 ol{list-style:none;margin:0;padding:0}
 li{display:grid;grid-template-columns:3.2rem minmax(14rem,24rem) 1fr;column-gap:.8rem;
-align-items:center;padding:.1rem 0}
+align-items:center;padding:.1rem 0;content-visibility:auto;
+contain-intrinsic-size:auto 1.7rem}
 li.band{background:var(--band)}
 li.ends{font-weight:600;padding:.5rem 0 .2rem}
 .ends b:first-of-type{float:left}.ends b:last-of-type{float:right}
@@ -66,7 +67,8 @@ b{font-weight:600}.ack b{font-weight:400;color:var(--soft)}
 em{font-style:normal;color:var(--bad);margin-left:.5rem;overflow-wrap:anywhere}
 .again em.r{color:var(--again)}em.o{color:var(--soft)}
 small{color:var(--soft);margin-left:.5rem}
-@media(max-width:40rem){li{grid-template-columns:2.4rem 7rem 1fr}small{display:none}}
+@media(max-width:40rem){li{grid-template-columns:2.4rem 7rem 1fr}small{display:none}
+.ends b{font-size:.7rem}}
 @media print{nav{display:none}}
 </style>
 <h1>A trace of the line</h1>

@@ -15,7 +15,8 @@
 //!   the same of a script of so many lines `N lost`, from 1 on, and these bytes behind them; `none NUMBER..`: the same of
 //!   the empty script.
 //! - `frame NUMBER END MARK H FATE..`: the trace of this frame alone. A fate is `ok`, or one that a script has.
-//! - `trace H`: how many frames the trace in these bytes has, or its first bad line; `verdict H`: whether it is proper.
+//! - `trace H`: how many frames the trace in these bytes has, or its first bad line; `verdict H`: whether it is proper; `page H`:
+//!   the lines of its page that say something of it.
 //!
 //! What goes in messages, each behind the word `dlp`; numbers are hexadecimal there:
 //!

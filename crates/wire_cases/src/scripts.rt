@@ -5,6 +5,7 @@ use line_script::{Script, ScriptFault, read_script};
 use std::alloc::{AllocError, Global};
 use std::fmt::Write;
 use trace_check::{MOST_BYTES, Rule, TraceFault, Verdict, read_trace, verdict};
+use trace_page::page_text;
 use trace_text::{End, Fate, Frame, write_trace};
 
 /// Does what a line asks for: what is about scripts and traces, or the name of a case.
@@ -18,6 +19,7 @@ pub fn obey(alloc: Global, words: &[&str]) -> Result<String, AllocError> {
         }
         ["trace", text] => read(alloc, &bytes_in(alloc, text)),
         ["verdict", text] => judge(alloc, &bytes_in(alloc, text)),
+        ["page", text] => page(alloc, &bytes_in(alloc, text)),
         ["case", ..] => words.join(alloc, " "),
         _ => String::from_str(alloc, "no such line"),
     }
@@ -155,4 +157,23 @@ fn letter_of(rule: Rule) -> char {
         Rule::F => 'f',
         Rule::G => 'g',
     }
+}
+
+// The lines of the page of the trace in some bytes that say something of it.
+fn page(alloc: Global, text: &[u8]) -> Result<String, AllocError> {
+    if text.len() > MOST_BYTES {
+        return String::from_str(alloc, "too long");
+    }
+    let Ok(frames) = read_trace(alloc, text) else {
+        return String::from_str(alloc, "no trace");
+    };
+    let page = page_text(alloc, &frames)?;
+    let mut rows = String::from_str(alloc, "page")?;
+    for line in page.as_str().split('\n') {
+        if line.starts_with("<p>") || line.ends_with("</code></li>") {
+            rows.push_str("\n")?;
+            rows.push_str(line)?;
+        }
+    }
+    Ok(rows)
 }
