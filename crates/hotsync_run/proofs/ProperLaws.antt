@@ -8,9 +8,20 @@ use Rattle.line_world.specs.Logs.{said_in}
 use Rattle.trace_check.specs.Judging.{IsProperTrace}
 use Rattle.trace_check.specs.Messages.{IsGreeting}
 use Rattle.trace_check.proofs.TalkLaws.{proper-trace}
-use Rattle.hotsync_run.specs.Causes.{HasBegun}
+use Rattle.palm_device.specs.Devices.{Device}
+use Rattle.line_script.specs.Rules.{RuleValue}
+use Rattle.made_folders.specs.Items.{made}
+use Rattle.made_folders.specs.declared.item.Item.{Item}
+use Rattle.hotsync_looks.specs.Told.{SinkTold}
+use Rattle.hotsync_looks.specs.declared.status.Status.{Status}
+use Rattle.hotsync_run.specs.Causes.{ByEnd, HasBegun}
 use Rattle.hotsync_run.specs.Headline.{IsAnsweredRun, RunCall}
-use Rattle.hotsync_run.specs.LineRuns.{frames_in, log_in}
+use Rattle.hotsync_run.specs.LineRuns.{LineRan, frames_in, log_in}
+use Rattle.hotsync_run.specs.Makes.{IsMake, MadeNothing, MadeRan}
+use Rattle.hotsync_run.specs.Told.{FolderTold}
+use Rattle.hotsync_run.specs.declared.report.Report.{Report}
+use Rattle.hotsync_run.specs.declared.report.SessionEnd.{SessionEnd}
+use Rattle.hotsync_run.specs.declared.report.SessionEnd.TheVariants.{NotStarted, Ended, Stopped}
 use Rattle.hotsync_run.proofs.HeadlineLaws.{line-is}
 
 wake_text : HelloText wake (bytes_of wake)
@@ -25,7 +36,24 @@ wakes = record { hello = wake; text = wake_text; kind_is = refl }
 inits : IsGreeting Init (bytes_of init)
 inits = record { hello = init; text = init_text; kind_is = refl }
 
-pub trace-proper : (call : RunCall) → IsAnsweredRun call → HasBegun call.report.end → IsProperTrace (frames_in call.report)
-trace-proper call is begun =
+line_proper : {rules : List RuleValue} {device : Device} {before after : FolderTold} {report : Report} → LineRan rules device before after report
+    → IsProperTrace (frames_in report)
+line_proper {rules} {report = report} line =
+    proper-trace (fate_by rules) (said_in (log_in report)) (frames_in report) line.proper wakes inits
+
+pub run-proper : (call : RunCall) → IsAnsweredRun call → HasBegun call.report.end → IsProperTrace (frames_in call.report)
+run-proper call is begun =
     let said = line-is call is begun in
     proper-trace (fate_by said.0) (said_in (log_in call.report)) (frames_in call.report) said.2.trace wakes inits
+
+pub made-proper : (seed count : ℕ) (out out_after : SinkTold) (status : Status) (report : Report) → IsMake seed count out out_after status report
+    → HasBegun report.end → IsProperTrace (frames_in report)
+made-proper seed count out out_after status report is begun = by report.end is.ran begun
+  where
+    items : List Item
+    items = made seed count
+
+    by : (end : SessionEnd) → ByEnd end (MadeNothing status report) (MadeRan items status report) → HasBegun end → IsProperTrace (frames_in report)
+    by NotStarted nothing begun = absurd begun
+    by Ended ran begun = line_proper ran.talked.talked.line
+    by Stopped ran begun = line_proper ran.talked.talked.line

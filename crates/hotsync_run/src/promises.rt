@@ -47,8 +47,12 @@ pub fn a_line_is_what_it_says()
 {}
 
 /// The trace of a run is proper by nothing but itself: whatever the script did, `verify` calls what `--trace` wrote proper.
+/// So is what goes over the line of a session between made folders.
 pub fn a_runs_trace_is_proper()
-    ensures { (call : RunCall) → IsAnsweredRun call → HasBegun call.report.end
+    ensures run { (call : RunCall) → IsAnsweredRun call → HasBegun call.report.end
+        → IsProperTrace (frames_in call.report) }
+    ensures made { (call : Call) (seed count : ℕ) → IsAnsweredCall call
+        → call.task ≡ Some (Make seed count) → HasBegun call.report.end
         → IsProperTrace (frames_in call.report) }
 {}
 
