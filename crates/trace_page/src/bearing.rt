@@ -31,7 +31,7 @@ const GREETING: u8 = 0xFF;
 /// What a frame bears: a fragment's key and kind, how many bytes of a message it has, the first of them,
 /// and the error that they say where a reply begins with them.
 #[derive(Clone, Copy)]
-pub struct Bearing {
+pub(crate) struct Bearing {
     pub key: Key,
     pub kind: PadpKind,
     pub length: usize,

@@ -16,8 +16,5 @@ mod row;
 mod seen;
 mod sheet;
 
-pub use bearing::Bearing;
 pub use laws::{a_page_holds_its_trace, a_page_is_of_one_trace, pages_need_no_escape};
 pub use page::page_text;
-pub use row::Tag;
-pub use seen::{Seen, Side};

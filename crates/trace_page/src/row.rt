@@ -16,7 +16,7 @@ use trace_text::{Fate, Frame};
 
 /// The tags of a row, each behind the part before it.
 #[derive(Clone, Copy)]
-pub enum Tag {
+pub(crate) enum Tag {
     Row,
     Number,
     Name,

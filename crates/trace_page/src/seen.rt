@@ -11,7 +11,7 @@ use trace_text::End;
 /// What is known of an end: the key of its newest data frame, how many with that key stand in a row, and the first byte of
 /// the message that it is at.
 #[derive(Clone, Copy)]
-pub struct Side {
+pub(crate) struct Side {
     pub newest: Option<Key>,
     pub run: u64,
     pub front: u8,
@@ -19,7 +19,7 @@ pub struct Side {
 
 /// What is known of both ends.
 #[derive(Clone, Copy)]
-pub struct Seen {
+pub(crate) struct Seen {
     pub handheld: Side,
     pub desktop: Side,
 }
