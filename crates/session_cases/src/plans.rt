@@ -20,6 +20,7 @@ pub fn plan_in(alloc: Global, text: &str) -> Result<Plan, AllocError> {
         gone: Vec::new(alloc),
         adds: Vec::new(alloc),
         purge: Vec::new(alloc),
+        twice: 0,
     };
     for entry in part(text, 0).split(',') {
         if let Some(entry) = replacement(alloc, entry) {
