@@ -23,15 +23,15 @@ use Rattle.sync_session.specs.Sessions.{adds_of, after_commit, before_commit, be
 use Rattle.sync_session.specs.Skips.{active}
 use Rattle.sync_session.specs.Tasks.{Meeting, place_for, slot_of}
 use Rattle.sync_session.specs.Users.{agreed_user, begin_mark}
-use Rattle.session_laws.specs.Meetings.{AsksTheSame, IsActive, action_at, found_of, ids_at}
-use Rattle.session_laws.specs.Repeats.{GotAllIds}
-use Rattle.session_fronts.specs.Again.{AllRunAgain, HasSlot, Later, RunsAgain, last_run}
-use Rattle.session_fronts.specs.Stops.{StandsAmongNews, StandsBehindCommit}
-use Rattle.session_fronts.proofs.FrontLaws.{front-among, front-behind}
-use Rattle.session_fronts.proofs.ManyLaws.{all-merged, all-run_again}
-use Rattle.session_fronts.proofs.NewIdsLaws.{new-given}
-use Rattle.session_fronts.proofs.SkippedLaws.{left-again}
-use Rattle.session_fronts.proofs.StopLaws.{active-among, active-behind}
+use Rattle.repeat_laws.specs.Meetings.{AsksTheSame, IsActive, action_at, found_of, ids_at}
+use Rattle.repeat_laws.specs.Repeats.{GotAllIds}
+use Rattle.front_laws.specs.Again.{AllRunAgain, HasSlot, Later, RunsAgain, last_run}
+use Rattle.front_laws.specs.Stops.{StandsAmongNews, StandsBehindCommit}
+use Rattle.front_laws.proofs.FrontLaws.{front-among, front-behind}
+use Rattle.front_laws.proofs.ManyLaws.{all-merged, all-run_again}
+use Rattle.front_laws.proofs.NewIdsLaws.{new-given}
+use Rattle.front_laws.proofs.SkippedLaws.{left-again}
+use Rattle.front_laws.proofs.StopLaws.{active-among, active-behind}
 use Rattle.hotsync_run.specs.Again.{AreTold, TakesUp}
 use Rattle.hotsync_run.specs.Ends.{EndedSession, SessionLeft, StoppedBefore, StoppedBehind}
 use Rattle.hotsync_run.specs.LineRuns.{LineRan, log_in, write_count}

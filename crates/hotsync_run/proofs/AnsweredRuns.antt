@@ -11,8 +11,8 @@ use Rattle.made_folders.specs.declared.item.Item.{Item}
 use Rattle.run_words.specs.Runs.{Run}
 use Rattle.sync_session.specs.Limits.{first_over}
 use Rattle.sync_session.specs.Tasks.{Meeting}
-use Rattle.session_fronts.specs.Answered.{IsAnsweredExchange}
-use Rattle.session_fronts.proofs.OrderRuns.{read-answered, whole-answered}
+use Rattle.front_laws.specs.Answered.{IsAnsweredExchange}
+use Rattle.front_laws.proofs.OrderRuns.{read-answered, whole-answered}
 use Rattle.hotsync_run.specs.Causes.{ByEnd}
 use Rattle.hotsync_run.specs.Ends.{SessionLeft}
 use Rattle.hotsync_run.specs.LineRuns.{LineRan, exchanges_in, log_in}

@@ -2,9 +2,9 @@
 use Rattle.std.proofs.Common.{◌≡◌, refl, subst, sym}
 use Rattle.desk_store.specs.Shelves.{SlotValue}
 use Rattle.sync_session.specs.Merges.{merged_device}
-use Rattle.session_laws.specs.Meetings.{holding}
-use Rattle.session_fronts.specs.Equal.{HasEqualSides}
-use Rattle.session_fronts.proofs.EqualLaws.{holds-equal}
+use Rattle.repeat_laws.specs.Meetings.{holding}
+use Rattle.front_laws.specs.Equal.{HasEqualSides}
+use Rattle.front_laws.proofs.EqualLaws.{holds-equal}
 use Rattle.hotsync_run.specs.Equal.{EndsEqual}
 use Rattle.hotsync_run.specs.Headline.{IsAnsweredRun, RunCall}
 use Rattle.hotsync_run.specs.declared.report.SessionEnd.TheVariants.{Ended}

@@ -27,7 +27,7 @@ use Rattle.sync_session.specs.Limits.{first_over}
 use Rattle.sync_session.specs.Merges.{merged_slots}
 use Rattle.sync_session.specs.Outcomes.{IsCommitFile, StandsForSlots}
 use Rattle.sync_session.specs.Tasks.{Meeting}
-use Rattle.session_fronts.proofs.RowCountLaws.{merged-few}
+use Rattle.front_laws.proofs.RowCountLaws.{merged-few}
 use Rattle.hotsync_run.specs.Again.{IsRepeat}
 use Rattle.hotsync_run.specs.Causes.{ByEnd}
 use Rattle.hotsync_run.specs.Ends.{StoppedBefore, StoppedBehind}

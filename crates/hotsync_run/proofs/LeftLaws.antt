@@ -45,9 +45,9 @@ use Rattle.sync_session.specs.declared.wishes.Wishes.{Wishes}
 use Rattle.sync_session.specs.Users.{begin_mark}
 use Rattle.sync_session.specs.declared.report.DbReport.{DbReport}
 use Rattle.sync_session.specs.declared.stop.Stop.{Stop}
-use Rattle.session_fronts.specs.Sound.{IsSoundMeeting}
-use Rattle.session_fronts.proofs.FrontLaws.{after-none, commit-ids, commit-told, session-ids, session-told}
-use Rattle.session_fronts.proofs.MergeActs.{merged}
+use Rattle.front_laws.specs.Sound.{IsSoundMeeting}
+use Rattle.front_laws.proofs.FrontLaws.{after-none, commit-ids, commit-told, session-ids, session-told}
+use Rattle.front_laws.proofs.MergeActs.{merged}
 use Rattle.hotsync_run.specs.Ends.{EndedSession, SessionLeft, StoppedBefore, StoppedBehind}
 use Rattle.hotsync_run.specs.LineRuns.{exchanges_in, log_in, write_count}
 use Rattle.hotsync_run.specs.Talks.{left_databases, left_end}

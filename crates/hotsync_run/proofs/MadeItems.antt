@@ -20,7 +20,7 @@ use Rattle.handheld_files.specs.Settled.{are_ids, as_opened}
 use Rattle.handheld_files.proofs.SettledLaws.{as_opened-settled}
 use Rattle.made_folders.specs.Drawn.{IsDrawn}
 use Rattle.made_folders.specs.Items.{items_from}
-use Rattle.made_merge.specs.Numbers.{AreMade}
+use Rattle.made_folders.specs.Numbers.{AreMade}
 use Rattle.made_folders.specs.Sides.{letter_on, made_database, made_head, record_on, record_with, records_on, text_of}
 use Rattle.made_folders.specs.declared.item.Item.{Item}
 use Rattle.made_folders.specs.declared.side.MadeSide.{MadeSide}

@@ -9,7 +9,7 @@ use Rattle.conduit_rules.specs.ById.{each_id, id_bound, with_id}
 use Rattle.conduit_rules.specs.Choices.{Choice, Sides}
 use Rattle.conduit_rules.specs.Plans.{gone_rows, kept_rows, lost}
 use Rattle.conduit_rules.specs.States.{first}
-use Rattle.conduit_merge.specs.Merging.{merged_archive, new_under, one_copy_behind}
+use Rattle.record_merge.specs.Merging.{merged_archive, new_under, one_copy_behind}
 use Rattle.sync_session.specs.Choosing.{choice, seen_held}
 use Rattle.sync_session.specs.Limits.{first_behind, first_over, gone_count, new_count, row_count, sizes_of}
 use Rattle.sync_session.specs.Losses.{first_loss}
@@ -19,10 +19,10 @@ use Rattle.sync_session.specs.declared.wishes.Wishes.{Wishes}
 use Rattle.made_folders.specs.Sides.{records_on}
 use Rattle.made_folders.specs.declared.item.Item.{Item}
 use Rattle.made_folders.specs.declared.side.MadeSide.TheVariants.{Handheld}
-use Rattle.made_merge.specs.MadeMerges.{IsMadeMerge, made_choice, made_sides}
-use Rattle.made_merge.specs.Numbers.{AreMade, item_at, kinds}
-use Rattle.made_merge.proofs.EachLaws.{each_of}
-use Rattle.made_merge.proofs.MergeLaws.{fate_is, handheld_is}
+use Rattle.made_folders.specs.MadeMerges.{IsMadeMerge, made_choice, made_sides}
+use Rattle.made_folders.specs.Numbers.{AreMade, item_at, kinds}
+use Rattle.made_folders.proofs.EachLaws.{each_of}
+use Rattle.made_folders.proofs.MergeLaws.{fate_is, handheld_is}
 use Rattle.hotsync_run.proofs.MadeItems.{records-few}
 use Rattle.hotsync_run.proofs.MadeReports.{AsksNothing, choice_is, made_device, made_meeting, made_slot, made_task, not_skipped, sides_are, tasks_are}
 use Rattle.hotsync_run.proofs.MadeSides.{AreItems}

@@ -17,7 +17,7 @@ use Rattle.sync_session.specs.Tasks.{Meeting, Task, meeting_of, tasks}
 use Rattle.sync_session.specs.declared.report.Counts.{Counts}
 use Rattle.sync_session.specs.declared.wishes.Wishes.{Wishes}
 use Rattle.made_folders.specs.Sides.{made_database, made_user}
-use Rattle.made_merge.specs.MadeMerges.{IsMadeMerge, made_choice, made_sides, made_view, was_received}
+use Rattle.made_folders.specs.MadeMerges.{IsMadeMerge, made_choice, made_sides, made_view, was_received}
 use Rattle.hotsync_run.specs.Makes.{made_counts, made_report}
 use Rattle.made_folders.specs.declared.item.Item.{Item}
 use Rattle.made_folders.specs.declared.side.MadeSide.TheVariants.{Base, Desktop, Handheld}

@@ -37,7 +37,7 @@ use Rattle.desk_store.specs.declared.role.Role.TheVariants as role
 use Rattle.desk_store.proofs.FileLaws.{database_read}
 use Rattle.desk_store.proofs.OwnLaws.{same_file}
 use Rattle.made_folders.specs.Drawn.{IsDrawn}
-use Rattle.made_merge.specs.Numbers.{AreMade}
+use Rattle.made_folders.specs.Numbers.{AreMade}
 use Rattle.made_folders.specs.Sides.{desktop_files, handheld_files, made_database, made_user}
 use Rattle.made_folders.specs.declared.item.Item.{Item}
 use Rattle.made_folders.specs.declared.side.MadeSide.{MadeSide}

@@ -25,8 +25,8 @@ use Rattle.made_folders.specs.Items.{generator_of, made}
 use Rattle.made_folders.specs.Sides.{desktop_files, handheld_files}
 use Rattle.made_folders.specs.declared.item.Item.{Item}
 use Rattle.made_folders.proofs.ItemLaws.{length-items_from}
-use Rattle.made_merge.specs.MadeMerges.{IsMadeMerge}
-use Rattle.made_merge.proofs.NumberLaws.{drawn_are_made}
+use Rattle.made_folders.specs.MadeMerges.{IsMadeMerge}
+use Rattle.made_folders.proofs.NumberLaws.{drawn_are_made}
 use Rattle.hotsync_run.specs.Causes.{EndsAs, IsLineDown, IsUnsaid, cause_in}
 use Rattle.hotsync_run.specs.Ends.{StatusShows}
 use Rattle.hotsync_run.specs.LineRuns.{frames_in}

@@ -18,8 +18,8 @@ use Rattle.sync_session.specs.Limits.{first_over}
 use Rattle.sync_session.specs.Sessions.{before_writes, writes_before_commit}
 use Rattle.sync_session.specs.Tasks.{Meeting}
 use Rattle.sync_session.proofs.QuietLaws.{quiet-before_writes}
-use Rattle.session_fronts.specs.Sound.{IsSoundMeeting}
-use Rattle.session_fronts.proofs.FrontLaws.{front-among, front-behind}
+use Rattle.front_laws.specs.Sound.{IsSoundMeeting}
+use Rattle.front_laws.proofs.FrontLaws.{front-among, front-behind}
 use Rattle.hotsync_run.specs.Ends.{SessionLeft}
 use Rattle.hotsync_run.specs.Kept.{KeepsBytes}
 use Rattle.hotsync_run.specs.LineRuns.{LineRan, exchanges_in, log_in}

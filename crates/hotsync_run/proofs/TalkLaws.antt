@@ -27,7 +27,7 @@ use Rattle.sync_session.specs.declared.outcome.Outcome.{Outcome}
 use Rattle.sync_session.specs.declared.report.DbReport.{DbReport}
 use Rattle.sync_session.specs.Tasks.{Meeting, meeting_of}
 use Rattle.sync_session.specs.declared.wishes.Wishes.{Wishes}
-use Rattle.session_fronts.specs.Sound.{IsSoundMeeting}
+use Rattle.front_laws.specs.Sound.{IsSoundMeeting}
 use Rattle.dlp_commands.specs.declared.link.LinkFault.{LinkFault}
 use Rattle.sync_session.specs.declared.stop.Stop.{Stop}
 use Rattle.sync_session.specs.declared.stop.Stop.TheVariants as stop

@@ -5,10 +5,10 @@ use Rattle.desk_store.specs.Desks.{IsDesk}
 use Rattle.desk_store.specs.Shelves.{slot_at}
 use Rattle.sync_session.specs.Merges.{merged_device, merged_slot, merged_slots}
 use Rattle.sync_session.specs.Tasks.{Meeting}
-use Rattle.session_laws.specs.Meetings.{IsActive, action_at, found_of, holding_after, ids_at}
-use Rattle.session_laws.specs.Renaming.{AreUnknown, SameEnds}
-use Rattle.session_laws.specs.Repeats.{GotAllIds}
-use Rattle.session_fronts.specs.Again.{AllSkip, EndsAtMerge, HoldsTheSame, IsFreshBehind, Later, last_run}
+use Rattle.repeat_laws.specs.Meetings.{IsActive, action_at, found_of, holding_after, ids_at}
+use Rattle.repeat_laws.specs.Renaming.{AreUnknown, SameEnds}
+use Rattle.repeat_laws.specs.Repeats.{GotAllIds}
+use Rattle.front_laws.specs.Again.{AllSkip, EndsAtMerge, HoldsTheSame, IsFreshBehind, Later, last_run}
 use Rattle.hotsync_run.specs.Headline.{IsAnsweredRun, RunCall}
 use Rattle.hotsync_run.specs.LineRuns.{log_in}
 use Rattle.hotsync_run.specs.Meetings.{Meets}

@@ -20,7 +20,7 @@ use Rattle.sync_session.specs.Outcomes.{IsOtherUser, StandsForSlots, requests_be
 use Rattle.sync_session.specs.Reports.{reports}
 use Rattle.sync_session.specs.Sessions.{before_writes, requests, writes_before_commit}
 use Rattle.sync_session.specs.Tasks.{Meeting}
-use Rattle.session_fronts.specs.Sound.{IsSoundMeeting}
+use Rattle.front_laws.specs.Sound.{IsSoundMeeting}
 use Rattle.hotsync_run.specs.Causes.{fault_status}
 use Rattle.hotsync_run.specs.LineRuns.{log_in}
 use Rattle.hotsync_run.specs.Told.{FolderTold}

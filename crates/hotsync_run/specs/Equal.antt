@@ -5,8 +5,8 @@ use Rattle.desk_store.specs.Desks.{IsDesk}
 use Rattle.desk_store.specs.Shelves.{slot_at}
 use Rattle.sync_session.specs.Merges.{merged_device, merged_slots}
 use Rattle.sync_session.specs.Tasks.{Meeting}
-use Rattle.session_laws.specs.Meetings.{IsActive, holding}
-use Rattle.session_fronts.specs.Equal.{HasEqualSides, IsShownWhole}
+use Rattle.repeat_laws.specs.Meetings.{IsActive, holding}
+use Rattle.front_laws.specs.Equal.{HasEqualSides, IsShownWhole}
 use Rattle.hotsync_run.specs.Headline.{RunCall}
 use Rattle.hotsync_run.specs.LineRuns.{log_in}
 use Rattle.hotsync_run.specs.Meetings.{Meets}

@@ -5,7 +5,7 @@ use Rattle.std.specs.Option.{option_map}
 use Rattle.hs_folders.specs.FileMaps.{FileMap}
 use Rattle.folder_files.specs.FileNames.{device_info_file, resources_file, rows_file}
 use Rattle.sync_session.specs.Tasks.{Meeting}
-use Rattle.session_laws.specs.Meetings.{IsActive}
+use Rattle.repeat_laws.specs.Meetings.{IsActive}
 
 -- the file of a database of this name
 abbrev pub IsFileOf : List ℕ → List ℕ → Type 0

@@ -16,7 +16,7 @@ use Rattle.sync_session.specs.declared.report.Did.TheVariants.{Synced}
 use Rattle.made_folders.specs.Items.{made}
 use Rattle.made_folders.specs.Sides.{desktop_files, handheld_files}
 use Rattle.made_folders.specs.declared.item.Item.{Item}
-use Rattle.made_merge.specs.Numbers.{kinds}
+use Rattle.made_folders.specs.Numbers.{kinds}
 use Rattle.hotsync_run.specs.Causes.{ByEnd}
 use Rattle.hotsync_looks.specs.Lines.{done_lines}
 use Rattle.hotsync_looks.specs.Printed.{IsPrinted}

@@ -10,7 +10,7 @@ ghost use Rattle.run_words.specs.Runs.{Run};
 ghost use Rattle.desk_store.specs.Desks.{StaysOpenable};
 ghost use Rattle.sync_session.specs.Limits.{first_over};
 ghost use Rattle.sync_session.specs.Tasks.{Meeting};
-ghost use Rattle.session_fronts.specs.Answered.{IsAnsweredExchange};
+ghost use Rattle.front_laws.specs.Answered.{IsAnsweredExchange};
 ghost use Rattle.hotsync_run.specs.Again.{AllRan, AreOfOneKind, AreTold, EndsAsOne, IsRepeat};
 ghost use Rattle.hotsync_run.specs.Calls.{Call, IsAnsweredCall, IsNothing};
 ghost use Rattle.hotsync_run.specs.Causes.{HasBegun};

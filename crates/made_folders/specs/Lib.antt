@@ -1,3 +1,5 @@
 pub mod Drawn
 pub mod Items
+pub mod MadeMerges
+pub mod Numbers
 pub mod Sides

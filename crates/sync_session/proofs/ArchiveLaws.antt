@@ -6,7 +6,7 @@ use Rattle.std.specs.List.{list_any}
 use Rattle.pdb_values.specs.Contents.{ContentValue}
 use Rattle.pdb_values.specs.declared.record.Record.{Record}
 use Rattle.conduit_rules.specs.Contents.{same_content}
-use Rattle.conduit_merge.specs.Merging.{is_archived, one_copy_behind, settled_record}
+use Rattle.record_merge.specs.Merging.{is_archived, one_copy_behind, settled_record}
 use Rattle.slow_mirror.proofs.NewsLaws.{split_at}
 use Rattle.sync_session.specs.Archives.{archive_records, entries_of, with_entries, with_entry}
 

@@ -26,8 +26,8 @@ use Rattle.conduit_rules.specs.Views.{fast_seen, fast_view, slow_seen, slow_view
 use Rattle.conduit_rules.specs.declared.view.Seen.{Seen}
 use Rattle.conduit_rules.proofs.TwiceLaws.{length-each_below, length-kept_twice}
 use Rattle.conduit_rules.proofs.ViewLaws.{fast_id}
-use Rattle.conduit_merge.specs.Merging.{new_under, one_copy_behind}
-use Rattle.conduit_merge.proofs.StopLaws.{within}
+use Rattle.record_merge.specs.Merging.{new_under, one_copy_behind}
+use Rattle.record_merge.proofs.StopLaws.{within}
 use Rattle.desktop_session.specs.Tellings.{IsProper}
 use Rattle.desk_store.specs.Desks.{all_rows}
 use Rattle.sync_session.specs.declared.report.Did.TheVariants.{Synced}

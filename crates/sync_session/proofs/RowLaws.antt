@@ -13,8 +13,8 @@ use Rattle.conduit_rules.specs.declared.action.Action.{Action}
 use Rattle.conduit_rules.specs.declared.view.Seen.{Seen}
 use Rattle.conduit_rules.proofs.ByIdLaws.{each_below-same}
 use Rattle.conduit_rules.proofs.PlanLaws.{at-each_below}
-use Rattle.conduit_merge.specs.Merging.{gone_record, merged_base, merged_rows, row_at, settled_record}
-use Rattle.conduit_merge.specs.Writes.{numbered}
+use Rattle.record_merge.specs.Merging.{gone_record, merged_base, merged_rows, row_at, settled_record}
+use Rattle.record_merge.specs.Writes.{numbered}
 use Rattle.slow_mirror.specs.Entries.{ordered}
 use Rattle.slow_mirror.proofs.NewsLaws.{split_at}
 use Rattle.sync_session.proofs.SeenCountLaws.{map-each_below}

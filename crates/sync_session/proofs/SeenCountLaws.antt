@@ -20,7 +20,7 @@ use Rattle.conduit_rules.specs.declared.view.Seen.{Seen}
 use Rattle.conduit_rules.proofs.ByIdLaws.{each_below-none, each_below-same, each_below-suc, each_below-zero, sum-each_below_put}
 use Rattle.conduit_rules.proofs.PlanLaws.{IsRisingFrom, ids_of as row_ids, kept_rise, rising-where, where_true}
 use Rattle.conduit_rules.proofs.ViewLaws.{any_view, first-id}
-use Rattle.conduit_merge.specs.Merging.{new_under}
+use Rattle.record_merge.specs.Merging.{new_under}
 use Rattle.sync_session.specs.PlannedLimits.{begins_with, entries_from, one_unless, unseen_count}
 
 -- ---- as many entries as records

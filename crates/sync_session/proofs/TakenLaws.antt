@@ -12,7 +12,7 @@ use Rattle.pdb_values.specs.declared.record.Record.{Record}
 use Rattle.pdb_values.proofs.NamedLaws.{database_of-name}
 use Rattle.palm_device.specs.Blocks.{empty_database}
 use Rattle.palm_device.specs.Records.{with_records}
-use Rattle.conduit_merge.specs.Merging.{one_copy_behind}
+use Rattle.record_merge.specs.Merging.{one_copy_behind}
 use Rattle.desk_store.specs.Changes.{with_change, with_changes}
 use Rattle.desk_store.specs.declared.change.DbChange.{DbChange}
 use Rattle.desk_store.proofs.ChangedLaws.{ordered_changes}

@@ -2,7 +2,7 @@
 use Rattle.std.specs.Prelude.{ℕ, List, [], ◌∷◌, ◌++◌, map, if◌then◌else◌}
 use Rattle.pdb_values.specs.Contents.{ContentValue}
 use Rattle.pdb_values.specs.declared.record.Record.{Record}
-use Rattle.conduit_merge.specs.Merging.{is_archived, settled_record}
+use Rattle.record_merge.specs.Merging.{is_archived, settled_record}
 
 -- the entries of an archive: ids and contents
 abbrev pub entries_of : List Record → List (ℕ × ContentValue)

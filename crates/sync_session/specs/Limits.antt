@@ -3,7 +3,7 @@ use Rattle.std.specs.Prelude.{ℕ, ◌+◌, List, [], ◌∷◌, length, if◌th
 use Rattle.conduit_rules.specs.ById.{each_id}
 use Rattle.conduit_rules.specs.States.{first}
 use Rattle.conduit_rules.specs.Plans.{gone_rows, kept_rows}
-use Rattle.conduit_merge.specs.Merging.{merged_archive, new_under}
+use Rattle.record_merge.specs.Merging.{merged_archive, new_under}
 use Rattle.desk_store.specs.Desks.{all_rows}
 use Rattle.sync_session.specs.Tasks.{Meeting, Task, records_of}
 use Rattle.sync_session.specs.Archives.{entries_of}

@@ -9,7 +9,7 @@ use Rattle.palm_device.specs.Devices.{Device}
 use Rattle.palm_device.specs.Handles.{no_handles}
 use Rattle.palm_device.specs.Heads.{new_head}
 use Rattle.palm_device.specs.Records.{with_records}
-use Rattle.conduit_merge.specs.Merging.{merged_archive, merged_base, merged_records, merged_rows}
+use Rattle.record_merge.specs.Merging.{merged_archive, merged_base, merged_records, merged_rows}
 use Rattle.desk_store.specs.Shelves.{ShelvesValue, SlotValue, with_place}
 use Rattle.sync_session.specs.Tasks.{Meeting, Task, records_of, slot_of}
 use Rattle.sync_session.specs.Skips.{active}

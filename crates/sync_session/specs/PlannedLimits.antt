@@ -6,7 +6,7 @@ use Rattle.pdb_values.specs.Bounds.{most_databases}
 use Rattle.pdb_values.specs.Contents.{ContentValue}
 use Rattle.pdb_values.specs.NamedDatabases.{database_of}
 use Rattle.conduit_rules.specs.declared.view.Seen.{Seen}
-use Rattle.conduit_merge.specs.Merging.{one_copy_behind}
+use Rattle.record_merge.specs.Merging.{one_copy_behind}
 use Rattle.desk_store.specs.Shelves.{ShelvesValue}
 use Rattle.sync_session.specs.declared.planned.Planned.{Planned}
 use Rattle.sync_session.specs.declared.sizes.Sizes.{Sizes}

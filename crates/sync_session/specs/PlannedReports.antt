@@ -1,6 +1,6 @@
 -- What is told of planned databases once a session has ended.
 use Rattle.std.specs.Prelude.{ℕ, ◌-◌, [], length, map, List, min, Option, Some, None}
-use Rattle.conduit_merge.specs.Merging.{one_copy_behind}
+use Rattle.record_merge.specs.Merging.{one_copy_behind}
 use Rattle.desk_store.specs.Shelves.{ShelvesValue}
 use Rattle.sync_session.specs.declared.planned.Planned.{Planned}
 use Rattle.sync_session.specs.declared.report.Counts.{Counts}

@@ -5,7 +5,7 @@ use Rattle.conduit_rules.specs.Plans.{replaced_rows, purged_ids}
 use Rattle.conduit_rules.specs.declared.view.Seen.{Seen}
 use Rattle.conduit_rules.specs.declared.view.SeenState.{SeenState}
 use Rattle.conduit_rules.specs.declared.view.SeenState.TheVariants.{Unread}
-use Rattle.conduit_merge.specs.Merging.{one_copy_behind}
+use Rattle.record_merge.specs.Merging.{one_copy_behind}
 use Rattle.sync_session.specs.declared.skip.Skip.{Skip}
 use Rattle.sync_session.specs.Archives.{entries_of}
 use Rattle.sync_session.specs.Tasks.{Meeting, Task, records_of, tasks}

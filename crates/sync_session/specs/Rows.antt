@@ -6,8 +6,8 @@ use Rattle.conduit_rules.specs.ById.{at, each_id, with_id}
 use Rattle.conduit_rules.specs.declared.planned.Plan.{Plan}
 use Rattle.conduit_rules.specs.declared.view.Seen.{Seen}
 use Rattle.conduit_rules.specs.declared.view.SeenState.TheVariants.{Live}
-use Rattle.conduit_merge.specs.Merging.{gone_record, settled_record}
-use Rattle.conduit_merge.specs.Writes.{numbered}
+use Rattle.record_merge.specs.Merging.{gone_record, settled_record}
+use Rattle.record_merge.specs.Writes.{numbered}
 
 -- a row, as an entry of a view
 abbrev pub row_seen : ℕ × ContentValue → Seen

@@ -9,7 +9,7 @@ use Rattle.pdb_values.specs.declared.user.Marks.{Marks}
 use Rattle.pdb_values.specs.declared.user.UserInfo.{UserInfo}
 use Rattle.palm_device.specs.Blocks.{empty_database}
 use Rattle.palm_device.specs.Records.{with_records}
-use Rattle.conduit_merge.specs.Merging.{one_copy_behind}
+use Rattle.record_merge.specs.Merging.{one_copy_behind}
 use Rattle.conduit_rules.specs.declared.planned.Plan.{Plan}
 use Rattle.desk_journal.specs.Entries.{EntryValue}
 use Rattle.desk_store.specs.Changes.{slot_entries, with_changes}

@@ -2,7 +2,7 @@
 ghost use Rattle.std.specs.Prelude.{◌≡◌, ◌==◌, ◌&&◌, ◌++◌, [], IfOk, OnOk};
 ghost use Rattle.std.specs.List.{list_any};
 ghost use Rattle.pdb_values.specs.declared.record.Record.{Record as Entry};
-ghost use Rattle.conduit_merge.specs.Merging.{is_archived as stands_in, one_copy_behind, settled_record};
+ghost use Rattle.record_merge.specs.Merging.{is_archived as stands_in, one_copy_behind, settled_record};
 ghost use Rattle.conduit_rules.specs.Contents.{same_content};
 ghost use Rattle.sync_session.specs.Archives as archives;
 

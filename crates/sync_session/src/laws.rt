@@ -2,7 +2,7 @@
 ghost use Rattle.std.specs.Prelude.{◌≡◌, ℕ, List, None, length, map};
 ghost use Rattle.conduit_rules.specs.Choices.{Sides, choice_for};
 ghost use Rattle.conduit_rules.specs.Plans.{IsPlan};
-ghost use Rattle.conduit_merge.specs.Merging.{merged_base, merged_rows};
+ghost use Rattle.record_merge.specs.Merging.{merged_base, merged_rows};
 ghost use Rattle.desk_store.specs.Desks.{all_rows};
 ghost use Rattle.desktop_session.specs.Acts.{text};
 ghost use Rattle.desktop_session.specs.Tellings.{IsProper, device_after};

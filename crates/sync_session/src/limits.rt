@@ -2,7 +2,7 @@
 ghost use Rattle.std.specs.Prelude.{◌≡◌, ◌+◌, ◌-◌, ◌^◌, ◌<◌, ◌++◌, [], IfOk, IfSome, if◌then◌else◌, is_none, length, min, nat_lt, not, position};
 ghost use Rattle.pdb_values.specs.NamedDatabases.{database_of};
 ghost use Rattle.conduit_rules.specs.declared.view.Seen.{Seen as Entry};
-ghost use Rattle.conduit_merge.specs.Merging.{one_copy_behind};
+ghost use Rattle.record_merge.specs.Merging.{one_copy_behind};
 ghost use Rattle.desk_store.specs.Desks.{all_rows};
 ghost use Rattle.desk_store.specs.Views.{shelves_in};
 ghost use Rattle.sync_session.specs.Archives.{entries_of};

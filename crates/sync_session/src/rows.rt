@@ -2,8 +2,8 @@
 ghost use Rattle.std.specs.Prelude.{◌≡◌, ◌<◌, ◌++◌, ◌∷◌, [], IfOk, OnOk, length, map};
 ghost use Rattle.conduit_rules.specs.ById.{id_bound};
 ghost use Rattle.conduit_rules.specs.declared.view.Seen.{Seen as Entry};
-ghost use Rattle.conduit_merge.specs.Merging.{gone_record, settled_record};
-ghost use Rattle.conduit_merge.specs.Writes.{numbered};
+ghost use Rattle.record_merge.specs.Merging.{gone_record, settled_record};
+ghost use Rattle.record_merge.specs.Writes.{numbered};
 ghost use Rattle.slow_mirror.specs.Entries.{AreBounded};
 ghost use Rattle.sync_session.specs.Rows as rows_of;
 

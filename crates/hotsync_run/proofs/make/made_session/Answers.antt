@@ -1,6 +1,6 @@
 use Rattle.std.proofs.Common.{refl}
 use Rattle.made_folders.specs.Items.{made}
-use Rattle.made_merge.proofs.MergeLaws.{made_merge}
+use Rattle.made_folders.proofs.MergeLaws.{made_merge}
 use Rattle.hotsync_run.proofs.MakeLaws.{made_ends, made_given, made_items, made_talk, told_alone}
 use Rattle.hotsync_run.proofs.make.made_session.Goals as goal
 

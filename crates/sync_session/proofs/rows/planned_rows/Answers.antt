@@ -2,8 +2,8 @@
 use Rattle.std.proofs.Common.{◌≡◌, ◌∙◌, ap, map, subst, sym, IfOk}
 use Rattle.std.proofs.lemmas.List.{map-append}
 use Rattle.conduit_rules.specs.declared.view.Seen.{Seen}
-use Rattle.conduit_merge.specs.Merging.{settled_record}
-use Rattle.conduit_merge.specs.Writes.{numbered}
+use Rattle.record_merge.specs.Merging.{settled_record}
+use Rattle.record_merge.specs.Writes.{numbered}
 use Rattle.slow_mirror.specs.Entries.{ordered}
 use Rattle.sync_session.specs.Rows.{row_entries, row_seen}
 use Rattle.sync_session.proofs.RowLaws.{settled-ordered}

@@ -1,6 +1,6 @@
 -- New records, one row after another.
 use Rattle.std.proofs.Common.{take}
-use Rattle.conduit_merge.specs.Writes.{numbered}
+use Rattle.record_merge.specs.Writes.{numbered}
 use Rattle.sync_session.proofs.RowLaws.{numbered_more, rows_on}
 use Rattle.sync_session.proofs.rows.put_added.Goals as goal
 

@@ -1,5 +1,5 @@
 use Rattle.std.proofs.Common.{◌≡◌, ◌++◌, map, take}
-use Rattle.conduit_merge.specs.Writes.{numbered}
+use Rattle.record_merge.specs.Writes.{numbered}
 use Rattle.slow_mirror.specs.Entries.{AreBounded}
 use Rattle.sync_session.specs.Rows.{row_seen}
 use Rattle.sync_session.proofs.rows.put_added.Given as goal

@@ -1,5 +1,5 @@
 use Rattle.std.proofs.Common.{◌≡◌, ◌++◌, map, take}
-use Rattle.conduit_merge.specs.Merging.{gone_record}
+use Rattle.record_merge.specs.Merging.{gone_record}
 use Rattle.sync_session.proofs.rows.put_gone.Given as goal
 
 abbrev pub invariant-loop-entry : goal.invariant-loop-entry

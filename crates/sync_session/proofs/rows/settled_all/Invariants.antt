@@ -1,6 +1,6 @@
 use Rattle.std.proofs.Common.{◌≡◌, map, take}
 use Rattle.conduit_rules.specs.declared.view.Seen.{Seen}
-use Rattle.conduit_merge.specs.Merging.{settled_record}
+use Rattle.record_merge.specs.Merging.{settled_record}
 use Rattle.sync_session.proofs.rows.settled_all.Given as goal
 
 abbrev pub invariant-loop-seen : goal.invariant-loop-seen

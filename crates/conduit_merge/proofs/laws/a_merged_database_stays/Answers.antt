@@ -1,5 +1,0 @@
-use Rattle.conduit_merge.proofs.AgainLaws.{choice-again_for}
-use Rattle.conduit_merge.proofs.laws.a_merged_database_stays.Goals as goal
-
-pub returns : goal.returns
-returns c = choice-again_for

@@ -1,5 +1,0 @@
-use Rattle.conduit_merge.proofs.CountLaws.{sum-rows, new-free}
-use Rattle.conduit_merge.proofs.laws.each_row_is_kept_or_added.Goals as goal
-
-pub returns : goal.returns
-returns c = λ w ch handheld given records shows free. sum-rows w ch given (new-free ch handheld given records shows free)

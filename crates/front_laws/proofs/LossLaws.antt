@@ -1,0 +1,233 @@
+-- A session that is run again behind one that stopped costs the desktop no live row by a new handheld, where the first one would have cost none.
+use Rattle.std.proofs.Common.{◌≡◌, ◌∙◌, ◌⊎◌, ◌&&◌, ◌||◌, refl, ap, sym, subst, inl, inr, ℕ, Bool, true, false, List, [], ◌∷◌, Option, Some, None, is_none, is_some}
+use Rattle.std.proofs.Common.{if◌then◌else◌, not}
+use Rattle.std.specs.Prelude.{find}
+use Rattle.std.specs.List.{AllByRecursion, list_any}
+use Rattle.std.specs.Option.{option_map}
+use Rattle.std.specs.Str.{bytes_eq}
+use Rattle.pdb_values.specs.NamedDatabases.{database_of}
+use Rattle.conduit_rules.specs.Choices.{Choice}
+use Rattle.conduit_rules.specs.Plans.{kept_rows}
+use Rattle.conduit_rules.specs.declared.action.Action.{Action}
+use Rattle.conduit_rules.specs.declared.action.Action.TheVariants.{Sync, Handheld, Desktop}
+use Rattle.run_words.specs.Actions.{action_for}
+use Rattle.sync_session.specs.Choosing.{action_or_sync, agrees, is_sync, view}
+use Rattle.sync_session.specs.Limits.{first_over}
+use Rattle.sync_session.specs.Losses.{first_loss, is_loss, is_lost, is_new, is_new_to}
+use Rattle.sync_session.specs.Merges.{merged_slot}
+use Rattle.sync_session.specs.Skips.{active, head_of, reason_by, skip_of}
+use Rattle.sync_session.specs.Tasks.{Meeting, Task, action_of_word, names, records_of, slot_of, task_of}
+use Rattle.repeat_laws.specs.Losses.{loses_rows}
+use Rattle.repeat_laws.specs.Meetings.{AsksTheSame, IsActive, LeftMerged, action_at, found_of, ids_at}
+use Rattle.repeat_laws.specs.Repeats.{Found, GotIds, IsRead, MayStop, Place, among_news, at_end, before_mark, behind_commit, chosen, left}
+use Rattle.repeat_laws.specs.Repeats.{left_at_end, left_behind_commit}
+use Rattle.repeat_laws.proofs.LossLaws.{commit-loses, end-loses, news-loses}
+use Rattle.repeat_laws.proofs.MeetingLaws.{at-the_end, behind-the_commit, reading-shows}
+use Rattle.repeat_laws.proofs.MergedLaws.{AreTasks, IsTask}
+use Rattle.repeat_laws.proofs.TaskLaws.{are-active, device-name, is-active, on_a_side, rows-name}
+use Rattle.repeat_laws.proofs.WholeLaws.{chosen-is, untouched-at, whole-found}
+use Rattle.front_laws.specs.Again.{IsFresh, RunsAgain}
+use Rattle.front_laws.specs.Sound.{IsSoundMeeting}
+use Rattle.front_laws.specs.Stops.{StandsAmongNews, StandsBehindCommit}
+use Rattle.front_laws.proofs.FrontLaws.{front-among, front-behind}
+use Rattle.front_laws.proofs.NameLaws.{active_names, not-active}
+use Rattle.front_laws.proofs.ReadyLaws.{handheld-sound}
+use Rattle.front_laws.proofs.StopLaws.{honest-then, left-behind, step-among}
+use Rattle.front_laws.proofs.UnknownLaws.{none-front}
+
+-- ---- what is lost of one database
+
+lost-found : (m : Meeting) (name : List ℕ) → is_loss m (task_of m name)
+    ≡ (is_sync (action_at m name)
+    && list_any (is_lost (kept_rows (chosen (action_at m name) (found_of m name)).keep) (chosen (action_at m name) (found_of m name)).adds)
+    (found_of m name).rows)
+lost-found m name =
+    ap (λ (ch : Choice). is_sync (action_at m name) && list_any (is_lost (kept_rows ch.keep) ch.adds) (records_of (task_of m name).rows))
+    (chosen-is m (task_of m name))
+
+none-lost : (m : Meeting) (name : List ℕ) → (action_at m name ≡ Sync → loses_rows (found_of m name) ≡ false) → is_loss m (task_of m name) ≡ false
+none-lost m name keeps = lost-found m name ∙ by (action_at m name) keeps
+  where
+    by : (a : Action) → (a ≡ Sync → loses_rows (found_of m name) ≡ false)
+        → (is_sync a && list_any (is_lost (kept_rows (chosen a (found_of m name)).keep) (chosen a (found_of m name)).adds) (found_of m name).rows) ≡ false
+    by Sync keeps = keeps refl
+    by Handheld keeps = refl
+    by Desktop keeps = refl
+
+lost-sync : (m : Meeting) (name : List ℕ) → is_loss m (task_of m name) ≡ false → action_at m name ≡ Sync → loses_rows (found_of m name) ≡ false
+lost-sync m name is sync =
+    let x = found_of m name in
+    sym (ap (λ a. is_sync a && list_any (is_lost (kept_rows (chosen a x).keep) (chosen a x).adds) x.rows) sync) ∙ sym (lost-found m name) ∙ is
+
+-- ---- the first of them
+
+none-in : (m : Meeting) (ts : List Task) → AreTasks m ts → AllByRecursion (λ (t : Task). IsActive m t.name) ts
+    → ((name : List ℕ) → IsActive m name → is_loss m (task_of m name) ≡ false) → find (is_loss m) ts ≡ None
+none-in m [] are all keeps = refl
+none-in m (t ∷ ts) are all keeps = rw (ap (is_loss m) are.0 ∙ keeps t.name all.0) (none-in m ts are.2 all.1 keeps)
+
+none-first : (m : Meeting) → ((name : List ℕ) → IsActive m name → is_loss m (task_of m name) ≡ false) → first_loss m ≡ None
+unfolding first_loss
+none-first m keeps = by (is_new m) (none-in m (active m) (are-active m) (active_names m) keeps)
+  where
+    by : (b : Bool) → find (is_loss m) (active m) ≡ None
+        → (if b then option_map (λ (task : Task). task.name) (find (is_loss m) (active m)) else None) ≡ None
+    by true none = ap (option_map (λ (task : Task). task.name)) none
+    by false none = refl
+
+not-new : (m : Meeting) → is_new m ≡ false → first_loss m ≡ None
+unfolding first_loss
+not-new m is = rw is refl
+
+none-found : (m : Meeting) (ts : List Task) (t : Task) → IsTask t ts → find (is_loss m) ts ≡ None → is_loss m t ≡ false
+none-found m [] t there none = absurd there
+none-found m (u ∷ ts) t there none = by (is_loss m u) refl none there (none-found m ts t)
+  where
+    by : (b : Bool) → is_loss m u ≡ b → (if b then Some u else find (is_loss m) ts) ≡ None → (u ≡ t) ⊎ IsTask t ts
+        → (IsTask t ts → find (is_loss m) ts ≡ None → is_loss m t ≡ false) → is_loss m t ≡ false
+    by true is none there later = absurd cc
+    by false is none (inl same) later = sym (ap (is_loss m) same) ∙ is
+    by false is none (inr there) later = later there none
+
+none-of : (m : Meeting) (name : List ℕ) → first_loss m ≡ None → is_new m ≡ true → IsActive m name → is_loss m (task_of m name) ≡ false
+unfolding first_loss
+none-of m name none new is =
+    none-found m (active m) (task_of m name) (is-active m name is.there is.kept)
+    (by (find (is_loss m) (active m)) (rw new at none))
+  where
+    by : (o : Option Task) → option_map (λ (task : Task). task.name) o ≡ None → o ≡ None
+    by None none = refl
+    by (Some t) none = absurd cc
+
+-- ---- a database that the session behind doesn't skip was not skipped
+
+decide : (m : Meeting) (name : List ℕ) → IsActive m name ⊎ (IsActive m name → ⊥)
+decide m name = by (list_any (λ other. bytes_eq other name) (names m)) (is_none (skip_of (task_of m name))) refl refl
+  where
+    by : (a b : Bool) → list_any (λ other. bytes_eq other name) (names m) ≡ a → is_none (skip_of (task_of m name)) ≡ b
+        → IsActive m name ⊎ (IsActive m name → ⊥)
+    by true true there kept = inl (record { there = there; kept = kept })
+    by false b there kept = inr (λ is. let no : true ≡ false = sym is.there ∙ there in cc)
+    by true false there kept = inr (λ is. let no : true ≡ false = sym is.kept ∙ kept in cc)
+
+-- both sides have of a database what they had
+record IsSame (m next : Meeting) (name : List ℕ) : Type 0 where
+  handheld : (task_of next name).handheld ≡ (task_of m name).handheld
+  rows : (task_of next name).rows ≡ (task_of m name).rows
+  base : (task_of next name).base ≡ (task_of m name).base
+
+one_of : (a b : Bool) → (a || b) ≡ true → (a ≡ true) ⊎ (b ≡ true)
+one_of true b is = inl refl
+one_of false b is = inr is
+
+active-same : (m next : Meeting) (name : List ℕ) → IsSame m next name → AsksTheSame m next → IsActive next name → IsActive m name
+unfolding skip_of
+active-same m next name same asks is = record {
+  there = elim (one_of (is_some (task_of m name).handheld) (is_some (task_of m name).rows)
+      (sym (λ k. is_some (same.handheld k) || is_some (same.rows k)) ∙ on_a_side next name is.there)) [
+        | inl there ↦ device-name m name there
+        | inr there ↦ rows-name m name there
+      ];
+  kept = sym (λ k. is_none (reason_by (action_of_word (action_for name (asks.actions k))) (head_of (same.handheld k)) (head_of (same.rows k))
+      (is_some (same.base k)))) ∙ is.kept;
+}
+
+active-back : (m next : Meeting) (name : List ℕ) → ((IsActive m name → ⊥) → IsSame m next name) → AsksTheSame m next → IsActive next name
+    → IsActive m name
+active-back m next name others asks is = elim (decide m name) [
+  | inl here ↦ here
+  | inr none ↦ active-same m next name (others none) asks is
+]
+
+-- ---- among the news
+
+among-new : (m next : Meeting) (given : List ℕ) → StandsAmongNews m given next.device → slot_of next ≡ slot_of m → is_new next ≡ is_new m
+among-new m next given stands slot = elim stands.begun [
+  | inl begun ↦ λ k. is_new_to (begun k) (slot k).marks
+  | inr (user, databases) ↦ λ k. is_new_to (user k) (slot k).marks
+]
+
+place-loses : (x : Found) (place : Place) → IsRead x → MayStop Sync x place → loses_rows x ≡ false → loses_rows (left Sync x place) ≡ false
+place-loses x before_mark read may keeps = keeps
+place-loses x (among_news given n) read may keeps = news-loses x given n may keeps
+place-loses x (behind_commit given n) read may keeps = commit-loses x given n read may.got
+place-loses x (at_end given view g) read may keeps = end-loses x given view g read may.0.got may.1
+
+-- ---- the session that is run again
+
+module _ (meeting next : Meeting) (writes : ℕ) (given later : List ℕ) (sound : IsSoundMeeting meeting) (none : first_over meeting ≡ None)
+    (runs : RunsAgain meeting next writes given) (fresh : (name : List ℕ) → IsActive meeting name → IsFresh meeting next given later name) where
+  read-of : (name : List ℕ) → IsActive meeting name → IsRead (found_of meeting name)
+  read-of name is =
+      let own = handheld-sound sound (task_of meeting name) refl in
+      reading-shows meeting (task_of meeting name) own.ids own.bounded (fresh name is).honest
+
+  among-none : slot_of next ≡ slot_of meeting → StandsAmongNews meeting given next.device → first_loss meeting ≡ None → first_loss next ≡ None
+  among-none slot stands costs = by (is_new meeting) refl
+    where
+      each : is_new meeting ≡ true → (name : List ℕ) → IsActive next name → is_loss next (task_of next name) ≡ false
+      each new name is_next =
+          let is = active-back meeting next name
+          (λ none. record {
+            handheld = stands.others name none;
+            rows = λ k. database_of name (slot k).shelves.rows;
+            base = λ k. database_of name (slot k).shelves.bases;
+          }) runs.asks is_next in
+          let read = read-of name is in
+          let step = step-among stands is runs.asks slot runs.number read
+          (none-front _ (ids_at meeting given name) (ids_at next later name) (fresh name is).fresh) (fresh name is).gone in
+          none-lost next name (λ sync.
+          let first : action_at meeting name ≡ Sync = sym step.follows.action ∙ sync in
+          ap loses_rows step.follows.finds ∙ ap (λ a. loses_rows (left a (found_of meeting name) step.place)) first
+          ∙ place-loses (found_of meeting name) step.place read (subst (λ a. MayStop a (found_of meeting name) step.place) first step.may)
+          (lost-sync meeting name (none-of meeting name costs new is) first))
+
+      by : (b : Bool) → is_new meeting ≡ b → first_loss next ≡ None
+      by true new = none-first next (each new)
+      by false old = not-new next (among-new meeting next given stands slot ∙ old)
+
+  behind-loses : slot_of next ≡ merged_slot meeting given → (stands : StandsBehindCommit meeting given next.device) (name : List ℕ)
+      → IsActive meeting name → action_at meeting name ≡ Sync → loses_rows (found_of next name) ≡ false
+  behind-loses slot stands name is sync =
+      let x = found_of meeting name in
+      let ids = ids_at meeting given name in
+      let read = read-of name is in
+      let free = stands.free name is in
+      let got : GotIds Sync x ids = subst (λ a. GotIds a x ids) sync free.got in
+      elim stands.ended [
+        | inl begun ↦
+            let follows = behind-the_commit meeting next (ids_at meeting given) stands.count name
+            (left-behind next stands name is runs.asks begun slot runs.number) in
+            ap loses_rows follows.finds ∙ ap (λ a. loses_rows (left_behind_commit a x ids (stands.count name))) sync
+            ∙ commit-loses x ids (stands.count name) read got
+        | inr (user, databases) ↦
+            let merged : LeftMerged meeting next given = record { asks = runs.asks; databases = databases; slot = slot } in
+            let found = whole-found meeting next given name merged is in
+            let seen = view next (task_of next name) in
+            let counts = not (agrees next) in
+            let follows = at-the_end meeting next (ids_at meeting given) name found in
+            let then_read = subst IsRead follows.finds (honest-then next given name read free.got found) in
+            ap loses_rows follows.finds ∙ ap (λ a. loses_rows (left_at_end a x ids seen counts)) sync
+            ∙ end-loses x ids seen counts read got (subst (λ a. IsRead (left_at_end a x ids seen counts)) sync then_read)
+      ]
+
+  behind-none : slot_of next ≡ merged_slot meeting given → StandsBehindCommit meeting given next.device → first_loss next ≡ None
+  behind-none slot stands = none-first next (λ name is_next.
+      let is = active-back meeting next name
+      (λ none.
+      let same = untouched-at meeting next given name slot (not-active meeting name none) in
+      record { handheld = stands.others name none; rows = same.rows; base = same.base }) runs.asks is_next in
+      let action : action_at next name ≡ action_at meeting name = λ k. action_or_sync (action_of_word (action_for name (runs.asks.actions k))) in
+      none-lost next name (λ sync. behind-loses slot stands name is (sym action ∙ sync)))
+
+pub runs-costless : (meeting next : Meeting) (writes : ℕ) (given later : List ℕ) → IsSoundMeeting meeting → first_over meeting ≡ None
+    → first_loss meeting ≡ None → RunsAgain meeting next writes given
+    → ((name : List ℕ) → IsActive meeting name → IsFresh meeting next given later name) → first_loss next ≡ None
+runs-costless meeting next writes given later sound none costs runs fresh = elim runs.slot [
+  | inl (slot, few) ↦
+      among-none meeting next writes given later sound none runs fresh slot
+      (front-among meeting writes given next.device sound none runs.front few) costs
+  | inr (slot, most) ↦
+      behind-none meeting next writes given later sound none runs fresh slot
+      (front-behind meeting writes given next.device sound none runs.front most)
+]

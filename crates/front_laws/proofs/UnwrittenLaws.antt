@@ -1,0 +1,75 @@
+-- A handheld that is as it was got no new record.
+use Rattle.std.proofs.lemmas.Grind.{common_steps}
+use Rattle.std.proofs.lemmas.Bool.Decides.{nat_tests}
+use Rattle.std.proofs.Common.{◌≡◌, inl, inr, ◌∙◌, refl, ap, sym, subst, ℕ, zero, suc, true, false, List, [], ◌∷◌, ◌++◌, take, arith, is_some}
+use Rattle.std.specs.Prelude.{Option, Some}
+use Rattle.pdb_values.specs.Contents.{ContentValue}
+use Rattle.pdb_values.specs.Databases.{DatabaseValue}
+use Rattle.pdb_values.specs.declared.record.Record.{Record}
+use Rattle.palm_device.specs.Records.{put_record}
+use Rattle.conduit_rules.specs.Plans.{replaced_rows}
+use Rattle.conduit_rules.specs.States.{first}
+use Rattle.conduit_rules.specs.declared.action.Action.{Action}
+use Rattle.record_merge.specs.Writes.{Write, adding, after, numbered, replaces}
+use Rattle.record_merge.proofs.PutLaws.{first-put}
+use Rattle.sync_session.specs.Merges.{handheld_before}
+use Rattle.sync_session.specs.Tasks.{Task, records_of}
+use Rattle.repeat_laws.specs.Repeats.{Found, GotIds, chosen, given_by, news_done, shown}
+use Rattle.front_laws.specs.Stops.{IsWritten, StandsWith}
+use Rattle.front_laws.proofs.UnknownLaws.{news-new}
+
+-- ---- a database with some writes carried out
+
+before_rs : (h r : Option DatabaseValue) {b : DatabaseValue} → handheld_before h r ≡ Some b → b.records ≡ records_of h
+before_rs h r before = grind (arith, common_steps)
+
+pub written-records : {t : Task} {ws : List Write} {o : Option DatabaseValue} → IsWritten t ws o → records_of o ≡ after ws (records_of t.handheld)
+written-records {t} {ws} is = ap records_of is.stands ∙ ap (after ws) (before_rs t.handheld t.rows is.is)
+
+-- ---- what was added is there
+
+some-put : (i : ℕ) (c : ContentValue) (records : List Record) (g : ℕ) → is_some (first g records) ≡ true → is_some (first g (put_record i c records)) ≡ true
+some-put i c records g some = grind (arith, nat_tests, first-put i c records g)
+
+own-put : (g : ℕ) (c : ContentValue) (records : List Record) → is_some (first g (put_record g c records)) ≡ true
+own-put g c records = grind (arith, nat_tests, first-put g c records g)
+
+some-after : (n : ℕ) (es : List (ℕ × ContentValue)) (records : List Record) (g : ℕ) → is_some (first g records) ≡ true
+    → is_some (first g (after (take n (adding es)) records)) ≡ true
+some-after zero es records g some = some
+some-after (suc n) [] records g some = some
+some-after (suc n) (e ∷ es) records g some = some-after n es (put_record e.0 e.1 records) g (some-put e.0 e.1 records g some)
+
+added-there : (n : ℕ) (es : List (ℕ × ContentValue)) (records : List Record) (g : ℕ) (ids : List ℕ) → given_by (take n (adding es)) ≡ g ∷ ids
+    → is_some (first g (after (take n (adding es)) records)) ≡ true
+added-there zero es records g ids is = absurd (let no : ⊥ = cc in no)
+added-there (suc n) [] records g ids is = absurd (let no : ⊥ = cc in no)
+added-there (suc n) (e ∷ es) records g ids is =
+    let same : e.0 ≡ g = cc in
+    some-after n es (put_record e.0 e.1 records) g
+    (subst (λ i. is_some (first i (put_record e.0 e.1 records)) ≡ true) same (own-put e.0 e.1 records))
+
+given-there : (n : ℕ) (rows es : List (ℕ × ContentValue)) (records : List Record) (g : ℕ) (ids : List ℕ)
+    → given_by (take n (replaces rows ++ adding es)) ≡ g ∷ ids → is_some (first g (after (take n (replaces rows ++ adding es)) records)) ≡ true
+given-there n [] es records g ids is = added-there n es records g ids is
+given-there zero (r ∷ rows) es records g ids is = absurd (let no : ⊥ = cc in no)
+given-there (suc n) (r ∷ rows) es records g ids is = given-there n rows es (put_record r.0 r.1 records) g ids is
+
+-- ---- so nothing was added
+
+none-given : (a : Action) (x : Found) (ids : List ℕ) (n : ℕ) → GotIds a x ids → given_by (news_done a x ids n) ≡ ids
+    → after (news_done a x ids n) x.records ≡ x.records → ids ≡ []
+none-given a x [] n got all same = refl
+none-given a x (g ∷ ids) n got all same =
+    let new = news-new a x (g ∷ ids) n got all in
+    let there = given-there n (replaced_rows (chosen a x).keep (shown x)) (numbered (g ∷ ids) (chosen a x).adds) x.records g ids all in
+    let no : false ≡ true = sym (ap is_some new.0.none) ∙ ap (λ (rs : List Record). is_some (first g rs)) (sym same) ∙ there in
+    absurd (cc)
+
+pub unwritten-ids : (a : Action) (x : Found) (t : Task) (ids : List ℕ) (n : ℕ) → x.records ≡ records_of t.handheld
+    → StandsWith t (news_done a x ids n) t.handheld → GotIds a x ids → given_by (news_done a x ids n) ≡ ids → [] ≡ ids
+unwritten-ids a x t ids n own stands got all = elim stands [
+  | inl none ↦ sym (ap given_by none.1) ∙ all
+  | inr is ↦
+      sym (none-given a x ids n got all (ap (after (news_done a x ids n)) own ∙ sym (written-records is) ∙ sym own))
+]

@@ -1,0 +1,5 @@
+use Rattle.front_laws.proofs.FrontLaws.{acts-front}
+use Rattle.front_laws.proofs.laws.acts_lead_to_fronts.Goals as goal
+
+pub returns : goal.returns
+returns c = acts-front

@@ -1,0 +1,11 @@
+use Rattle.front_laws.proofs.FrontLaws.{after-none, commit-ids, commit-told, first-told, session-ids, session-told}
+use Rattle.front_laws.proofs.laws.given_ids_are_told.Goals as goal
+
+pub returns : goal.returns
+returns c = record {
+  counted = λ meeting given sound count. (commit-ids meeting given sound count, session-ids meeting given sound count);
+  commit = commit-told;
+  whole = session-told;
+  beginning = first-told;
+  behind = after-none;
+}

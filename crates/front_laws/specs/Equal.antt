@@ -1,0 +1,34 @@
+-- A database of which both sides hold the same.
+use Rattle.std.specs.Prelude.{◌≡◌, ℕ, true, false, List}
+use Rattle.std.specs.List.{AllByRecursion}
+use Rattle.pdb_values.specs.Records.{is_live}
+use Rattle.pdb_values.specs.declared.record.Record.{Record}
+use Rattle.palm_device.specs.Soundness.{AreIds, ids_of}
+use Rattle.conduit_rules.specs.States.{held}
+use Rattle.conduit_rules.specs.Views.{IsHonest}
+use Rattle.sync_session.specs.Choosing.{base_rows, is_fast}
+use Rattle.sync_session.specs.Tasks.{Meeting, records_of, task_of}
+use Rattle.repeat_laws.specs.Repeats.{Ended}
+
+-- a record that is live and not marked as changed
+abbrev pub IsUnmarked : Record → Type 0
+IsUnmarked item = (is_live item ≡ true) × (item.dirty ≡ false)
+
+-- live and unmarked records, each under an id of its own
+pub record AreUnmarked (records : List Record) : Type 0 where
+  pub ids : AreIds (ids_of records)
+  pub each : AllByRecursion IsUnmarked records
+
+-- The handheld's records and the desktop's rows are the same: under each id both have a record of
+-- the same content, or neither has one.
+pub record HasEqualSides (end : Ended) : Type 0 where
+  pub handheld : AreUnmarked end.records
+  pub desktop : AreUnmarked end.rows
+  pub same : (id : ℕ) → held end.records id ≡ held end.rows id
+
+-- A session shows what the handheld holds of a database: it reads all of it, or each record that
+-- it passes over, as it isn't marked, has the content of its base row.
+abbrev pub IsShownWhole : Meeting → List ℕ → Type 0
+IsShownWhole meeting name =
+    is_fast meeting (task_of meeting name) ≡ true
+    → IsHonest (base_rows (task_of meeting name)) (records_of (task_of meeting name).handheld)

@@ -1,2 +1,0 @@
-pub mod MadeMerges
-pub mod Numbers

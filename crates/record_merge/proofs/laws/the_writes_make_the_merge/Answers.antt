@@ -1,0 +1,8 @@
+use Rattle.record_merge.proofs.ShownLaws.{after-all_slow, after-all_fast}
+use Rattle.record_merge.proofs.laws.the_writes_make_the_merge.Goals as goal
+
+pub returns-clause-slow : goal.returns-clause-slow
+returns-clause-slow c = after-all_slow
+
+pub returns-clause-fast : goal.returns-clause-fast
+returns-clause-fast c = after-all_fast

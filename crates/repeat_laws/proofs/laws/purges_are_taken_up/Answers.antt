@@ -1,0 +1,5 @@
+use Rattle.repeat_laws.proofs.RepeatLaws.{purges-alone}
+use Rattle.repeat_laws.proofs.laws.purges_are_taken_up.Goals as goal
+
+pub returns : goal.returns
+returns c = purges-alone

@@ -1,5 +1,0 @@
-use Rattle.session_fronts.proofs.OrderRuns.{read-answered, whole-answered}
-use Rattle.session_fronts.proofs.laws.a_session_is_never_refused.Goals as goal
-
-pub returns : goal.returns
-returns c = record { read = read-answered; whole = whole-answered }

@@ -1,5 +1,0 @@
-use Rattle.session_fronts.proofs.LossLaws.{runs-costless}
-use Rattle.session_fronts.proofs.laws.a_stopped_session_makes_no_new_handheld.Goals as goal
-
-pub returns : goal.returns
-returns c = runs-costless

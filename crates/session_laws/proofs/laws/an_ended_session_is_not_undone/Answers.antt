@@ -1,5 +1,0 @@
-use Rattle.session_laws.proofs.CommitLaws.{at-end}
-use Rattle.session_laws.proofs.laws.an_ended_session_is_not_undone.Goals as goal
-
-pub returns : goal.returns
-returns c = at-end

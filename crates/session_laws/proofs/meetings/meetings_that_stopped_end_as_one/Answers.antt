@@ -1,5 +1,0 @@
-use Rattle.session_laws.proofs.MeetingLaws.{meetings-same}
-use Rattle.session_laws.proofs.meetings.meetings_that_stopped_end_as_one.Goals as goal
-
-pub returns : goal.returns
-returns c = meetings-same
