@@ -1,2 +1,5 @@
+pub mod Addresses
 pub mod Categories
+pub mod Days
 pub mod Strings
+pub mod Tasks

@@ -1,12 +1,21 @@
 //! What stands in the records of a Palm's own applications.
 //!
 //! `until_zero` is the text of a memo and of each string, `category_label` the label that a database gives to a category
-//! of its records. The public sources are the Palm File Format Specification and pilot-link's `memo.h` and
-//! `pi-appinfo.h`.
+//! of its records. `read_address` and `read_task` give what a record says, lent from its bytes, or the place where it
+//! breaks its form. The public sources are the Palm File Format Specification and pilot-link's `memo.h`, `address.h`,
+//! `todo.h`, `datebook.c` and `pi-appinfo.h`.
 #![tactic(auto)]
 
+mod address;
+mod bad_record;
 mod category;
+mod day;
+mod task;
 mod text;
 
+pub use address::{Address, FIELDS, read_address};
+pub use bad_record::BadRecord;
 pub use category::category_label;
+pub use day::Day;
+pub use task::{Task, read_task};
 pub use text::until_zero;

@@ -1,0 +1,18 @@
+// What holds of lines.
+ghost use Rattle.std.specs.Prelude.{◌≡◌, ◌≤◌, ℕ, List, true};
+ghost use Rattle.content_lines.specs.Lines.{escaped, fits, folded, has_no_break, unescaped, unfolded};
+
+/// A value is read again as it was written.
+pub fn values_are_read_again()
+    ensures { (text : List ℕ) → unescaped (escaped text) ≡ text }
+{}
+
+/// So is a line without line breaks.
+pub fn lines_are_read_again()
+    ensures { (used : ℕ) (line : List ℕ) → has_no_break line ≡ true → unfolded (folded used line) ≡ line }
+{}
+
+/// No physical line has more than 75 octets.
+pub fn physical_lines_are_short()
+    ensures { (used : ℕ) (line : List ℕ) → used ≤ 75 → has_no_break line ≡ true → fits used (folded used line) ≡ true }
+{}
