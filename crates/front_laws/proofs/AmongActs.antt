@@ -10,12 +10,13 @@ use Rattle.pdb_values.specs.NamedDatabases.{database_of}
 use Rattle.pdb_values.specs.declared.user.UserInfo.{UserInfo}
 use Rattle.palm_device.specs.Devices.{Device}
 use Rattle.desktop_session.specs.Acts.{acted}
-use Rattle.sync_session.specs.Limits.{first_over}
-use Rattle.sync_session.specs.News.{add_count, all_news, news_acts}
-use Rattle.sync_session.specs.Sessions.{before_commit, before_writes}
-use Rattle.sync_session.specs.Skips.{active}
-use Rattle.sync_session.specs.Tasks.{Meeting, Task}
-use Rattle.sync_session.specs.Users.{begin_mark, begun_user}
+use Rattle.session_plan.specs.Limits.{first_over}
+use Rattle.session_plan.specs.Choosing.{add_count}
+use Rattle.sync_session.specs.News.{all_news, news_acts}
+use Rattle.sync_session.specs.Sessions.{before_commit, before_writes, begin_mark}
+use Rattle.session_plan.specs.Skips.{active}
+use Rattle.session_plan.specs.Tasks.{Meeting, Task}
+use Rattle.session_plan.specs.Users.{begun_user}
 use Rattle.sync_session.proofs.QuietLaws.{quiet-before_writes}
 use Rattle.repeat_laws.proofs.MergedLaws.{NotNamed}
 use Rattle.front_laws.specs.Given.{ids_in}

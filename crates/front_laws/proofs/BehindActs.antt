@@ -16,13 +16,13 @@ use Rattle.record_merge.specs.Writes.{Write, after, clean_up, clearing, giving, 
 use Rattle.desktop_session.specs.Requests.{cleaning, ending, opening, removing, resetting}
 use Rattle.desktop_session.specs.Tellings.{device_after}
 use Rattle.slow_mirror.specs.News.{purge_writes}
-use Rattle.sync_session.specs.Choosing.{choice, seen_held}
-use Rattle.sync_session.specs.Merges.{merged_databases}
-use Rattle.sync_session.specs.News.{add_count, purge_acts}
-use Rattle.sync_session.specs.Sessions.{after_commit}
-use Rattle.sync_session.specs.Skips.{active}
-use Rattle.sync_session.specs.Tasks.{Meeting, Task, slot_of}
-use Rattle.sync_session.specs.Users.{begun_user, done_user, end_mark}
+use Rattle.session_plan.specs.Choosing.{choice, seen_held, add_count}
+use Rattle.session_plan.specs.Merges.{merged_databases}
+use Rattle.sync_session.specs.News.{purge_acts}
+use Rattle.sync_session.specs.Sessions.{after_commit, end_mark}
+use Rattle.session_plan.specs.Skips.{active}
+use Rattle.session_plan.specs.Tasks.{Meeting, Task, slot_of}
+use Rattle.session_plan.specs.Users.{begun_user, done_user}
 use Rattle.repeat_laws.proofs.MergedLaws.{NotNamed}
 use Rattle.front_laws.specs.Given.{ids_in}
 use Rattle.front_laws.specs.Sound.{IsSoundMeeting}

@@ -10,11 +10,11 @@ use Rattle.dlp_commands.specs.Changes.{changes}
 use Rattle.desktop_session.specs.Acts.{Act, acted, text}
 use Rattle.desktop_session.specs.Tellings.{device_after}
 use Rattle.slow_mirror.proofs.ReadLaws.{after_append}
-use Rattle.sync_session.specs.Limits.{first_over}
+use Rattle.session_plan.specs.Limits.{first_over}
 use Rattle.sync_session.specs.Sessions.{adds_of, after_commit, before_commit, requests, session, writes_before_commit}
-use Rattle.sync_session.specs.Skips.{active}
-use Rattle.sync_session.specs.Tasks.{Meeting}
-use Rattle.sync_session.specs.Users.{begun_user}
+use Rattle.session_plan.specs.Skips.{active}
+use Rattle.session_plan.specs.Tasks.{Meeting}
+use Rattle.session_plan.specs.Users.{begun_user}
 use Rattle.sync_session.proofs.IdsLaws.{text-session}
 use Rattle.front_laws.specs.Given.{GetFreeIds, id_in, ids_in}
 use Rattle.front_laws.specs.Sound.{IsSoundMeeting}

@@ -6,9 +6,9 @@ use Rattle.std.specs.Str.{bytes_eq}
 use Rattle.pdb_values.specs.Databases.{DatabaseValue}
 use Rattle.pdb_values.specs.NamedDatabases.{NamesRise, database_of, with_put}
 use Rattle.pdb_values.proofs.NamedLaws.{NamesRise-with_put, bytes_eq-is, bytes_eq-own, database_of-same, database_of-with_put}
-use Rattle.sync_session.specs.Merges.{handheld_before}
-use Rattle.sync_session.specs.News.{add_count}
-use Rattle.sync_session.specs.Tasks.{Meeting, Task}
+use Rattle.session_plan.specs.Merges.{handheld_before}
+use Rattle.session_plan.specs.Choosing.{add_count}
+use Rattle.session_plan.specs.Tasks.{Meeting, Task}
 use Rattle.repeat_laws.proofs.MergedLaws.{NotNamed}
 use Rattle.front_laws.proofs.TaskActs.{IsReady}
 

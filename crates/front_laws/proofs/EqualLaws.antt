@@ -22,7 +22,7 @@ use Rattle.record_merge.specs.Writes.{Write, after, clearing, giving}
 use Rattle.record_merge.proofs.AfterLaws.{after-append, after-clearing}
 use Rattle.record_merge.proofs.HeldLaws.{sides-equal}
 use Rattle.record_merge.proofs.PutLaws.{differ-ids}
-use Rattle.sync_session.specs.Tasks.{Meeting, task_of}
+use Rattle.session_plan.specs.Tasks.{Meeting, task_of}
 use Rattle.repeat_laws.specs.Meetings.{IsActive, action_at, found_of, holding_after, ids_at}
 use Rattle.repeat_laws.specs.Repeats.{Found, GotAllIds, GotIds, IsRead, chosen, ended, shown}
 use Rattle.repeat_laws.proofs.CommitLaws.{no_zero}

@@ -23,15 +23,14 @@ use Rattle.desktop_session.proofs.RequestFits.{at_fits, begin_fits, clean_fits, 
 use Rattle.desktop_session.proofs.RequestFits.{next_fits, of_fits, open_fits, putting_fits, remove_fits, reset_fits, user_fits}
 use Rattle.slow_mirror.specs.News.{as_new, purge_writes, puts}
 use Rattle.slow_mirror.specs.Reads as slow
-use Rattle.sync_session.specs.Choosing.{base_rows, choice, is_fast, seen_held}
-use Rattle.sync_session.specs.Heads.{plain_attributes}
-use Rattle.sync_session.specs.News.{add_count, all_news, made, news_acts, news_by, opened_for, purge_acts, writes}
-use Rattle.sync_session.specs.News.{replaced as replacements}
+use Rattle.session_plan.specs.Choosing.{base_rows, choice, is_fast, seen_held, add_count}
+use Rattle.session_plan.specs.Heads.{plain_attributes}
+use Rattle.sync_session.specs.News.{all_news, made, news_acts, news_by, opened_for, purge_acts, writes, replaced as replacements}
 use Rattle.sync_session.specs.Reads.{fast_reads, opened, read_acts, read_by_id, reads}
-use Rattle.sync_session.specs.Sessions.{after_commit, before_commit, before_writes, listing_all, session}
-use Rattle.sync_session.specs.Skips.{active}
-use Rattle.sync_session.specs.Tasks.{Meeting, Task, records_of, slot_of}
-use Rattle.sync_session.specs.Users.{agreed_user, begin_mark, begun_user, done_user, end_mark, slots_user_stays}
+use Rattle.sync_session.specs.Sessions.{after_commit, before_commit, before_writes, listing_all, session, begin_mark, end_mark}
+use Rattle.session_plan.specs.Skips.{active}
+use Rattle.session_plan.specs.Tasks.{Meeting, Task, records_of, slot_of}
+use Rattle.session_plan.specs.Users.{agreed_user, begun_user, done_user, slots_user_stays}
 use Rattle.front_laws.specs.Sound.{IsSoundMeeting}
 use Rattle.front_laws.proofs.MergeActs.{name_of_both}
 use Rattle.front_laws.proofs.PutActs.{IsReplacement}

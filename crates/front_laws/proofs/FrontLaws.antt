@@ -9,10 +9,10 @@ use Rattle.dlp_commands.specs.DeviceRuns.{Exchange, Ran, exchanged}
 use Rattle.desktop_session.specs.Acts.{Act, text}
 use Rattle.desktop_session.specs.Tellings.{AreSayable, device_after, exchanges}
 use Rattle.desktop_session.proofs.TellLaws.{acts_ran}
-use Rattle.sync_session.specs.Fronts.{Front}
-use Rattle.sync_session.specs.Limits.{first_over}
+use Rattle.sync_session.specs.Fronts.{MeetingFront}
+use Rattle.session_plan.specs.Limits.{first_over}
 use Rattle.sync_session.specs.Sessions.{adds_of, after_commit, before_commit, requests, session, writes_before_commit}
-use Rattle.sync_session.specs.Tasks.{Meeting}
+use Rattle.session_plan.specs.Tasks.{Meeting}
 use Rattle.sync_session.proofs.IdsLaws.{text-session}
 use Rattle.front_laws.specs.Given.{GetFreeIds, ids_in}
 use Rattle.front_laws.specs.Sound.{IsSoundMeeting}
@@ -54,7 +54,7 @@ first-said m given n sound free = sayable-all (take n (session m given)) m.devic
 -- ---- acts lead to a front
 
 pub acts-front : (m : Meeting) (given : List ℕ) (n : ℕ) → IsSoundMeeting m → first_over m ≡ None → GetFreeIds (take n (session m given)) m.device
-    → Front m (length (filter changes (map text (take n (session m given))))) (ids_in (take n (session m given)))
+    → MeetingFront m (length (filter changes (map text (take n (session m given))))) (ids_in (take n (session m given)))
     (device_after (take n (session m given)) m.device)
 acts-front m given n sound none free =
     grind (
@@ -103,7 +103,7 @@ pub record IsActs (m : Meeting) (sound : IsSoundMeeting m) (writes : ℕ) (given
   pub holds : Holds device (device_after acts m.device)
 
 module _ (m : Meeting) (writes : ℕ) (given : List ℕ) (device : Device) (sound : IsSoundMeeting m) (none : first_over m ≡ None)
-    (front : Front m writes given device) where
+    (front : MeetingFront m writes given device) where
   pub front-acts : IsActs m sound writes given device
   front-acts =
       let n = front.count in

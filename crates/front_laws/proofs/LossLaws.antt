@@ -11,12 +11,12 @@ use Rattle.conduit_rules.specs.Plans.{kept_rows}
 use Rattle.conduit_rules.specs.declared.action.Action.{Action}
 use Rattle.conduit_rules.specs.declared.action.Action.TheVariants.{Sync, Handheld, Desktop}
 use Rattle.run_words.specs.Actions.{action_for}
-use Rattle.sync_session.specs.Choosing.{action_or_sync, agrees, is_sync, view}
-use Rattle.sync_session.specs.Limits.{first_over}
-use Rattle.sync_session.specs.Losses.{first_loss, is_loss, is_lost, is_new, is_new_to}
-use Rattle.sync_session.specs.Merges.{merged_slot}
-use Rattle.sync_session.specs.Skips.{active, head_of, reason_by, skip_of}
-use Rattle.sync_session.specs.Tasks.{Meeting, Task, action_of_word, names, records_of, slot_of, task_of}
+use Rattle.session_plan.specs.Choosing.{action_or_sync, agrees, is_sync, view}
+use Rattle.session_plan.specs.Limits.{first_over}
+use Rattle.session_plan.specs.Losses.{first_loss, is_loss, is_lost, is_new, is_new_to}
+use Rattle.session_plan.specs.Merges.{merged_slot}
+use Rattle.session_plan.specs.Skips.{active, head_of, reason_by, skip_of}
+use Rattle.session_plan.specs.Tasks.{Meeting, Task, action_of_word, names, records_of, slot_of, task_of}
 use Rattle.repeat_laws.specs.Losses.{loses_rows}
 use Rattle.repeat_laws.specs.Meetings.{AsksTheSame, IsActive, LeftMerged, action_at, found_of, ids_at}
 use Rattle.repeat_laws.specs.Repeats.{Found, GotIds, IsRead, MayStop, Place, among_news, at_end, before_mark, behind_commit, chosen, left}

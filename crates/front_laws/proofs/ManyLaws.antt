@@ -16,8 +16,8 @@ use Rattle.record_merge.specs.Writes.{replaces}
 use Rattle.record_merge.proofs.HeldLaws.{held-merged}
 use Rattle.record_merge.proofs.PutLaws.{differ-ids}
 use Rattle.record_merge.proofs.SettledLaws.{based-merged}
-use Rattle.sync_session.specs.Limits.{first_over}
-use Rattle.sync_session.specs.Tasks.{Meeting, task_of}
+use Rattle.session_plan.specs.Limits.{first_over}
+use Rattle.session_plan.specs.Tasks.{Meeting, task_of}
 use Rattle.repeat_laws.specs.Meetings.{AllFollow, Follows, IsActive, action_at, found_of, holding_after, ids_at, last_of, places_of}
 use Rattle.repeat_laws.specs.Renaming.{AreUnknown, SameEnds}
 use Rattle.repeat_laws.specs.Repeats.{AreStops, Found, GotAllIds, GotIds, IsRead, MayStop, NoneUnderGone, Place, all_ids, among_news, at_end, before_mark}

@@ -17,15 +17,15 @@ use Rattle.desktop_session.specs.Requests.{ending}
 use Rattle.desktop_session.specs.Tellings.{device_after}
 use Rattle.desktop_session.proofs.ChangeRows.{marked_does}
 use Rattle.slow_mirror.proofs.ReadLaws.{after_append}
-use Rattle.sync_session.specs.Choosing.{base_rows, choice, is_fast, seen_held, sides, view}
-use Rattle.sync_session.specs.Limits.{first_over}
-use Rattle.sync_session.specs.Merges.{merged_databases, merged_device}
-use Rattle.sync_session.specs.News.{add_count, all_news, purge_acts}
+use Rattle.session_plan.specs.Choosing.{base_rows, choice, is_fast, seen_held, sides, view, add_count}
+use Rattle.session_plan.specs.Limits.{first_over}
+use Rattle.session_plan.specs.Merges.{merged_databases, merged_device}
+use Rattle.sync_session.specs.News.{all_news, purge_acts}
 use Rattle.sync_session.specs.Reads.{read_acts}
-use Rattle.sync_session.specs.Sessions.{after_commit, before_commit, before_writes, listing_all, session}
-use Rattle.sync_session.specs.Skips.{active}
-use Rattle.sync_session.specs.Tasks.{Meeting, Task, records_of, slot_of}
-use Rattle.sync_session.specs.Users.{agreed_name, begin_mark, begun_user, done_user, end_mark}
+use Rattle.sync_session.specs.Sessions.{after_commit, before_commit, before_writes, listing_all, session, begin_mark, end_mark}
+use Rattle.session_plan.specs.Skips.{active}
+use Rattle.session_plan.specs.Tasks.{Meeting, Task, records_of, slot_of}
+use Rattle.session_plan.specs.Users.{agreed_name, begun_user, done_user}
 use Rattle.front_laws.specs.Given.{GetFreeIds}
 use Rattle.front_laws.specs.Sound.{IsSoundMeeting}
 use Rattle.front_laws.proofs.EachLaws.{changed-each, others-each, put_each, rise-each, same-each}

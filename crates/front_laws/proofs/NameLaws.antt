@@ -16,11 +16,10 @@ use Rattle.conduit_rules.specs.Choices.{Choice}
 use Rattle.conduit_rules.specs.States.{Held}
 use Rattle.record_merge.specs.Writes.{GotFreeIds, Write, after, clearing, giving}
 use Rattle.record_merge.proofs.AfterLaws.{after-append}
-use Rattle.sync_session.specs.Choosing.{action_or_sync, choice, seen_held}
-use Rattle.sync_session.specs.Merges.{merged_device}
-use Rattle.sync_session.specs.News.{add_count}
-use Rattle.sync_session.specs.Skips.{active, skip_of}
-use Rattle.sync_session.specs.Tasks.{Meeting, Task, names, records_of, task_of, tasks}
+use Rattle.session_plan.specs.Choosing.{action_or_sync, choice, seen_held, add_count}
+use Rattle.session_plan.specs.Merges.{merged_device}
+use Rattle.session_plan.specs.Skips.{active, skip_of}
+use Rattle.session_plan.specs.Tasks.{Meeting, Task, names, records_of, task_of, tasks}
 use Rattle.repeat_laws.specs.Meetings.{IsActive, found, ids_at, ids_dealt}
 use Rattle.repeat_laws.specs.Repeats.{GotAllIds, GotIds, chosen, clearing_done, given_by, news_done, shown}
 use Rattle.repeat_laws.proofs.MergedLaws.{AreTasks, IsTask, NotNamed}

@@ -21,12 +21,12 @@ use Rattle.conduit_rules.specs.Choices.{Choice}
 use Rattle.conduit_rules.specs.States.{Held, first}
 use Rattle.record_merge.specs.Writes.{AreFree, GotFreeIds, after, numbered, replaces}
 use Rattle.record_merge.proofs.PutLaws.{first-put}
-use Rattle.sync_session.specs.Choosing.{action_or_sync, base_rows, base_rows_by, choice, seen_held}
-use Rattle.sync_session.specs.Limits.{first_behind, first_over}
-use Rattle.sync_session.specs.Merges.{handheld_before}
-use Rattle.sync_session.specs.News.{add_count, replaced as replacements}
-use Rattle.sync_session.specs.Skips.{active}
-use Rattle.sync_session.specs.Tasks.{Meeting, Task, records_of, slot_of, task_of}
+use Rattle.session_plan.specs.Choosing.{action_or_sync, base_rows, base_rows_by, choice, seen_held, add_count}
+use Rattle.session_plan.specs.Limits.{first_behind, first_over}
+use Rattle.session_plan.specs.Merges.{handheld_before}
+use Rattle.sync_session.specs.News.{replaced as replacements}
+use Rattle.session_plan.specs.Skips.{active}
+use Rattle.session_plan.specs.Tasks.{Meeting, Task, records_of, slot_of, task_of}
 use Rattle.repeat_laws.specs.Meetings.{IsActive, action_at, found, found_of, ids_at, ids_dealt}
 use Rattle.repeat_laws.specs.Renaming.{AreUnknown, is_known}
 use Rattle.repeat_laws.specs.Repeats.{Found, GotAllIds}

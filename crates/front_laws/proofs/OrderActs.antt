@@ -23,12 +23,12 @@ use Rattle.desktop_session.specs.Orders.{AreInOrder, HasRecordAt, HasRecords, Is
 use Rattle.desktop_session.specs.Requests.{beginning, closing, counting, listing, listing_ids, opening, reading_at, reading_next, reading_of}
 use Rattle.desktop_session.specs.Tellings.{device_after}
 use Rattle.slow_mirror.specs.Reads as slow
-use Rattle.sync_session.specs.Choosing.{base_rows, is_fast}
-use Rattle.sync_session.specs.Merges.{handheld_before}
+use Rattle.session_plan.specs.Choosing.{base_rows, is_fast}
+use Rattle.session_plan.specs.Merges.{handheld_before}
 use Rattle.sync_session.specs.Reads.{fast_reads, opened, read_acts, read_by_id, reads}
 use Rattle.sync_session.specs.Sessions.{before_writes, listing_all}
-use Rattle.sync_session.specs.Skips.{active}
-use Rattle.sync_session.specs.Tasks.{Meeting, Task, records_of}
+use Rattle.session_plan.specs.Skips.{active}
+use Rattle.session_plan.specs.Tasks.{Meeting, Task, records_of}
 use Rattle.sync_session.proofs.QuietLaws.{quiet-before_writes}
 use Rattle.front_laws.specs.Given.{GetFreeIds}
 use Rattle.front_laws.specs.Sound.{IsSoundMeeting}

@@ -10,9 +10,9 @@ use Rattle.desktop_session.specs.Tellings.{IsProper, IsSayable, exchanges, told}
 use Rattle.desktop_session.proofs.ActLaws.{read_back}
 use Rattle.desktop_session.proofs.OrderLaws.{order_answered}
 use Rattle.desktop_session.proofs.TellLaws.{acted_proper, acted_reads}
-use Rattle.sync_session.specs.Limits.{first_over}
+use Rattle.session_plan.specs.Limits.{first_over}
 use Rattle.sync_session.specs.Sessions.{before_writes, requests, session}
-use Rattle.sync_session.specs.Tasks.{Meeting}
+use Rattle.session_plan.specs.Tasks.{Meeting}
 use Rattle.sync_session.proofs.QuietLaws.{quiet-before_writes}
 use Rattle.front_laws.specs.Answered.{IsAnsweredExchange}
 use Rattle.front_laws.specs.Given.{GetFreeIds}

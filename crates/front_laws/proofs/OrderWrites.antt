@@ -27,17 +27,16 @@ use Rattle.desktop_session.proofs.ChangeRows.{mark_possible}
 use Rattle.desktop_session.proofs.OrderLaws.{order_answered}
 use Rattle.slow_mirror.specs.News.{as_new, purge_writes, puts}
 use Rattle.slow_mirror.proofs.ReadLaws.{after_append}
-use Rattle.sync_session.specs.Choosing.{choice, seen_held}
-use Rattle.sync_session.specs.Heads.{made_head}
-use Rattle.sync_session.specs.Limits.{first_over}
-use Rattle.sync_session.specs.Merges.{new_database}
-use Rattle.sync_session.specs.News.{add_count, all_news, made, news_acts, news_by, opened_for, purge_acts, writes}
-use Rattle.sync_session.specs.News.{replaced as replacements}
+use Rattle.session_plan.specs.Choosing.{choice, seen_held, add_count}
+use Rattle.session_plan.specs.Heads.{made_head}
+use Rattle.session_plan.specs.Limits.{first_over}
+use Rattle.session_plan.specs.Merges.{new_database}
+use Rattle.sync_session.specs.News.{all_news, made, news_acts, news_by, opened_for, purge_acts, writes, replaced as replacements}
 use Rattle.sync_session.specs.Reads.{opened}
-use Rattle.sync_session.specs.Sessions.{after_commit, before_commit, before_writes, session}
-use Rattle.sync_session.specs.Skips.{active}
-use Rattle.sync_session.specs.Tasks.{Meeting, Task, slot_of}
-use Rattle.sync_session.specs.Users.{begin_mark, begun_user, done_user, end_mark}
+use Rattle.sync_session.specs.Sessions.{after_commit, before_commit, before_writes, session, begin_mark, end_mark}
+use Rattle.session_plan.specs.Skips.{active}
+use Rattle.session_plan.specs.Tasks.{Meeting, Task, slot_of}
+use Rattle.session_plan.specs.Users.{begun_user, done_user}
 use Rattle.front_laws.specs.Given.{GetFreeIds}
 use Rattle.front_laws.specs.Sound.{IsSoundMeeting}
 use Rattle.front_laws.proofs.EachLaws.{AreChanged, AreReady, HaveNames, changed-each, changed-other, put_at_task, put_each}

@@ -25,12 +25,11 @@ use Rattle.desktop_session.specs.Acts.{Act, acted}
 use Rattle.desktop_session.specs.Requests.{closing, making, opening, putting}
 use Rattle.desktop_session.specs.Tellings.{device_after}
 use Rattle.slow_mirror.specs.News.{as_new, puts}
-use Rattle.sync_session.specs.Choosing.{choice, seen_held}
-use Rattle.sync_session.specs.Heads.{made_head}
-use Rattle.sync_session.specs.News.{add_count, news_acts, news_by, opened_for, writes}
-use Rattle.sync_session.specs.News.{replaced as replacements}
+use Rattle.session_plan.specs.Choosing.{choice, seen_held, add_count}
+use Rattle.session_plan.specs.Heads.{made_head}
+use Rattle.sync_session.specs.News.{news_acts, news_by, opened_for, writes, replaced as replacements}
 use Rattle.sync_session.specs.Reads.{opened}
-use Rattle.sync_session.specs.Tasks.{Meeting, Task}
+use Rattle.session_plan.specs.Tasks.{Meeting, Task}
 use Rattle.repeat_laws.specs.Repeats.{given_by}
 use Rattle.front_laws.specs.Given.{id_in, ids_in}
 use Rattle.front_laws.proofs.AlongLaws.{Along, Holds, along-append, along-last, along-map, along-quiet, none-in, none-told}

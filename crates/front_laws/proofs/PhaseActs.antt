@@ -18,14 +18,14 @@ use Rattle.record_merge.specs.Writes.{after, clearing, giving, whole}
 use Rattle.record_merge.proofs.AfterLaws.{after-append}
 use Rattle.desktop_session.specs.Tellings.{device_after}
 use Rattle.slow_mirror.proofs.ReadLaws.{after_append}
-use Rattle.sync_session.specs.Choosing.{choice, seen_held}
-use Rattle.sync_session.specs.Limits.{first_behind, sizes_of, with_one}
-use Rattle.sync_session.specs.Merges.{handheld_before, merged_databases, put_merged}
-use Rattle.sync_session.specs.News.{add_count, all_news, news_acts, purge_acts}
+use Rattle.session_plan.specs.Choosing.{choice, seen_held, add_count}
+use Rattle.session_plan.specs.Limits.{first_behind, sizes_of, with_one}
+use Rattle.session_plan.specs.Merges.{handheld_before, merged_databases, put_merged}
+use Rattle.sync_session.specs.News.{all_news, news_acts, purge_acts}
 use Rattle.sync_session.specs.Reads.{opened, read_acts, reads}
-use Rattle.sync_session.specs.Sizes.{is_over}
-use Rattle.sync_session.specs.Tasks.{Meeting, Task, records_of}
-use Rattle.sync_session.specs.declared.sizes.Sizes.{Sizes}
+use Rattle.session_plan.specs.Sizes.{is_over}
+use Rattle.session_plan.specs.Tasks.{Meeting, Task, records_of}
+use Rattle.session_plan.specs.declared.sizes.Sizes.{Sizes}
 use Rattle.repeat_laws.proofs.MergedLaws.{NotNamed}
 use Rattle.front_laws.specs.Given.{GetFreeIds}
 use Rattle.front_laws.proofs.CountLaws.{appended-count}

@@ -16,9 +16,9 @@ use Rattle.desktop_session.specs.Lists.{id_listings, id_parts}
 use Rattle.desktop_session.specs.Requests.{counting, opening, reading_next, reading_of}
 use Rattle.desktop_session.specs.Tellings.{device_after}
 use Rattle.slow_mirror.specs.Reads as slow
-use Rattle.sync_session.specs.Choosing.{base_rows, is_fast}
+use Rattle.session_plan.specs.Choosing.{base_rows, is_fast}
 use Rattle.sync_session.specs.Reads.{fast_reads, opened, read_by_id, reads}
-use Rattle.sync_session.specs.Tasks.{Meeting, Task, records_of}
+use Rattle.session_plan.specs.Tasks.{Meeting, Task, records_of}
 use Rattle.front_laws.proofs.OpenActs.{KeepsOpen, all_closed, around, count_same, keeps-append, keeps-flat_map, keeps-id_listings, keeps-next, keeps-nil}
 use Rattle.front_laws.proofs.OpenActs.{keeps-replicate, keeps-same, keeps-slow, of_same, open_does}
 

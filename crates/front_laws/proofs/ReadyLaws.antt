@@ -25,12 +25,12 @@ use Rattle.record_merge.specs.Merging.{AreBounded, ShowsNoOther}
 use Rattle.record_merge.proofs.AfterLaws.{apart-rising}
 use Rattle.record_merge.proofs.SettledLaws.{first-zero}
 use Rattle.record_merge.proofs.ShownLaws.{fast-no_other, slow-no_other}
-use Rattle.sync_session.specs.Choosing.{action_or_sync, agrees, base_rows, choice, is_fast, seen_held, sides, view}
-use Rattle.sync_session.specs.Heads.{made_head}
-use Rattle.sync_session.specs.Merges.{handheld_before, new_database}
+use Rattle.session_plan.specs.Choosing.{action_or_sync, agrees, base_rows, choice, is_fast, seen_held, sides, view}
+use Rattle.session_plan.specs.Heads.{made_head}
+use Rattle.session_plan.specs.Merges.{handheld_before, new_database}
 use Rattle.sync_session.specs.News.{replaced as replacements}
-use Rattle.sync_session.specs.Skips.{active, head_of, one_passes, reason_by, skip_of}
-use Rattle.sync_session.specs.Tasks.{Meeting, Task, names, records_of, slot_of, task_of, tasks}
+use Rattle.session_plan.specs.Skips.{active, head_of, one_passes, reason_by, skip_of}
+use Rattle.session_plan.specs.Tasks.{Meeting, Task, names, records_of, slot_of, task_of, tasks}
 use Rattle.repeat_laws.proofs.MergedLaws.{AreTasks}
 use Rattle.repeat_laws.proofs.SkipLaws.{handheld-like}
 use Rattle.repeat_laws.proofs.TaskLaws.{are-active, on_a_side}

@@ -10,15 +10,13 @@ use Rattle.conduit_rules.specs.Plans.{purged_ids}
 use Rattle.desktop_session.specs.Acts.{Act}
 use Rattle.desktop_session.specs.Requests.{cleaning, closing, ending, making, opening, removing, resetting}
 use Rattle.slow_mirror.specs.News.{as_new, purge_writes, puts}
-use Rattle.sync_session.specs.Choosing.{choice, seen_held}
-use Rattle.sync_session.specs.Heads.{made_head}
-use Rattle.sync_session.specs.Merges.{handheld_before}
-use Rattle.sync_session.specs.News.{add_count, all_news, made, news_acts, news_by, opened_for, purge_acts, writes}
-use Rattle.sync_session.specs.News.{replaced as replacements}
-use Rattle.sync_session.specs.Sessions.{adds_of, after_commit, before_commit, before_writes, session}
-use Rattle.sync_session.specs.Skips.{active}
-use Rattle.sync_session.specs.Tasks.{Meeting, Task}
-use Rattle.sync_session.specs.Users.{begin_mark, end_mark}
+use Rattle.session_plan.specs.Choosing.{choice, seen_held, add_count}
+use Rattle.session_plan.specs.Heads.{made_head}
+use Rattle.session_plan.specs.Merges.{handheld_before}
+use Rattle.sync_session.specs.News.{all_news, made, news_acts, news_by, opened_for, purge_acts, writes, replaced as replacements}
+use Rattle.sync_session.specs.Sessions.{adds_of, after_commit, before_commit, before_writes, session, begin_mark, end_mark}
+use Rattle.session_plan.specs.Skips.{active}
+use Rattle.session_plan.specs.Tasks.{Meeting, Task}
 use Rattle.sync_session.proofs.QuietLaws.{quiet-before_writes}
 use Rattle.front_laws.specs.Given.{ids_in}
 use Rattle.front_laws.specs.Sound.{IsSoundMeeting}

@@ -13,13 +13,13 @@ use Rattle.pdb_values.proofs.NamedLaws.{database_of-with_put, length-replaced, l
 use Rattle.desk_store.specs.Desks.{all_rows}
 use Rattle.desk_store.specs.Shelves.{ShelvesValue, SlotValue, new_slot, number_of, with_place}
 use Rattle.desk_store.proofs.SlotListLaws.{place_there, with_place-cases}
-use Rattle.sync_session.specs.Limits.{first_behind, first_over, sizes_of, with_one}
-use Rattle.sync_session.specs.Merges.{merged_of, merged_shelves, merged_slot, merged_slots, rows_before, shelve}
-use Rattle.sync_session.specs.News.{add_count}
-use Rattle.sync_session.specs.Sizes.{is_over}
-use Rattle.sync_session.specs.Skips.{active}
-use Rattle.sync_session.specs.Tasks.{Meeting, Task, slot_of, task_of}
-use Rattle.sync_session.specs.declared.sizes.Sizes.{Sizes}
+use Rattle.session_plan.specs.Limits.{first_behind, first_over, sizes_of, with_one}
+use Rattle.session_plan.specs.Merges.{merged_of, merged_shelves, merged_slot, merged_slots, rows_before, shelve}
+use Rattle.session_plan.specs.Choosing.{add_count}
+use Rattle.session_plan.specs.Sizes.{is_over}
+use Rattle.session_plan.specs.Skips.{active}
+use Rattle.session_plan.specs.Tasks.{Meeting, Task, slot_of, task_of}
+use Rattle.session_plan.specs.declared.sizes.Sizes.{Sizes}
 use Rattle.repeat_laws.proofs.MergedLaws.{AreTasks}
 use Rattle.repeat_laws.proofs.ShelfLaws.{rows_name}
 use Rattle.repeat_laws.proofs.TaskLaws.{are-active}

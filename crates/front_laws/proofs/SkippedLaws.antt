@@ -6,9 +6,9 @@ use Rattle.pdb_values.specs.NamedDatabases.{database_of}
 use Rattle.palm_device.specs.Devices.{Device}
 use Rattle.desk_store.specs.Shelves.{ShelvesValue, SlotValue}
 use Rattle.run_words.specs.Actions.{action_for}
-use Rattle.sync_session.specs.Merges.{merged_databases, merged_device, merged_shelves, merged_slot}
-use Rattle.sync_session.specs.Skips.{active, head_of, reason_by, skip_of}
-use Rattle.sync_session.specs.Tasks.{Meeting, action_of_word, slot_of, task_of}
+use Rattle.session_plan.specs.Merges.{merged_databases, merged_device, merged_shelves, merged_slot}
+use Rattle.session_plan.specs.Skips.{active, head_of, reason_by, skip_of}
+use Rattle.session_plan.specs.Tasks.{Meeting, action_of_word, slot_of, task_of}
 use Rattle.repeat_laws.specs.Meetings.{AsksTheSame, IsActive}
 use Rattle.repeat_laws.proofs.MergedLaws.{handheld-others}
 use Rattle.repeat_laws.proofs.ShelfLaws.{archive-head, archive_in, base-head, base_in, rows-head, rows_in, shelf-others}

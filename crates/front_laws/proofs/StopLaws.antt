@@ -24,13 +24,13 @@ use Rattle.desk_store.specs.Shelves.{SlotValue}
 use Rattle.fast_mirror.specs.Agreements.{agreed}
 use Rattle.run_words.specs.Actions.{action_for}
 use Rattle.run_words.specs.declared.action.NamedAction.{NamedAction}
-use Rattle.sync_session.specs.Archives.{entries_of}
-use Rattle.sync_session.specs.Choosing.{action_or_sync, agrees, base_rows_by, is_fast, is_fast_by, view}
-use Rattle.sync_session.specs.Limits.{first_over}
-use Rattle.sync_session.specs.Merges.{merged_databases, merged_device, merged_slot}
-use Rattle.sync_session.specs.Skips.{active, head_of, reason_by, skip_of}
-use Rattle.sync_session.specs.Tasks.{Meeting, Task, action_of_word, records_of, slot_of, task_of}
-use Rattle.sync_session.specs.Users.{begun_user}
+use Rattle.session_plan.specs.Archives.{entries_of}
+use Rattle.session_plan.specs.Choosing.{action_or_sync, agrees, base_rows_by, is_fast, is_fast_by, view}
+use Rattle.session_plan.specs.Limits.{first_over}
+use Rattle.session_plan.specs.Merges.{merged_databases, merged_device, merged_slot}
+use Rattle.session_plan.specs.Skips.{active, head_of, reason_by, skip_of}
+use Rattle.session_plan.specs.Tasks.{Meeting, Task, action_of_word, records_of, slot_of, task_of}
+use Rattle.session_plan.specs.Users.{begun_user}
 use Rattle.repeat_laws.specs.Meetings.{AsksTheSame, Follows, IsActive, IsLikeFirst, LeftAmongNews, LeftAtEnd, LeftBehindCommit, LeftMerged, StandsLike}
 use Rattle.repeat_laws.specs.Meetings.{action_at, found_of, holding_after, ids_at}
 use Rattle.repeat_laws.specs.Renaming.{AreUnknown, SameEnds}

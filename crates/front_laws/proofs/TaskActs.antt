@@ -27,13 +27,12 @@ use Rattle.desktop_session.specs.Tellings.{device_after}
 use Rattle.desktop_session.proofs.ChangeRows.{made_does}
 use Rattle.slow_mirror.specs.News.{as_new, purge_writes, puts}
 use Rattle.slow_mirror.proofs.ReadLaws.{after_append}
-use Rattle.sync_session.specs.Choosing.{choice, seen_held}
-use Rattle.sync_session.specs.Heads.{made_head}
-use Rattle.sync_session.specs.Merges.{handheld_before, new_database}
-use Rattle.sync_session.specs.News.{add_count, made, news_acts, news_by, opened_for, purge_acts, writes}
-use Rattle.sync_session.specs.News.{replaced as replacements}
+use Rattle.session_plan.specs.Choosing.{choice, seen_held, add_count}
+use Rattle.session_plan.specs.Heads.{made_head}
+use Rattle.session_plan.specs.Merges.{handheld_before, new_database}
+use Rattle.sync_session.specs.News.{made, news_acts, news_by, opened_for, purge_acts, writes, replaced as replacements}
 use Rattle.sync_session.specs.Reads.{opened}
-use Rattle.sync_session.specs.Tasks.{Meeting, Task}
+use Rattle.session_plan.specs.Tasks.{Meeting, Task}
 use Rattle.front_laws.specs.Given.{GetFreeIds}
 use Rattle.front_laws.proofs.OpenActs.{all_closed, around, one_open, open_does}
 use Rattle.front_laws.proofs.PutActs.{IsReplacement, adds_do, free-append, free-front, puts-append, replaces_do, replaces-length}

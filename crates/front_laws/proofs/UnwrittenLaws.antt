@@ -12,8 +12,8 @@ use Rattle.conduit_rules.specs.States.{first}
 use Rattle.conduit_rules.specs.declared.action.Action.{Action}
 use Rattle.record_merge.specs.Writes.{Write, adding, after, numbered, replaces}
 use Rattle.record_merge.proofs.PutLaws.{first-put}
-use Rattle.sync_session.specs.Merges.{handheld_before}
-use Rattle.sync_session.specs.Tasks.{Task, records_of}
+use Rattle.session_plan.specs.Merges.{handheld_before}
+use Rattle.session_plan.specs.Tasks.{Task, records_of}
 use Rattle.repeat_laws.specs.Repeats.{Found, GotIds, chosen, given_by, news_done, shown}
 use Rattle.front_laws.specs.Stops.{IsWritten, StandsWith}
 use Rattle.front_laws.proofs.UnknownLaws.{news-new}

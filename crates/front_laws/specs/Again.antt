@@ -7,12 +7,12 @@ use Rattle.conduit_rules.specs.Views.{IsHonest}
 use Rattle.conduit_rules.specs.declared.action.Action.TheVariants.{Desktop}
 use Rattle.record_merge.specs.Stops.{NoBase}
 use Rattle.desk_store.specs.Shelves.{SlotValue}
-use Rattle.sync_session.specs.Choosing.{base_rows, is_fast}
-use Rattle.sync_session.specs.Fronts.{Front}
-use Rattle.sync_session.specs.Limits.{first_over}
-use Rattle.sync_session.specs.Merges.{merged_slot}
+use Rattle.session_plan.specs.Choosing.{base_rows, is_fast}
+use Rattle.sync_session.specs.Fronts.{MeetingFront}
+use Rattle.session_plan.specs.Limits.{first_over}
+use Rattle.session_plan.specs.Merges.{merged_slot}
 use Rattle.sync_session.specs.Sessions.{writes_before_commit}
-use Rattle.sync_session.specs.Tasks.{Meeting, records_of, slot_of, task_of}
+use Rattle.session_plan.specs.Tasks.{Meeting, records_of, slot_of, task_of}
 use Rattle.repeat_laws.specs.Meetings.{AsksTheSame, IsActive, action_at, found_of, holding_after, ids_at}
 use Rattle.repeat_laws.specs.Renaming.{AreUnknown}
 use Rattle.repeat_laws.specs.Repeats.{EndAlike, GotIds, NoneUnderGone, ended}
@@ -26,7 +26,7 @@ HasSlot meeting next writes given =
 
 -- the next meeting finds the handheld at a front of the one that stopped, and asks the same but for the date; the desktop has a number
 pub record RunsAgain (meeting next : Meeting) (writes : ℕ) (given : List ℕ) : Type 0 where
-  pub front : Front meeting writes given next.device
+  pub front : MeetingFront meeting writes given next.device
   pub slot : HasSlot meeting next writes given
   pub asks : AsksTheSame meeting next
   pub number : 0 < (slot_of meeting).marks.pc

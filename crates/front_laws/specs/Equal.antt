@@ -6,8 +6,8 @@ use Rattle.pdb_values.specs.declared.record.Record.{Record}
 use Rattle.palm_device.specs.Soundness.{AreIds, ids_of}
 use Rattle.conduit_rules.specs.States.{held}
 use Rattle.conduit_rules.specs.Views.{IsHonest}
-use Rattle.sync_session.specs.Choosing.{base_rows, is_fast}
-use Rattle.sync_session.specs.Tasks.{Meeting, records_of, task_of}
+use Rattle.session_plan.specs.Choosing.{base_rows, is_fast}
+use Rattle.session_plan.specs.Tasks.{Meeting, records_of, task_of}
 use Rattle.repeat_laws.specs.Repeats.{Ended}
 
 -- a record that is live and not marked as changed

@@ -5,7 +5,7 @@ use Rattle.palm_device.specs.Bounds.{IsBoundedDatabase}
 use Rattle.palm_device.specs.Handles.{no_handles}
 use Rattle.desktop_session.specs.Tellings.{IsProper}
 use Rattle.desk_store.specs.Shelves.{SlotValue}
-use Rattle.sync_session.specs.Tasks.{Meeting, slot_of}
+use Rattle.session_plan.specs.Tasks.{Meeting, slot_of}
 
 -- rows and base rows within the bounds of databases, numbers of 32 bits, and a user's name of at most 40 bytes, none of them zero
 pub record IsSoundSlot (slot : SlotValue) : Type 0 where

@@ -6,10 +6,10 @@ use Rattle.pdb_values.specs.NamedDatabases.{database_of}
 use Rattle.palm_device.specs.Devices.{Device}
 use Rattle.palm_device.specs.Records.{with_records}
 use Rattle.record_merge.specs.Writes.{Write, after, giving}
-use Rattle.sync_session.specs.Merges.{handheld_before, merged_device}
-use Rattle.sync_session.specs.Skips.{active}
-use Rattle.sync_session.specs.Tasks.{Meeting, Task, task_of}
-use Rattle.sync_session.specs.Users.{begun_user}
+use Rattle.session_plan.specs.Merges.{handheld_before, merged_device}
+use Rattle.session_plan.specs.Skips.{active}
+use Rattle.session_plan.specs.Tasks.{Meeting, Task, task_of}
+use Rattle.session_plan.specs.Users.{begun_user}
 use Rattle.repeat_laws.specs.Meetings.{IsActive, action_at, found_of, ids_at}
 use Rattle.repeat_laws.specs.Repeats.{GotAllIds, GotIds, chosen, clearing_done, given_by, news_done, shown}
 

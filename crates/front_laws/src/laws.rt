@@ -9,13 +9,12 @@ ghost use Rattle.desktop_session.specs.Acts.{Act, text};
 ghost use Rattle.desktop_session.specs.Orders.{AreAnswered, AreInOrder};
 ghost use Rattle.desktop_session.specs.Requests.{ending};
 ghost use Rattle.desktop_session.specs.Tellings.{AreSayable, device_after, exchanges};
-ghost use Rattle.sync_session.specs.Fronts.{Front};
-ghost use Rattle.sync_session.specs.Limits.{first_over};
-ghost use Rattle.sync_session.specs.Losses.{first_loss};
-ghost use Rattle.sync_session.specs.Merges.{merged_device, merged_slot};
-ghost use Rattle.sync_session.specs.Sessions.{adds_of, after_commit, before_commit, before_writes, session};
-ghost use Rattle.sync_session.specs.Sessions.{requests, writes_before_commit};
-ghost use Rattle.sync_session.specs.Tasks.{Meeting};
+ghost use Rattle.sync_session.specs.Fronts.{MeetingFront};
+ghost use Rattle.session_plan.specs.Limits.{first_over};
+ghost use Rattle.session_plan.specs.Losses.{first_loss};
+ghost use Rattle.session_plan.specs.Merges.{merged_device, merged_slot};
+ghost use Rattle.sync_session.specs.Sessions.{adds_of, after_commit, before_commit, before_writes, session, requests, writes_before_commit};
+ghost use Rattle.session_plan.specs.Tasks.{Meeting};
 ghost use Rattle.repeat_laws.specs.Meetings.{IsActive, action_at, found_of, holding_after, ids_at};
 ghost use Rattle.repeat_laws.specs.Renaming.{AreUnknown, SameEnds};
 ghost use Rattle.repeat_laws.specs.Repeats.{GotAllIds};
@@ -99,7 +98,7 @@ pub fn acts_lead_to_fronts()
         → first_over meeting ≡ None
         → let acts = take n (session meeting given) in
         GetFreeIds acts meeting.device
-        → Front meeting (length (filter changes (map text acts))) (ids_in acts)
+        → MeetingFront meeting (length (filter changes (map text acts))) (ids_in acts)
         (device_after acts meeting.device) }
 {}
 
@@ -134,10 +133,10 @@ pub fn given_ids_are_told()
 /// and one with no fewer is behind the commit.
 pub fn fronts_stand()
     ensures news { (meeting : Meeting) (writes : ℕ) (given : List ℕ) (device : Device)
-        → IsSoundMeeting meeting → first_over meeting ≡ None → Front meeting writes given device
+        → IsSoundMeeting meeting → first_over meeting ≡ None → MeetingFront meeting writes given device
         → writes ≤ writes_before_commit meeting → StandsAmongNews meeting given device }
     ensures commit { (meeting : Meeting) (writes : ℕ) (given : List ℕ) (device : Device)
-        → IsSoundMeeting meeting → first_over meeting ≡ None → Front meeting writes given device
+        → IsSoundMeeting meeting → first_over meeting ≡ None → MeetingFront meeting writes given device
         → writes_before_commit meeting ≤ writes → StandsBehindCommit meeting given device }
 {}
 

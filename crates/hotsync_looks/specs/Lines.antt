@@ -17,12 +17,12 @@ use Rattle.hotsync_looks.specs.declared.status.Status.{Status}
 use Rattle.hotsync_looks.specs.declared.status.Status.TheVariants.{Done, Usage, BadScript, TooLong, BadFile, TooMany, HandheldFolder, DesktopFolder, SourceRead}
 use Rattle.hotsync_looks.specs.declared.status.Status.TheVariants.{TraceWrite, OutWrite, NoMemory, LineDown, Unplugged, Aborted, Undetected, OtherUser}
 use Rattle.hotsync_looks.specs.declared.status.Status.TheVariants.{TooManyUsers, Limit, NewHandheld, WrongSide, InUse, CannotExport, BadTrace, NotProper}
-use Rattle.sync_session.specs.declared.report.Counts.{Counts}
-use Rattle.sync_session.specs.declared.report.DbReport.{DbReport}
-use Rattle.sync_session.specs.declared.report.Did.{Did}
-use Rattle.sync_session.specs.declared.report.Did.TheVariants.{Synced, Skipped}
-use Rattle.sync_session.specs.declared.skip.Skip.{Skip}
-use Rattle.sync_session.specs.declared.skip.Skip.TheVariants as skip
+use Rattle.session_parts.specs.declared.report.Counts.{Counts}
+use Rattle.session_parts.specs.declared.report.DbReport.{DbReport}
+use Rattle.session_parts.specs.declared.report.Did.{Did}
+use Rattle.session_parts.specs.declared.report.Did.TheVariants.{Synced, Skipped}
+use Rattle.session_parts.specs.declared.skip.Skip.{Skip}
+use Rattle.session_parts.specs.declared.skip.Skip.TheVariants as skip
 use Rattle.trace_check.specs.declared.rule.Rule.{Rule}
 use Rattle.trace_check.specs.declared.rule.Rule.TheVariants as rule
 use Rattle.trace_text.specs.declared.frame.End.{End}

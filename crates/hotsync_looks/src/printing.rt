@@ -10,9 +10,9 @@ use hs_folders::{Sink, SinkFault};
 use pdb_files::BadKind;
 use pdb_values::DbName;
 use run_words::ExportForm;
+use session_parts::{Counts, DbReport, Did, Skip};
 use std::alloc::{AllocError, Global};
 use std::fmt::Write;
-use sync_session::{Counts, DbReport, Did, Skip};
 use trace_check::Rule;
 use trace_text::End;
 

@@ -14,15 +14,15 @@ use Rattle.desk_store.specs.Shelves.{slot_at}
 use Rattle.desk_store.proofs.OpenLaws.{picked_number}
 use Rattle.desktop_session.specs.Acts.{text}
 use Rattle.line_script.specs.Rules.{RuleValue}
-use Rattle.sync_session.specs.Fronts.{Front}
-use Rattle.sync_session.specs.Limits.{first_over}
-use Rattle.sync_session.specs.Merges.{merged_device, merged_slot, merged_slots}
+use Rattle.sync_session.specs.Fronts.{MeetingFront}
+use Rattle.session_plan.specs.Limits.{first_over}
+use Rattle.session_plan.specs.Merges.{merged_device, merged_slot, merged_slots}
 use Rattle.sync_session.specs.News.{all_news}
 use Rattle.sync_session.proofs.OutcomeLaws.{desk_stands}
-use Rattle.sync_session.specs.Sessions.{adds_of, after_commit, before_commit, before_writes, requests, writes_before_commit}
-use Rattle.sync_session.specs.Skips.{active}
-use Rattle.sync_session.specs.Tasks.{Meeting, place_for, slot_of}
-use Rattle.sync_session.specs.Users.{agreed_user, begin_mark}
+use Rattle.sync_session.specs.Sessions.{adds_of, after_commit, before_commit, before_writes, requests, writes_before_commit, begin_mark}
+use Rattle.session_plan.specs.Skips.{active}
+use Rattle.session_plan.specs.Tasks.{Meeting, place_for, slot_of}
+use Rattle.session_plan.specs.Users.{agreed_user}
 use Rattle.repeat_laws.specs.Meetings.{AsksTheSame, IsActive, action_at, found_of, ids_at}
 use Rattle.repeat_laws.specs.Repeats.{GotAllIds}
 use Rattle.front_laws.specs.Again.{AllRunAgain, HasSlot, Later, RunsAgain, last_run}
@@ -135,7 +135,7 @@ met-device {ran} {next} is =
     same_handheld next.before.palm.contents ran.line.last next.meeting.device is.next_told.palm
     (subst (λ (told : Option FileMap). Stands told ran.line.last.databases ran.line.last.user) (sym is.palm) ran.line.stands) next.handheld
 
-met-front : {ran next : Ran} → Precedes ran next → Front ran.meeting ran.report.writes (given_in ran) next.meeting.device
+met-front : {ran next : Ran} → Precedes ran next → MeetingFront ran.meeting ran.report.writes (given_in ran) next.meeting.device
 met-front {ran} is = grind (arith, met-device is, front_of ran.meeting ran.line ran.left.issued)
 
 -- before the commit the slots are as they were, and behind it they are merged

@@ -9,8 +9,8 @@ use Rattle.line_script.specs.Rules.{RuleValue}
 use Rattle.made_folders.specs.Items.{made}
 use Rattle.made_folders.specs.declared.item.Item.{Item}
 use Rattle.run_words.specs.Runs.{Run}
-use Rattle.sync_session.specs.Limits.{first_over}
-use Rattle.sync_session.specs.Tasks.{Meeting}
+use Rattle.session_plan.specs.Limits.{first_over}
+use Rattle.session_plan.specs.Tasks.{Meeting}
 use Rattle.front_laws.specs.Answered.{IsAnsweredExchange}
 use Rattle.front_laws.proofs.OrderRuns.{read-answered, whole-answered}
 use Rattle.hotsync_run.specs.Causes.{ByEnd}

@@ -1,7 +1,7 @@
 -- A run whose session ended leaves the same on both sides.
 use Rattle.std.proofs.Common.{◌≡◌, refl, subst, sym}
 use Rattle.desk_store.specs.Shelves.{SlotValue}
-use Rattle.sync_session.specs.Merges.{merged_device}
+use Rattle.session_plan.specs.Merges.{merged_device}
 use Rattle.repeat_laws.specs.Meetings.{holding}
 use Rattle.front_laws.specs.Equal.{HasEqualSides}
 use Rattle.front_laws.proofs.EqualLaws.{holds-equal}

@@ -11,9 +11,9 @@ use Rattle.desktop_session.specs.Says.{Begins, IsPrefix, grown, sent}
 use Rattle.line_script.specs.Rules.{RuleValue}
 use Rattle.line_world.specs.Logs.{LogValue, no_log}
 use Rattle.line_world.specs.Worlds.{IsLog, WorldValue, world_talk}
-use Rattle.sync_session.specs.Fronts.{Front}
+use Rattle.sync_session.specs.Fronts.{MeetingFront}
 use Rattle.sync_session.specs.Sessions.{requests}
-use Rattle.sync_session.specs.Tasks.{Meeting}
+use Rattle.session_plan.specs.Tasks.{Meeting}
 use Rattle.hotsync_run.specs.LineRuns.{LineRan, log_in, write_count}
 use Rattle.hotsync_run.specs.Told.{FolderTold}
 use Rattle.hotsync_run.specs.declared.report.Report.{Report}
@@ -78,6 +78,6 @@ performed-begins {report} line prefix =
 -- the handheld stands where a beginning of the session's requests leads it
 pub front_of : (meeting : Meeting) {rules : List RuleValue} {before after : FolderTold} {report : Report}
     (line : LineRan rules meeting.device before after report)
-    → IsPrefix (log_in report).issued (requests meeting) → Front meeting report.writes report.given.items line.last
+    → IsPrefix (log_in report).issued (requests meeting) → MeetingFront meeting report.writes report.given.items line.last
 unfolding write_count
 front_of meeting {report} line prefix = grind (arith, performed-begins line prefix, length (log_in report).replies)

@@ -13,9 +13,9 @@ use Rattle.dlp_commands.specs.DeviceRuns.{DeviceRun, Exchange, Ran, exchanged}
 use Rattle.desktop_session.specs.Says.{IsPrefix}
 use Rattle.line_script.specs.Rules.{RuleValue}
 use Rattle.line_world.specs.Folders.{StoodAfterSome}
-use Rattle.sync_session.specs.Fronts.{Front}
+use Rattle.sync_session.specs.Fronts.{MeetingFront}
 use Rattle.sync_session.specs.Sessions.{requests}
-use Rattle.sync_session.specs.Tasks.{Meeting}
+use Rattle.session_plan.specs.Tasks.{Meeting}
 use Rattle.hotsync_run.specs.Ends.{StandsAtFront}
 use Rattle.hotsync_run.specs.LineRuns.{LineRan, exchanges_in, log_in}
 use Rattle.hotsync_run.specs.Told.{FolderTold}
@@ -38,7 +38,7 @@ same_length (exchange ∷ exchanges) = ap (λ (n : ℕ). suc n) (same_length exc
 pub record IsAtFront (meeting : Meeting) (device : Device) : Type 0 where
   pub writes : ℕ
   pub given : List ℕ
-  pub front : Front meeting writes given device
+  pub front : MeetingFront meeting writes given device
 
 -- behind some of the exchanges the handheld is at one
 pub front-some : (meeting : Meeting) {rules : List RuleValue} {before after : FolderTold} {report : Report}

@@ -1,7 +1,7 @@
 -- What a run promises, from all that is known of it.
 use Rattle.std.proofs.Common.{◌≡◌, List}
 use Rattle.line_script.specs.Rules.{RuleValue}
-use Rattle.sync_session.specs.Tasks.{Meeting}
+use Rattle.session_plan.specs.Tasks.{Meeting}
 use Rattle.hotsync_run.specs.Causes.{ByEnd, HasBegun}
 use Rattle.hotsync_run.specs.Headline.{ActsOnce, FairStaysUp, Headline, IsAnsweredRun, IsWhatItSays, LeavesTheMerge, RunCall, TellsCause}
 use Rattle.hotsync_run.specs.Meetings.{Meets}

@@ -23,8 +23,8 @@ use Rattle.folder_files.specs.InfoFiles.{device_text}
 use Rattle.handheld_store.specs.Files.{files_after}
 use Rattle.handheld_server.specs.Keeping.{Touches, wrote_user}
 use Rattle.line_world.specs.Folders.{FilesRan, stored}
-use Rattle.sync_session.specs.Skips.{skip_of}
-use Rattle.sync_session.specs.Tasks.{Meeting, names, task_of}
+use Rattle.session_plan.specs.Skips.{skip_of}
+use Rattle.session_plan.specs.Tasks.{Meeting, names, task_of}
 use Rattle.repeat_laws.specs.Meetings.{IsActive}
 use Rattle.hotsync_run.specs.Kept.{IsFileOf, IsLeftAlone, KeepsBytes, bytes_under}
 

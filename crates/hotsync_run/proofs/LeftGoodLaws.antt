@@ -23,10 +23,10 @@ use Rattle.desk_store.specs.Shelves.{SlotValue}
 use Rattle.desk_store.proofs.CountLaws.{told_number}
 use Rattle.desk_store.proofs.FileLaws.{file_kept}
 use Rattle.desk_store.proofs.OpenableLaws.{finishes_openable, told_openable}
-use Rattle.sync_session.specs.Limits.{first_over}
-use Rattle.sync_session.specs.Merges.{merged_slots}
+use Rattle.session_plan.specs.Limits.{first_over}
+use Rattle.session_plan.specs.Merges.{merged_slots}
 use Rattle.sync_session.specs.Outcomes.{IsCommitFile, StandsForSlots}
-use Rattle.sync_session.specs.Tasks.{Meeting}
+use Rattle.session_plan.specs.Tasks.{Meeting}
 use Rattle.front_laws.proofs.RowCountLaws.{merged-few}
 use Rattle.hotsync_run.specs.Again.{IsRepeat}
 use Rattle.hotsync_run.specs.Causes.{ByEnd}

@@ -30,21 +30,20 @@ use Rattle.pdb_values.specs.declared.user.UserInfo.{UserInfo}
 use Rattle.line_world.specs.Logs.{LogValue, no_log}
 use Rattle.line_world.specs.Worlds.{IsLog, WorldSince, WorldValue, world_talk}
 use Rattle.sync_session.proofs.IdsLaws.{text-before_commit, text-session}
-use Rattle.sync_session.specs.Limits.{first_over}
-use Rattle.sync_session.specs.Losses.{first_loss}
-use Rattle.sync_session.specs.Given.{GetFreeIds}
+use Rattle.session_plan.specs.Limits.{first_over}
+use Rattle.session_plan.specs.Losses.{first_loss}
+use Rattle.session_parts.specs.Given.{GetFreeIds}
 use Rattle.sync_session.specs.News.{all_news}
-use Rattle.sync_session.specs.Skips.{active}
-use Rattle.sync_session.specs.Merges.{merged_slots}
+use Rattle.session_plan.specs.Skips.{active}
+use Rattle.session_plan.specs.Merges.{merged_slots}
 use Rattle.sync_session.specs.Outcomes.{MergedSince, SessionEnds, StandsForSlots, requests_before_commit, seat_of}
-use Rattle.sync_session.specs.Reports.{reports}
-use Rattle.sync_session.specs.Sessions.{adds_of, after_commit, before_commit, before_writes, requests, session, writes_before_commit}
-use Rattle.sync_session.specs.Rests.{IsAtRest}
-use Rattle.sync_session.specs.Tasks.{Meeting, meeting_of, place_for}
-use Rattle.sync_session.specs.declared.wishes.Wishes.{Wishes}
-use Rattle.sync_session.specs.Users.{begin_mark}
-use Rattle.sync_session.specs.declared.report.DbReport.{DbReport}
-use Rattle.sync_session.specs.declared.stop.Stop.{Stop}
+use Rattle.session_plan.specs.Reports.{reports}
+use Rattle.sync_session.specs.Sessions.{adds_of, after_commit, before_commit, before_writes, requests, session, writes_before_commit, begin_mark}
+use Rattle.session_parts.specs.Rests.{IsAtRest}
+use Rattle.session_plan.specs.Tasks.{Meeting, meeting_of, place_for}
+use Rattle.session_plan.specs.declared.wishes.Wishes.{Wishes}
+use Rattle.session_parts.specs.declared.report.DbReport.{DbReport}
+use Rattle.session_parts.specs.declared.stop.Stop.{Stop}
 use Rattle.front_laws.specs.Sound.{IsSoundMeeting}
 use Rattle.front_laws.proofs.FrontLaws.{after-none, commit-ids, commit-told, session-ids, session-told}
 use Rattle.front_laws.proofs.MergeActs.{merged}

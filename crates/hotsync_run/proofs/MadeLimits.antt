@@ -10,12 +10,12 @@ use Rattle.conduit_rules.specs.Choices.{Choice, Sides}
 use Rattle.conduit_rules.specs.Plans.{gone_rows, kept_rows, lost}
 use Rattle.conduit_rules.specs.States.{first}
 use Rattle.record_merge.specs.Merging.{merged_archive, new_under, one_copy_behind}
-use Rattle.sync_session.specs.Choosing.{choice, seen_held}
-use Rattle.sync_session.specs.Limits.{first_behind, first_over, gone_count, new_count, row_count, sizes_of}
-use Rattle.sync_session.specs.Losses.{first_loss}
-use Rattle.sync_session.specs.Sizes.{is_over}
-use Rattle.sync_session.specs.Skips.{active}
-use Rattle.sync_session.specs.declared.wishes.Wishes.{Wishes}
+use Rattle.session_plan.specs.Choosing.{choice, seen_held}
+use Rattle.session_plan.specs.Limits.{first_behind, first_over, gone_count, new_count, row_count, sizes_of}
+use Rattle.session_plan.specs.Losses.{first_loss}
+use Rattle.session_plan.specs.Sizes.{is_over}
+use Rattle.session_plan.specs.Skips.{active}
+use Rattle.session_plan.specs.declared.wishes.Wishes.{Wishes}
 use Rattle.made_folders.specs.Sides.{records_on}
 use Rattle.made_folders.specs.declared.item.Item.{Item}
 use Rattle.made_folders.specs.declared.side.MadeSide.TheVariants.{Handheld}

@@ -10,12 +10,12 @@ use Rattle.conduit_rules.specs.declared.view.SeenState.{SeenState}
 use Rattle.palm_device.specs.Devices.{Device}
 use Rattle.palm_device.specs.Handles.{no_handles}
 use Rattle.desk_store.specs.Shelves.{SlotValue}
-use Rattle.sync_session.specs.Choosing.{agrees, choice, is_fast, sides, view}
-use Rattle.sync_session.specs.Reports.{counts_of, did_of, is_received, read_count, report_of, reports}
-use Rattle.sync_session.specs.Skips.{skip_of}
-use Rattle.sync_session.specs.Tasks.{Meeting, Task, meeting_of, tasks}
-use Rattle.sync_session.specs.declared.report.Counts.{Counts}
-use Rattle.sync_session.specs.declared.wishes.Wishes.{Wishes}
+use Rattle.session_plan.specs.Choosing.{agrees, choice, is_fast, sides, view}
+use Rattle.session_plan.specs.Reports.{counts_of, did_of, is_received, read_count, report_of, reports}
+use Rattle.session_plan.specs.Skips.{skip_of}
+use Rattle.session_plan.specs.Tasks.{Meeting, Task, meeting_of, tasks}
+use Rattle.session_parts.specs.declared.report.Counts.{Counts}
+use Rattle.session_plan.specs.declared.wishes.Wishes.{Wishes}
 use Rattle.made_folders.specs.Sides.{made_database, made_user}
 use Rattle.made_folders.specs.MadeMerges.{IsMadeMerge, made_choice, made_sides, made_view, was_received}
 use Rattle.hotsync_run.specs.Makes.{made_counts, made_report}

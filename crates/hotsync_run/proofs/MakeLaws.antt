@@ -18,9 +18,9 @@ use Rattle.pdb_values.specs.declared.slot.Slot.TheVariants.{Full}
 use Rattle.line_world.specs.Causes.{BearsOut}
 use Rattle.run_words.specs.Runs.{Run}
 use Rattle.sync_session.specs.Outcomes.{IsOtherUser, slot_in}
-use Rattle.sync_session.specs.Reports.{reports}
-use Rattle.sync_session.specs.Tasks.{Meeting, meeting_of}
-use Rattle.sync_session.specs.declared.wishes.Wishes.{Wishes}
+use Rattle.session_plan.specs.Reports.{reports}
+use Rattle.session_plan.specs.Tasks.{Meeting, meeting_of}
+use Rattle.session_plan.specs.declared.wishes.Wishes.{Wishes}
 use Rattle.made_folders.specs.Items.{generator_of, made}
 use Rattle.made_folders.specs.Sides.{desktop_files, handheld_files}
 use Rattle.made_folders.specs.declared.item.Item.{Item}

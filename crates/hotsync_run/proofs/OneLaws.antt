@@ -27,7 +27,7 @@ use Rattle.desk_store.specs.declared.role.Role.TheVariants.{Rows, Base, Archive}
 use Rattle.desk_store.proofs.OrderLaws.{rising}
 use Rattle.desk_store.proofs.SlotListLaws.{marks-length, ordered_at, slot_at-any}
 use Rattle.run_words.specs.Runs.{Run}
-use Rattle.sync_session.specs.Tasks.{Meeting}
+use Rattle.session_plan.specs.Tasks.{Meeting}
 use Rattle.hotsync_run.specs.Again.{AreOfOneKind, AreTold}
 use Rattle.hotsync_run.specs.Meetings.{Meets}
 use Rattle.hotsync_run.specs.Told.{CallTold}

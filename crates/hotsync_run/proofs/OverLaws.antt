@@ -6,10 +6,10 @@ use Rattle.palm_device.specs.Handles.{no_handles}
 use Rattle.desk_store.specs.Desks.{all_rows}
 use Rattle.desk_store.specs.Shelves.{SlotValue}
 use Rattle.run_words.specs.declared.action.NamedAction.{NamedAction}
-use Rattle.sync_session.specs.Choosing.{agrees, choice, is_fast, sides, view}
-use Rattle.sync_session.specs.Limits.{first_behind, first_over, sizes_of, with_one}
-use Rattle.sync_session.specs.Skips.{active}
-use Rattle.sync_session.specs.Tasks.{Meeting, Task, tasks}
+use Rattle.session_plan.specs.Choosing.{agrees, choice, is_fast, sides, view}
+use Rattle.session_plan.specs.Limits.{first_behind, first_over, sizes_of, with_one}
+use Rattle.session_plan.specs.Skips.{active}
+use Rattle.session_plan.specs.Tasks.{Meeting, Task, tasks}
 
 -- two meetings of the same sides, which ask the same but for the date and whether a user may be added
 pub record MeetsTheSame (meeting next : Meeting) : Type 0 where

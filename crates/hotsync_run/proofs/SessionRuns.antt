@@ -15,9 +15,9 @@ use Rattle.desk_journal.specs.Overlays.{FinishesAs, finished, put_all}
 use Rattle.desk_store.specs.Desks.{IsDesk}
 use Rattle.desk_store.specs.Shelves.{SlotValue}
 use Rattle.run_words.specs.Runs.{Run}
-use Rattle.sync_session.specs.Merges.{merged_slots}
+use Rattle.session_plan.specs.Merges.{merged_slots}
 use Rattle.sync_session.specs.Outcomes.{StandsForSlots}
-use Rattle.sync_session.specs.Tasks.{Meeting, meeting_of}
+use Rattle.session_plan.specs.Tasks.{Meeting, meeting_of}
 use Rattle.trace_text.specs.declared.frame.End.TheVariants as line_end
 use Rattle.hotsync_run.specs.Ends.{SessionLeft, StandsAtFront}
 use Rattle.hotsync_run.specs.LineRuns.{LineRan, exchanges_in}

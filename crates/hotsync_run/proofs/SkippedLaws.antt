@@ -13,10 +13,10 @@ use Rattle.dlp_commands.specs.DeviceRuns.{Exchange, Ran}
 use Rattle.desktop_session.specs.Acts.{text}
 use Rattle.desktop_session.specs.Says.{IsPrefix}
 use Rattle.line_script.specs.Rules.{RuleValue}
-use Rattle.sync_session.specs.Fronts.{Front}
-use Rattle.sync_session.specs.Limits.{first_over}
+use Rattle.sync_session.specs.Fronts.{MeetingFront}
+use Rattle.session_plan.specs.Limits.{first_over}
 use Rattle.sync_session.specs.Sessions.{before_writes, writes_before_commit}
-use Rattle.sync_session.specs.Tasks.{Meeting}
+use Rattle.session_plan.specs.Tasks.{Meeting}
 use Rattle.sync_session.proofs.QuietLaws.{quiet-before_writes}
 use Rattle.front_laws.specs.Sound.{IsSoundMeeting}
 use Rattle.front_laws.proofs.FrontLaws.{front-among, front-behind}
@@ -35,7 +35,7 @@ use Rattle.hotsync_run.proofs.QuietRuns.{quiet-run}
 -- ---- where no limit is passed
 
 at-front : (meeting : Meeting) (writes : ℕ) (given : List ℕ) (device : Device) → IsSoundMeeting meeting → first_over meeting ≡ None
-    → Front meeting writes given device → HasSkipped meeting device
+    → MeetingFront meeting writes given device → HasSkipped meeting device
 at-front meeting writes given device sound none front = by (nat_lt writes (writes_before_commit meeting)) refl
   where
     by : (b : Bool) → nat_lt writes (writes_before_commit meeting) ≡ b → HasSkipped meeting device

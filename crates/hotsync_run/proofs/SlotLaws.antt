@@ -7,9 +7,9 @@ use Rattle.folder_files.specs.Slots.{users_of}
 use Rattle.palm_device.specs.Devices.{Device}
 use Rattle.desk_store.specs.Shelves.{SlotValue, marks_of, new_slot, number_of, slot_at, with_place}
 use Rattle.desk_store.proofs.SlotListLaws.{place_there, slot_at-set_same}
-use Rattle.sync_session.specs.Merges.{merged_slot, merged_slots}
-use Rattle.sync_session.specs.Tasks.{Meeting, place_for, slot_of}
-use Rattle.sync_session.specs.Users.{agreed_user}
+use Rattle.session_plan.specs.Merges.{merged_slot, merged_slots}
+use Rattle.session_plan.specs.Tasks.{Meeting, place_for, slot_of}
+use Rattle.session_plan.specs.Users.{agreed_user}
 use Rattle.hotsync_run.proofs.PickLaws.{agreed, both-again, place-any, place-near, place_in, placed}
 
 -- ---- the users

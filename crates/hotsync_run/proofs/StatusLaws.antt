@@ -19,14 +19,14 @@ use Rattle.desktop_session.specs.Stops.{Does}
 use Rattle.line_world.specs.declared.down.Down.{Down}
 use Rattle.line_world.specs.Worlds.{WorldValue, world_talk}
 use Rattle.sync_session.proofs.IdsLaws.{text-before_commit}
-use Rattle.sync_session.specs.Limits.{first_over}
-use Rattle.sync_session.specs.Losses.{first_loss}
+use Rattle.session_plan.specs.Limits.{first_over}
+use Rattle.session_plan.specs.Losses.{first_loss}
 use Rattle.sync_session.specs.Outcomes.{IsOtherUser, IsStopOf, StopsAtLimit, StopsAtLoss, StopsFor, seat_of, slot_in}
 use Rattle.sync_session.specs.Sessions.{adds_of}
-use Rattle.sync_session.specs.Tasks.{Meeting}
-use Rattle.sync_session.specs.declared.report.DbReport.{DbReport}
-use Rattle.sync_session.specs.declared.stop.Stop.{Stop}
-use Rattle.sync_session.specs.declared.stop.Stop.TheVariants as stop
+use Rattle.session_plan.specs.Tasks.{Meeting}
+use Rattle.session_parts.specs.declared.report.DbReport.{DbReport}
+use Rattle.session_parts.specs.declared.stop.Stop.{Stop}
+use Rattle.session_parts.specs.declared.stop.Stop.TheVariants as stop
 use Rattle.hotsync_run.specs.Causes.{down_status, fault_status, stop_status}
 use Rattle.hotsync_run.specs.Ends.{IsCutShort, IsToldRefusal, SaidAll, StatusShows, status_refused}
 use Rattle.hotsync_run.specs.Talks.{left_status}

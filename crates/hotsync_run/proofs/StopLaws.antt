@@ -9,7 +9,7 @@ use Rattle.line_world.specs.Worlds.{EndsAcknowledged}
 use Rattle.line_world.specs.declared.down.Down.TheVariants as down
 use Rattle.sync_session.specs.Sessions.{adds_of}
 use Rattle.sync_session.specs.Outcomes.{requests_before_commit}
-use Rattle.sync_session.specs.Tasks.{Meeting}
+use Rattle.session_plan.specs.Tasks.{Meeting}
 use Rattle.hotsync_run.proofs.LeftLaws.{before-longer}
 use Rattle.hotsync_run.proofs.WholeLaws.{goes_on, two-first}
 use Rattle.hotsync_run.specs.Causes.{EndsAs, cause_in, down_status}

@@ -23,14 +23,14 @@ use Rattle.line_world.specs.declared.down.Down.{Down}
 use Rattle.line_world.specs.declared.down.Down.TheVariants as down
 use Rattle.sync_session.specs.Leaving.{LeavesFolder}
 use Rattle.sync_session.specs.Outcomes.{ChangesDesk, tellings}
-use Rattle.sync_session.specs.declared.outcome.Outcome.{Outcome}
-use Rattle.sync_session.specs.declared.report.DbReport.{DbReport}
-use Rattle.sync_session.specs.Tasks.{Meeting, meeting_of}
-use Rattle.sync_session.specs.declared.wishes.Wishes.{Wishes}
+use Rattle.session_parts.specs.declared.outcome.Outcome.{Outcome}
+use Rattle.session_parts.specs.declared.report.DbReport.{DbReport}
+use Rattle.session_plan.specs.Tasks.{Meeting, meeting_of}
+use Rattle.session_plan.specs.declared.wishes.Wishes.{Wishes}
 use Rattle.front_laws.specs.Sound.{IsSoundMeeting}
 use Rattle.dlp_commands.specs.declared.link.LinkFault.{LinkFault}
-use Rattle.sync_session.specs.declared.stop.Stop.{Stop}
-use Rattle.sync_session.specs.declared.stop.Stop.TheVariants as stop
+use Rattle.session_parts.specs.declared.stop.Stop.{Stop}
+use Rattle.session_parts.specs.declared.stop.Stop.TheVariants as stop
 use Rattle.hotsync_run.specs.Causes.{ByEnd, EndsAs, IsLineDown, IsUnsaid, cause_in, numbers_by, stop_status}
 use Rattle.hotsync_run.specs.Ends.{SessionLeft, StatusShows}
 use Rattle.hotsync_run.specs.LineRuns.{TellsWorld, frames_in}

@@ -11,10 +11,10 @@ use Rattle.line_script.specs.Rules.{RuleValue}
 use Rattle.line_world.specs.Causes.{BearsOut}
 use Rattle.desk_store.specs.Shelves.{SlotValue}
 use Rattle.run_words.specs.Runs.{Run}
-use Rattle.sync_session.specs.Limits.{first_over}
-use Rattle.sync_session.specs.Losses.{first_loss}
+use Rattle.session_plan.specs.Limits.{first_over}
+use Rattle.session_plan.specs.Losses.{first_loss}
 use Rattle.sync_session.specs.Outcomes.{seat_of}
-use Rattle.sync_session.specs.Tasks.{Meeting}
+use Rattle.session_plan.specs.Tasks.{Meeting}
 use Rattle.trace_text.specs.declared.frame.End.{End}
 use Rattle.hotsync_run.specs.Causes.{ByEnd, EndsAs, IsFallen, IsLineDown, IsTracedStatus, IsUnsaid, cause_in}
 use Rattle.hotsync_run.specs.Ends.{IsCutShort, IsToldRefusal, StatusShows, status_refused}

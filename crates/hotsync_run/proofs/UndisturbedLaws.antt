@@ -21,7 +21,7 @@ use Rattle.desk_journal.specs.Overlays.{finished}
 use Rattle.desk_store.specs.Desks as desktop
 use Rattle.desk_store.specs.declared.fault.DeskOpenFault.{DeskOpenFault}
 use Rattle.run_words.specs.Runs.{Run}
-use Rattle.sync_session.specs.Tasks.{Meeting}
+use Rattle.session_plan.specs.Tasks.{Meeting}
 use Rattle.trace_text.specs.declared.frame.End.TheVariants as line_end
 use Rattle.hotsync_run.specs.Causes.{ByEnd, EndsAs, IsLineDown, cause_in}
 use Rattle.hotsync_run.specs.Ends.{StatusShows}

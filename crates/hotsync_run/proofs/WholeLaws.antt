@@ -32,13 +32,12 @@ use Rattle.desktop_session.specs.Stops.{Does}
 use Rattle.desktop_session.specs.declared.fault.SessionFault.TheVariants as session_fault
 use Rattle.sync_session.specs.News.{purge_acts}
 use Rattle.sync_session.specs.Outcomes.{IsEnded, IsStopOf, Tellings}
-use Rattle.sync_session.specs.Sessions.{after_commit, before_commit, before_writes, requests, session}
-use Rattle.sync_session.specs.Skips.{active}
-use Rattle.sync_session.specs.Users.{end_mark}
-use Rattle.sync_session.specs.Tasks.{Meeting}
-use Rattle.sync_session.specs.declared.report.DbReport.{DbReport}
-use Rattle.sync_session.specs.declared.stop.Stop.{Stop}
-use Rattle.sync_session.specs.declared.stop.Stop.TheVariants as stop
+use Rattle.sync_session.specs.Sessions.{after_commit, before_commit, before_writes, requests, session, end_mark}
+use Rattle.session_plan.specs.Skips.{active}
+use Rattle.session_plan.specs.Tasks.{Meeting}
+use Rattle.session_parts.specs.declared.report.DbReport.{DbReport}
+use Rattle.session_parts.specs.declared.stop.Stop.{Stop}
+use Rattle.session_parts.specs.declared.stop.Stop.TheVariants as stop
 use Rattle.hotsync_run.specs.Causes.{down_status, EndsAs, IsFallen, IsLineDown, cause_in, stop_status}
 use Rattle.hotsync_run.specs.Ends.{SessionLeft}
 use Rattle.hotsync_run.specs.LineRuns.{TellsWorld, frames_in, log_in}

@@ -3,8 +3,8 @@ use Rattle.std.specs.Prelude.{◌≡◌, ℕ, List, [], ◌∷◌, IsSome}
 use Rattle.handheld_files.specs.Openings.{Stands}
 use Rattle.desk_store.specs.Desks.{IsDesk}
 use Rattle.desk_store.specs.Shelves.{slot_at}
-use Rattle.sync_session.specs.Merges.{merged_device, merged_slot, merged_slots}
-use Rattle.sync_session.specs.Tasks.{Meeting}
+use Rattle.session_plan.specs.Merges.{merged_device, merged_slot, merged_slots}
+use Rattle.session_plan.specs.Tasks.{Meeting}
 use Rattle.repeat_laws.specs.Meetings.{IsActive, action_at, found_of, holding_after, ids_at}
 use Rattle.repeat_laws.specs.Renaming.{AreUnknown, SameEnds}
 use Rattle.repeat_laws.specs.Repeats.{GotAllIds}

@@ -12,14 +12,14 @@ use Rattle.desktop_session.specs.Acts.{text}
 use Rattle.desktop_session.specs.Requests.{reading_user}
 use Rattle.desktop_session.specs.Says.{IsPrefix}
 use Rattle.desktop_session.specs.declared.fault.SessionFault.{SessionFault}
-use Rattle.sync_session.specs.Fronts.{Front}
-use Rattle.sync_session.specs.Limits.{first_over}
-use Rattle.sync_session.specs.Losses.{first_loss}
-use Rattle.sync_session.specs.Merges.{merged_device, merged_slots}
+use Rattle.sync_session.specs.Fronts.{MeetingFront}
+use Rattle.session_plan.specs.Limits.{first_over}
+use Rattle.session_plan.specs.Losses.{first_loss}
+use Rattle.session_plan.specs.Merges.{merged_device, merged_slots}
 use Rattle.sync_session.specs.Outcomes.{IsOtherUser, StandsForSlots, requests_before_commit, seat_of, slot_in}
-use Rattle.sync_session.specs.Reports.{reports}
+use Rattle.session_plan.specs.Reports.{reports}
 use Rattle.sync_session.specs.Sessions.{before_writes, requests, writes_before_commit}
-use Rattle.sync_session.specs.Tasks.{Meeting}
+use Rattle.session_plan.specs.Tasks.{Meeting}
 use Rattle.front_laws.specs.Sound.{IsSoundMeeting}
 use Rattle.hotsync_run.specs.Causes.{fault_status}
 use Rattle.hotsync_run.specs.LineRuns.{log_in}
@@ -68,7 +68,7 @@ pub record StandsAtFront (meeting : Meeting) (told : Option FileMap) : Type 0 wh
   pub writes : ℕ
   pub given : List ℕ
   pub device : Device
-  pub front : Front meeting writes given device
+  pub front : MeetingFront meeting writes given device
   pub stands : Stands told device.databases device.user
 
 -- ---- why it stopped

@@ -3,8 +3,8 @@ use Rattle.std.specs.Prelude.{◌≡◌, ℕ, List}
 use Rattle.handheld_files.specs.Openings.{Stands}
 use Rattle.desk_store.specs.Desks.{IsDesk}
 use Rattle.desk_store.specs.Shelves.{slot_at}
-use Rattle.sync_session.specs.Merges.{merged_device, merged_slots}
-use Rattle.sync_session.specs.Tasks.{Meeting}
+use Rattle.session_plan.specs.Merges.{merged_device, merged_slots}
+use Rattle.session_plan.specs.Tasks.{Meeting}
 use Rattle.repeat_laws.specs.Meetings.{IsActive, holding}
 use Rattle.front_laws.specs.Equal.{HasEqualSides, IsShownWhole}
 use Rattle.hotsync_run.specs.Headline.{RunCall}

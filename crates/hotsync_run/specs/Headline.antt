@@ -20,13 +20,13 @@ use Rattle.desk_journal.specs.Overlays.{FinishesAs, finished}
 use Rattle.desktop_session.specs.Acts.{text}
 use Rattle.desktop_session.specs.Says.{IsPrefix}
 use Rattle.run_words.specs.Runs.{Run}
-use Rattle.sync_session.specs.Fronts.{Front}
-use Rattle.sync_session.specs.Limits.{first_over}
-use Rattle.sync_session.specs.Losses.{first_loss}
-use Rattle.sync_session.specs.Merges.{merged_slots}
+use Rattle.sync_session.specs.Fronts.{MeetingFront}
+use Rattle.session_plan.specs.Limits.{first_over}
+use Rattle.session_plan.specs.Losses.{first_loss}
+use Rattle.session_plan.specs.Merges.{merged_slots}
 use Rattle.sync_session.specs.Outcomes.{StandsForSlots}
 use Rattle.sync_session.specs.Sessions.{before_writes, requests}
-use Rattle.sync_session.specs.Tasks.{Meeting}
+use Rattle.session_plan.specs.Tasks.{Meeting}
 use Rattle.hotsync_run.specs.Causes.{EndsAs, IsLineDown, cause_in}
 use Rattle.hotsync_run.specs.Ends.{EndedSession, IsToldRefusal, StatusShows, StoppedBefore, StoppedBehind}
 use Rattle.hotsync_run.specs.Kept.{KeepsBytes}
@@ -119,7 +119,7 @@ pub record LeavesTheMerge (meeting : Meeting) (call : RunCall) : Type 0 where
   pub commit : DesktopRan meeting (option_map finished call.before.desk.contents) call.before.desk
       call.after.desk call.report.end
   pub reached : Device
-  pub handheld : Front meeting call.report.writes call.report.given.items reached
+  pub handheld : MeetingFront meeting call.report.writes call.report.given.items reached
   pub keeps : Stands call.after.palm.contents reached.databases reached.user
   pub files : KeepsBytes meeting call.before.palm.contents call.after.palm.contents
   pub limit : IsSome (first_over meeting)

@@ -10,9 +10,9 @@ use Rattle.desk_store.specs.Shelves.{SlotValue}
 use Rattle.trace_text.specs.Fates.{Lost}
 use Rattle.line_script.specs.Rules.{RuleValue, rule_text}
 use Rattle.run_words.specs.Runs.{Run}
-use Rattle.sync_session.specs.declared.report.Counts.{Counts}
-use Rattle.sync_session.specs.declared.report.DbReport.{DbReport}
-use Rattle.sync_session.specs.declared.report.Did.TheVariants.{Synced}
+use Rattle.session_parts.specs.declared.report.Counts.{Counts}
+use Rattle.session_parts.specs.declared.report.DbReport.{DbReport}
+use Rattle.session_parts.specs.declared.report.Did.TheVariants.{Synced}
 use Rattle.made_folders.specs.Items.{made}
 use Rattle.made_folders.specs.Sides.{desktop_files, handheld_files}
 use Rattle.made_folders.specs.declared.item.Item.{Item}

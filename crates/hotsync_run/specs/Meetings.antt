@@ -6,7 +6,7 @@ use Rattle.handheld_files.specs.Openings.{HoldsAll}
 use Rattle.desk_journal.specs.Overlays.{finished}
 use Rattle.desk_store.specs.Desks.{IsDesk}
 use Rattle.run_words.specs.Runs.{Run}
-use Rattle.sync_session.specs.Tasks.{Meeting, place_for}
+use Rattle.session_plan.specs.Tasks.{Meeting, place_for}
 use Rattle.hotsync_run.specs.Told.{CallTold}
 use Rattle.hotsync_run.specs.Wishes.{AsksFor}
 

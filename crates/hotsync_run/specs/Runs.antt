@@ -8,7 +8,7 @@ use Rattle.trace_text.specs.declared.frame.End.TheVariants as end
 use Rattle.line_script.specs.Rules.{RuleValue}
 use Rattle.desk_journal.specs.Overlays.{FinishesAs, finished}
 use Rattle.run_words.specs.Runs.{Run}
-use Rattle.sync_session.specs.Tasks.{Meeting}
+use Rattle.session_plan.specs.Tasks.{Meeting}
 use Rattle.hotsync_run.specs.Causes.{ByEnd, HasBegun}
 use Rattle.hotsync_run.specs.LineRuns.{frames_in}
 use Rattle.hotsync_looks.specs.Lines.{done_lines}

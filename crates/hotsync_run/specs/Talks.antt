@@ -15,12 +15,12 @@ use Rattle.line_world.specs.Causes.{BearsOut}
 use Rattle.line_world.specs.declared.down.Down.{Down}
 use Rattle.line_world.specs.declared.down.Down.TheVariants as down
 use Rattle.run_words.specs.Runs.{Run}
-use Rattle.sync_session.specs.Fronts.{Front}
+use Rattle.sync_session.specs.Fronts.{MeetingFront}
 use Rattle.sync_session.specs.Outcomes.{IsCommitFile}
-use Rattle.sync_session.specs.Tasks.{Meeting, meeting_of}
-use Rattle.sync_session.specs.declared.report.DbReport.{DbReport}
-use Rattle.sync_session.specs.declared.stop.Stop.{Stop}
-use Rattle.sync_session.specs.declared.wishes.Wishes.{Wishes}
+use Rattle.session_plan.specs.Tasks.{Meeting, meeting_of}
+use Rattle.session_parts.specs.declared.report.DbReport.{DbReport}
+use Rattle.session_parts.specs.declared.stop.Stop.{Stop}
+use Rattle.session_plan.specs.declared.wishes.Wishes.{Wishes}
 use Rattle.desk_journal.specs.Entries.{EntryValue}
 use Rattle.desk_journal.specs.Overlays.{FinishesAs, put_all}
 use Rattle.desk_store.specs.Shelves.{SlotValue}
@@ -102,7 +102,7 @@ pub record Talked (rules : List RuleValue) (meeting : Meeting) (before after : S
   pub left : SessionLeft meeting after.palm before.desk after.desk report
   pub shows : StatusShows meeting report status
   pub refused : IsToldRefusal meeting status
-  pub front : Front meeting report.writes report.given.items line.last
+  pub front : MeetingFront meeting report.writes report.given.items line.last
   pub fronts : EachMomentSince (StandsAtFront meeting) before.palm.moments after.palm.moments
 
 -- ---- how a run has it

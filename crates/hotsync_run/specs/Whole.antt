@@ -8,7 +8,7 @@ use Rattle.line_talk.specs.Telling.{bytes_of, init, wake}
 use Rattle.line_world.specs.Logs.{LogValue}
 use Rattle.line_world.specs.Worlds.{EndsAcknowledged}
 use Rattle.sync_session.specs.Sessions.{requests}
-use Rattle.sync_session.specs.Tasks.{Meeting}
+use Rattle.session_plan.specs.Tasks.{Meeting}
 use Rattle.hotsync_run.specs.Causes.{IsFallen, IsLineDown}
 use Rattle.hotsync_run.specs.LineRuns.{frames_in, log_in}
 use Rattle.hotsync_run.specs.declared.report.Report.{Report}

@@ -3,7 +3,7 @@ use Rattle.std.specs.Prelude.{◌≡◌, ℕ, List, [], Option, None, Some}
 use Rattle.run_words.specs.Actions.{actions_in}
 use Rattle.run_words.specs.Runs.{Run}
 use Rattle.run_words.specs.declared.action.NamedAction.{NamedAction}
-use Rattle.sync_session.specs.declared.wishes.Wishes.{Wishes}
+use Rattle.session_plan.specs.declared.wishes.Wishes.{Wishes}
 
 -- the actions of the text that is given; none where none is
 abbrev pub actions_by : Option (List ℕ) → List NamedAction

@@ -8,8 +8,8 @@ use hs_folders::Folder;
 use pdb_values::DbName;
 use run_clap::{Command, RunWords, read_command};
 use run_words::{NamedAction, Target, read_actions};
+use session_parts::{Counts, DbReport, Did, Skip};
 use std::alloc::{AllocError, Global};
-use sync_session::{Counts, DbReport, Did, Skip};
 
 // The function whose reply tells when the handheld was synchronised last.
 const READ_USER_INFO: u8 = 0x10;

@@ -7,8 +7,8 @@ use crate::report::SessionEnd;
 use desktop_session::SessionFault;
 use hotsync_looks::Status;
 use line_world::Down;
+use session_parts::{DbReport, Stop};
 use std::alloc::{AllocError, Global};
-use sync_session::{DbReport, Stop};
 
 /// How a session ended, and what it made of each database.
 #[derive(Drop)]

@@ -30,4 +30,4 @@ pub use command::hotsync;
 pub use hotsync_looks::{FileSide, Status};
 pub use program::{Ended, run_on_system, run_program};
 pub use report::{Report, SessionEnd};
-pub use sync_session::{Counts, DbReport, Did, Skip};
+pub use session_parts::{Counts, DbReport, Did, Skip};

@@ -4,9 +4,9 @@ ghost use Rattle.std.specs.Prelude.{◌≡◌};
 
 use dlp_args::MessageText;
 use pdb_values::RecordId;
+use session_parts::DbReport;
 use slp_frames::Tally;
 use std::alloc::Global;
-use sync_session::DbReport;
 use trace_text::Frame;
 
 /// How far a session over the line came.

@@ -8,7 +8,7 @@ use crate::report::{Report, SessionEnd};
 use dlp_args::MessageText;
 use hs_folders::Folder;
 use line_world::{LineLog, World};
-use sync_session::DbReport;
+use session_parts::DbReport;
 
 /// The functions by which databases or the user change.
 const CHANGING: [u8; 12] = [

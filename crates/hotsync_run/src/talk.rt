@@ -24,8 +24,10 @@ use hs_folders::Folder;
 use line_script::Script;
 use line_world::World;
 use run_clap::RunWords;
+use session_parts::Outcome;
+use session_plan::Wishes;
 use std::alloc::{AllocError, Global};
-use sync_session::{Outcome, Wishes, run_session};
+use sync_session::run_session;
 
 /// The session over a line that does with each frame what the script says.
 pub fn talk<H: Folder, D: Folder>(

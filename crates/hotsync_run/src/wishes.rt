@@ -5,8 +5,8 @@ ghost use Rattle.run_words.specs.Views.{run_view};
 
 use run_clap::RunWords;
 use run_words::{NamedAction, read_actions};
+use session_plan::Wishes;
 use std::alloc::{AllocError, Global};
-use sync_session::Wishes;
 
 /// What these words ask of a session.
 pub fn wishes_of(alloc: Global, words: &RunWords<'_>) -> Result<Wishes, AllocError>

@@ -24,7 +24,7 @@ use Rattle.record_merge.specs.Merging.{row_at, row_under, settled_record}
 use Rattle.record_merge.specs.Stops.{AreOf, behind, rest_of, with_add}
 use Rattle.record_merge.specs.Writes.{GotFreeIds, Write, add, after, clean_up, giving, purge, replace, reset}
 use Rattle.record_merge.proofs.StopLaws.{choice-after, giving-of, of-take, sides-again, writes-of}
-use Rattle.sync_session.specs.Losses.{is_lost, stays}
+use Rattle.session_plan.specs.Losses.{is_lost, stays}
 use Rattle.repeat_laws.specs.Losses.{loses_rows}
 use Rattle.repeat_laws.specs.Repeats.{Found, GotIds, IsRead, StopsAmongNews, chosen, left_among_news, left_at_end, left_behind_commit, news_done}
 use Rattle.repeat_laws.proofs.CommitLaws.{chosen-commit, chosen-end, kept_alone}

@@ -9,9 +9,9 @@ use Rattle.conduit_rules.specs.Views.{slow_view, fast_view, view_held, IsHonest}
 use Rattle.record_merge.specs.Merging.{AreBounded}
 use Rattle.record_merge.proofs.ShownLaws.{slow_shows, fast_shows}
 use Rattle.run_words.specs.Actions.{action_for}
-use Rattle.sync_session.specs.Archives.{entries_of}
-use Rattle.sync_session.specs.Choosing.{action_or_sync, agrees, base_rows, is_fast, view}
-use Rattle.sync_session.specs.Tasks.{Meeting, Task, action_of_word, task_of, slot_of, records_of}
+use Rattle.session_plan.specs.Archives.{entries_of}
+use Rattle.session_plan.specs.Choosing.{action_or_sync, agrees, base_rows, is_fast, view}
+use Rattle.session_plan.specs.Tasks.{Meeting, Task, action_of_word, task_of, slot_of, records_of}
 use Rattle.repeat_laws.specs.Meetings.{found, found_of, action_at, AsksTheSame, IsUnderWay, LeftAmongNews, LeftBehindCommit, LeftAtEnd, Follows, AllFollow}
 use Rattle.repeat_laws.specs.Meetings.{last_of, places_of}
 use Rattle.repeat_laws.specs.Renaming.{AreUnknown, SameEnds}

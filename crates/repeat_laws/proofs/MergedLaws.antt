@@ -7,10 +7,9 @@ use Rattle.pdb_values.specs.NamedDatabases.{database_of}
 use Rattle.pdb_values.proofs.NamedLaws.{database_of-name, database_of-with_put}
 use Rattle.palm_device.specs.Records.{with_records}
 use Rattle.record_merge.specs.Merging.{merged_records}
-use Rattle.sync_session.specs.Choosing.{choice, seen_held}
-use Rattle.sync_session.specs.Merges.{handheld_before, put_merged, merged_databases}
-use Rattle.sync_session.specs.News.{add_count}
-use Rattle.sync_session.specs.Tasks.{Meeting, Task, task_of, slot_of}
+use Rattle.session_plan.specs.Choosing.{choice, seen_held, add_count}
+use Rattle.session_plan.specs.Merges.{handheld_before, put_merged, merged_databases}
+use Rattle.session_plan.specs.Tasks.{Meeting, Task, task_of, slot_of}
 use Rattle.repeat_laws.specs.Meetings.{ids_dealt}
 
 -- no task has this name

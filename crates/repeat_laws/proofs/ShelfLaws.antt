@@ -8,11 +8,10 @@ use Rattle.pdb_values.specs.declared.record.Record.{Record}
 use Rattle.pdb_values.proofs.NamedLaws.{bytes_eq-own, database_of-name, database_of-with_put}
 use Rattle.record_merge.specs.Merging.{merged_archive, one_copy_behind}
 use Rattle.desk_store.specs.Shelves.{ShelvesValue}
-use Rattle.sync_session.specs.Archives.{archive_records, entries_of}
-use Rattle.sync_session.specs.Choosing.{choice}
-use Rattle.sync_session.specs.Merges.{rows_before, archive_of, Merged, merged_of, put_archive, shelved, shelve, merged_shelves}
-use Rattle.sync_session.specs.News.{add_count}
-use Rattle.sync_session.specs.Tasks.{Meeting, Task, task_of, slot_of, records_of}
+use Rattle.session_plan.specs.Archives.{archive_records, entries_of}
+use Rattle.session_plan.specs.Choosing.{choice, add_count}
+use Rattle.session_plan.specs.Merges.{rows_before, archive_of, Merged, merged_of, put_archive, shelved, shelve, merged_shelves}
+use Rattle.session_plan.specs.Tasks.{Meeting, Task, task_of, slot_of, records_of}
 use Rattle.repeat_laws.specs.Meetings.{ids_dealt}
 use Rattle.repeat_laws.proofs.MergedLaws.{AreTasks, IsTask, NotNamed, PutsOwn, others-stay, puts, own-changes}
 

@@ -10,12 +10,12 @@ use Rattle.pdb_values.specs.Heads.{holds_resources, is_read_only, is_stream}
 use Rattle.pdb_values.specs.declared.head.DbHead.{DbHead}
 use Rattle.pdb_values.proofs.NamedLaws.{bytes_eq-own}
 use Rattle.conduit_rules.specs.declared.action.Action.{Action}
-use Rattle.sync_session.specs.Heads.{made_head, plain_attributes, rows_head}
-use Rattle.sync_session.specs.Merges.{handheld_before, new_database, rows_before}
-use Rattle.sync_session.specs.Skips.{differ, head_of, is_missing, one_passes, passes, reason_by, skip_of}
-use Rattle.sync_session.specs.Tasks.{Meeting, task_of}
-use Rattle.sync_session.specs.declared.skip.Skip.{Skip}
-use Rattle.sync_session.specs.declared.skip.Skip.TheVariants as skip
+use Rattle.session_plan.specs.Heads.{made_head, plain_attributes, rows_head}
+use Rattle.session_plan.specs.Merges.{handheld_before, new_database, rows_before}
+use Rattle.session_plan.specs.Skips.{differ, head_of, is_missing, one_passes, passes, reason_by, skip_of}
+use Rattle.session_plan.specs.Tasks.{Meeting, task_of}
+use Rattle.session_parts.specs.declared.skip.Skip.{Skip}
+use Rattle.session_parts.specs.declared.skip.Skip.TheVariants as skip
 use Rattle.repeat_laws.specs.Meetings.{IsLike, IsLikeFirst, StandsLike}
 
 -- ---- a test of attributes

@@ -10,8 +10,8 @@ use Rattle.std.proofs.lemmas.List.Sums.{sum_by-cons, sum_by-insert}
 use Rattle.pdb_values.specs.Databases.{DatabaseValue}
 use Rattle.pdb_values.specs.NamedDatabases.{comes_before, database_of}
 use Rattle.pdb_values.proofs.NamedLaws.{bytes_eq-is, bytes_eq-own}
-use Rattle.sync_session.specs.Skips.{active, skip_of}
-use Rattle.sync_session.specs.Tasks.{Meeting, Task, task_of, tasks, names, names_of, with_name, with_names, slot_of}
+use Rattle.session_plan.specs.Skips.{active, skip_of}
+use Rattle.session_plan.specs.Tasks.{Meeting, Task, task_of, tasks, names, names_of, with_name, with_names, slot_of}
 use Rattle.repeat_laws.proofs.MergedLaws.{AreTasks, IsTask, NotNamed}
 
 -- how often a name stands in a list

@@ -6,12 +6,12 @@ use Rattle.conduit_rules.specs.Choices.{Choice}
 use Rattle.conduit_rules.specs.States.{Held}
 use Rattle.record_merge.specs.Merging.{merged_archive, merged_base, merged_records, merged_rows}
 use Rattle.desk_store.specs.Shelves.{SlotValue}
-use Rattle.sync_session.specs.Archives.{entries_of}
-use Rattle.sync_session.specs.Choosing.{action_or_sync, choice, seen_held, sides}
-use Rattle.sync_session.specs.Merges.{handheld_before, rows_before, merged_device, merged_databases, merged_slot, merged_shelves}
+use Rattle.session_plan.specs.Archives.{entries_of}
+use Rattle.session_plan.specs.Choosing.{action_or_sync, choice, seen_held, sides}
+use Rattle.session_plan.specs.Merges.{handheld_before, rows_before, merged_device, merged_databases, merged_slot, merged_shelves}
 use Rattle.run_words.specs.Actions.{action_for}
-use Rattle.sync_session.specs.Skips.{active, head_of}
-use Rattle.sync_session.specs.Tasks.{action_of_word, Meeting, Task, task_of, slot_of, records_of}
+use Rattle.session_plan.specs.Skips.{active, head_of}
+use Rattle.session_plan.specs.Tasks.{action_of_word, Meeting, Task, task_of, slot_of, records_of}
 use Rattle.repeat_laws.specs.Meetings.{IsLikeFirst, StandsLike, found, found_of, action_at, ids_dealt, ids_at, holding_after, IsActive, IsMergedAt, LeftAtEnd}
 use Rattle.repeat_laws.specs.Meetings.{LeftMerged, AllFollow, last_of, places_of}
 use Rattle.repeat_laws.specs.Renaming.{AreUnknown, SameEnds}

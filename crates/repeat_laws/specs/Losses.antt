@@ -3,7 +3,7 @@ use Rattle.std.specs.Prelude.{Bool}
 use Rattle.std.specs.List.{list_any}
 use Rattle.conduit_rules.specs.Plans.{kept_rows}
 use Rattle.conduit_rules.specs.declared.action.Action.TheVariants.{Sync}
-use Rattle.sync_session.specs.Losses.{is_lost}
+use Rattle.session_plan.specs.Losses.{is_lost}
 use Rattle.repeat_laws.specs.Repeats.{Found, chosen}
 
 -- its merge leaves out the content of some live row

@@ -9,12 +9,11 @@ use Rattle.palm_device.specs.Devices.{Device}
 use Rattle.conduit_rules.specs.declared.action.Action.{Action}
 use Rattle.record_merge.specs.Writes.{after, giving}
 use Rattle.desk_store.specs.Shelves.{SlotValue}
-use Rattle.sync_session.specs.Archives.{entries_of}
-use Rattle.sync_session.specs.Choosing.{action_or_sync, agrees, base_rows, view}
-use Rattle.sync_session.specs.Merges.{merged_device, merged_slot}
-use Rattle.sync_session.specs.News.{add_count}
-use Rattle.sync_session.specs.Skips.{active, head_of, skip_of}
-use Rattle.sync_session.specs.Tasks.{Meeting, Task, names, task_of, slot_of, records_of}
+use Rattle.session_plan.specs.Archives.{entries_of}
+use Rattle.session_plan.specs.Choosing.{action_or_sync, agrees, base_rows, view, add_count}
+use Rattle.session_plan.specs.Merges.{merged_device, merged_slot}
+use Rattle.session_plan.specs.Skips.{active, head_of, skip_of}
+use Rattle.session_plan.specs.Tasks.{Meeting, Task, names, task_of, slot_of, records_of}
 use Rattle.repeat_laws.specs.Repeats.{Found, Ended, ended, chosen, shown, Place, left, news_done, clearing_done}
 
 -- ---- one meeting

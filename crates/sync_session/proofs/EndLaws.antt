@@ -1,14 +1,14 @@
 -- Purges, and then the end.
 use Rattle.std.proofs.Common.{◌≡◌, ◌∙◌, refl, ap, ℕ, List, [], ◌∷◌, ◌++◌, map, append_assoc, Option, IfErr, IfOk, Result, Ok, Err}
 use Rattle.std.proofs.lemmas.List.{map-append}
-use Rattle.sync_session.proofs.LinkWords.{LinkFault, Talk, Ended, Halted, SessionFault, Act, text, link_ended, saying, SessionValue, Does, Stops}
+use Rattle.session_parts.proofs.LinkWords.{LinkFault, Talk, Ended, Halted, SessionFault, Act, text, link_ended, saying, SessionValue, Does, Stops}
 use Rattle.desktop_session.proofs.StopLaws.{does_then, stops_more, stops_then}
 use Rattle.sync_session.proofs.MeetingWords.{Planned, purges_under, AreFirst, EachSays, SpansEach, Stretch, done_each, each_acts, says_nothing}
-use Rattle.sync_session.specs.Causes.{IsLater}
+use Rattle.session_parts.specs.Causes.{IsLater}
 use Rattle.sync_session.specs.Endings.{Ends}
-use Rattle.sync_session.proofs.EachLaws.{first-none}
-use Rattle.sync_session.proofs.HandleLaws.{one_first}
-use Rattle.sync_session.proofs.StretchLaws.{Leads}
+use Rattle.session_parts.proofs.EachLaws.{first-none}
+use Rattle.session_parts.proofs.HandleLaws.{one_first}
+use Rattle.session_parts.proofs.StretchLaws.{Leads}
 
 -- stretches for all databases, which go on where some that were asked for end
 record WholeStretches (told : Option Talk) (planned : List Planned) (ones : List Stretch) : Type 0 where

@@ -15,8 +15,8 @@ use Rattle.sync_session.proofs.MeetingWords.{AreEachPlannedFor, ArePlannedFor, D
 use Rattle.pdb_values.specs.declared.record.Record.{Record}
 use Rattle.pdb_values.specs.declared.user.Marks.{Marks}
 use Rattle.sync_session.specs.Outcomes.{IsCommitFile}
-use Rattle.sync_session.specs.Takes.{change_from, change_unless, changes_of, taken_entries, taken_slots}
-use Rattle.sync_session.proofs.RestLaws.{all-append}
+use Rattle.session_plan.specs.Takes.{change_from, change_unless, changes_of, taken_entries, taken_slots}
+use Rattle.session_parts.proofs.RestLaws.{all-append}
 use Rattle.sync_session.proofs.SwapLaws.{HasName}
 use Rattle.sync_session.proofs.TakenLaws.{change-task, old_at, planned_name, rows_at, rows_name}
 

@@ -10,11 +10,11 @@ use Rattle.dlp_requests.specs.Forms as form
 use Rattle.dlp_requests.specs.Forms.{Form, kinds_of}
 use Rattle.dlp_commands.specs.Changes.{asks_by}
 use Rattle.dlp_commands.specs.DeviceSteps.{FormMayGive}
-use Rattle.sync_session.proofs.LinkWords.{Act, AsksNoId, acted, closing, removing, cleaning, resetting, putting, device_after}
+use Rattle.session_parts.proofs.LinkWords.{Act, AsksNoId, acted, closing, removing, cleaning, resetting, putting, device_after}
 use Rattle.slow_mirror.specs.News.{AreFreeFor, AreIdsOf, purge_writes, puts}
-use Rattle.sync_session.specs.Given.{GetFreeIds}
+use Rattle.session_parts.specs.Given.{GetFreeIds}
 use Rattle.sync_session.specs.News.{purge_acts}
-use Rattle.sync_session.proofs.RestLaws.{all-append}
+use Rattle.session_parts.proofs.RestLaws.{all-append}
 use Rattle.sync_session.proofs.SaidLaws.{HoldsOfOpens, opened-all, writes-all}
 
 -- ---- acts that ask for no id

@@ -2,10 +2,11 @@
 use Rattle.std.proofs.Common.{◌≡◌, refl, ap, ℕ, List, [], ◌∷◌, ◌++◌, map, length, take, drop, replicate, Option, Some, None}
 use Rattle.std.proofs.lemmas.List.{map-append}
 use Rattle.sync_session.proofs.MeetingWords.{ContentValue, DatabaseValue, Meeting, Task, active, choice, adds_of, before_commit, requests, session}
-use Rattle.sync_session.proofs.LinkWords.{Act, text, closing, making, opening, putting}
+use Rattle.session_parts.proofs.LinkWords.{Act, text, closing, making, opening, putting}
 use Rattle.slow_mirror.specs.News.{as_new, puts}
-use Rattle.sync_session.specs.Heads.{made_head}
-use Rattle.sync_session.specs.News.{add_count, all_news, news_acts, news_by, opened_for, replaced, writes}
+use Rattle.session_plan.specs.Heads.{made_head}
+use Rattle.session_plan.specs.Choosing.{add_count}
+use Rattle.sync_session.specs.News.{all_news, news_acts, news_by, opened_for, replaced, writes}
 
 pub text-puts : (handle : ℕ) (entries : List (ℕ × ContentValue)) (ids others : List ℕ)
     → map text (puts handle ids entries) ≡ map text (puts handle others entries)

@@ -7,7 +7,7 @@ use Rattle.hs_folders.specs.FileMaps.{FileMap}
 use Rattle.hs_folders.specs.Moments.{Moments}
 use Rattle.hs_folders.proofs.MomentLaws.{no_moment}
 use Rattle.pdb_values.specs.declared.user.Marks.{Marks}
-use Rattle.sync_session.proofs.LinkWords.{LinkFault, Talk, SessionValue, Act, text, link_ended, marking, Does, Stops, Ended, Halted, SessionFault}
+use Rattle.session_parts.proofs.LinkWords.{LinkFault, Talk, SessionValue, Act, text, link_ended, marking, Does, Stops, Ended, Halted, SessionFault}
 use Rattle.desk_journal.specs.Entries.{EntryValue}
 use Rattle.desk_journal.specs.Overlays.{FinishesAs, finished, put_all}
 use Rattle.folder_files.specs.Slots.{users_of}
@@ -21,26 +21,29 @@ use Rattle.pdb_values.specs.declared.user.UserInfo.{UserInfo}
 use Rattle.desk_store.specs.declared.fault.CommitFault.{CommitFault}
 use Rattle.desk_store.specs.declared.fault.CommitFault.TheVariants as commit
 use Rattle.desktop_session.proofs.StopLaws.{fell_none, stops_none, stops_then}
-use Rattle.sync_session.specs.Commits.{Commits}
-use Rattle.sync_session.specs.Courses.{AfterCommit, AfterMeeting, AfterNews, AfterPreparing, AfterReading, MeetsOrNot, Prepares}
+use Rattle.session_plan.specs.Commits.{Commits}
+use Rattle.sync_session.specs.Courses.{AfterCommit, AfterMeeting, AfterNews, AfterPreparing, AfterReading, Prepares}
+use Rattle.session_parts.specs.Meets.{MeetsOrNot}
 use Rattle.sync_session.specs.Courses.{ReadsAll, Runs, closed, jobs_met, picked_for, stopped}
-use Rattle.sync_session.specs.Leaving.{IsSlotsFile, Leaves, LeavesFolder}
-use Rattle.sync_session.specs.PlannedLimits.{limit_planned}
-use Rattle.sync_session.specs.PlannedLosses.{loss_planned}
-use Rattle.sync_session.specs.PlannedReports.{reports_planned}
+use Rattle.sync_session.specs.Leaving.{IsSlotsFile, LeavesFolder}
+use Rattle.session_parts.specs.Leaving.{Leaves}
+use Rattle.session_plan.specs.PlannedLimits.{limit_planned}
+use Rattle.session_plan.specs.PlannedLosses.{loss_planned}
+use Rattle.session_plan.specs.PlannedReports.{reports_planned}
 use Rattle.sync_session.specs.Readings.{reads_under}
-use Rattle.sync_session.specs.Takes.{changes_of, each_of, taken_entries, taken_slots}
-use Rattle.sync_session.specs.Users.{begun_user}
-use Rattle.sync_session.specs.Stopping.{Judges, stop_of}
-use Rattle.sync_session.specs.declared.meeting.Met.{Met}
-use Rattle.sync_session.specs.declared.outcome.Outcome.{Outcome}
+use Rattle.session_plan.specs.Takes.{changes_of, each_of, taken_entries, taken_slots}
+use Rattle.session_plan.specs.Users.{begun_user}
+use Rattle.sync_session.specs.Stopping.{Judges}
+use Rattle.session_parts.specs.Stopping.{stop_of}
+use Rattle.session_parts.specs.declared.meeting.Met.{Met}
+use Rattle.session_parts.specs.declared.outcome.Outcome.{Outcome}
 use Rattle.sync_session.specs.declared.preparing.Prepared.{Prepared}
-use Rattle.sync_session.specs.declared.report.DbReport.{DbReport}
-use Rattle.sync_session.specs.declared.stop.Stop.{Stop}
-use Rattle.sync_session.specs.declared.stop.Stop.TheVariants as stop
-use Rattle.sync_session.specs.declared.wishes.Wishes.{Wishes}
-use Rattle.sync_session.proofs.RestLaws.{all-append, all-flat_map}
-use Rattle.sync_session.proofs.SpanLaws.{on_ok}
+use Rattle.session_parts.specs.declared.report.DbReport.{DbReport}
+use Rattle.session_parts.specs.declared.stop.Stop.{Stop}
+use Rattle.session_parts.specs.declared.stop.Stop.TheVariants as stop
+use Rattle.session_plan.specs.declared.wishes.Wishes.{Wishes}
+use Rattle.session_parts.proofs.RestLaws.{all-append, all-flat_map}
+use Rattle.session_parts.proofs.SpanLaws.{on_ok}
 
 -- ---- causes
 

@@ -7,8 +7,8 @@ use Rattle.pdb_values.specs.NamedDatabases.{database_of}
 use Rattle.sync_session.proofs.MeetingWords.{AreEachPlannedFor, ArePlannedFor, IsPlannedFor, Job, Meeting, Planned, Skip, Task, action_or_sync, active, choice}
 use Rattle.sync_session.proofs.MeetingWords.{is_sync, names, records_of, skip_of, slot_of, task_of, tasks}
 use Rattle.sync_session.proofs.ReadJoins.{job-skip}
-use Rattle.sync_session.specs.Losses.{first_loss, is_loss, is_lost, is_new}
-use Rattle.sync_session.specs.PlannedLosses.{is_loss_planned, loss_planned}
+use Rattle.session_plan.specs.Losses.{first_loss, is_loss, is_lost, is_new}
+use Rattle.session_plan.specs.PlannedLosses.{is_loss_planned, loss_planned}
 
 -- ---- one database
 

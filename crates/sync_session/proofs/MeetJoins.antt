@@ -13,8 +13,8 @@ use Rattle.pdb_values.specs.Slots.{slot_for}
 use Rattle.pdb_values.specs.declared.user.UserInfo.{UserInfo}
 use Rattle.dlp_replies.specs.ReplyReading.{reply_at}
 use Rattle.palm_device.specs.Devices.{Device}
-use Rattle.sync_session.proofs.LinkWords.{LinkFault, Talk, Halted, SessionFault, acted, no_more, said_in, user_of, listing, reading_user, said, saying}
-use Rattle.sync_session.proofs.LinkWords.{IsProper, device_after, told}
+use Rattle.session_parts.proofs.LinkWords.{LinkFault, Talk, Halted, SessionFault, acted, no_more, said_in, user_of, listing, reading_user, said, saying}
+use Rattle.session_parts.proofs.LinkWords.{IsProper, device_after, told}
 use Rattle.dlp_commands.specs.DatabaseFunctions.{listed}
 use Rattle.dlp_commands.specs.DeviceSteps.{tried}
 use Rattle.desktop_session.specs.Greetings.{Greeted, begun_by, user_by}
@@ -22,14 +22,14 @@ use Rattle.desktop_session.specs.Lists.{has_more, heads_listed, list_reply, list
 use Rattle.desktop_session.proofs.RequestFits.{user_fits}
 use Rattle.desktop_session.proofs.TellLaws.{act_sayable, acted_reads}
 use Rattle.desktop_session.proofs.WholeListLaws.{count_is, heads_are, more_is}
-use Rattle.sync_session.specs.declared.meeting.Met.{Met}
-use Rattle.sync_session.specs.declared.wishes.Wishes.{Wishes}
-use Rattle.sync_session.specs.Jobs.{head_named, job_by, job_of, jobs_of, names_with}
-use Rattle.sync_session.specs.Meets.{Meets, meeting_acts}
+use Rattle.session_parts.specs.declared.meeting.Met.{Met}
+use Rattle.session_plan.specs.declared.wishes.Wishes.{Wishes}
+use Rattle.session_plan.specs.Jobs.{head_named, job_by, job_of, jobs_of, names_with}
+use Rattle.session_parts.specs.Meets.{Meets, meeting_acts}
 use Rattle.sync_session.proofs.ReadJoins.{jobs_for}
-use Rattle.sync_session.proofs.RestLaws.{after-append, greeting_same, listings_same}
-use Rattle.sync_session.proofs.MeetLaws.{seated_with}
-use Rattle.sync_session.proofs.StretchLaws.{Leads, Tells, tells_on}
+use Rattle.session_parts.proofs.RestLaws.{after-append, greeting_same, listings_same}
+use Rattle.session_parts.proofs.MeetLaws.{seated_with}
+use Rattle.session_parts.proofs.StretchLaws.{Leads, Tells, tells_on}
 
 -- ---- lists
 

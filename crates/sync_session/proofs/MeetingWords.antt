@@ -6,21 +6,19 @@ pub use Rattle.conduit_rules.specs.Plans.{IsPlan, kept_rows, lost, purged_at, pu
 pub use Rattle.conduit_rules.specs.declared.planned.Plan.{Plan}
 pub use Rattle.desk_store.specs.Shelves.{AreInOrder, AreOrdered, ShelvesValue, SlotValue, marks_of, new_slot, number_of, slot_at, with_place}
 pub use Rattle.desk_store.specs.Views.{DeskValue, marks_in, shelves_in}
-pub use Rattle.sync_session.specs.declared.job.Job.{Job}
-pub use Rattle.sync_session.specs.declared.planned.Planned.{Planned}
-pub use Rattle.sync_session.specs.declared.skip.Skip.{Skip}
-pub use Rattle.sync_session.specs.Choosing.{action_or_sync, base_rows, base_rows_by, is_fast_by, is_sync, seen_held}
-unfoldable pub use Rattle.sync_session.specs.Choosing.{agrees, choice, is_fast, sides}
-pub use Rattle.sync_session.specs.Choosing.{sides_by}
-unfoldable pub use Rattle.sync_session.specs.Choosing.{view}
+pub use Rattle.session_plan.specs.declared.job.Job.{Job}
+pub use Rattle.session_plan.specs.declared.planned.Planned.{Planned}
+pub use Rattle.session_parts.specs.declared.skip.Skip.{Skip}
+pub use Rattle.session_plan.specs.Choosing.{action_or_sync, base_rows, base_rows_by, is_fast_by, is_sync, seen_held, sides_by}
+unfoldable pub use Rattle.session_plan.specs.Choosing.{agrees, choice, is_fast, sides, view}
 pub use Rattle.sync_session.specs.Phases.{gained_by, opened_news, purges_by}
 unfoldable pub use Rattle.sync_session.specs.Phases.{gained, news_under, purges_under}
 pub use Rattle.sync_session.specs.PlannedTasks.{AreEachPlannedFor, ArePlannedFor, IsPlannedFor, job_for, listed_head}
-pub use Rattle.sync_session.specs.Rests.{IsAtRest, IsFirst}
-pub use Rattle.sync_session.specs.Sessions.{greeting}
+pub use Rattle.session_parts.specs.Rests.{IsAtRest, IsFirst}
+pub use Rattle.session_parts.specs.Meets.{greeting}
 unfoldable pub use Rattle.sync_session.specs.Sessions.{adds_of, after_commit, before_commit, before_writes, listing_all, requests, session}
-pub use Rattle.sync_session.specs.Skips.{head_of, reason_by}
-unfoldable pub use Rattle.sync_session.specs.Skips.{active, skip_of}
-pub use Rattle.sync_session.specs.Stretches.{AreFirst, EachSays, SpansBehind, SpansEach, Stretch, done_each, each_acts, says_nothing}
-pub use Rattle.sync_session.specs.Tasks.{Meeting, Task, meeting_of, names, names_of, records_of, slot_of, with_name, with_names}
-unfoldable pub use Rattle.sync_session.specs.Tasks.{task_of, tasks}
+pub use Rattle.session_plan.specs.Skips.{head_of, reason_by}
+unfoldable pub use Rattle.session_plan.specs.Skips.{active, skip_of}
+pub use Rattle.session_parts.specs.Stretches.{AreFirst, EachSays, SpansBehind, SpansEach, Stretch, done_each, each_acts, says_nothing}
+pub use Rattle.session_plan.specs.Tasks.{Meeting, Task, meeting_of, names, names_of, records_of, slot_of, with_name, with_names}
+unfoldable pub use Rattle.session_plan.specs.Tasks.{task_of, tasks}

@@ -14,9 +14,9 @@ use Rattle.desk_store.specs.Desks.{all_rows}
 use Rattle.desktop_session.specs.Tellings.{IsProper}
 use Rattle.sync_session.proofs.MeetingWords.{DatabaseValue, Job, Meeting, Planned, Skip, Task, names, slot_of, task_of, tasks, active, skip_of}
 use Rattle.sync_session.proofs.MeetingWords.{AreEachPlannedFor, ArePlannedFor}
-use Rattle.sync_session.specs.Limits.{first_behind, first_over, sizes_of, with_one}
-use Rattle.sync_session.specs.PlannedLimits.{limit_planned, over_planned, past_most, past_room, unskipped}
-use Rattle.sync_session.specs.Sizes.{is_over}
+use Rattle.session_plan.specs.Limits.{first_behind, first_over, sizes_of, with_one}
+use Rattle.session_plan.specs.PlannedLimits.{limit_planned, over_planned, past_most, past_room, unskipped}
+use Rattle.session_plan.specs.Sizes.{is_over}
 use Rattle.sync_session.proofs.OnceLaws.{Once, bytes_eq-swap, names-once}
 use Rattle.sync_session.proofs.PlannedLaws.{over_is_first_over}
 use Rattle.sync_session.proofs.ReadJoins.{job-skip}

@@ -11,7 +11,7 @@ use Rattle.sync_session.proofs.MeetingWords.{ContentValue, DatabaseValue, DbHead
 use Rattle.sync_session.proofs.MeetingWords.{seen_held, sides, sides_by, view, gained, gained_by, news_under, opened_news, AreEachPlannedFor, ArePlannedFor}
 use Rattle.sync_session.proofs.MeetingWords.{IsPlannedFor, listed_head, IsFirst, active, head_of, skip_of, AreFirst, EachSays, Stretch, each_acts, Meeting}
 use Rattle.sync_session.proofs.MeetingWords.{Task, tasks, purged_ids, purges_by, purges_under, done_each, says_nothing}
-use Rattle.sync_session.proofs.LinkWords.{Talk, Act, acted, text, closing, making, opening, said, saying, device_after}
+use Rattle.session_parts.proofs.LinkWords.{Talk, Act, acted, text, closing, making, opening, said, saying, device_after}
 use Rattle.conduit_rules.specs.ById.{each_id, id_bound, ids_below, with_id}
 use Rattle.conduit_rules.specs.Choices.{Sides, choice_for, fate_for, loose_for, offers_for, partners_for}
 use Rattle.conduit_rules.specs.Contents.{count_of}
@@ -25,17 +25,19 @@ use Rattle.desktop_session.proofs.SaysLaws.{saying_none, saying_then}
 use Rattle.desktop_session.proofs.TellLaws.{said_device}
 use Rattle.slow_mirror.specs.News.{AreIdsOf, as_new, news_of, puts, purge_writes}
 use Rattle.sync_session.specs.Gains.{AreGained}
-use Rattle.sync_session.specs.Given.{AreDealtTo, GetFreeIds}
-use Rattle.sync_session.specs.Heads.{made_head}
+use Rattle.sync_session.specs.Given.{AreDealtTo}
+use Rattle.session_parts.specs.Given.{GetFreeIds}
+use Rattle.session_plan.specs.Heads.{made_head}
 use Rattle.sync_session.specs.News as session
-use Rattle.sync_session.specs.News.{add_count, all_news, made, news_acts, opened_for, replaced, writes, purge_acts}
+use Rattle.session_plan.specs.Choosing.{add_count}
+use Rattle.sync_session.specs.News.{all_news, made, news_acts, opened_for, replaced, writes, purge_acts}
 use Rattle.sync_session.specs.Phases as phase
-use Rattle.sync_session.proofs.CloseLaws.{LeavesClosed, TellsClosed, around_closed, closed_on, making_one, none_closed, opening_one, puts_keep, purges_keep}
+use Rattle.session_parts.proofs.CloseLaws.{LeavesClosed, TellsClosed, around_closed, closed_on, making_one, none_closed, opening_one, puts_keep, purges_keep}
 use Rattle.sync_session.proofs.FreeLaws.{NoId, around_free, free-append, puts_free}
 use Rattle.sync_session.proofs.IdsLaws.{text-all_news, text-around, text-news_acts, text-opened_for, text-puts}
 use Rattle.sync_session.proofs.ReadJoins.{job-skip}
-use Rattle.sync_session.proofs.RestLaws.{all-flat_map}
-use Rattle.sync_session.proofs.StretchLaws.{flat_map-none, flat_map-same, where_kept, Steps, kept_step, stretches_join}
+use Rattle.session_parts.proofs.RestLaws.{all-flat_map}
+use Rattle.session_parts.proofs.StretchLaws.{flat_map-none, flat_map-same, where_kept, Steps, kept_step, stretches_join}
 use Rattle.sync_session.specs.Reads.{opened}
 
 -- ---- replacements have ids

@@ -5,7 +5,7 @@ use Rattle.std.specs.List.{list_any, position_or_len}
 use Rattle.std.specs.Str.{bytes_eq}
 use Rattle.pdb_values.specs.NamedDatabases.{comes_before}
 use Rattle.pdb_values.proofs.NamedLaws.{bytes_eq-other, bytes_eq-own}
-use Rattle.sync_session.specs.Tasks.{Meeting, names, names_of, slot_of, with_name, with_names}
+use Rattle.session_plan.specs.Tasks.{Meeting, names, names_of, slot_of, with_name, with_names}
 
 pub bytes_eq-swap : (a b : List ℕ) → bytes_eq a b ≡ false → bytes_eq b a ≡ false
 bytes_eq-swap a b apart = bytes_eq-other b a (λ is. let own : bytes_eq a b ≡ true = rw is (bytes_eq-own a) in cc)

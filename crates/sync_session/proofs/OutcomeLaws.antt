@@ -8,7 +8,7 @@ use Rattle.hs_folders.specs.Moments.{EachMomentSince, Moments}
 use Rattle.hs_folders.proofs.MomentLaws.{moments_weaken, no_moment}
 use Rattle.pdb_values.specs.declared.user.Marks.{Marks}
 use Rattle.pdb_values.specs.declared.user.UserInfo.{UserInfo}
-use Rattle.sync_session.proofs.LinkWords.{LinkFault, Talk, Ended, Halted, SessionFault, text, marking, reading_user, SessionValue, Stops}
+use Rattle.session_parts.proofs.LinkWords.{LinkFault, Talk, Ended, Halted, SessionFault, text, marking, reading_user, SessionValue, Stops}
 use Rattle.desk_journal.specs.Entries.{EntryValue}
 use Rattle.desk_journal.specs.Overlays.{FinishesAs, finished, put_all}
 use Rattle.desk_journal.proofs.FinishLaws.{plain_finished}
@@ -19,30 +19,30 @@ use Rattle.desk_store.specs.declared.fault.CommitFault.{CommitFault}
 use Rattle.desk_store.specs.declared.fault.CommitFault.TheVariants as commit
 use Rattle.desktop_session.specs.declared.fault.SessionFault.TheVariants as session
 use Rattle.desktop_session.proofs.StopLaws.{fell_none, stops_none}
-use Rattle.sync_session.specs.declared.outcome.Outcome.{Outcome}
+use Rattle.session_parts.specs.declared.outcome.Outcome.{Outcome}
 use Rattle.sync_session.specs.declared.preparing.Prepared.{Prepared}
-use Rattle.sync_session.specs.declared.report.DbReport.{DbReport}
-use Rattle.sync_session.specs.declared.stop.Stop.{Stop}
-use Rattle.sync_session.specs.declared.stop.Stop.TheVariants as stop
-use Rattle.sync_session.specs.Causes.{IsLater}
-use Rattle.sync_session.specs.Commits.{Commits}
+use Rattle.session_parts.specs.declared.report.DbReport.{DbReport}
+use Rattle.session_parts.specs.declared.stop.Stop.{Stop}
+use Rattle.session_parts.specs.declared.stop.Stop.TheVariants as stop
+use Rattle.session_parts.specs.Causes.{IsLater}
+use Rattle.session_plan.specs.Commits.{Commits}
 use Rattle.sync_session.specs.Courses.{AfterCommit, AfterNews, closed, last_acts, stopped}
 use Rattle.sync_session.specs.Endings.{Ends}
-use Rattle.sync_session.specs.Limits.{first_over}
-use Rattle.sync_session.specs.Losses.{first_loss}
-use Rattle.sync_session.specs.Merges.{merged_slots}
+use Rattle.session_plan.specs.Limits.{first_over}
+use Rattle.session_plan.specs.Losses.{first_loss}
+use Rattle.session_plan.specs.Merges.{merged_slots}
 use Rattle.sync_session.specs.Outcomes.{ChangesDesk, IsAtCommit, IsCommitted, IsStopOf, IsUncommitted, MergedSince, SessionEnds, StandsForSlots}
 use Rattle.sync_session.specs.Outcomes.{StopsAtLimit, StopsAtLoss, StopsFor, requests_before_commit, seat_of, tellings}
-use Rattle.sync_session.specs.Reports.{reports}
-use Rattle.sync_session.specs.Stopping.{stop_of}
-use Rattle.sync_session.specs.Takes.{each_of, taken_entries, taken_slots}
+use Rattle.session_plan.specs.Reports.{reports}
+use Rattle.session_parts.specs.Stopping.{stop_of}
+use Rattle.session_plan.specs.Takes.{each_of, taken_entries, taken_slots}
 use Rattle.sync_session.proofs.FilesLaws.{AreCommitFiles, taken-files}
 use Rattle.sync_session.proofs.IdsLaws.{text-before_commit}
 use Rattle.sync_session.proofs.SessionJoins.{NewsReach, Reached, end_reach, end_stop, news_reach, news_stop, session_free, writes_stop}
-use Rattle.sync_session.proofs.SpanLaws.{on_ok}
-use Rattle.sync_session.proofs.StretchLaws.{Tells}
+use Rattle.session_parts.proofs.SpanLaws.{on_ok}
+use Rattle.session_parts.proofs.StretchLaws.{Tells}
 use Rattle.sync_session.proofs.TakenLaws.{taken-merged}
-use Rattle.sync_session.specs.Users.{begun_user}
+use Rattle.session_plan.specs.Users.{begun_user}
 
 -- ---- the folder
 

@@ -30,20 +30,20 @@ use Rattle.record_merge.specs.Merging.{new_under, one_copy_behind}
 use Rattle.record_merge.proofs.StopLaws.{within}
 use Rattle.desktop_session.specs.Tellings.{IsProper}
 use Rattle.desk_store.specs.Desks.{all_rows}
-use Rattle.sync_session.specs.declared.report.Did.TheVariants.{Synced}
-use Rattle.sync_session.specs.declared.sizes.Sizes.{Sizes}
-use Rattle.sync_session.specs.Archives.{entries_of}
-use Rattle.sync_session.specs.Limits.{first_behind, first_over, gone_count, sizes_of, with_one}
-use Rattle.sync_session.specs.News.{add_count}
-use Rattle.sync_session.specs.PlannedLimits.{over_planned, sizes_planned, unseen_count}
-use Rattle.sync_session.specs.PlannedReports.{counts_planned, did_by_plan, report_planned, reports_planned, told}
-use Rattle.sync_session.specs.Reports.{counts_of, did_by, did_of, is_received, read_count, report_of, reports, twice_count}
-use Rattle.sync_session.specs.Sizes.{is_over}
+use Rattle.session_parts.specs.declared.report.Did.TheVariants.{Synced}
+use Rattle.session_plan.specs.declared.sizes.Sizes.{Sizes}
+use Rattle.session_plan.specs.Archives.{entries_of}
+use Rattle.session_plan.specs.Limits.{first_behind, first_over, gone_count, sizes_of, with_one}
+use Rattle.session_plan.specs.Choosing.{add_count}
+use Rattle.session_plan.specs.PlannedLimits.{over_planned, sizes_planned, unseen_count}
+use Rattle.session_plan.specs.PlannedReports.{counts_planned, did_by_plan, report_planned, reports_planned, told}
+use Rattle.session_plan.specs.Reports.{counts_of, did_by, did_of, is_received, read_count, report_of, reports, twice_count}
+use Rattle.session_plan.specs.Sizes.{is_over}
 use Rattle.sync_session.proofs.ReadJoins.{job-fast, job-skip, IsSeen, jobs_for}
-use Rattle.sync_session.proofs.SeenCountLaws.{length-view, unseen_is_new, view_by}
+use Rattle.session_plan.proofs.SeenCountLaws.{length-view, unseen_is_new, view_by}
 use Rattle.conduit_rules.specs.declared.view.View.{View}
-use Rattle.sync_session.specs.Planning.{ArePlanned, IsPlanUnder}
-use Rattle.sync_session.proofs.StretchLaws.{Pairs}
+use Rattle.session_plan.specs.Planning.{ArePlanned, IsPlanUnder}
+use Rattle.session_parts.proofs.StretchLaws.{Pairs}
 
 -- ---- what is planned from what was seen
 

@@ -5,7 +5,7 @@ use Rattle.dlp_commands.specs.Changes.{changes, is_change}
 use Rattle.dlp_commands.specs.DeviceSteps.{function_number}
 use Rattle.dlp_commands.proofs.StepLaws.{changes-text}
 use Rattle.desktop_session.specs.Acts.{Act, text}
-use Rattle.sync_session.specs.Quiet.{AreQuiet}
+use Rattle.session_parts.specs.Quiet.{AreQuiet}
 use Rattle.sync_session.proofs.MeetingWords.{before_writes, Meeting}
 use Rattle.sync_session.proofs.SaidLaws.{writes-all}
 

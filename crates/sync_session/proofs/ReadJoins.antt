@@ -23,7 +23,7 @@ use Rattle.dlp_commands.specs.DatabaseFunctions.{listed}
 use Rattle.dlp_commands.specs.DeviceSteps.{tried}
 use Rattle.dlp_commands.specs.Holding.{on_records}
 use Rattle.dlp_commands.specs.declared.reading.Reading.TheVariants as reading
-use Rattle.sync_session.proofs.LinkWords.{Talk, Act, acted, counting, opening, reading_next, reading_of, saying, IsProper, device_after}
+use Rattle.session_parts.proofs.LinkWords.{Talk, Act, acted, counting, opening, reading_next, reading_of, saying, IsProper, device_after}
 use Rattle.conduit_rules.specs.ById.{each_id, ids_below, id_bound}
 use Rattle.conduit_rules.specs.States.{Based, no_base, row, gone, base_at as row_at, first, is_row}
 use Rattle.conduit_rules.specs.Views.{fast_view, slow_view}
@@ -38,14 +38,14 @@ use Rattle.slow_mirror.proofs.ShownLaws.{records_told, slow_shown-is}
 use Rattle.fast_mirror.specs.FastReads as fast
 use Rattle.fast_mirror.specs.FastReads.{asks_of, fast_asks, fast_shown, other_reads}
 use Rattle.fast_mirror.proofs.ViewLaws.{fast_reads-are, fast_shown-is}
-use Rattle.sync_session.specs.declared.skip.Skip.TheVariants as skip
+use Rattle.session_parts.specs.declared.skip.Skip.TheVariants as skip
 use Rattle.sync_session.specs.Readings.{opened_reads, opened_shown, reads_by, reads_under, shown_by, shown_under}
 use Rattle.sync_session.specs.Reads.{fast_reads, opened, read_acts, read_by_id, reads}
-use Rattle.sync_session.proofs.RestLaws.{KeepsOpen, after-append, around_same, keeps_next, keeps_same, leads_to}
-use Rattle.sync_session.proofs.RestLaws.{opened_on, opened_proper, opens_does, reads_same}
+use Rattle.session_parts.proofs.RestLaws.{KeepsOpen, after-append, around_same, keeps_next, keeps_same, leads_to}
+use Rattle.session_parts.proofs.RestLaws.{opened_on, opened_proper, opens_does, reads_same}
 use Rattle.sync_session.proofs.SaidLaws.{reads-all}
-use Rattle.sync_session.proofs.StretchLaws.{Leads, Pairs, Steps, Tells, first_is, flat_map-kept, flat_map-none, flat_map-same, pairs-map}
-use Rattle.sync_session.proofs.StretchLaws.{stretches_join, stretches_lead, tells_on, where_kept}
+use Rattle.session_parts.proofs.StretchLaws.{Leads, Pairs, Steps, Tells, first_is, flat_map-kept, flat_map-none, flat_map-same, pairs-map}
+use Rattle.session_parts.proofs.StretchLaws.{stretches_join, stretches_lead, tells_on, where_kept}
 
 -- ---- a database that is not skipped holds records and can be written
 

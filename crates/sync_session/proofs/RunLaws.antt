@@ -8,8 +8,8 @@ use Rattle.sync_session.proofs.MeetingWords.{DbHead, AreInOrder, marks_of, DeskV
 use Rattle.sync_session.proofs.MeetingWords.{before_writes, greeting, listing_all, Meeting, meeting_of, slot_of, agrees}
 use Rattle.pdb_values.specs.declared.user.UserInfo.{UserInfo}
 use Rattle.folder_files.specs.Slots.{users_of}
-use Rattle.sync_session.proofs.LinkWords.{LinkFault, Talk, Halted, SessionFault, text, no_more, said_in, user_of, reading_user, IsProper, SessionValue, Does}
-use Rattle.sync_session.proofs.LinkWords.{Stops}
+use Rattle.session_parts.proofs.LinkWords.{LinkFault, Talk, Halted, SessionFault, text, no_more, said_in, user_of, reading_user, IsProper, SessionValue, Does}
+use Rattle.session_parts.proofs.LinkWords.{Stops}
 use Rattle.dlp_commands.specs.declared.link.LinkFault.TheVariants as link
 use Rattle.desk_store.specs.Desks.{all_rows, place_of}
 use Rattle.desktop_session.specs.declared.fault.SessionFault.TheVariants as session
@@ -24,32 +24,32 @@ use Rattle.pdb_values.specs.declared.slot.Slot.{Slot}
 use Rattle.pdb_values.specs.declared.slot.Slot.TheVariants as slot
 use Rattle.fast_mirror.specs.Agreements.{agreed}
 use Rattle.std.proofs.lemmas.List.{length-map}
-use Rattle.sync_session.specs.declared.meeting.Met.{Met}
-use Rattle.sync_session.specs.declared.outcome.Outcome.{Outcome}
+use Rattle.session_parts.specs.declared.meeting.Met.{Met}
+use Rattle.session_parts.specs.declared.outcome.Outcome.{Outcome}
 use Rattle.sync_session.specs.declared.preparing.Prepared.{Prepared}
-use Rattle.sync_session.specs.declared.report.DbReport.{DbReport}
-use Rattle.sync_session.specs.declared.stop.Stop.{Stop}
-use Rattle.sync_session.specs.declared.stop.Stop.TheVariants as stop
-use Rattle.sync_session.specs.declared.wishes.Wishes.{Wishes}
-use Rattle.sync_session.specs.Causes.{IsLater}
-use Rattle.sync_session.specs.Courses.{AfterMeeting, AfterPreparing, AfterReading, GoesOn, MeetsOrNot, ReadsAll, Runs, jobs_met, picked_for, stopped}
-use Rattle.sync_session.specs.Limits.{first_over}
-use Rattle.sync_session.specs.Losses.{first_loss}
+use Rattle.session_parts.specs.declared.report.DbReport.{DbReport}
+use Rattle.session_parts.specs.declared.stop.Stop.{Stop}
+use Rattle.session_parts.specs.declared.stop.Stop.TheVariants as stop
+use Rattle.session_plan.specs.declared.wishes.Wishes.{Wishes}
+use Rattle.session_parts.specs.Causes.{IsLater}
+use Rattle.sync_session.specs.Courses.{AfterMeeting, AfterPreparing, AfterReading, GoesOn, ReadsAll, Runs, jobs_met, picked_for, stopped}
+use Rattle.session_parts.specs.Meets.{MeetsOrNot, IsUnlisted}
+use Rattle.session_plan.specs.Limits.{first_over}
+use Rattle.session_plan.specs.Losses.{first_loss}
 use Rattle.sync_session.specs.Outcomes.{IsStopOf, StopsFor, seat_of, slot_in}
 use Rattle.sync_session.specs.Stopping.{Judges}
 use Rattle.sync_session.proofs.SessionJoins.{Reached, ReadsReach, meets_stop, met_reaches, reads_reach, reads_stop}
-use Rattle.sync_session.proofs.StretchLaws.{Tells}
-use Rattle.sync_session.proofs.CauseLaws.{later_by, later_refused}
+use Rattle.session_parts.proofs.StretchLaws.{Tells}
+use Rattle.session_parts.proofs.CauseLaws.{later_by, later_refused}
 use Rattle.sync_session.proofs.MeetJoins.{jobs_meet, meets_join, user_read, user_told}
-use Rattle.sync_session.proofs.MeetLaws.{greeted_slot}
+use Rattle.session_parts.proofs.MeetLaws.{greeted_slot}
 use Rattle.sync_session.proofs.LossLaws.{loss_is_first_loss}
 use Rattle.sync_session.proofs.MostLaws.{limit_is_first_over}
 use Rattle.sync_session.proofs.PlannedLaws.{plans_join, reports_are}
 use Rattle.sync_session.proofs.ReadJoins.{jobs_for}
-use Rattle.sync_session.specs.Meets.{IsUnlisted}
-use Rattle.sync_session.specs.PlannedLimits.{limit_planned}
-use Rattle.sync_session.specs.PlannedLosses.{loss_planned}
-use Rattle.sync_session.specs.PlannedReports.{reports_planned}
+use Rattle.session_plan.specs.PlannedLimits.{limit_planned}
+use Rattle.session_plan.specs.PlannedLosses.{loss_planned}
+use Rattle.session_plan.specs.PlannedReports.{reports_planned}
 use Rattle.sync_session.proofs.OutcomeLaws.{EndsSo, SaysRefusal, cause_says, ends_unwritten, later_stop, news_ends, seated_says}
 
 -- ---- what is found of the limits, and of what a new handheld would cost

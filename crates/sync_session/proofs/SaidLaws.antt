@@ -6,12 +6,12 @@ use Rattle.pdb_values.specs.declared.record.Record.{Record}
 use Rattle.palm_device.specs.Records.{is_changed}
 use Rattle.conduit_rules.specs.ById.{each_id, ids_below, id_bound}
 use Rattle.conduit_rules.specs.States.{first, has_row}
-use Rattle.sync_session.proofs.LinkWords.{Act, beginning, closing, counting, listing, listing_ids, opening, reading_at, reading_next, reading_of, reading_user}
+use Rattle.session_parts.proofs.LinkWords.{Act, beginning, closing, counting, listing, listing_ids, opening, reading_at, reading_next, reading_of, reading_user}
 use Rattle.desktop_session.specs.Lists.{id_listings, id_parts, listings}
 use Rattle.slow_mirror.specs.Reads as slow
 use Rattle.sync_session.proofs.MeetingWords.{base_rows, is_fast, before_writes, listing_all, active, Meeting, Task, records_of}
 use Rattle.sync_session.specs.Reads.{fast_reads, opened, read_acts, read_by_id, reads}
-use Rattle.sync_session.proofs.RestLaws.{all-append, all-flat_map, all-replicate}
+use Rattle.session_parts.proofs.RestLaws.{all-append, all-flat_map, all-replicate}
 
 -- what reads an opened database, under handle 1
 pub record HoldsOfReads (P : Act → Type 0) : Type 0 where

@@ -14,8 +14,8 @@ use Rattle.desk_store.specs.Desks.{place_of}
 use Rattle.desk_store.specs.Shelves.{SlotValue, marks_of, new_slot, number_of, slot_at}
 use Rattle.desk_store.proofs.BearLaws.{user_at}
 use Rattle.desk_store.proofs.SlotListLaws.{marks-length, slot_at-any}
-use Rattle.sync_session.specs.Fits.{IsSeat}
-use Rattle.sync_session.specs.Users.{agreed_user}
+use Rattle.session_plan.specs.Fits.{IsSeat}
+use Rattle.session_plan.specs.Users.{agreed_user}
 
 no_place : {X : Type 0} (test : X → Bool) (x : X) (xs : List X) → (b : Bool) → test x ≡ b → (o : Option ℕ)
     → cond b (Some 0) (option_map (λ place. suc place) o) ≡ None → (b ≡ false) × (o ≡ None)

@@ -4,29 +4,30 @@ use Rattle.std.proofs.lemmas.List.{map-append}
 use Rattle.pdb_values.specs.declared.user.Marks.{Marks}
 use Rattle.pdb_values.specs.declared.user.UserInfo.{UserInfo}
 use Rattle.palm_device.specs.Devices.{Device}
-use Rattle.sync_session.proofs.LinkWords.{LinkFault, Talk, Ended, Halted, SessionFault, Act, text, link_ended, ending, marking, saying, SessionValue, Does}
-use Rattle.sync_session.proofs.LinkWords.{Stops, device_after}
+use Rattle.session_parts.proofs.LinkWords.{LinkFault, Talk, Ended, Halted, SessionFault, Act, text, link_ended, ending, marking, saying, SessionValue, Does}
+use Rattle.session_parts.proofs.LinkWords.{Stops, device_after}
 use Rattle.conduit_rules.specs.declared.view.View.{View}
 use Rattle.sync_session.proofs.MeetingWords.{ShelvesValue, Job, Planned, gained, news_under, ArePlannedFor, IsAtRest, adds_of, after_commit, before_commit}
 use Rattle.sync_session.proofs.MeetingWords.{before_writes, greeting, listing_all, session, active, SpansBehind, SpansEach, each_acts, Meeting, slot_of, tasks}
 use Rattle.desktop_session.proofs.SaysLaws.{saying_then}
 use Rattle.desktop_session.proofs.StopLaws.{does_then, stops_more, stops_then}
-use Rattle.sync_session.specs.declared.meeting.Met.{Met}
+use Rattle.session_parts.specs.declared.meeting.Met.{Met}
 use Rattle.sync_session.specs.Endings.{Ends}
-use Rattle.sync_session.specs.Given.{AreDealtTo, GetFreeIds}
-use Rattle.sync_session.specs.Meets.{Meets, link_met}
+use Rattle.sync_session.specs.Given.{AreDealtTo}
+use Rattle.session_parts.specs.Given.{GetFreeIds}
+use Rattle.session_parts.specs.Meets.{Meets, link_met}
 use Rattle.sync_session.specs.News.{all_news, purge_acts}
 use Rattle.sync_session.specs.Readings.{reads_under}
 use Rattle.sync_session.specs.Reads.{read_acts}
-use Rattle.sync_session.specs.Users as users
-use Rattle.sync_session.specs.Users.{begin_mark, end_mark}
-use Rattle.sync_session.proofs.CloseLaws.{TellsClosed, closed_on, keeps_closed, marking_keeps}
+use Rattle.session_plan.specs.Users as users
+use Rattle.sync_session.specs.Sessions.{begin_mark, end_mark}
+use Rattle.session_parts.proofs.CloseLaws.{TellsClosed, closed_on, keeps_closed, marking_keeps}
 use Rattle.sync_session.proofs.FreeLaws.{NoId, free-append, none_free, purge_acts-none, writes-none}
 use Rattle.sync_session.proofs.MeetJoins.{meeting_leaves, meets_join, meets_lead}
 use Rattle.sync_session.proofs.NewsJoins.{news_join, news_lead, purge_join}
 use Rattle.sync_session.proofs.ReadJoins.{IsSeen, jobs_for, reads_join, reads_lead, reads_leave, shows_under}
-use Rattle.sync_session.proofs.RestLaws.{after-append, all-append, all-flat_map}
-use Rattle.sync_session.proofs.StretchLaws.{Leads, Pairs, Tells, tells_on}
+use Rattle.session_parts.proofs.RestLaws.{after-append, all-append, all-flat_map}
+use Rattle.session_parts.proofs.StretchLaws.{Leads, Pairs, Tells, tells_on}
 
 -- ---- what was done so far
 

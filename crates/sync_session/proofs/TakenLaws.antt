@@ -17,17 +17,17 @@ use Rattle.desk_store.specs.Changes.{with_change, with_changes}
 use Rattle.desk_store.specs.declared.change.DbChange.{DbChange}
 use Rattle.desk_store.proofs.ChangedLaws.{ordered_changes}
 use Rattle.desk_store.proofs.OwnLaws.{each-append}
-use Rattle.sync_session.specs.Archives.{archive_records, entries_of}
+use Rattle.session_plan.specs.Archives.{archive_records, entries_of}
 use Rattle.sync_session.specs.Given.{AreDealtTo}
-use Rattle.sync_session.specs.Heads.{rows_head}
-use Rattle.sync_session.specs.Merges.{Merged, archive_of, beside, merged_of, merged_shelves, merged_slot, merged_slots, rows_before, shelve, shelved}
-use Rattle.sync_session.specs.News.{add_count}
-use Rattle.sync_session.specs.Takes.{change_from, change_of, change_unless, changes_of, planned_archive, planned_change, rows_begun, taken_slots}
-use Rattle.sync_session.specs.Users.{done_marks}
+use Rattle.session_plan.specs.Heads.{rows_head}
+use Rattle.session_plan.specs.Merges.{Merged, archive_of, beside, merged_of, merged_shelves, merged_slot, merged_slots, rows_before, shelve, shelved}
+use Rattle.session_plan.specs.Choosing.{add_count}
+use Rattle.session_plan.specs.Takes.{change_from, change_of, change_unless, changes_of, planned_archive, planned_change, rows_begun, taken_slots}
+use Rattle.session_plan.specs.Users.{done_marks}
 use Rattle.sync_session.proofs.NewsJoins.{no_ids}
 use Rattle.sync_session.proofs.OnceLaws.{Once, names-once, bytes_eq-swap}
 use Rattle.sync_session.proofs.ReadJoins.{job-skip}
-use Rattle.sync_session.proofs.RowLaws.{base-merged, rows-merged}
+use Rattle.session_plan.proofs.RowLaws.{base-merged, rows-merged}
 use Rattle.sync_session.proofs.SwapLaws.{HasName, HasOther, with_changes-first}
 
 -- ---- one database

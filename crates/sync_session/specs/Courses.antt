@@ -26,29 +26,30 @@ use Rattle.desktop_session.specs.Acts.{Act}
 use Rattle.desktop_session.specs.Requests.{ending, marking}
 use Rattle.desktop_session.specs.Sessions.{SessionValue}
 use Rattle.fast_mirror.specs.Agreements.{agreed}
-use Rattle.sync_session.specs.declared.job.Job.{Job}
-use Rattle.sync_session.specs.declared.meeting.Met.{Met}
-use Rattle.sync_session.specs.declared.outcome.Outcome.{Outcome}
-use Rattle.sync_session.specs.declared.planned.Planned.{Planned}
+use Rattle.session_plan.specs.declared.job.Job.{Job}
+use Rattle.session_parts.specs.declared.meeting.Met.{Met}
+use Rattle.session_parts.specs.declared.outcome.Outcome.{Outcome}
+use Rattle.session_plan.specs.declared.planned.Planned.{Planned}
 use Rattle.sync_session.specs.declared.preparing.Prepared.{Prepared}
-use Rattle.sync_session.specs.declared.report.DbReport.{DbReport}
-use Rattle.sync_session.specs.declared.stop.Stop.{Stop}
-use Rattle.sync_session.specs.declared.stop.Stop.TheVariants as stop
-use Rattle.sync_session.specs.declared.wishes.Wishes.{Wishes}
-use Rattle.sync_session.specs.Commits.{Commits}
+use Rattle.session_parts.specs.declared.report.DbReport.{DbReport}
+use Rattle.session_parts.specs.declared.stop.Stop.{Stop}
+use Rattle.session_parts.specs.declared.stop.Stop.TheVariants as stop
+use Rattle.session_plan.specs.declared.wishes.Wishes.{Wishes}
+use Rattle.session_plan.specs.Commits.{Commits}
 use Rattle.sync_session.specs.Endings.{Ends}
-use Rattle.sync_session.specs.Jobs.{jobs_of}
-use Rattle.sync_session.specs.Meets.{Meets}
+use Rattle.session_plan.specs.Jobs.{jobs_of}
+use Rattle.session_parts.specs.Meets.{MeetsOrNot}
 use Rattle.sync_session.specs.Phases.{gained, news_under}
-use Rattle.sync_session.specs.PlannedLimits.{limit_planned}
-use Rattle.sync_session.specs.PlannedLosses.{loss_planned}
-use Rattle.sync_session.specs.PlannedReports.{reports_planned}
-use Rattle.sync_session.specs.Planning.{ArePlanned}
+use Rattle.session_plan.specs.PlannedLimits.{limit_planned}
+use Rattle.session_plan.specs.PlannedLosses.{loss_planned}
+use Rattle.session_plan.specs.PlannedReports.{reports_planned}
+use Rattle.session_plan.specs.Planning.{ArePlanned}
 use Rattle.sync_session.specs.Readings.{reads_under, shown_under}
-use Rattle.sync_session.specs.Stopping.{Judges, stop_of}
-use Rattle.sync_session.specs.Stretches.{SpansBehind, SpansEach}
-use Rattle.sync_session.specs.Takes.{each_of, taken_entries, taken_slots}
-use Rattle.sync_session.specs.Users.{begun_user, done_user}
+use Rattle.sync_session.specs.Stopping.{Judges}
+use Rattle.session_parts.specs.Stopping.{stop_of}
+use Rattle.session_parts.specs.Stretches.{SpansBehind, SpansEach}
+use Rattle.session_plan.specs.Takes.{each_of, taken_entries, taken_slots}
+use Rattle.session_plan.specs.Users.{begun_user, done_user}
 
 -- ---- what is left
 
@@ -159,13 +160,6 @@ AfterPreparing talk since fault downs contents moments paths faults date now des
 abbrev pub picked_for : {F : Type 0} → List ℕ → ℕ → Bool → DeskValue F → DeskValue F
 picked_for users user add desk = record desk { picked = place_of (length desk.slots) (slot_for users user add) }
 
--- a user has a slot, an old one or a new one
-abbrev pub IsSeated : Slot → Type 0
-IsSeated (slot.Old place) = Unit {0}
-IsSeated slot.New = Unit {0}
-IsSeated slot.Refused = ⊥
-IsSeated slot.Full = ⊥
-
 -- both sides have met
 pub record GoesOn {L F : Type 0} (talk : L → Option Talk) (since : L → L → Type 0) (fault : L → Option LinkFault) (downs : L → ℕ)
     (contents : F → Option FileMap) (moments : F → Moments) (paths : F → Option (List (List ℕ))) (faults : F → ℕ)
@@ -176,12 +170,7 @@ pub record GoesOn {L F : Type 0} (talk : L → Option Talk) (since : L → L →
   pub goes : AfterPreparing talk since fault downs contents moments paths faults wishes.date now
       (picked_for users met.linked.user.user wishes.add_user desk) answer left
 
--- both sides were to meet, or memory ran out before
-abbrev pub MeetsOrNot : {L : Type 0} → (L → Option Talk) → (L → L → Type 0) → (L → Option LinkFault) → (L → ℕ) → List ℕ → Bool → L → Result (Met L) (Halted L)
-    → Type 0
-MeetsOrNot talk since fault downs users add old answer =
-    Meets talk since fault downs users add old answer ⊎ IsErrAnd answer (λ halted. (halted.link ≡ old) × (halted.cause ≡ session.NoMemory))
-
+-- both sides have met, or they have not
 abbrev pub AfterMeeting : {L F : Type 0} → (L → Option Talk) → (L → L → Type 0) → (L → Option LinkFault) → (L → ℕ) → (F → Option FileMap) → (F → Moments) →
     (F → Option (List (List ℕ))) → (F → ℕ) → List ℕ → Wishes
     → DeskValue F → Result (Met L) (Halted L) → Outcome L F → Type 0

@@ -8,10 +8,10 @@ use Rattle.desktop_session.specs.Acts.{Act, text}
 use Rattle.desktop_session.specs.Ends.{link_ended}
 use Rattle.desktop_session.specs.Sessions.{SessionValue}
 use Rattle.desktop_session.specs.Stops.{Does, Stops}
-use Rattle.sync_session.specs.declared.planned.Planned.{Planned}
-use Rattle.sync_session.specs.Causes.{IsLater}
+use Rattle.session_plan.specs.declared.planned.Planned.{Planned}
+use Rattle.session_parts.specs.Causes.{IsLater}
 use Rattle.sync_session.specs.Phases.{purges_under}
-use Rattle.sync_session.specs.Stretches.{AreFirst, EachSays, Stretch, done_each, each_acts, says_nothing}
+use Rattle.session_parts.specs.Stretches.{AreFirst, EachSays, Stretch, done_each, each_acts, says_nothing}
 
 -- Nothing was asked for but that each of these databases is purged, unless it is skipped, and then these last acts, as far as the answers
 -- go. Where the session ended, each act was answered.

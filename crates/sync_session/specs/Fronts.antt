@@ -1,20 +1,10 @@
 -- Where a handheld stands after some of a session's writes.
-use Rattle.std.specs.Prelude.{◌≡◌, ℕ, List, filter, length, take}
-use Rattle.std.specs.List.{flat_map}
+use Rattle.std.specs.Prelude.{ℕ, List}
 use Rattle.palm_device.specs.Devices.{Device}
-use Rattle.dlp_commands.specs.Changes.{changes, given_in}
-use Rattle.dlp_commands.specs.DeviceRuns.{DeviceRun, Exchange, exchanged}
-use Rattle.sync_session.specs.Tasks.{Meeting}
+use Rattle.session_parts.specs.Fronts.{Front}
+use Rattle.session_plan.specs.Tasks.{Meeting}
 use Rattle.sync_session.specs.Sessions.{requests}
 
--- the handheld has the databases and the user of a device that a beginning of the session's requests leads to, which holds exactly
--- the first so many writes, and whose new records got these ids
-pub record Front (meeting : Meeting) (writes : ℕ) (given : List ℕ) (device : Device) : Type 0 where
-  pub count : ℕ
-  pub replies : List (List ℕ)
-  pub reached : Device
-  pub run : DeviceRun meeting.device (take count (requests meeting)) replies reached
-  pub holds : length (filter changes (take count (requests meeting))) ≡ writes
-  pub ids : flat_map (λ (exchange : Exchange). given_in exchange.request exchange.reply) (exchanged (take count (requests meeting)) replies) ≡ given
-  pub databases : device.databases ≡ reached.databases
-  pub user : device.user ≡ reached.user
+-- the handheld of a meeting stands after the first so many writes of its session, whose new records got these ids
+abbrev pub MeetingFront : Meeting → ℕ → List ℕ → Device → Type 0
+MeetingFront meeting writes given device = Front meeting.device (requests meeting) writes given device

@@ -1,4 +1,4 @@
--- What a session leaves of its link and of the desktop's folder, over any link.
+-- What a session leaves of the desktop's folder, over any link.
 use Rattle.std.specs.Prelude.{◌≡◌, ◌⊎◌, ℕ, List, Option, OnOk, Some, IsErrOf}
 use Rattle.std.specs.List.{AllByRecursion}
 use Rattle.std.specs.Option.{option_map}
@@ -13,8 +13,8 @@ use Rattle.desk_journal.specs.Entries.{EntryValue}
 use Rattle.desk_journal.specs.Overlays.{FinishesAs, put_all}
 use Rattle.desk_store.specs.DeskFiles.{slot_file}
 use Rattle.desk_store.specs.declared.role.Role.{Role}
-use Rattle.sync_session.specs.declared.outcome.Outcome.{Outcome}
-use Rattle.sync_session.specs.declared.stop.Stop.TheVariants as stop
+use Rattle.session_parts.specs.declared.outcome.Outcome.{Outcome}
+use Rattle.session_parts.specs.declared.stop.Stop.TheVariants as stop
 
 -- the file of a database in the slot at a place
 pub record IsDatabaseFile (place : ℕ) (file : List ℕ) : Type 0 where
@@ -38,8 +38,3 @@ pub record LeavesFolder {L F : Type 0} (contents : F → Option FileMap) (moment
   pub each_moment : EachMomentSince (FinishesAs (option_map (put_all entries) (contents folder))) (moments folder) (moments left.folder)
   pub cause : HasCause (faults folder) (faults left.folder) (IsErrOf left.end stop.DeskFault)
   pub same_paths : paths left.folder ≡ paths folder
-
--- The link's own relation holds, and it is down only where its count rose or it was down before.
-pub record Leaves {L : Type 0} (since : L → L → Type 0) (fault : L → Option LinkFault) (downs : L → ℕ) (old new : L) : Type 0 where
-  pub later : since old new
-  pub fell : WentDown (fault old) (downs old) (downs new) (fault new ≡ Some Down)

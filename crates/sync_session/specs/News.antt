@@ -6,9 +6,9 @@ use Rattle.conduit_rules.specs.Plans.{replaced_rows, purged_ids}
 use Rattle.desktop_session.specs.Acts.{Act}
 use Rattle.desktop_session.specs.Requests.{making, closing}
 use Rattle.slow_mirror.specs.News.{as_new, purge_writes, puts}
-use Rattle.sync_session.specs.Tasks.{Meeting, Task}
-use Rattle.sync_session.specs.Choosing.{choice, seen_held}
-use Rattle.sync_session.specs.Heads.{made_head}
+use Rattle.session_plan.specs.Tasks.{Meeting, Task}
+use Rattle.session_plan.specs.Choosing.{choice, seen_held}
+use Rattle.session_plan.specs.Heads.{made_head}
 use Rattle.sync_session.specs.Reads.{opened}
 
 -- ---- news: replacements in rising ids, then the adds under the ids that they got
@@ -36,10 +36,6 @@ news_by (Some handheld) task acts = opened_for task.name acts
 
 unfoldable pub news_acts : Meeting → Task → List ℕ → List Act
 news_acts meeting task given = news_by task.handheld task (writes meeting task given)
-
--- how many ids a database gets
-abbrev pub add_count : Meeting → Task → ℕ
-add_count meeting task = length (choice meeting task).adds
 
 -- the ids are dealt out to the databases in order
 unfoldable pub all_news : Meeting → List Task → List ℕ → List Act

@@ -28,17 +28,17 @@ use Rattle.desktop_session.specs.Acts.{text}
 use Rattle.desktop_session.specs.Greetings.{user_with}
 use Rattle.desktop_session.specs.Requests.{reading_user}
 use Rattle.desktop_session.specs.Stops.{Does, Stops}
-use Rattle.sync_session.specs.declared.report.DbReport.{DbReport}
-use Rattle.sync_session.specs.declared.stop.Stop.{Stop}
-use Rattle.sync_session.specs.declared.stop.Stop.TheVariants as stop
-use Rattle.sync_session.specs.Given.{GetFreeIds}
-use Rattle.sync_session.specs.Limits.{first_over}
-use Rattle.sync_session.specs.Losses.{first_loss}
-use Rattle.sync_session.specs.Merges.{merged_slots}
-use Rattle.sync_session.specs.Reports.{reports as reports_of}
+use Rattle.session_parts.specs.declared.report.DbReport.{DbReport}
+use Rattle.session_parts.specs.declared.stop.Stop.{Stop}
+use Rattle.session_parts.specs.declared.stop.Stop.TheVariants as stop
+use Rattle.session_parts.specs.Given.{GetFreeIds}
+use Rattle.session_plan.specs.Limits.{first_over}
+use Rattle.session_plan.specs.Losses.{first_loss}
+use Rattle.session_plan.specs.Merges.{merged_slots}
+use Rattle.session_plan.specs.Reports.{reports as reports_of}
 use Rattle.sync_session.specs.Sessions.{adds_of, after_commit, before_commit, before_writes, session}
-use Rattle.sync_session.specs.Skips.{skip_of}
-use Rattle.sync_session.specs.Tasks.{Meeting, names, task_of}
+use Rattle.session_plan.specs.Skips.{skip_of}
+use Rattle.session_plan.specs.Tasks.{Meeting, names, task_of}
 
 -- ---- the desktop's folder
 

@@ -8,15 +8,11 @@ use Rattle.conduit_rules.specs.declared.planned.Plan.{Plan}
 use Rattle.desktop_session.specs.Requests.{making, opening}
 use Rattle.desktop_session.specs.Says.{saying}
 use Rattle.slow_mirror.specs.News.{news_of, purge_writes, puts}
-use Rattle.sync_session.specs.declared.planned.Planned.{Planned}
-use Rattle.sync_session.specs.declared.skip.Skip.{Skip}
+use Rattle.session_plan.specs.declared.planned.Planned.{Planned}
+use Rattle.session_parts.specs.declared.skip.Skip.{Skip}
 use Rattle.sync_session.specs.Gains.{AreGained}
-use Rattle.sync_session.specs.Heads.{made_head}
-use Rattle.sync_session.specs.Spans.{within}
-
--- no act
-abbrev pub nothing : ℕ → List ℕ → List Act
-nothing handle given = []
+use Rattle.session_plan.specs.Heads.{made_head}
+use Rattle.session_parts.specs.Spans.{nothing, within}
 
 -- what a database that the handheld has gets: it is opened where there is something
 abbrev pub opened_news : List ℕ → List (ℕ × ContentValue) → ℕ → List ℕ → List Act

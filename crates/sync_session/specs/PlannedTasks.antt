@@ -5,12 +5,12 @@ use Rattle.pdb_values.specs.Databases.{DatabaseValue}
 use Rattle.pdb_values.specs.declared.head.DbHead.{DbHead}
 use Rattle.dlp_commands.specs.DatabaseFunctions.{listed}
 use Rattle.conduit_rules.specs.Plans.{IsPlan}
-use Rattle.sync_session.specs.declared.job.Job.{Job}
-use Rattle.sync_session.specs.declared.planned.Planned.{Planned}
-use Rattle.sync_session.specs.Choosing.{action_or_sync, agrees, sides, view}
-use Rattle.sync_session.specs.Jobs.{job_by}
-use Rattle.sync_session.specs.Skips.{head_of, skip_of}
-use Rattle.sync_session.specs.Tasks.{Meeting, Task, tasks}
+use Rattle.session_plan.specs.declared.job.Job.{Job}
+use Rattle.session_plan.specs.declared.planned.Planned.{Planned}
+use Rattle.session_plan.specs.Choosing.{action_or_sync, agrees, sides, view}
+use Rattle.session_plan.specs.Jobs.{job_by}
+use Rattle.session_plan.specs.Skips.{head_of, skip_of}
+use Rattle.session_plan.specs.Tasks.{Meeting, Task, tasks}
 
 -- the head of a database as a list of the handheld tells it
 abbrev pub listed_head : Option DatabaseValue → Option DbHead

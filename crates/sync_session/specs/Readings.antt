@@ -11,11 +11,10 @@ use Rattle.desktop_session.specs.Requests.{opening}
 use Rattle.desktop_session.specs.Says.{saying}
 use Rattle.slow_mirror.specs.Reads.{entries_of, slow_reads, slow_shown}
 use Rattle.fast_mirror.specs.FastReads.{fast_reads_of, fast_shown}
-use Rattle.sync_session.specs.declared.job.Job.{Job}
-use Rattle.sync_session.specs.declared.skip.Skip.{Skip}
-use Rattle.sync_session.specs.Phases.{nothing}
-use Rattle.sync_session.specs.Spans.{within}
-use Rattle.sync_session.specs.Tasks.{records_of}
+use Rattle.session_plan.specs.declared.job.Job.{Job}
+use Rattle.session_parts.specs.declared.skip.Skip.{Skip}
+use Rattle.session_parts.specs.Spans.{nothing, within}
+use Rattle.session_plan.specs.Tasks.{records_of}
 
 -- what is said once a database is open: all records, or what changed since the base
 abbrev pub reads_by : Bool → List Record → Option Talk → ℕ → List ℕ → List Act

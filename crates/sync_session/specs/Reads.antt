@@ -8,8 +8,8 @@ use Rattle.desktop_session.specs.Acts.{Act}
 use Rattle.desktop_session.specs.Lists.{id_listings, id_parts}
 use Rattle.desktop_session.specs.Requests.{opening, closing, counting, reading_of, reading_next}
 use Rattle.slow_mirror.specs.Reads.{slow_reads}
-use Rattle.sync_session.specs.Tasks.{Meeting, Task, records_of}
-use Rattle.sync_session.specs.Choosing.{base_rows, is_fast}
+use Rattle.session_plan.specs.Tasks.{Meeting, Task, records_of}
+use Rattle.session_plan.specs.Choosing.{base_rows, is_fast}
 
 -- an unchanged record without a base row is read by its id
 abbrev pub read_by_id : List Record → Option Record → List Act

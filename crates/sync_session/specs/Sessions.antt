@@ -4,16 +4,21 @@ use Rattle.std.specs.List.{flat_map}
 use Rattle.dlp_commands.specs.Changes.{changes}
 use Rattle.desktop_session.specs.Acts.{Act, text}
 use Rattle.desktop_session.specs.Lists.{listings}
-use Rattle.desktop_session.specs.Requests.{reading_user, beginning, ending}
-use Rattle.sync_session.specs.Tasks.{Meeting}
-use Rattle.sync_session.specs.Skips.{active}
-use Rattle.sync_session.specs.Users.{begin_mark, end_mark}
+use Rattle.desktop_session.specs.Requests.{ending, marking}
+use Rattle.session_plan.specs.Tasks.{Meeting, slot_of}
+use Rattle.session_parts.specs.Meets.{greeting}
+use Rattle.session_plan.specs.Skips.{active}
+use Rattle.session_plan.specs.Users.{begun_user, done_user}
 use Rattle.sync_session.specs.Reads.{read_acts}
-use Rattle.sync_session.specs.News.{add_count, all_news, purge_acts}
+use Rattle.session_plan.specs.Choosing.{add_count}
+use Rattle.sync_session.specs.News.{all_news, purge_acts}
 
--- both sides meet
-abbrev pub greeting : List Act
-greeting = reading_user ∷ beginning ∷ []
+-- the mark that begins what is written (PC, bit 0x40), and the one that ends it (user, PC, date and name: 0xF0)
+abbrev pub begin_mark : Meeting → Act
+begin_mark meeting = marking (begun_user meeting.device.user) 0x40
+
+abbrev pub end_mark : Meeting → Act
+end_mark meeting = marking (done_user meeting.wishes.date meeting.device.user (slot_of meeting).marks) 0xF0
 
 -- the handheld's databases are listed: one request for each, and one where it has none
 unfoldable pub listing_all : Meeting → List Act

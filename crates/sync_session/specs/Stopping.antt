@@ -4,14 +4,9 @@ use Rattle.std.specs.Global.{Vec}
 use Rattle.desk_store.specs.declared.fault.CommitFault.{CommitFault}
 use Rattle.desk_store.specs.declared.fault.CommitFault.TheVariants as commit
 use Rattle.desktop_session.specs.declared.fault.SessionFault.TheVariants as session
-use Rattle.sync_session.specs.declared.report.DbReport.{DbReport}
-use Rattle.sync_session.specs.declared.stop.Stop.{Stop}
-use Rattle.sync_session.specs.declared.stop.Stop.TheVariants as stop
-
--- a refused commit
-abbrev pub stop_of : CommitFault → Stop
-stop_of commit.DeskFault = stop.DeskFault
-stop_of commit.NoMemory = stop.Session session.NoMemory
+use Rattle.session_parts.specs.declared.report.DbReport.{DbReport}
+use Rattle.session_parts.specs.declared.stop.Stop.{Stop}
+use Rattle.session_parts.specs.declared.stop.Stop.TheVariants as stop
 
 -- why a session stops before it writes, if it does: the first database that would pass a limit, or else the first that would lose live rows
 abbrev pub refusal_by : Option (List ℕ) → Option (List ℕ) → Option Stop

@@ -2,14 +2,14 @@
 ghost use Rattle.std.specs.Prelude.{◌≡◌, ◌∷◌, [], false};
 ghost use Rattle.desktop_session.specs.Requests.{ending, marking};
 ghost use Rattle.sync_session.specs.Endings.{Ends};
-ghost use Rattle.sync_session.specs.Users as users;
+ghost use Rattle.session_plan.specs.Users as users;
 
 use crate::marking::finish;
-use crate::planned::Planned;
 use crate::purging::purge_all;
 use desktop_session::{Ended, Halted, Linked};
 use dlp_commands::Link;
 use pdb_values::{Marks, PalmDate};
+use session_plan::Planned;
 
 /// Purges each of these databases of the handheld that is not skipped, then marks the handheld as one whose session is done, with the
 /// user that both sides agree on, this desktop and the date, and ends the session.

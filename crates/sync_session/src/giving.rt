@@ -5,19 +5,18 @@ ghost use Rattle.desktop_session.specs.Requests.{making, marking, opening};
 ghost use Rattle.desktop_session.specs.Says.{saying};
 ghost use Rattle.slow_mirror.specs.News.{news_of, puts};
 ghost use Rattle.sync_session.specs.Gains.{AreGained};
-ghost use Rattle.sync_session.specs.Heads as heads;
+ghost use Rattle.session_plan.specs.Heads as heads;
 ghost use Rattle.sync_session.specs.Phases.{gained, news_under, opened_news};
-ghost use Rattle.sync_session.specs.Spans.{Spans, within};
-ghost use Rattle.sync_session.specs.Users as users;
-ghost use Rattle.sync_session.specs.Stretches.{SpansBehind, SpansEach};
+ghost use Rattle.session_parts.specs.Spans.{Spans, within};
+ghost use Rattle.session_plan.specs.Users as users;
+ghost use Rattle.session_parts.specs.Stretches.{SpansBehind, SpansEach};
 
-use crate::heads::made_head;
 use crate::marking::begin;
-use crate::planned::Planned;
 use conduit_rules::Plan;
 use desktop_session::{Linked, SessionFault};
 use dlp_commands::Link;
 use pdb_values::{Content, DbHead, DbName, RecordId};
+use session_plan::{Planned, made_head};
 use slow_mirror::send_news;
 use std::alloc::{AllocError, Global};
 

@@ -6,21 +6,21 @@ ghost use Rattle.record_merge.specs.Merging.{merged_base, merged_rows};
 ghost use Rattle.desk_store.specs.Desks.{all_rows};
 ghost use Rattle.desktop_session.specs.Acts.{text};
 ghost use Rattle.desktop_session.specs.Tellings.{IsProper, device_after};
-ghost use Rattle.sync_session.specs.Limits.{first_over};
-ghost use Rattle.sync_session.specs.Losses.{first_loss};
-ghost use Rattle.sync_session.specs.PlannedLimits.{limit_planned, over_planned};
-ghost use Rattle.sync_session.specs.PlannedLosses.{loss_planned};
-ghost use Rattle.sync_session.specs.PlannedReports.{reports_planned};
+ghost use Rattle.session_plan.specs.Limits.{first_over};
+ghost use Rattle.session_plan.specs.Losses.{first_loss};
+ghost use Rattle.session_plan.specs.PlannedLimits.{limit_planned, over_planned};
+ghost use Rattle.session_plan.specs.PlannedLosses.{loss_planned};
+ghost use Rattle.session_plan.specs.PlannedReports.{reports_planned};
 ghost use Rattle.sync_session.specs.PlannedTasks.{ArePlannedFor};
-ghost use Rattle.sync_session.specs.Quiet.{AreQuiet};
-ghost use Rattle.sync_session.specs.Reports.{reports};
-ghost use Rattle.sync_session.specs.Rests.{IsAtRest};
-ghost use Rattle.sync_session.specs.Rows.{planned_base, planned_rows};
+ghost use Rattle.session_parts.specs.Quiet.{AreQuiet};
+ghost use Rattle.session_plan.specs.Reports.{reports};
+ghost use Rattle.session_parts.specs.Rests.{IsAtRest};
+ghost use Rattle.session_plan.specs.Rows.{planned_base, planned_rows};
 ghost use Rattle.sync_session.specs.Sessions.{before_writes, requests, session};
-ghost use Rattle.sync_session.specs.Tasks.{Meeting, slot_of};
+ghost use Rattle.session_plan.specs.Tasks.{Meeting, slot_of};
 
-use crate::planned::Planned;
 use conduit_rules::{Action, Plan};
+use session_plan::Planned;
 
 /// What is said up to the first mark changes no database and not the user.
 pub fn nothing_is_written_before_the_mark()

@@ -6,13 +6,13 @@ ghost use Rattle.desktop_session.specs.Answers.{answer_by, no_more, said_in};
 ghost use Rattle.desktop_session.specs.Ends.{link_ended};
 ghost use Rattle.desktop_session.specs.Requests.{ending, marking};
 ghost use Rattle.desktop_session.specs.Stops.{Asked, Does, Stops};
-ghost use Rattle.sync_session.specs.Causes.{IsLater};
-ghost use Rattle.sync_session.specs.Users as users;
+ghost use Rattle.session_parts.specs.Causes.{IsLater};
+ghost use Rattle.session_plan.specs.Users as users;
 
-use crate::users::{begun_user, done_user};
 use desktop_session::{Ended, Halted, Linked, SessionFault};
 use dlp_commands::Link;
 use pdb_values::{Marks, PalmDate};
+use session_plan::{begun_user, done_user};
 
 /// Marks the handheld as one whose session is under way: its last desktop is none.
 pub fn begin<L: Link>(linked: &mut Linked<L>) -> Result<(), SessionFault>

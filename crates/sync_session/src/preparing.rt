@@ -3,27 +3,20 @@ ghost use Rattle.std.specs.Prelude.{◌≡◌, OnOk, false};
 ghost use Rattle.desk_store.specs.Desks.{all_rows};
 ghost use Rattle.desk_store.specs.Views.{marks_in, shelves_in};
 ghost use Rattle.sync_session.specs.Courses.{Prepares, ReadsAll};
-ghost use Rattle.sync_session.specs.PlannedLimits.{limit_planned};
-ghost use Rattle.sync_session.specs.PlannedLosses.{loss_planned};
-ghost use Rattle.sync_session.specs.PlannedReports.{reports_planned};
+ghost use Rattle.session_plan.specs.PlannedLimits.{limit_planned};
+ghost use Rattle.session_plan.specs.PlannedLosses.{loss_planned};
+ghost use Rattle.session_plan.specs.PlannedReports.{reports_planned};
 ghost use Rattle.sync_session.specs.Stopping.{Judges, refusal_by};
 
-use crate::jobs::jobs_of;
-use crate::limits::first_limit;
-use crate::losses::first_loss;
-use crate::planned::Planned;
-use crate::planning::plan_all;
 use crate::reading::read_all;
-use crate::report::DbReport;
-use crate::reporting::reports_of;
-use crate::stop::Stop;
-use crate::wishes::Wishes;
 use desk_store::Desk;
 use desktop_session::{Linked, SessionFault};
 use dlp_commands::Link;
 use fast_mirror::agree;
 use hs_folders::Folder;
 use pdb_values::{DbHead, DbName, UserInfo};
+use session_parts::{DbReport, Stop};
+use session_plan::{Planned, Wishes, first_limit, first_loss, jobs_of, plan_all, reports_of};
 use std::alloc::Global;
 
 /// The databases of a session once they are read and planned, and what is told of them once it has ended.

@@ -3,14 +3,14 @@ ghost use Rattle.std.specs.Prelude.{◌≡◌, false};
 ghost use Rattle.desktop_session.specs.Requests.{opening};
 ghost use Rattle.slow_mirror.specs.News.{purge_writes};
 ghost use Rattle.sync_session.specs.Phases.{purges_under};
-ghost use Rattle.sync_session.specs.Spans.{Spans, within};
-ghost use Rattle.sync_session.specs.Stretches.{SpansEach, done_each, says_nothing};
+ghost use Rattle.session_parts.specs.Spans.{Spans, within};
+ghost use Rattle.session_parts.specs.Stretches.{SpansEach, done_each, says_nothing};
 
-use crate::planned::Planned;
 use conduit_rules::Plan;
 use desktop_session::{Linked, SessionFault};
 use dlp_commands::Link;
 use pdb_values::DbName;
+use session_plan::Planned;
 use slow_mirror::purge_side;
 
 /// Takes away from the handheld's database of a name what its plan does not keep, one by one, then all records with the delete bit,

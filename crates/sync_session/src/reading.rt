@@ -9,17 +9,17 @@ ghost use Rattle.desktop_session.specs.Says.{saying};
 ghost use Rattle.slow_mirror.specs.Reads.{entries_of, slow_reads, slow_shown};
 ghost use Rattle.fast_mirror.specs.FastReads.{fast_reads_of, fast_shown};
 ghost use Rattle.sync_session.specs.Readings.{reads_by, reads_under, shown_by, shown_under};
-ghost use Rattle.sync_session.specs.Spans.{Spans, within};
-ghost use Rattle.sync_session.specs.Stretches.{SpansEach};
-ghost use Rattle.sync_session.specs.Tasks.{records_of};
+ghost use Rattle.session_parts.specs.Spans.{Spans, within};
+ghost use Rattle.session_parts.specs.Stretches.{SpansEach};
+ghost use Rattle.session_plan.specs.Tasks.{records_of};
 
-use crate::job::Job;
 use conduit_rules::View;
 use desk_store::Desk;
 use desktop_session::{Linked, SessionFault};
 use dlp_commands::Link;
 use hs_folders::Folder;
 use pdb_values::{DbName, Record};
+use session_plan::Job;
 use slow_mirror::read_side;
 use std::alloc::{AllocError, Global};
 

@@ -6,29 +6,28 @@ ghost use Rattle.desk_store.specs.Shelves.{AreInOrder, marks_of};
 ghost use Rattle.desk_store.specs.Views.{marks_in, shelves_in};
 ghost use Rattle.pdb_values.specs.Bounds.{most_databases};
 ghost use Rattle.pdb_values.specs.Slots.{slot_for as slot_of};
-ghost use Rattle.sync_session.specs.Courses.{Carries, Closes, GoesOn, IsSeated, MeetsOrNot, Runs, Writes, stopped as left_by};
-ghost use Rattle.sync_session.specs.Fits.{AreOfSession, CanTake, IsSeat};
-ghost use Rattle.sync_session.specs.Leaving.{Leaves, LeavesFolder};
+ghost use Rattle.sync_session.specs.Courses.{Carries, Closes, GoesOn, Runs, Writes, stopped as left_by};
+ghost use Rattle.session_parts.specs.Meets.{IsSeated};
+ghost use Rattle.session_plan.specs.Fits.{AreOfSession, CanTake, IsSeat};
+ghost use Rattle.session_parts.specs.Leaving.{Leaves};
+ghost use Rattle.sync_session.specs.Leaving.{LeavesFolder};
 ghost use Rattle.sync_session.specs.Outcomes.{SessionEnds, tellings};
-ghost use Rattle.sync_session.specs.PlannedLimits.{unskipped};
-ghost use Rattle.sync_session.specs.Rests.{IsAtRest};
-ghost use Rattle.sync_session.specs.Takes.{each_of};
-ghost use Rattle.sync_session.specs.Tasks.{meeting_of};
-ghost use Rattle.sync_session.specs.Users.{agreed_user};
+ghost use Rattle.session_plan.specs.PlannedLimits.{unskipped};
+ghost use Rattle.session_parts.specs.Rests.{IsAtRest};
+ghost use Rattle.session_plan.specs.Takes.{each_of};
+ghost use Rattle.session_plan.specs.Tasks.{meeting_of};
+ghost use Rattle.session_plan.specs.Users.{agreed_user};
 
-use crate::committing::commit_all;
 use crate::ending::end_all;
 use crate::giving::send_all;
-use crate::meeting::{Met, meet};
-use crate::outcome::Outcome;
 use crate::preparing::{Prepared, prepare};
-use crate::stop::Stop;
-use crate::wishes::Wishes;
 use desk_store::Desk;
-use desktop_session::{Halted, Idle, Linked, SessionFault};
+use desktop_session::{Halted, Linked, SessionFault};
 use dlp_commands::Link;
 use hs_folders::Folder;
 use pdb_values::{Marks, PalmDate, RecordId, slot_for};
+use session_parts::{Met, Outcome, Stop, meet_over};
+use session_plan::{Wishes, commit_all};
 use std::alloc::{AllocError, Global};
 
 // The same marks once more.
@@ -160,19 +159,6 @@ fn go_on<L: Link, D: Folder>(
     }
 }
 
-// Both sides meet, where there is room for two messages.
-fn begin<L: Link>(alloc: Global, link: L, users: &[u32], add: bool) -> Result<Met<L>, Halted<L>>
-    requires begun { L.begun link ≡ false }
-    requires some { 1 ≤ length users.now }
-    requires room { length users.now ≤ 16 }
-    ensures { MeetsOrNot L.talk L.since L.fault L.downs users.now add link result }
-{
-    match Idle::new(alloc, link) {
-        Ok(idle) => meet(alloc, idle, users, add),
-        Err(halted) => Err(halted),
-    }
-}
-
 // A session from its beginning.
 fn run<L: Link, D: Folder>(alloc: Global, link: L, desk: Desk<D>, wishes: &Wishes) -> Outcome<L, D>
     requires { L.begun link ≡ false }
@@ -180,7 +166,7 @@ fn run<L: Link, D: Folder>(alloc: Global, link: L, desk: Desk<D>, wishes: &Wishe
         link desk result }
 {
     match desk.users(alloc) {
-        Ok(users) => match begin(alloc, link, &users, wishes.add_user) {
+        Ok(users) => match meet_over(alloc, link, &users, wishes.add_user) {
             Ok(met) => go_on(alloc, met, desk, &users, wishes),
             Err(Halted { link, cause }) => stopped(link, desk, Stop::Session(cause)),
         },

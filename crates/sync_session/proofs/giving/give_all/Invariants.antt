@@ -1,6 +1,6 @@
 use Rattle.std.proofs.Common.{take}
 use Rattle.sync_session.specs.Phases.{gained, news_under}
-use Rattle.sync_session.proofs.EachLaws.{EachSoFar}
+use Rattle.session_parts.proofs.EachLaws.{EachSoFar}
 use Rattle.sync_session.proofs.giving.give_all.Given as goal
 
 abbrev pub invariant-loop-one : goal.invariant-loop-one

@@ -1,11 +1,11 @@
 -- Nothing is put, or something is.
 use Rattle.std.proofs.Common.{◌≡◌, ◌+◌, length, refl, ◌∙◌, sym, ℕ, zero, suc, List, [], ◌∷◌, ◌++◌, drop, arith, Option, None, Some, IfSome}
-use Rattle.sync_session.proofs.SpanLaws.{span_none}
+use Rattle.session_parts.proofs.SpanLaws.{span_none}
 use Rattle.sync_session.proofs.MeetingWords.{ContentValue, Plan, opened_news}
-use Rattle.sync_session.proofs.LinkWords.{Talk, opening}
+use Rattle.session_parts.proofs.LinkWords.{Talk, opening}
 use Rattle.slow_mirror.specs.News.{AreFreeFor, as_new, news_of, puts}
 use Rattle.sync_session.specs.Gains.{AreGained}
-use Rattle.sync_session.specs.Spans.{within}
+use Rattle.session_parts.specs.Spans.{within}
 use Rattle.sync_session.proofs.giving.give_old.Goals as goal
 
 none_put : (rows : List (ℕ × ContentValue)) (adds : List ContentValue) → length rows + length adds ≡ 0 → rows ++ as_new adds ≡ []

@@ -1,6 +1,6 @@
 -- A database is given its news by what each side has of it.
 use Rattle.sync_session.specs.Phases.{gained, news_under}
-use Rattle.sync_session.proofs.SpanLaws.{span_none}
+use Rattle.session_parts.proofs.SpanLaws.{span_none}
 use Rattle.sync_session.proofs.giving.give_planned.Goals as goal
 
 pub returns-in-Some : goal.returns-in-Some

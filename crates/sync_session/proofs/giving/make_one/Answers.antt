@@ -2,9 +2,9 @@
 use Rattle.std.proofs.Common.{rules}
 use Rattle.std.proofs.lemmas.Result.{err_from_is_err_and}
 use Rattle.dlp_replies.specs.ReplyReading.{reply_at}
-use Rattle.sync_session.proofs.CauseLaws.{later_by}
-use Rattle.sync_session.proofs.HandleLaws.{made_first}
-use Rattle.sync_session.proofs.SpanLaws.{span_done, span_stopped, span_unclosed, span_unopened}
+use Rattle.session_parts.proofs.CauseLaws.{later_by}
+use Rattle.session_parts.proofs.HandleLaws.{made_first}
+use Rattle.session_parts.proofs.SpanLaws.{span_done, span_stopped, span_unclosed, span_unopened}
 use Rattle.sync_session.proofs.giving.make_one.Goals as goal
 
 pub returns-in_err-opened : goal.returns-in_err-opened

@@ -3,8 +3,8 @@ use Rattle.std.proofs.lemmas.Result.{err_from_is_err_and}
 use Rattle.dlp_replies.specs.ReplyReading.{reply_at}
 use Rattle.desktop_session.specs.Answers.{no_more}
 use Rattle.slow_mirror.proofs.AskLaws.{answered_none}
-use Rattle.sync_session.proofs.CauseLaws.{later_refused}
-use Rattle.sync_session.proofs.EachLaws.{behind_none, behind_one}
+use Rattle.session_parts.proofs.CauseLaws.{later_refused}
+use Rattle.session_parts.proofs.EachLaws.{behind_none, behind_one}
 use Rattle.sync_session.proofs.giving.send_all.Goals as goal
 
 pub returns-in_err-begin : goal.returns-in_err-begin

@@ -1,10 +1,10 @@
 -- Two requests.
 use Rattle.std.proofs.Common.{[], ◌∷◌}
 use Rattle.dlp_replies.specs.ReplyReading.{reply_at}
-use Rattle.sync_session.proofs.LinkWords.{text, no_more, said_in, ending}
+use Rattle.session_parts.proofs.LinkWords.{text, no_more, said_in, ending}
 use Rattle.desktop_session.proofs.GreetLaws.{no_fault_said}
 use Rattle.desktop_session.proofs.StopLaws.{stops_more, stops_then}
-use Rattle.sync_session.proofs.CauseLaws.{later_ended}
+use Rattle.session_parts.proofs.CauseLaws.{later_ended}
 use Rattle.sync_session.proofs.EndLaws.{does_before}
 use Rattle.sync_session.proofs.marking.finish.Goals as goal
 

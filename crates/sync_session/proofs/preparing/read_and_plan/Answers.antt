@@ -4,7 +4,7 @@ use Rattle.std.proofs.lemmas.Result.{err_from_is_err_and}
 use Rattle.conduit_rules.specs.declared.view.View.{View}
 use Rattle.desk_store.specs.Views.{shelves_in}
 use Rattle.sync_session.specs.Readings.{reads_under, shown_under}
-use Rattle.sync_session.proofs.EachLaws.{says-length, spans_none}
+use Rattle.session_parts.proofs.EachLaws.{says-length, spans_none}
 use Rattle.sync_session.proofs.preparing.read_and_plan.Goals as goal
 
 pub returns-in_err-jobs-clause-reads : goal.returns-in_err-jobs-clause-reads

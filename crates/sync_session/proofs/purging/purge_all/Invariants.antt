@@ -1,6 +1,6 @@
 use Rattle.std.proofs.Common.{take}
 use Rattle.sync_session.proofs.MeetingWords.{purges_under, done_each, says_nothing}
-use Rattle.sync_session.proofs.EachLaws.{EachSoFar}
+use Rattle.session_parts.proofs.EachLaws.{EachSoFar}
 use Rattle.sync_session.proofs.purging.purge_all.Given as goal
 
 abbrev pub invariant-loop-one : goal.invariant-loop-one

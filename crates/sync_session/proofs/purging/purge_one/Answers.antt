@@ -3,9 +3,9 @@ use Rattle.std.proofs.Common.{[], rules}
 use Rattle.std.proofs.lemmas.Result.{err_from_is_err_and}
 use Rattle.dlp_replies.specs.ReplyReading.{reply_at}
 use Rattle.desktop_session.specs.Answers.{no_more}
-use Rattle.sync_session.proofs.CauseLaws.{later_answer, later_by_three}
-use Rattle.sync_session.proofs.HandleLaws.{opened_first}
-use Rattle.sync_session.proofs.SpanLaws.{any_answer, span_closed, span_stopped, span_unopened}
+use Rattle.session_parts.proofs.CauseLaws.{later_answer, later_by_three}
+use Rattle.session_parts.proofs.HandleLaws.{opened_first}
+use Rattle.session_parts.proofs.SpanLaws.{any_answer, span_closed, span_stopped, span_unopened}
 use Rattle.sync_session.proofs.purging.purge_one.Goals as goal
 
 pub returns-in_err-opened : goal.returns-in_err-opened

@@ -1,6 +1,6 @@
 -- A database is purged, unless it is skipped.
 use Rattle.sync_session.specs.Phases.{purges_under}
-use Rattle.sync_session.proofs.SpanLaws.{span_none}
+use Rattle.session_parts.proofs.SpanLaws.{span_none}
 use Rattle.sync_session.proofs.purging.purge_planned.Goals as goal
 
 pub returns-in-Some : goal.returns-in-Some

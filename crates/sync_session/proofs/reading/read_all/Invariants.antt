@@ -1,7 +1,7 @@
 use Rattle.std.proofs.Common.{take}
 use Rattle.desk_store.specs.Views.{shelves_in}
 use Rattle.sync_session.specs.Readings.{reads_under, shown_under}
-use Rattle.sync_session.proofs.EachLaws.{EachSoFar}
+use Rattle.session_parts.proofs.EachLaws.{EachSoFar}
 use Rattle.sync_session.proofs.reading.read_all.Given as goal
 
 abbrev pub invariant-loop-job : goal.invariant-loop-job

@@ -1,6 +1,6 @@
 -- A database is read by its job.
 use Rattle.sync_session.specs.Readings.{reads_under, shown_under}
-use Rattle.sync_session.proofs.SpanLaws.{span_none}
+use Rattle.session_parts.proofs.SpanLaws.{span_none}
 use Rattle.sync_session.proofs.reading.read_job.Goals as goal
 
 pub returns-in-Some : goal.returns-in-Some

@@ -2,11 +2,11 @@
 use Rattle.std.proofs.Common.{[], ◌∷◌, rules}
 use Rattle.std.proofs.lemmas.Result.{err_from_is_err_and}
 use Rattle.dlp_replies.specs.ReplyReading.{reply_at}
-use Rattle.sync_session.proofs.LinkWords.{opening, saying}
+use Rattle.session_parts.proofs.LinkWords.{opening, saying}
 use Rattle.slow_mirror.specs.Reads.{entries_of, slow_reads}
-use Rattle.sync_session.proofs.CauseLaws.{later_by_two}
-use Rattle.sync_session.proofs.HandleLaws.{opened_first}
-use Rattle.sync_session.proofs.SpanLaws.{span_done, span_stopped, span_unclosed, span_unopened}
+use Rattle.session_parts.proofs.CauseLaws.{later_by_two}
+use Rattle.session_parts.proofs.HandleLaws.{opened_first}
+use Rattle.session_parts.proofs.SpanLaws.{span_done, span_stopped, span_unclosed, span_unopened}
 use Rattle.sync_session.proofs.reading.read_one.Goals as goal
 
 pub returns-in_err-opened : goal.returns-in_err-opened

@@ -2,7 +2,7 @@
 use Rattle.std.proofs.Common.{ap, Ok, Err, length}
 use Rattle.desk_store.specs.Desks.{place_of}
 use Rattle.sync_session.proofs.FitLaws.{prepared-few, prepared-of-session}
-use Rattle.sync_session.proofs.MeetLaws.{seated_pickable}
+use Rattle.session_parts.proofs.MeetLaws.{seated_pickable}
 use Rattle.sync_session.proofs.SeatLaws.{seat-picked}
 use Rattle.sync_session.proofs.running.go_on.Goals as goal
 

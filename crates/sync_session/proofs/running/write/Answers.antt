@@ -2,8 +2,9 @@
 use Rattle.std.proofs.Common.{[], ◌∷◌, Ok, Err}
 use Rattle.desktop_session.specs.Requests.{marking}
 use Rattle.desktop_session.specs.Says.{saying}
-use Rattle.sync_session.specs.Users.{begun_user}
-use Rattle.sync_session.proofs.FitLaws.{session-rises, session-takes}
+use Rattle.session_plan.specs.Users.{begun_user}
+use Rattle.session_plan.proofs.FitLaws.{session-rises}
+use Rattle.sync_session.proofs.FitLaws.{session-takes}
 use Rattle.sync_session.proofs.running.write.Goals as goal
 
 pub commit-requires-clause-takes : goal.commit-requires-clause-takes

@@ -1,0 +1,9 @@
+pub mod CauseLaws
+pub mod CloseLaws
+pub mod EachLaws
+pub mod HandleLaws
+pub mod LinkWords
+pub mod MeetLaws
+pub mod RestLaws
+pub mod SpanLaws
+pub mod StretchLaws

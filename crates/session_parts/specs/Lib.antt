@@ -1,0 +1,10 @@
+pub mod Causes
+pub mod Fronts
+pub mod Given
+pub mod Leaving
+pub mod Meets
+pub mod Quiet
+pub mod Rests
+pub mod Spans
+pub mod Stopping
+pub mod Stretches

@@ -1,0 +1,9 @@
+pub mod ArchiveLaws
+pub mod FitLaws
+pub mod LimitLaws
+pub mod NamesLaws
+pub mod PlanWords
+pub mod RiseLaws
+pub mod RowLaws
+pub mod SeenCountLaws
+pub mod TakeLaws

@@ -1,0 +1,98 @@
+// What the desktop commits.
+ghost use Rattle.std.specs.Prelude.{◌≡◌, ◌++◌, IfOk, OnOk, option_to_list};
+ghost use Rattle.std.specs.List.{AllByRecursion};
+ghost use Rattle.desk_store.specs.Changes.{IsDbChange, IsDeskChange, MayBear};
+ghost use Rattle.desk_store.specs.Views.{marks_in, shelves_in};
+ghost use Rattle.session_plan.specs.Commits.{Commits};
+ghost use Rattle.session_plan.specs.Fits.{AreTakeable, CanTake};
+ghost use Rattle.session_plan.specs.Takes as takes;
+ghost use Rattle.session_plan.specs.Users as users;
+
+use crate::planned::Planned;
+use crate::taking::take_one;
+use crate::users::done_marks;
+use desk_store::{CommitFault, DbChange, Desk, DeskChange};
+use hs_folders::Folder;
+use pdb_values::{PalmDate, RecordId, UserInfo};
+use std::alloc::{AllocError, Global};
+
+// Puts a change behind others, where there is one.
+fn put_change(changes: &mut Vec<DbChange>, change: Option<DbChange>) -> Result<(), AllocError>
+    ensures { OnOk result (changes.new.items ≡ changes.old.items ++ option_to_list change) }
+{
+    match change {
+        Some(change) => {
+            changes.push(change)?;
+            Ok(())
+        }
+        None => Ok(()),
+    }
+}
+
+// The changes of planned databases, whose new records got these ids, one list for each.
+fn take_all<D: Folder>(
+    alloc: Global,
+    desk: &Desk<D>,
+    date: PalmDate,
+    planned: &[Planned],
+    ids: &[Vec<RecordId>],
+) -> Result<Vec<DbChange>, AllocError>
+    requires { AreTakeable date (shelves_in desk.now) planned.now (takes.each_of ids.now) }
+    ensures changes { IfOk result (λ changes. changes.items
+        ≡ takes.changes_of date (shelves_in desk.now) planned.now (takes.each_of ids.now)) }
+    ensures fit { IfOk result (λ changes. AllByRecursion IsDbChange changes.items) }
+{
+    let mut changes = Vec::new(alloc);
+    for (index, one) in planned.iter().enumerate() {
+        let change = take_one(alloc, desk, date, one, &ids[index])?;
+        put_change(&mut changes, change)?;
+    }
+    Ok(changes)
+}
+
+// The change of the picked slot, which the desktop takes.
+fn change_all<D: Folder>(
+    alloc: Global,
+    desk: &Desk<D>,
+    planned: &[Planned],
+    ids: &[Vec<RecordId>],
+    user: &UserInfo,
+    date: PalmDate,
+) -> Result<DeskChange, AllocError>
+    requires { let each = takes.each_of ids.now in
+        CanTake date user.now planned.now each desk.now.picked desk.now.slots }
+    ensures marks { IfOk result (λ change. change.marks
+        ≡ users.done_marks date user.now (marks_in desk.now)) }
+    ensures changes { IfOk result (λ change. change.databases.items
+        ≡ takes.changes_of date (shelves_in desk.now) planned.now (takes.each_of ids.now)) }
+    ensures fit { IfOk result IsDeskChange }
+    ensures bears { IfOk result (λ change. MayBear desk.now.slots desk.now.picked change.marks) }
+{
+    let databases = take_all(alloc, desk, date, planned, ids)?;
+    let marks = done_marks(date, user, desk.marks());
+    Ok(DeskChange { marks, databases })
+}
+
+/// Commits what was planned for databases, whose new records got these ids, one list for each: in the desktop's picked slot each of them
+/// that is not skipped gets its rows, its base rows and its archive, and the slot the marks that end a session with this user at this
+/// date. A refusal hands the folder back. What a session planned, with the ids that its handheld gave, the slot of its user can take.
+pub fn commit_all<D: Folder>(
+    alloc: Global,
+    desk: Desk<D>,
+    planned: &[Planned],
+    ids: &[Vec<RecordId>],
+    user: &UserInfo,
+    date: PalmDate,
+) -> Result<Desk<D>, (CommitFault, D)>
+    requires { let each = takes.each_of ids.now in
+        CanTake date user.now planned.now each desk.picked desk.slots }
+    ensures commits { let each = takes.each_of ids.now in
+        Commits D.contents D.moments D.paths D.faults
+        (takes.taken_slots date user.now planned.now each desk.picked desk.slots)
+        (takes.taken_entries date user.now planned.now each desk.picked desk.slots) desk result }
+{
+    match change_all(alloc, &desk, planned, ids, user, date) {
+        Ok(change) => desk.commit(change),
+        Err(fault) => Err((CommitFault::from(fault), desk.into_folder())),
+    }
+}

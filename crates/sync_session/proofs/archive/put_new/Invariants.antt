@@ -1,6 +1,0 @@
-use Rattle.std.proofs.Common.{◌≡◌, take}
-use Rattle.sync_session.specs.Archives.{with_entries}
-use Rattle.sync_session.proofs.archive.put_new.Given as goal
-
-abbrev pub invariant-loop-entry : goal.invariant-loop-entry
-invariant-loop-entry l = l.archive.items ≡ with_entries (take l.entry-index l.new) l.fn.archive.items

@@ -1,9 +1,0 @@
-use Rattle.std.proofs.Common.{◌∙◌, ap, sym}
-use Rattle.sync_session.specs.Archives.{with_entry}
-use Rattle.sync_session.proofs.ArchiveLaws.{old_more}
-use Rattle.sync_session.proofs.archive.put_old.Goals as goal
-
-pub loop-entry-preserved : goal.loop-entry-preserved
-loop-entry-preserved c =
-    c.in_ok-put_entry.ensures ∙ ap (with_entry (c.entry-item.result.id, c.entry-item.result.content)) c.loop-entry.invariant
-    ∙ sym (old_more c.args.old.now c.loop-entry.entry-index c.entry-item.result c.args.archive.now.items c.loop-entry-test.true c.entry-item.is)

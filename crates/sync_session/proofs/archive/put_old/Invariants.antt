@@ -1,6 +1,0 @@
-use Rattle.std.proofs.Common.{◌≡◌, take}
-use Rattle.sync_session.specs.Archives.{entries_of, with_entries}
-use Rattle.sync_session.proofs.archive.put_old.Given as goal
-
-abbrev pub invariant-loop-entry : goal.invariant-loop-entry
-invariant-loop-entry l = l.archive.items ≡ with_entries (entries_of (take l.entry-index l.old)) l.fn.archive.items

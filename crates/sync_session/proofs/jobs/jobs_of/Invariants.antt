@@ -1,7 +1,0 @@
-use Rattle.std.proofs.Common.{◌≡◌, map, take}
-use Rattle.desk_store.specs.Views.{shelves_in}
-use Rattle.sync_session.specs.Jobs.{job_of}
-use Rattle.sync_session.proofs.jobs.jobs_of.Given as goal
-
-abbrev pub invariant-loop-name : goal.invariant-loop-name
-invariant-loop-name g l = l.made.items ≡ map (job_of l.heads (shelves_in l.desk) l.agree l.wishes) (take l.name-index l.name-items)

@@ -1,6 +1,0 @@
-use Rattle.std.proofs.Common.{◌≡◌, map, take}
-use Rattle.sync_session.proofs.MeetingWords.{DbHead, with_names}
-use Rattle.sync_session.proofs.jobs.put_heads.Given as goal
-
-abbrev pub invariant-loop-head : goal.invariant-loop-head
-invariant-loop-head l = l.names.items ≡ with_names (map (λ (head : DbHead). head.name) (take l.head-index l.heads)) l.fn.names.items
