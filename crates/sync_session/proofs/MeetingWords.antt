@@ -20,5 +20,5 @@ unfoldable pub use Rattle.sync_session.specs.Sessions.{adds_of, after_commit, be
 pub use Rattle.session_plan.specs.Skips.{head_of, reason_by}
 unfoldable pub use Rattle.session_plan.specs.Skips.{active, skip_of}
 pub use Rattle.session_parts.specs.Stretches.{AreFirst, EachSays, SpansBehind, SpansEach, Stretch, done_each, each_acts, says_nothing}
-pub use Rattle.session_plan.specs.Tasks.{Meeting, Task, meeting_of, names, names_of, records_of, slot_of, with_name, with_names}
-unfoldable pub use Rattle.session_plan.specs.Tasks.{task_of, tasks}
+pub use Rattle.session_plan.specs.Tasks.{Meeting, Task, meeting_of, names, names_of, records_of, slot_of, task_of, with_name, with_names}
+unfoldable pub use Rattle.session_plan.specs.Tasks.{tasks}
