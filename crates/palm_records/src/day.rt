@@ -20,7 +20,7 @@ fn is_leap_year(year: u16) -> bool
     year % 4 == 0 && (year % 100 != 0 || year % 400 == 0)
 }
 
-fn days_in_month(year: u16, month: u8) -> u8
+pub fn days_in_month(year: u16, month: u8) -> u8
     ensures { result ≡ days_in_month year month }
 {
     match month {
@@ -32,7 +32,7 @@ fn days_in_month(year: u16, month: u8) -> u8
 }
 
 // The day that a word says, where the calendar has it.
-pub(crate) fn day_in(word: u16) -> Option<Day>
+pub fn day_in(word: u16) -> Option<Day>
     ensures { result ≡ day_in word }
 {
     let year = 1904 + word / 512;

@@ -16,6 +16,6 @@ mod text;
 pub use address::{Address, FIELDS, read_address};
 pub use bad_record::BadRecord;
 pub use category::category_label;
-pub use day::Day;
+pub use day::{Day, day_in, days_in_month};
 pub use task::{Task, read_task};
-pub use text::until_zero;
+pub use text::{split_string, until_zero};

@@ -20,7 +20,7 @@ pub fn until_zero(bytes: &[u8]) -> &[u8]
 }
 
 // The string at the head of these bytes, which a zero byte ends, and the bytes behind that, if there is a zero byte.
-pub(crate) fn split_string(bytes: &[u8]) -> Option<(&[u8], &[u8])>
+pub fn split_string(bytes: &[u8]) -> Option<(&[u8], &[u8])>
     ensures string { IfSome result (λ parts. parts.0.now ≡ until_zero bytes.now) }
     ensures rest { IfSome result (λ parts. parts.1.now ≡ behind_string bytes.now) }
     ensures place { IfSome result (λ parts. first_zero bytes.now ≡ Some (length parts.0.now)) }

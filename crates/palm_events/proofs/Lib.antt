@@ -1,0 +1,6 @@
+pub mod CalendarLaws
+pub mod ExceptionLaws
+pub mod FormLaws
+pub mod RuleLaws
+pub mod ShownLaws
+pub mod WitnessLaws

@@ -1,0 +1,14 @@
+pub mod Alarms
+pub mod Calendar
+pub mod Events
+pub mod Exceptions
+pub mod Flags
+pub mod Forms
+pub mod RecordRules
+pub mod Repeats
+pub mod Rules
+pub mod Shown
+pub mod Steps
+pub mod Strings
+pub mod Times
+pub mod Words
