@@ -52,7 +52,7 @@ unfolded-folded used (c ∷ cs) e =
 
 -- ---- short lines
 
-width-few : (c : ℕ) → width c ≤ 4
+pub width-few : (c : ℕ) → width c ≤ 4
 width-few c = omega (arith, length-encode c, len_few c)
   where
     len_few : (c : ℕ) → len_utf8 c ≤ 4

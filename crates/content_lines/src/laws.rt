@@ -1,6 +1,6 @@
 // What holds of lines.
-ghost use Rattle.std.specs.Prelude.{◌≡◌, ◌≤◌, ℕ, List, true};
-ghost use Rattle.content_lines.specs.Lines.{escaped, fits, folded, has_no_break, unescaped, unfolded};
+ghost use Rattle.std.specs.Prelude.{◌≡◌, ◌≤◌, All, ℕ, List, true};
+ghost use Rattle.content_lines.specs.Lines.{IsLine, escaped, fits, folded, has_no_break, lines_text, unescaped, unfolded};
 
 /// A value is read again as it was written.
 pub fn values_are_read_again()
@@ -15,4 +15,9 @@ pub fn lines_are_read_again()
 /// No physical line has more than 75 octets.
 pub fn physical_lines_are_short()
     ensures { (used : ℕ) (line : List ℕ) → used ≤ 75 → has_no_break line ≡ true → fits used (folded used line) ≡ true }
+{}
+
+/// One text is that of one list of lines.
+pub fn texts_are_of_one_list_of_lines()
+    ensures { (a b : List (List ℕ)) → All IsLine a → All IsLine b → lines_text a ≡ lines_text b → a ≡ b }
 {}

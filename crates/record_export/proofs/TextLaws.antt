@@ -4,8 +4,9 @@ use Rattle.std.proofs.lemmas.List.Elements.{All-cons, All-head, All-nil, All-tai
 use Rattle.std.specs.Prelude.{All, filter, map, Option}
 use Rattle.pdb_values.specs.declared.record.Record.{Record}
 use Rattle.palm_text.specs.Characters.{char_text}
-use Rattle.record_export.specs.declared.export.Privacy.{Privacy}
-use Rattle.record_export.specs.Exports.{IsItem, is_exported, items_text, memo_of}
+use Rattle.export_choice.specs.declared.choice.Privacy.{Privacy}
+use Rattle.export_choice.specs.Choices.{is_exported}
+use Rattle.record_export.specs.Exports.{IsItem, items_text, memo_of}
 use Rattle.record_export.specs.Memos.{IsMemo, guard_behind, lines_from, memo_text, memos_text}
 
 -- one more byte of a memo

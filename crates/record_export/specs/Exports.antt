@@ -1,16 +1,14 @@
 -- The memos that are exported of a database (Palm File Format Specification; pilot-link's memo.h).
-use Rattle.std.specs.Prelude.{◌≡◌, ℕ, ◌==◌, ◌&&◌, ◌||◌, Bool, true, not, List, [], codes, filter, map, Option, if◌then◌else◌}
+use Rattle.std.specs.Prelude.{◌≡◌, ℕ, ◌&&◌, ◌||◌, Bool, true, not, List, [], codes, filter, map, Option, if◌then◌else◌}
 use Rattle.std.specs.List.{flat_map}
 use Rattle.std.specs.Str.{bytes_eq}
 use Rattle.pdb_values.specs.declared.head.DbHead.{DbHead}
 use Rattle.pdb_values.specs.declared.record.Record.{Record}
 use Rattle.pdb_values.specs.Databases.{DatabaseValue}
 use Rattle.pdb_values.specs.Heads.{holds_resources}
-use Rattle.pdb_values.specs.Records.{is_live}
-use Rattle.palm_records.specs.Categories.{category_label}
 use Rattle.palm_records.specs.Strings.{until_zero}
-use Rattle.record_export.specs.declared.export.Privacy.{Privacy}
-use Rattle.record_export.specs.declared.export.Privacy.TheVariants as privacy
+use Rattle.export_choice.specs.declared.choice.Privacy.{Privacy}
+use Rattle.export_choice.specs.Choices.{is_exported, shown_label}
 use Rattle.record_export.specs.Memos.{IsMemo, MemoValue, memo_text}
 
 -- a memo database: records of type `DATA` and creator `memo`, or `PMem` on later handhelds
@@ -18,10 +16,6 @@ abbrev pub holds_memos : DbHead → Bool
 holds_memos head =
     not (holds_resources head.attributes) && bytes_eq head.kind.0 (codes "DATA")
     && (bytes_eq head.creator.0 (codes "memo") || bytes_eq head.creator.0 (codes "PMem"))
-
--- the label of a category; category 0 is the one without a name
-abbrev pub shown_label : Option (List ℕ) → ℕ → List ℕ
-shown_label app category = if category == 0 then [] else category_label app category
 
 -- the memo of a record, with the labels of an app block
 abbrev pub memo_of : Option (List ℕ) → Record → MemoValue
@@ -31,11 +25,6 @@ memo_of app item = record {
   label = shown_label app item.content.category;
   text = until_zero item.content.bytes;
 }
-
--- the records that are exported: live ones, and private ones where they are wanted
-abbrev pub is_exported : Privacy → Record → Bool
-is_exported privacy.All item = is_live item
-is_exported privacy.WithoutPrivate item = is_live item && not item.content.secret
 
 -- where a record is exported, its memo has an id of 24 bits, and bytes
 abbrev pub IsItem : Option (List ℕ) → Privacy → Record → Type 0

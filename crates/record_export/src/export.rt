@@ -1,42 +1,16 @@
 // The memos of a database as a text.
-ghost use Rattle.std.specs.Prelude.{◌≡◌, ◌↔◌, All, IfOk, IsErrOf, List, OnOk, false, string_bytes, true};
+ghost use Rattle.std.specs.Prelude.{◌≡◌, ◌↔◌, All, IfOk, IsErrOf, List, OnOk, false, string_bytes, true, ℕ};
 ghost use Rattle.std.specs.Option.{option_copied};
-ghost use Rattle.record_export.specs.declared.export.ExportFault.TheVariants.{NoMemory};
 ghost use Rattle.record_export.specs.Exports.{IsItem, exported_memos, holds_memos, items_text};
 ghost use Rattle.record_export.specs.Memos.{IsMemo, MemoValue, memos_text};
 
 use crate::memo::push_item;
+use export_choice::{ExportFault, Privacy};
 use pdb_values::{Database, DbHead};
 use std::alloc::{AllocError, Global};
 
-/// Which records are exported.
-#[derive(Clone, Copy)]
-pub enum Privacy {
-    /// All that the user has not deleted. Private ones are marked.
-    All,
-    /// Those of them that are not private.
-    WithoutPrivate,
-}
-
-/// Why there is no text.
-#[derive(Clone, Copy)]
-pub enum ExportFault {
-    /// The database is no memo database.
-    CannotExport,
-    /// Memory ran out.
-    NoMemory,
-}
-
-impl From<AllocError> for ExportFault {
-    ghost from_gives = { λ _ fault. fault ≡ NoMemory };
-
-    fn from(_: AllocError) -> Self {
-        ExportFault::NoMemory
-    }
-}
-
 /// The text of the memos of a database, in UTF-8: those that are exported, in the order of their records. It is the text
-/// of no other memos.
+/// of no other memos. Each record is a memo, so none is out of its form.
 pub fn memos_text(
     alloc: Global,
     database: &Database,
@@ -48,6 +22,7 @@ pub fn memos_text(
         → memos_text memos ≡ string_bytes text → memos ≡ exported_memos privacy database.now) }
     ensures kind { IsErrOf result ExportFault.CannotExport
         ↔ (holds_memos database.now.head ≡ false) }
+    ensures whole { (index place : ℕ) → ¬ IsErrOf result (ExportFault.BadRecord index place) }
 {
     if !holds_memos(database.head()) {
         return Err(ExportFault::CannotExport);

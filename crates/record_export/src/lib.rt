@@ -11,4 +11,4 @@ pub mod laws;
 mod memo;
 mod memo_lines;
 
-pub use export::{ExportFault, Privacy, memos_text};
+pub use export::memos_text;

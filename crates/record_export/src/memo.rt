@@ -1,15 +1,14 @@
 // One record of a memo database.
 ghost use Rattle.std.specs.Prelude.{◌≡◌, ◌++◌, OnOk, string_bytes};
 ghost use Rattle.std.specs.Option.{option_copied};
-ghost use Rattle.record_export.specs.Exports as exports;
-ghost use Rattle.record_export.specs.Exports.{IsItem, item_text, memo_of, shown_label};
+ghost use Rattle.record_export.specs.Exports.{IsItem, item_text, memo_of};
 ghost use Rattle.record_export.specs.Memos.{IsMemo, memo_text};
 
-use crate::export::Privacy;
 use crate::head_line::push_head;
 use crate::memo_lines::push_lines;
-use palm_records::{category_label, until_zero};
-use pdb_values::{Category, Record};
+use export_choice::{Privacy, is_exported, shown_label};
+use palm_records::until_zero;
+use pdb_values::Record;
 use std::alloc::{AllocError, Global};
 
 /// Appends the memo of a record, where it is exported.
@@ -30,16 +29,6 @@ pub fn push_item(
     Ok(())
 }
 
-// Whether a record is exported.
-fn is_exported(privacy: Privacy, item: &Record) -> bool
-    ensures { result ≡ exports.is_exported privacy item.now }
-{
-    match privacy {
-        Privacy::All => !item.deleted,
-        Privacy::WithoutPrivate => !item.deleted && !item.content.secret(),
-    }
-}
-
 // Appends the memo of a record.
 fn push_memo(
     alloc: Global,
@@ -56,15 +45,4 @@ fn push_memo(
     let memo = until_zero(item.content.bytes());
     push_lines(text, memo)?;
     Ok(())
-}
-
-// The label of a category, where it isn't the one without a name.
-fn shown_label(app: Option<&[u8]>, category: Category) -> &[u8]
-    ensures { result.now ≡ shown_label (option_copied app.entry) category }
-{
-    if category.number() == 0 {
-        &[]
-    } else {
-        category_label(app, category)
-    }
 }
