@@ -1,0 +1,4 @@
+pub mod Cards
+pub mod Exports
+pub mod Labels
+pub mod Properties
