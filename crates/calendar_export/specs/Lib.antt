@@ -1,0 +1,9 @@
+pub mod Components
+pub mod ContentLines
+pub mod DateLines
+pub mod Dates
+pub mod Exports
+pub mod Items
+pub mod Moments
+pub mod RuleLines
+pub mod TaskLines
