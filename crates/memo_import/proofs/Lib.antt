@@ -1,0 +1,10 @@
+pub mod BackLaws
+pub mod BlockLaws
+pub mod ByteLaws
+pub mod HeadReadLaws
+pub mod LabelLaws
+pub mod LineLaws
+pub mod PartLaws
+pub mod ReadingLaws
+pub mod ReturnLaws
+pub mod ShownLaws
