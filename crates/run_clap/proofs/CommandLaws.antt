@@ -6,13 +6,14 @@ use Rattle.clap.specs.Simple.{is_simple, matches_of}
 use Rattle.clap.specs.Takes.{takes}
 use Rattle.clap.specs.Walk.{rows_of}
 use Rattle.clap.specs.declared.parser.matches.Found.{Found}
-use Rattle.run_words.specs.Commands.{Task, Sync, LookAt, Scan, Make, export_form, export_of, export_task_in, file_form, file_of, hex_bytes, make_form, make_in, make_of, packet_form, packet_of, task_of}
-use Rattle.run_words.specs.Exports.{export_in}
+use Rattle.run_words.specs.Commands.{Task, Sync, LookAt, Scan, Make, export_form, export_of, export_task_in, file_form, file_of, hex_bytes, import_form, import_of, import_task_in, make_form, make_in, make_of, packet_form, packet_of, task_of}
+use Rattle.run_words.specs.Exports.{export_in, import_in}
 use Rattle.run_words.specs.Forms.{is_of_form, plain_at}
 use Rattle.run_words.specs.Runs.{are_actions_right, run_form, run_in, run_of}
 use Rattle.run_words.specs.declared.look.Export.{Export as ExportWords}
+use Rattle.run_words.specs.declared.look.ImportForm.{ImportForm}
 use Rattle.run_words.specs.declared.look.Look.{Look}
-use Rattle.run_words.specs.declared.look.Look.TheVariants.{Check, Show, Export, Verify, Picture}
+use Rattle.run_words.specs.declared.look.Look.TheVariants.{Check, Show, Export, Import, Verify, Picture}
 use Rattle.run_clap.specs.Apps.{form_app}
 use Rattle.run_clap.specs.Reads.{Asks, HoldsTask, look_form, task_form}
 use Rattle.run_clap.proofs.EndLaws.{form_holds, form_is_simple, form_takes}
@@ -57,7 +58,7 @@ module _ (now : Option ℕ) (first : List ℕ) (rest : List (List ℕ)) {task : 
       let right = kept (is_of_form file_form rest) (plain_at 0 rest) file.1 in
       subst (IsAsked now (first ∷ rest)) file.2 (record { first = first; rest = rest; are = refl; right = right.0; asks = (right.1, tt) })
 
-  export_in_asked : (file : Option (List ℕ)) (export : Option ExportWords) → is_of_form export_form rest ≡ true → plain_at 0 rest ≡ file → export_in rest ≡ export
+  export_in_asked : (file : Option (List ℕ)) (export : Option ExportWords) → is_of_form export_form rest ≡ true → plain_at 0 rest ≡ file → export_in now rest ≡ export
       → option_and_then (λ f. option_map (λ x. LookAt (Export x) f) export) file ≡ Some task → IsAsked now (first ∷ rest) task
   export_in_asked None export right f x e = cc
   export_in_asked (Some file) None right f x e = cc
@@ -65,11 +66,25 @@ module _ (now : Option ℕ) (first : List ℕ) (rest : List (List ℕ)) {task : 
       let is : LookAt (Export export) file ≡ task = cc in
       subst (IsAsked now (first ∷ rest)) is (record { first = first; rest = rest; are = refl; right = right; asks = (f, x) })
 
-  export_asked : export_of rest ≡ Some task → IsAsked now (first ∷ rest) task
+  export_asked : export_of now rest ≡ Some task → IsAsked now (first ∷ rest) task
   unfolding export_of
   export_asked e =
-      let right = kept (is_of_form export_form rest) (export_task_in rest) e in
-      export_in_asked (plain_at 0 rest) (export_in rest) right.0 refl refl right.1
+      let right = kept (is_of_form export_form rest) (export_task_in now rest) e in
+      export_in_asked (plain_at 0 rest) (export_in now rest) right.0 refl refl right.1
+
+  import_in_asked : (file : Option (List ℕ)) (form : Option ImportForm) → is_of_form import_form rest ≡ true → plain_at 0 rest ≡ file → import_in rest ≡ form
+      → option_and_then (λ f. option_map (λ x. LookAt (Import x) f) form) file ≡ Some task → IsAsked now (first ∷ rest) task
+  import_in_asked None form right f x e = cc
+  import_in_asked (Some file) None right f x e = cc
+  import_in_asked (Some file) (Some form) right f x e =
+      let is : LookAt (Import form) file ≡ task = cc in
+      subst (IsAsked now (first ∷ rest)) is (record { first = first; rest = rest; are = refl; right = right; asks = (f, x) })
+
+  import_asked : import_of rest ≡ Some task → IsAsked now (first ∷ rest) task
+  unfolding import_of
+  import_asked e =
+      let right = kept (is_of_form import_form rest) (import_task_in rest) e in
+      import_in_asked (plain_at 0 rest) (import_in rest) right.0 refl refl right.1
 
   packet_asked : option_map Scan (packet_of rest) ≡ Some task → IsAsked now (first ∷ rest) task
   unfolding packet_of
@@ -111,31 +126,33 @@ module _ (now : Option ℕ) (first : List ℕ) (rest : List (List ℕ)) {task : 
       let right = kept (is_of_form file_form rest) (plain_at 0 rest) file.1 in
       subst (IsAsked now (first ∷ rest)) file.2 (record { first = first; rest = rest; are = refl; right = right.0; asks = (right.1, tt) })
 
-  chosen : (a b c d v p m n : Bool)
+  chosen : (a b c d i v p m n : Bool)
       → cond a (option_map Sync (run_of now rest))
       (cond b (option_map (LookAt Check) (file_of rest))
       (cond c (option_map (LookAt Show) (file_of rest))
-      (cond d (export_of rest)
+      (cond d (export_of now rest)
+      (cond i (import_of rest)
       (cond v (option_map (LookAt Verify) (file_of rest))
       (cond p (option_map (LookAt Picture) (file_of rest))
-      (cond m (option_map Scan (packet_of rest)) (cond n (make_of rest) None))))))) ≡ Some task
+      (cond m (option_map Scan (packet_of rest)) (cond n (make_of rest) None)))))))) ≡ Some task
       → IsAsked now (first ∷ rest) task
-  chosen true b c d v p m n e = run_asked e
-  chosen false true c d v p m n e = check_asked e
-  chosen false false true d v p m n e = show_asked e
-  chosen false false false true v p m n e = export_asked e
-  chosen false false false false true p m n e = verify_asked e
-  chosen false false false false false true m n e = picture_asked e
-  chosen false false false false false false true n e = packet_asked e
-  chosen false false false false false false false true e = make_asked e
-  chosen false false false false false false false false e = cc
+  chosen true b c d i v p m n e = run_asked e
+  chosen false true c d i v p m n e = check_asked e
+  chosen false false true d i v p m n e = show_asked e
+  chosen false false false true i v p m n e = export_asked e
+  chosen false false false false true v p m n e = import_asked e
+  chosen false false false false false true p m n e = verify_asked e
+  chosen false false false false false false true m n e = picture_asked e
+  chosen false false false false false false false true n e = packet_asked e
+  chosen false false false false false false false false true e = make_asked e
+  chosen false false false false false false false false false e = cc
 
 words_ask : (now : Option ℕ) (words : List (List ℕ)) {task : Task} → task_of now words ≡ Some task → IsAsked now words task
 unfolding task_of
 words_ask now [] e = cc
 words_ask now (first ∷ rest) e =
     chosen now first rest (bytes_eq first (codes "run")) (bytes_eq first (codes "check")) (bytes_eq first (codes "show")) (bytes_eq first (codes "export"))
-    (bytes_eq first (codes "verify")) (bytes_eq first (codes "picture")) (bytes_eq first (codes "packet")) (bytes_eq first (codes "make")) e
+    (bytes_eq first (codes "import")) (bytes_eq first (codes "verify")) (bytes_eq first (codes "picture")) (bytes_eq first (codes "packet")) (bytes_eq first (codes "make")) e
 
 -- ---- each of the forms has names that differ
 
@@ -178,6 +195,19 @@ export_proper = record {
   flag_names = refl;
 }
 
+import_proper : Proper import_form
+import_proper = record {
+  few = omega arith;
+  plain = refl;
+  options = refl;
+  flags = refl;
+  plain_options = refl;
+  plain_flags = refl;
+  options_flags = refl;
+  option_names = refl;
+  flag_names = refl;
+}
+
 packet_proper : Proper packet_form
 packet_proper = record {
   few = omega arith;
@@ -208,6 +238,7 @@ look_proper : (look : Look) → Proper (look_form look)
 look_proper Check = file_proper
 look_proper Show = file_proper
 look_proper (Export export) = export_proper
+look_proper (Import form) = import_proper
 look_proper Verify = file_proper
 look_proper Picture = file_proper
 

@@ -3,12 +3,12 @@ use Rattle.std.specs.Prelude.{◌≡◌, ℕ, suc, Bool, List, [], ◌∷◌, Op
 use Rattle.std.specs.List.{AllByRecursion}
 use Rattle.clap.specs.Matches.{first_value, one_text}
 use Rattle.clap.specs.declared.parser.matches.Found.{Found}
-use Rattle.run_words.specs.Commands.{Task, Sync, LookAt, Scan, Make, export_form, file_form, hex_bytes, make_form, make_in, packet_form}
-use Rattle.run_words.specs.Exports.{export_in}
+use Rattle.run_words.specs.Commands.{Task, Sync, LookAt, Scan, Make, export_form, file_form, hex_bytes, import_form, make_form, make_in, packet_form}
+use Rattle.run_words.specs.Exports.{export_in, import_in}
 use Rattle.run_words.specs.Forms.{Form, has_flag, plain_at, value_of}
 use Rattle.run_words.specs.Runs.{run_form, run_in}
 use Rattle.run_words.specs.declared.look.Look.{Look}
-use Rattle.run_words.specs.declared.look.Look.TheVariants.{Check, Show, Export, Verify, Picture}
+use Rattle.run_words.specs.declared.look.Look.TheVariants.{Check, Show, Export, Import, Verify, Picture}
 
 -- they have the plain words from a place on, under these names
 abbrev pub HoldsPlain : Found → List (List ℕ) → ℕ → List (List ℕ) → Type 0
@@ -31,6 +31,7 @@ abbrev pub look_form : Look → Form
 look_form Check = file_form
 look_form Show = file_form
 look_form (Export export) = export_form
+look_form (Import form) = import_form
 look_form Verify = file_form
 look_form Picture = file_form
 
@@ -41,18 +42,19 @@ task_form (LookAt look file) = look_form look
 task_form (Scan bytes) = packet_form
 task_form (Make seed count) = make_form
 
--- what words of its form ask for is this look
-abbrev pub AsksLook : List (List ℕ) → Look → Type 0
-AsksLook words Check = Unit {0}
-AsksLook words Show = Unit {0}
-AsksLook words (Export export) = export_in words ≡ Some export
-AsksLook words Verify = Unit {0}
-AsksLook words Picture = Unit {0}
+-- what words of its form ask for is this look, at the date now
+abbrev pub AsksLook : Option ℕ → List (List ℕ) → Look → Type 0
+AsksLook now words Check = Unit {0}
+AsksLook now words Show = Unit {0}
+AsksLook now words (Export export) = export_in now words ≡ Some export
+AsksLook now words (Import form) = import_in words ≡ Some form
+AsksLook now words Verify = Unit {0}
+AsksLook now words Picture = Unit {0}
 
 -- what words of its form ask for is this task, at the date now
 abbrev pub Asks : Option ℕ → List (List ℕ) → Task → Type 0
 Asks now words (Sync run) = run_in now words ≡ Some run
-Asks now words (LookAt look file) = (plain_at 0 words ≡ Some file) × AsksLook words look
+Asks now words (LookAt look file) = (plain_at 0 words ≡ Some file) × AsksLook now words look
 Asks now words (Scan bytes) = option_and_then hex_bytes (plain_at 0 words) ≡ Some bytes
 Asks now words (Make seed count) = make_in words ≡ Some (Make seed count)
 

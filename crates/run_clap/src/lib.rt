@@ -11,5 +11,5 @@ mod values;
 
 pub use read::{WordsFault, read_command};
 pub use run_words::{
-    Command, Export, ExportForm, Look, LookWords, MakeWords, PacketWords, RunWords,
+    Command, Export, ExportForm, ImportForm, Look, LookWords, MakeWords, PacketWords, RunWords,
 };

@@ -6,11 +6,12 @@ ghost use Rattle.run_words.specs.Commands.{task_of};
 ghost use Rattle.run_words.specs.Views.{form_view, task_view};
 
 use crate::form::form_command;
-use crate::values::{export_in, make_in, run_in};
+use crate::values::{export_in, import_in, make_in, run_in};
 use clap::error::ErrorKind;
 use clap::{ArgMatches, Error};
 use run_words::{
-    Command, EXPORT, FILE, Look, LookWords, MAKE, PACKET, PacketWords, RUN, WordForm, command_of,
+    Command, EXPORT, FILE, IMPORT, Look, LookWords, MAKE, PACKET, PacketWords, RUN, WordForm,
+    command_of,
 };
 use std::alloc::Global;
 
@@ -33,6 +34,7 @@ fn form_of(command: &Command<'_>) -> WordForm<'static>
             Look::Check => FILE,
             Look::Show => FILE,
             Look::Export(_) => EXPORT,
+            Look::Import(_) => IMPORT,
             Look::Verify => FILE,
             Look::Picture => FILE,
         },
@@ -58,9 +60,9 @@ fn matches_of<'a>(
 }
 
 // The look that matches hold.
-fn look_in<'a>(look: Look, matches: &ArgMatches<'a>) -> Option<Look>
+fn look_in<'a>(now: Option<u32>, look: Look, matches: &ArgMatches<'a>) -> Option<Look>
     ensures { (words : List (List ℕ)) → HoldsWords (look_form look) words (found_of matches.now)
-        → AsksLook words look → result ≡ Some look }
+        → AsksLook now words look → result ≡ Some look }
 {
     match look {
         Look::Check => Some(Look::Check),
@@ -68,8 +70,12 @@ fn look_in<'a>(look: Look, matches: &ArgMatches<'a>) -> Option<Look>
         Look::Verify => Some(Look::Verify),
         Look::Picture => Some(Look::Picture),
         Look::Export(_) => {
-            let export = export_in(matches)?;
+            let export = export_in(now, matches)?;
             Some(Look::Export(export))
+        }
+        Look::Import(_) => {
+            let form = import_in(matches)?;
+            Some(Look::Import(form))
         }
     }
 }
@@ -90,7 +96,7 @@ fn command_in<'a>(
         },
         Command::Look(words) => {
             let file = matches.get_str("file")?;
-            let look = look_in(words.look, matches)?;
+            let look = look_in(now, words.look, matches)?;
             Some(Command::Look(LookWords { look, file }))
         }
         Command::Packet(_) => match matches.get_str("hex") {

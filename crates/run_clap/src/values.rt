@@ -2,13 +2,16 @@
 ghost use Rattle.std.specs.Prelude.{◌≡◌, ℕ, List, option_copied, option_map};
 ghost use Rattle.clap.specs.Words.{found_of};
 ghost use Rattle.run_clap.specs.Reads.{HoldsWords};
-ghost use Rattle.run_words.specs.Commands.{Make, export_form, make_form, make_in as make_of_words};
-ghost use Rattle.run_words.specs.Exports.{export_in as export_of_words};
+ghost use Rattle.run_words.specs.Commands.{Make, export_form, import_form, make_form, make_in as make_of_words};
+ghost use Rattle.run_words.specs.Exports.{export_in as export_of_words, import_in as import_of_words};
 ghost use Rattle.run_words.specs.Runs.{run_form, run_in as run_of_words};
 ghost use Rattle.run_words.specs.Views.{run_view};
 
 use clap::ArgMatches;
-use run_words::{Export, MakeWords, RunWords, count_in, date_in, number_in, text_form_in};
+use run_words::{
+    Export, ImportForm, MakeWords, RunWords, count_in, date_in, export_form_in, import_form_in,
+    number_in,
+};
 
 // The run that matches hold, at the date now.
 pub fn run_in<'a>(now: Option<u32>, matches: &ArgMatches<'a>) -> Option<RunWords<'a>>
@@ -31,15 +34,24 @@ pub fn run_in<'a>(now: Option<u32>, matches: &ArgMatches<'a>) -> Option<RunWords
 }
 
 // How the words that matches hold want a database exported.
-pub fn export_in<'a>(matches: &ArgMatches<'a>) -> Option<Export>
+pub fn export_in<'a>(now: Option<u32>, matches: &ArgMatches<'a>) -> Option<Export>
     ensures { (words : List (List ℕ)) → HoldsWords export_form words (found_of matches.now)
-        → result ≡ export_of_words words }
+        → result ≡ export_of_words now words }
 {
-    let form = text_form_in(matches.get_str("as")?)?;
+    let form = export_form_in(now, matches.get_str("as")?, matches.get_str("date"))?;
     Some(Export {
         form,
         without_private: matches.get_flag("without-private"),
+        keep_broken: matches.get_flag("keep-broken"),
     })
+}
+
+// The form of the text of which the words that matches hold want a database.
+pub fn import_in<'a>(matches: &ArgMatches<'a>) -> Option<ImportForm>
+    ensures { (words : List (List ℕ)) → HoldsWords import_form words (found_of matches.now)
+        → result ≡ import_of_words words }
+{
+    import_form_in(matches.get_str("as")?)
 }
 
 // The numbers that matches hold.

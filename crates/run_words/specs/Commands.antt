@@ -1,9 +1,9 @@
 -- What words ask for, by the first of them.
-use Rattle.std.specs.Prelude.{ℕ, true, List, [], ◌∷◌, Option, Some, None, codes, bytes_eq, option_map, option_and_then, if◌then◌else◌}
+use Rattle.std.specs.Prelude.{ℕ, false, true, List, [], ◌∷◌, Option, Some, None, codes, bytes_eq, option_map, option_and_then, if◌then◌else◌}
 use Rattle.run_words.specs.declared.look.Look.{Look}
-use Rattle.run_words.specs.declared.look.Look.TheVariants.{Check, Show, Export, Verify, Picture}
-use Rattle.run_words.specs.Exports.{export_in}
-use Rattle.run_words.specs.Forms.{Form, is_of_form, plain_at}
+use Rattle.run_words.specs.declared.look.Look.TheVariants.{Check, Show, Export, Import, Verify, Picture}
+use Rattle.run_words.specs.Exports.{export_in, import_in}
+use Rattle.run_words.specs.Forms.{Form, NamedOption, is_of_form, plain_at}
 use Rattle.run_words.specs.Numbers.{number_of, count_of}
 use Rattle.run_words.specs.Runs.{Run, run_of}
 use Rattle.run_words.specs.Words.{is_hex, bytes_of}
@@ -23,13 +23,21 @@ plain_form names = record { plain = names; options = []; flags = [] }
 abbrev pub file_form : Form
 file_form = plain_form (codes "file" ∷ [])
 
--- `FILE --as=FORM [--without-private]`, behind `export`
+-- `--as=FORM`
+abbrev pub form_option : NamedOption
+form_option = record { name = codes "as"; is_required = true }
+
+-- `FILE --as=FORM [--date=D] [--without-private] [--keep-broken]`, behind `export`
 abbrev pub export_form : Form
 export_form = record {
   plain = codes "file" ∷ [];
-  options = record { name = codes "as"; is_required = true } ∷ [];
-  flags = codes "without-private" ∷ [];
+  options = form_option ∷ record { name = codes "date"; is_required = false } ∷ [];
+  flags = codes "without-private" ∷ codes "keep-broken" ∷ [];
 }
+
+-- `FILE --as=FORM`, behind `import`
+abbrev pub import_form : Form
+import_form = record { plain = codes "file" ∷ []; options = form_option ∷ []; flags = [] }
 
 -- `HEX`, behind `packet`
 abbrev pub packet_form : Form
@@ -60,13 +68,23 @@ make_in words =
 unfoldable pub make_of : List (List ℕ) → Option Task
 make_of words = if is_of_form make_form words then make_in words else None
 
--- the export that words of its form give
-abbrev pub export_task_in : List (List ℕ) → Option Task
-export_task_in words = option_and_then (λ file. option_map (λ export. LookAt (Export export) file) (export_in words)) (plain_at 0 words)
+-- the export that words of its form give, at the date now
+abbrev pub export_task_in : Option ℕ → List (List ℕ) → Option Task
+export_task_in now words =
+    option_and_then (λ file. option_map (λ export. LookAt (Export export) file) (export_in now words)) (plain_at 0 words)
 
 -- the file behind `export`, and how it is exported
-unfoldable pub export_of : List (List ℕ) → Option Task
-export_of words = if is_of_form export_form words then export_task_in words else None
+unfoldable pub export_of : Option ℕ → List (List ℕ) → Option Task
+export_of now words = if is_of_form export_form words then export_task_in now words else None
+
+-- the import that words of its form give
+abbrev pub import_task_in : List (List ℕ) → Option Task
+import_task_in words =
+    option_and_then (λ file. option_map (λ form. LookAt (Import form) file) (import_in words)) (plain_at 0 words)
+
+-- the file behind `import`, and the form of its text
+unfoldable pub import_of : List (List ℕ) → Option Task
+import_of words = if is_of_form import_form words then import_task_in words else None
 
 -- what the words behind a command ask for, at the date now
 abbrev pub task_behind : Option ℕ → List ℕ → List (List ℕ) → Option Task
@@ -74,11 +92,12 @@ task_behind now command words =
     if bytes_eq command (codes "run") then option_map Sync (run_of now words)
     else (if bytes_eq command (codes "check") then option_map (LookAt Check) (file_of words)
     else (if bytes_eq command (codes "show") then option_map (LookAt Show) (file_of words)
-    else (if bytes_eq command (codes "export") then export_of words
+    else (if bytes_eq command (codes "export") then export_of now words
+    else (if bytes_eq command (codes "import") then import_of words
     else (if bytes_eq command (codes "verify") then option_map (LookAt Verify) (file_of words)
     else (if bytes_eq command (codes "picture") then option_map (LookAt Picture) (file_of words)
     else (if bytes_eq command (codes "packet") then option_map Scan (packet_of words)
-    else (if bytes_eq command (codes "make") then make_of words else None)))))))
+    else (if bytes_eq command (codes "make") then make_of words else None))))))))
 
 -- what these words ask for, where the date now is this, if it can be told
 unfoldable pub task_of : Option ℕ → List (List ℕ) → Option Task

@@ -1,16 +1,47 @@
--- Which words ask for the text of what a database file holds, and what they give.
+-- Which words ask for the text of what a database file holds, or for the database of a text, and what they give.
 use Rattle.std.specs.Prelude.{ℕ, List, Option, Some, None, codes, bytes_eq, option_map, option_and_then, if◌then◌else◌}
 use Rattle.run_words.specs.Forms.{has_flag, value_of}
+use Rattle.run_words.specs.Runs.{date_at}
 use Rattle.run_words.specs.declared.look.Export.{Export}
 use Rattle.run_words.specs.declared.look.ExportForm.{ExportForm}
-use Rattle.run_words.specs.declared.look.ExportForm.TheVariants.{Text}
+use Rattle.run_words.specs.declared.look.ExportForm.TheVariants.{Text, Cards, Calendar}
+use Rattle.run_words.specs.declared.look.ImportForm.{ImportForm}
+use Rattle.run_words.specs.declared.look.ImportForm.TheVariants as imports
 
--- the form of a text that a word names
-abbrev pub text_form_of : List ℕ → Option ExportForm
-text_form_of word = if bytes_eq word (codes "txt") then Some Text else None
+-- the form of a text that has no date
+abbrev pub plain_form : List ℕ → Option ExportForm
+plain_form word =
+    if bytes_eq word (codes "txt") then Some Text
+    else (if bytes_eq word (codes "vcf") then Some Cards else None)
+
+-- the form of a text that has this date
+abbrev pub dated_form : Option ℕ → List ℕ → List ℕ → Option ExportForm
+dated_form now word date =
+    if bytes_eq word (codes "ics") then option_map Calendar (date_at now date) else None
+
+-- the form of a text that a word names, and the word of its date where there is one; `ics` has one, and no other form does
+abbrev pub export_form_of : Option ℕ → List ℕ → Option (List ℕ) → Option ExportForm
+export_form_of now word None = plain_form word
+export_form_of now word (Some date) = dated_form now word date
 
 -- how words of that form want a database exported
-abbrev pub export_in : List (List ℕ) → Option Export
-export_in words =
-    option_map (λ form. record { form = form; without_private = has_flag (codes "without-private") words })
-    (option_and_then text_form_of (value_of (codes "as") words))
+abbrev pub export_with : List (List ℕ) → ExportForm → Export
+export_with words form = record {
+  form = form;
+  without_private = has_flag (codes "without-private") words;
+  keep_broken = has_flag (codes "keep-broken") words;
+}
+
+-- how words want a database exported, at the date now
+abbrev pub export_in : Option ℕ → List (List ℕ) → Option Export
+export_in now words =
+    option_map (export_with words)
+    (option_and_then (λ word. export_form_of now word (value_of (codes "date") words)) (value_of (codes "as") words))
+
+-- the form of a text that a word names, of which a database is made
+abbrev pub import_form_of : List ℕ → Option ImportForm
+import_form_of word = if bytes_eq word (codes "txt") then Some imports.Text else None
+
+-- the form of the text of which words want a database
+abbrev pub import_in : List (List ℕ) → Option ImportForm
+import_in words = option_and_then import_form_of (value_of (codes "as") words)

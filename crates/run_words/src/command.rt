@@ -1,13 +1,13 @@
 // Commands.
 ghost use Rattle.std.specs.Prelude.{◌≡◌, map, string_bytes, option_map};
-ghost use Rattle.run_words.specs.Commands.{LookAt, Scan, Sync, export_of, file_of, make_of, packet_of, task_of};
-ghost use Rattle.run_words.specs.Exports.{export_in as export_of_words};
+ghost use Rattle.run_words.specs.Commands.{LookAt, Scan, Sync, export_of, file_of, import_of, make_of, packet_of, task_of};
+ghost use Rattle.run_words.specs.Exports.{export_in as export_of_words, import_in as import_of_words};
 ghost use Rattle.run_words.specs.Runs.{run_of};
 ghost use Rattle.run_words.specs.Views.{task_view};
 
 use crate::form::{ValueOption, WordForm, has_flag, is_of_form, plain_at, value_of};
 use crate::hexadecimal::is_hex;
-use crate::look::{Export, Look, LookWords, text_form_in};
+use crate::look::{Export, ImportForm, Look, LookWords, export_form_in, import_form_in};
 use crate::number::{count_in, number_in};
 use crate::run::{RunWords, run_words};
 
@@ -21,11 +21,27 @@ pub const FILE: WordForm<'static> = WordForm {
 /// The form of the words behind `export`.
 pub const EXPORT: WordForm<'static> = WordForm {
     plain: &["file"],
+    options: &[
+        ValueOption {
+            name: "as",
+            is_required: true,
+        },
+        ValueOption {
+            name: "date",
+            is_required: false,
+        },
+    ],
+    flags: &["without-private", "keep-broken"],
+};
+
+/// The form of the words behind `import`.
+pub const IMPORT: WordForm<'static> = WordForm {
+    plain: &["file"],
     options: &[ValueOption {
         name: "as",
         is_required: true,
     }],
-    flags: &["without-private"],
+    flags: &[],
 };
 
 /// The form of the words behind `packet`.
@@ -63,7 +79,7 @@ pub struct MakeWords {
 pub enum Command<'a> {
     /// `run`.
     Run(RunWords<'a>),
-    /// `check`, `show`, `export`, `verify` or `picture`.
+    /// `check`, `show`, `export`, `import`, `verify` or `picture`.
     Look(LookWords<'a>),
     /// `packet`.
     Packet(PacketWords<'a>),
@@ -84,7 +100,8 @@ pub fn command_of<'a>(now: Option<u32>, words: &'a [String]) -> Option<Command<'
         "run" => run_command(now, words),
         "check" => look_command(Look::Check, words),
         "show" => look_command(Look::Show, words),
-        "export" => export_command(words),
+        "export" => export_command(now, words),
+        "import" => import_command(words),
         "verify" => look_command(Look::Verify, words),
         "picture" => look_command(Look::Picture, words),
         "packet" => packet_command(words),
@@ -118,27 +135,49 @@ fn look_command<'a>(look: Look, words: &'a [String]) -> Option<Command<'a>>
 }
 
 // How words of that form want a database exported.
-fn export_in(words: &[String]) -> Option<Export>
-    ensures { result ≡ export_of_words (map string_bytes words.now) }
+fn export_in(now: Option<u32>, words: &[String]) -> Option<Export>
+    ensures { result ≡ export_of_words now (map string_bytes words.now) }
 {
-    let form = text_form_in(value_of(words, "as")?)?;
+    let form = export_form_in(now, value_of(words, "as")?, value_of(words, "date"))?;
     Some(Export {
         form,
         without_private: has_flag(words, "without-private"),
+        keep_broken: has_flag(words, "keep-broken"),
     })
 }
 
 // The look at the file that stands behind `export`.
 #[tactic(auto, unfolding(crate::specs::Commands::export_of))]
-fn export_command<'a>(words: &'a [String]) -> Option<Command<'a>>
-    ensures { option_map task_view result ≡ export_of (map string_bytes words.entry.now) }
+fn export_command<'a>(now: Option<u32>, words: &'a [String]) -> Option<Command<'a>>
+    ensures { option_map task_view result ≡ export_of now (map string_bytes words.entry.now) }
 {
     if !is_of_form(&EXPORT, words) {
         return None;
     }
     let file = plain_at(words, 0)?;
-    let export = export_in(words)?;
+    let export = export_in(now, words)?;
     let look = Look::Export(export);
+    Some(Command::Look(LookWords { look, file }))
+}
+
+// The form of the text of which words want a database.
+fn import_in(words: &[String]) -> Option<ImportForm>
+    ensures { result ≡ import_of_words (map string_bytes words.now) }
+{
+    import_form_in(value_of(words, "as")?)
+}
+
+// The look at the file that stands behind `import`.
+#[tactic(auto, unfolding(crate::specs::Commands::import_of))]
+fn import_command<'a>(words: &'a [String]) -> Option<Command<'a>>
+    ensures { option_map task_view result ≡ import_of (map string_bytes words.entry.now) }
+{
+    if !is_of_form(&IMPORT, words) {
+        return None;
+    }
+    let file = plain_at(words, 0)?;
+    let form = import_in(words)?;
+    let look = Look::Import(form);
     Some(Command::Look(LookWords { look, file }))
 }
 

@@ -1,9 +1,10 @@
 //! The words of a command line: which are in the form, and what they ask for.
 //!
 //! The first word is the command: `run HANDHELD DESKTOP --date=D [--script=F] [--trace=F] [--slow] [--actions=L] [--add-user]`,
-//! `check FILE`, `show FILE`, `verify FILE`, `export FILE --as=txt [--without-private]`, `packet HEX` or `make SEED N`. The form of the words
-//! behind it is a table, and they stand in any order. A plain word is not empty and does not begin with `-`. A date is written,
-//! or it is `now`, the date that the caller hands over. No call takes memory but for the list of actions.
+//! `check FILE`, `show FILE`, `export FILE --as=FORM [--date=D] [--without-private] [--keep-broken]`, `import FILE --as=txt`,
+//! `verify FILE`, `picture FILE`, `packet HEX` or `make SEED N`. The form of the words behind it is a table, and they stand in
+//! any order. A plain word is not empty and does not begin with `-`. A date is written, or it is `now`, the date that the caller
+//! hands over. No call takes memory but for the list of actions.
 #![tactic(auto)]
 
 mod action;
@@ -19,8 +20,10 @@ mod word;
 
 pub use action::{ActionWord, NamedAction, Target, action_of};
 pub use action_list::{is_actions, read_actions};
-pub use command::{Command, EXPORT, FILE, MAKE, MakeWords, PACKET, PacketWords, command_of};
+pub use command::{
+    Command, EXPORT, FILE, IMPORT, MAKE, MakeWords, PACKET, PacketWords, command_of,
+};
 pub use form::{ValueOption, WordForm};
-pub use look::{Export, ExportForm, Look, LookWords, text_form_in};
+pub use look::{Export, ExportForm, ImportForm, Look, LookWords, export_form_in, import_form_in};
 pub use number::{count_in, number_in};
 pub use run::{RUN, RunWords, date_in};
