@@ -1,3 +1,4 @@
+pub mod ExportLaws
 pub mod LookLaws
 pub mod PrintedLaws
 pub mod PrintedNameLaws

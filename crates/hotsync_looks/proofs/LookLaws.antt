@@ -16,22 +16,26 @@ use Rattle.trace_check.specs.declared.rule.Verdict.{Verdict}
 use Rattle.trace_check.specs.declared.rule.Verdict.TheVariants.{Proper, Not}
 use Rattle.trace_check.proofs.RuleLaws.{one-verdict}
 use Rattle.trace_check.proofs.TraceLaws.{one_reading}
+use Rattle.run_words.specs.declared.look.ImportForm.{ImportForm}
 use Rattle.run_words.specs.declared.look.Look.{Look}
-use Rattle.run_words.specs.declared.look.Look.TheVariants.{Check, Show, Export as Exported, Verify, Picture}
+use Rattle.run_words.specs.declared.look.Look.TheVariants.{Check, Show, Export as Exported, Import, Verify, Picture}
 use Rattle.pdb_files.specs.BadKinds.{bad_file}
 use Rattle.pdb_files.specs.Faults.{Refuses as FileRefuses, file_fault}
 use Rattle.pdb_files.specs.declared.fault.FileFault.{FileFault}
 use Rattle.pdb_files.specs.declared.fault.FileFault.TheVariants.{NoMemory as NoMemoryFault}
 use Rattle.hotsync_looks.specs.BadFiles.{BreaksRule, StandsFor}
 use Rattle.hotsync_looks.specs.declared.status.FileSide.TheVariants.{Source}
-use Rattle.hotsync_looks.specs.LookTexts.{Cause, Broken, Unfit, Untraced, Improper, IsCauseOf, IsDatabaseCause, IsDatabaseText}
-use Rattle.hotsync_looks.specs.LookTexts.{IsPageText, IsProperText, IsReadingCause, IsTextOf, IsTraceCause, NoTextSays, Refuses, RefusesDatabase, RefusesReading, RefusesTrace, Says, look_text, source_limit}
+use Rattle.hotsync_looks.specs.LookTexts.{BadItem, Cause, Broken, HasBadRecord, Misfit, Unfit, Untraced, Improper, IsCauseOf, IsDatabaseCause, IsDatabaseText, IsImportCause, IsImported, IsUnfit}
+use Rattle.hotsync_looks.specs.LookTexts.{IsPageText, IsProperText, IsReadingCause, IsTextOf, IsTraceCause, NoTextSays, Refuses, RefusesDatabase, RefusesImport, RefusesReading, RefusesTrace, Says, SaysMisfit, look_text, source_limit}
+use Rattle.hotsync_looks.specs.ExportTexts.{NoText, Absent, OutOfForm}
+use Rattle.memo_import.specs.Databases.{import_in}
+use Rattle.memo_import.specs.declared.fault.ImportFault.{ImportFault}
 use Rattle.hotsync_looks.specs.Looks.{IsLook, IsLookRefusal, IsReadable, IsTextIn, SourceShows}
 use Rattle.hotsync_looks.specs.Opening.{Opens, OpensAtMost}
 use Rattle.hotsync_looks.specs.Printed.{IsPrinted}
 use Rattle.hotsync_looks.specs.Told.{SinkTold, SourceTold}
 use Rattle.hotsync_looks.specs.declared.status.Status.{Status}
-use Rattle.hotsync_looks.specs.declared.status.Status.TheVariants.{Done, BadFile, CannotExport, NotProper, TooLong, SourceRead, OutWrite, NoMemory}
+use Rattle.hotsync_looks.specs.declared.status.Status.TheVariants.{Done, BadFile, BadRecord, CannotExport, NotProper, TooLong, SourceRead, OutWrite, NoMemory}
 
 -- ---- bytes of a database
 
@@ -44,30 +48,61 @@ same_rule : {bytes : List ℕ} {kind found : BadKind} {place at : ℕ} → Break
     → (kind ≡ found) × (place ≡ at)
 same_rule one other = grind arith
 
-none_or_some : {A : Type 0} {o : Option A} {x : A} → o ≡ Some x → o ≡ None → ⊥
-none_or_some some none = cc
+-- what a look makes of the database in these bytes is one thing
+same_text : (look : Look) {bytes : List ℕ} (d e : DatabaseValue) {x y : Result (List ℕ) NoText} → IsFileText d bytes → IsFileText e bytes
+    → look_text look d ≡ x → look_text look e ≡ y → x ≡ y
+same_text look {bytes} d e x_file y_file x y = sym x ∙ (ap (look_text look) (one_database bytes d e x_file y_file) ∙ y)
 
 database_not_refused : (look : Look) (bytes text : List ℕ) (cause : Cause) → IsDatabaseText look bytes text → IsDatabaseCause look bytes cause → ⊥
 database_not_refused look bytes text (Broken kind place) is refused = file_not_broken is.file refused
 database_not_refused look bytes text (Unfit name) is refused =
-    none_or_some (subst (λ d. look_text_is look d text) (one_database bytes is.database refused.database is.file refused.file) is.is) refused.no_text
-  where
-    look_text_is : Look → DatabaseValue → List ℕ → Type 0
-    look_text_is look d text = look_text look d ≡ Some text
+    let same : Ok text ≡ Err Absent = same_text look is.database refused.database is.file refused.file is.is refused.no_text in cc
+database_not_refused look bytes text (BadItem index place) is refused =
+    let same : Ok text ≡ Err (OutOfForm index place) = same_text look is.database refused.database is.file refused.file is.is refused.no_text in cc
+database_not_refused look bytes text (Misfit fault) is refused = refused
 database_not_refused look bytes text (Untraced line) is refused = refused
 database_not_refused look bytes text (Improper rule) is refused = refused
+
+unfit_not_bad : {look : Look} {bytes name : List ℕ} {index place : ℕ} → IsUnfit look name bytes → HasBadRecord look index place bytes → ⊥
+unfit_not_bad {look} {bytes} {name} {index} {place} x y =
+    let same : Err Absent ≡ Err (OutOfForm index place) = same_text look x.database y.database x.file y.file x.no_text y.no_text in cc
+
+same_bad : {look : Look} {bytes : List ℕ} {index place other at : ℕ} → HasBadRecord look index place bytes → HasBadRecord look other at bytes
+    → BadItem index place ≡ BadItem other at
+same_bad {look} {bytes} {index} {place} {other} {at} x y =
+    let same : Err (OutOfForm index place) ≡ Err (OutOfForm other at) = same_text look x.database y.database x.file y.file x.no_text y.no_text in
+    let one : index ≡ other = cc in let two : place ≡ at = cc in λ k. BadItem (one k) (two k)
 
 one_database_cause : (look : Look) (bytes : List ℕ) (a b : Cause) → IsDatabaseCause look bytes a → IsDatabaseCause look bytes b → a ≡ b
 one_database_cause look bytes (Broken kind place) (Broken found at) x y =
     let same = same_rule x y in λ k. Broken (same.0 k) (same.1 k)
 one_database_cause look bytes (Broken kind place) (Unfit name) x y = absurd (file_not_broken y.file x)
+one_database_cause look bytes (Broken kind place) (BadItem index at) x y = absurd (file_not_broken y.file x)
 one_database_cause look bytes (Unfit name) (Broken kind place) x y = absurd (file_not_broken x.file y)
 one_database_cause look bytes (Unfit name) (Unfit other) x y =
     ap Unfit (sym x.name_is ∙ ap (λ (d : DatabaseValue). d.head.name) (one_database bytes x.database y.database x.file y.file) ∙ y.name_is)
+one_database_cause look bytes (Unfit name) (BadItem index place) x y = absurd (unfit_not_bad x y)
+one_database_cause look bytes (BadItem index place) (Broken kind at) x y = absurd (file_not_broken x.file y)
+one_database_cause look bytes (BadItem index place) (Unfit name) x y = absurd (unfit_not_bad y x)
+one_database_cause look bytes (BadItem index place) (BadItem other at) x y = same_bad x y
+one_database_cause look bytes (Misfit fault) b x y = absurd x
 one_database_cause look bytes (Untraced line) b x y = absurd x
 one_database_cause look bytes (Improper rule) b x y = absurd x
+one_database_cause look bytes a (Misfit fault) x y = absurd y
 one_database_cause look bytes a (Untraced line) x y = absurd y
 one_database_cause look bytes a (Improper rule) x y = absurd y
+
+-- ---- bytes of a text of memos
+
+import_not_refused : (bytes file : List ℕ) (cause : Cause) → IsImported bytes file → IsImportCause bytes cause → ⊥
+import_not_refused bytes file (Misfit fault) is refused = let same : Ok is.database ≡ Err fault = sym is.read ∙ refused in cc
+import_not_refused bytes file cause is refused = refused
+
+one_import_cause : (bytes : List ℕ) (a b : Cause) → IsImportCause bytes a → IsImportCause bytes b → a ≡ b
+one_import_cause bytes (Misfit fault) (Misfit other) x y =
+    let same : Err fault ≡ Err other = sym x ∙ y in let is : fault ≡ other = cc in ap Misfit is
+one_import_cause bytes (Misfit fault) b x y = absurd y
+one_import_cause bytes a b x y = absurd x
 
 -- ---- bytes of a trace
 
@@ -91,6 +126,8 @@ trace_not_refused bytes text (Improper rule) is refused =
     let same : Proper is.requests is.replies ≡ Not rule = same_verdict bytes is.frames refused.frames _ _ is.reading refused.reading is.verdict refused.verdict in cc
 trace_not_refused bytes text (Broken kind place) is refused = refused
 trace_not_refused bytes text (Unfit name) is refused = refused
+trace_not_refused bytes text (BadItem index place) is refused = refused
+trace_not_refused bytes text (Misfit fault) is refused = refused
 
 one_trace_cause : (bytes : List ℕ) (a b : Cause) → IsTraceCause bytes a → IsTraceCause bytes b → a ≡ b
 one_trace_cause bytes (Untraced line) (Untraced other) x y = ap Untraced (same_line bytes line other x y)
@@ -101,8 +138,12 @@ one_trace_cause bytes (Improper rule) (Improper other) x y =
     let is : rule ≡ other = cc in ap Improper is
 one_trace_cause bytes (Broken kind place) b x y = absurd x
 one_trace_cause bytes (Unfit name) b x y = absurd x
+one_trace_cause bytes (BadItem index place) b x y = absurd x
+one_trace_cause bytes (Misfit fault) b x y = absurd x
 one_trace_cause bytes a (Broken kind place) x y = absurd y
 one_trace_cause bytes a (Unfit name) x y = absurd y
+one_trace_cause bytes a (BadItem index place) x y = absurd y
+one_trace_cause bytes a (Misfit fault) x y = absurd y
 
 page_not_refused : (bytes text : List ℕ) (cause : Cause) → IsPageText bytes text → IsReadingCause bytes cause → ⊥
 page_not_refused bytes text (Untraced line) is refused = read_not_bad bytes is.frames line is.reading refused
@@ -120,6 +161,7 @@ text_not_refused : (look : Look) (bytes text : List ℕ) (cause : Cause) → IsT
 text_not_refused Check bytes text cause is refused = database_not_refused Check bytes text cause is refused
 text_not_refused Show bytes text cause is refused = database_not_refused Show bytes text cause is refused
 text_not_refused (Exported export) bytes text cause is refused = database_not_refused (Exported export) bytes text cause is refused
+text_not_refused (Import form) bytes text cause is refused = import_not_refused bytes text cause is refused
 text_not_refused Verify bytes text cause is refused = trace_not_refused bytes text cause is refused
 text_not_refused Picture bytes text cause is refused = page_not_refused bytes text cause is refused
 
@@ -128,6 +170,7 @@ one_cause : (look : Look) (bytes : List ℕ) (a b : Cause) → IsCauseOf look by
 one_cause Check bytes a b x y = one_database_cause Check bytes a b x y
 one_cause Show bytes a b x y = one_database_cause Show bytes a b x y
 one_cause (Exported export) bytes a b x y = one_database_cause (Exported export) bytes a b x y
+one_cause (Import form) bytes a b x y = one_import_cause bytes a b x y
 one_cause Verify bytes a b x y = one_trace_cause bytes a b x y
 one_cause Picture bytes a b x y = one_reading_cause bytes a b x y
 
@@ -215,6 +258,16 @@ pub verdict_refuses : (bytes : List ℕ) (frames : List FrameValue) (verdict : V
 verdict_refuses bytes frames verdict rule read is e =
     inl (rule, record { frames = frames; reading = read; verdict = subst (λ v. IsVerdict frames v) e is }, refl)
 
+-- what is refused as a text of memos is refused by the look that takes it as one
+import_refuses : (form : ImportForm) (file bytes : List ℕ) (status : Status) → RefusesImport bytes status → Refuses (Import form) file bytes status
+import_refuses form file bytes status (inl is) = inl (Misfit is.0, is.1, is.2)
+import_refuses form file bytes status (inr is) = inr is
+
+pub import_result : {T : Type 0} (result : Result T Status) (look : Look) (form : ImportForm) (file bytes : List ℕ) → look ≡ Import form
+    → IfErr result (RefusesImport bytes) → IfErr result (Refuses look file bytes)
+import_result (Ok text) look form file bytes is refuses = tt
+import_result (Err status) look form file bytes is refuses = subst (λ l. Refuses l file bytes status) (sym is) (import_refuses form file bytes status refuses)
+
 -- what is refused as a trace is refused by the look that takes it as one
 reading_refuses : (file bytes : List ℕ) (status : Status) → RefusesReading bytes status → Refuses Picture file bytes status
 reading_refuses file bytes status (inl is) = inl (Untraced is.0, is.1, subst (λ s. Says Picture file (Untraced is.0) s) (sym is.2) refl)
@@ -240,6 +293,8 @@ no_text_refuses : (look : Look) (file bytes : List ℕ) (database : DatabaseValu
     → NoTextSays look database status → RefusesDatabase look file bytes status
 no_text_refuses look file bytes database (CannotExport name form) is says =
     inl (Unfit name, record { database = database; file = is; name_is = says.1; no_text = says.2 }, (says.0, refl))
+no_text_refuses look file bytes database (BadRecord index place) is says =
+    inl (BadItem index place, record { database = database; file = is; no_text = says }, (refl, refl))
 no_text_refuses look file bytes database NoMemory is says = inr refl
 no_text_refuses look file bytes database status is says = absurd says
 

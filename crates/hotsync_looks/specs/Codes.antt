@@ -3,7 +3,7 @@ use Rattle.std.specs.Prelude.{ℕ}
 use Rattle.hotsync_looks.specs.declared.status.Status.{Status}
 use Rattle.hotsync_looks.specs.declared.status.Status.TheVariants.{Done, Usage, BadScript, TooLong, BadFile, TooMany, HandheldFolder, DesktopFolder, SourceRead}
 use Rattle.hotsync_looks.specs.declared.status.Status.TheVariants.{TraceWrite, OutWrite, NoMemory, LineDown, Unplugged, Aborted, Undetected, OtherUser}
-use Rattle.hotsync_looks.specs.declared.status.Status.TheVariants.{TooManyUsers, Limit, NewHandheld, WrongSide, InUse, CannotExport, BadTrace, NotProper}
+use Rattle.hotsync_looks.specs.declared.status.Status.TheVariants.{TooManyUsers, Limit, NewHandheld, WrongSide, InUse, CannotExport, BadRecord, BadText, Overfull, BadTrace, NotProper}
 
 -- the exit status for each status of a call
 abbrev pub code_of : Status → ℕ
@@ -13,6 +13,9 @@ code_of (BadScript _) = 3
 code_of TooLong = 3
 code_of (BadFile _ _ _ _) = 3
 code_of (CannotExport _ _) = 3
+code_of (BadRecord _ _) = 3
+code_of (BadText _) = 3
+code_of (Overfull _) = 3
 code_of (BadTrace _) = 3
 code_of (NotProper _) = 1
 code_of (TooMany _) = 3

@@ -1,5 +1,6 @@
 pub mod BadFiles
 pub mod Codes
+pub mod ExportTexts
 pub mod FolderFaults
 pub mod Lines
 pub mod LookTexts

@@ -9,14 +9,16 @@ use Rattle.pdb_values.specs.Stems.{stem_of}
 use Rattle.pdb_files.specs.BadKinds.{word_of}
 use Rattle.pdb_files.specs.declared.bad_kind.BadKind.{BadKind}
 use Rattle.run_words.specs.declared.look.ExportForm.{ExportForm}
-use Rattle.run_words.specs.declared.look.ExportForm.TheVariants.{Text}
+use Rattle.run_words.specs.declared.look.ExportForm.TheVariants.{Text, Cards, Calendar}
 use Rattle.hotsync_looks.specs.PrintedNames.{printed_name}
 use Rattle.hotsync_looks.specs.declared.status.FileSide.{FileSide}
 use Rattle.hotsync_looks.specs.declared.status.FileSide.TheVariants.{Handheld, Desktop, Source}
+use Rattle.hotsync_looks.specs.declared.status.Surplus.{Surplus}
+use Rattle.hotsync_looks.specs.declared.status.Surplus.TheVariants as surplus
 use Rattle.hotsync_looks.specs.declared.status.Status.{Status}
 use Rattle.hotsync_looks.specs.declared.status.Status.TheVariants.{Done, Usage, BadScript, TooLong, BadFile, TooMany, HandheldFolder, DesktopFolder, SourceRead}
 use Rattle.hotsync_looks.specs.declared.status.Status.TheVariants.{TraceWrite, OutWrite, NoMemory, LineDown, Unplugged, Aborted, Undetected, OtherUser}
-use Rattle.hotsync_looks.specs.declared.status.Status.TheVariants.{TooManyUsers, Limit, NewHandheld, WrongSide, InUse, CannotExport, BadTrace, NotProper}
+use Rattle.hotsync_looks.specs.declared.status.Status.TheVariants.{TooManyUsers, Limit, NewHandheld, WrongSide, InUse, CannotExport, BadRecord, BadText, Overfull, BadTrace, NotProper}
 use Rattle.session_parts.specs.declared.report.Counts.{Counts}
 use Rattle.session_parts.specs.declared.report.DbReport.{DbReport}
 use Rattle.session_parts.specs.declared.report.Did.{Did}
@@ -82,10 +84,21 @@ users_line handheld desktop = codes "other user " ++ user_text handheld ++ codes
 -- the word of a form
 abbrev pub form_word : ExportForm → List ℕ
 form_word Text = codes "txt"
+form_word Cards = codes "vcf"
+form_word (Calendar made) = codes "ics"
 
 -- `cannot export STEM as FORM`
 unfoldable pub export_line : List ℕ → ExportForm → List ℕ
 export_line name form = codes "cannot export " ++ stem_of name ++ codes " as " ++ form_word form ++ line_feed
+
+-- `bad record K PLACE`
+unfoldable pub record_line : ℕ → ℕ → List ℕ
+record_line index place = codes "bad record " ++ (decimal index ++ (codes " " ++ (decimal place ++ line_feed)))
+
+-- what a text has too many of
+abbrev pub surplus_word : Surplus → List ℕ
+surplus_word surplus.Categories = codes "categories"
+surplus_word surplus.Records = codes "records"
 
 -- the letter of a rule
 abbrev pub rule_word : Rule → List ℕ
@@ -105,6 +118,9 @@ refusal_line (BadScript line) = number_line (codes "bad script line ") line
 refusal_line TooLong = codes "source too long" ++ line_feed
 refusal_line (BadFile side name kind place) = bad_file_line side (string_bytes {Z = Global} name) kind place
 refusal_line (CannotExport name form) = export_line name form
+refusal_line (BadRecord index place) = record_line index place
+refusal_line (BadText line) = number_line (codes "bad text line ") line
+refusal_line (Overfull what) = word_line (codes "too many ") (surplus_word what)
 refusal_line (BadTrace line) = number_line (codes "bad trace line ") line
 refusal_line (NotProper rule) = word_line (codes "not proper ") (rule_word rule)
 refusal_line (TooMany end) = word_line (codes "too many databases ") (end_word end)

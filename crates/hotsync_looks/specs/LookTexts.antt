@@ -1,16 +1,17 @@
 -- What a look makes of the bytes of a file: a text, or a refusal.
-use Rattle.std.specs.Prelude.{◌≡◌, ◌⊎◌, ⊤, ℕ, List, ◌++◌, codes, Option, Some, None, Ok, if◌then◌else◌, string_bytes}
+use Rattle.std.specs.Prelude.{◌≡◌, ◌⊎◌, ⊤, ℕ, List, ◌++◌, codes, Result, Ok, Err, string_bytes}
 use Rattle.std.specs.Fmt.{decimal}
 use Rattle.std.specs.declared.alloc.Global.{Global}
 use Rattle.pdb_values.specs.Databases.{DatabaseValue}
-use Rattle.pdb_files.specs.Files.{IsFileText}
 use Rattle.pdb_files.specs.declared.bad_kind.BadKind.{BadKind}
 use Rattle.file_text.specs.Counts.{check_text}
 use Rattle.file_text.specs.Listings.{show_text}
-use Rattle.record_export.specs.Exports.{exported_memos, holds_memos}
-use Rattle.record_export.specs.Memos.{memos_text}
-use Rattle.record_export.specs.declared.export.Privacy.{Privacy}
-use Rattle.record_export.specs.declared.export.Privacy.TheVariants.{All, WithoutPrivate}
+use Rattle.pdb_files.specs.Files.{IsFileText, canonical}
+use Rattle.export_choice.specs.declared.fault.ExportFault.{ExportFault}
+use Rattle.export_choice.specs.declared.fault.ExportFault.TheVariants as export
+use Rattle.memo_import.specs.Databases.{import_in}
+use Rattle.memo_import.specs.declared.fault.ImportFault.{ImportFault}
+use Rattle.memo_import.specs.declared.fault.ImportFault.TheVariants as imports
 use Rattle.trace_text.specs.TraceLines.{FrameValue}
 use Rattle.trace_check.specs.Judging.{IsVerdict}
 use Rattle.trace_check.specs.Readings.{IsBadLine, IsTraceReading}
@@ -18,15 +19,15 @@ use Rattle.trace_page.specs.Pages.{page_text}
 use Rattle.trace_check.specs.declared.rule.Rule.{Rule}
 use Rattle.trace_check.specs.declared.rule.Verdict.TheVariants.{Proper, Not}
 use Rattle.run_words.specs.declared.look.Look.{Look}
-use Rattle.run_words.specs.declared.look.Look.TheVariants.{Check, Show, Export as Exported, Verify, Picture}
-use Rattle.run_words.specs.declared.look.Export.{Export}
+use Rattle.run_words.specs.declared.look.Look.TheVariants.{Check, Show, Export as Exported, Import, Verify, Picture}
 use Rattle.run_words.specs.declared.look.ExportForm.{ExportForm}
-use Rattle.run_words.specs.declared.look.ExportForm.TheVariants.{Text}
 use Rattle.hotsync_looks.specs.BadFiles.{BreaksRule}
+use Rattle.hotsync_looks.specs.ExportTexts.{NoText, Absent, OutOfForm, form_export}
 use Rattle.hotsync_looks.specs.Lines.{line_feed}
 use Rattle.hotsync_looks.specs.declared.status.FileSide.TheVariants.{Source}
 use Rattle.hotsync_looks.specs.declared.status.Status.{Status}
-use Rattle.hotsync_looks.specs.declared.status.Status.TheVariants.{BadFile, BadTrace, CannotExport, NoMemory, NotProper}
+use Rattle.hotsync_looks.specs.declared.status.Status.TheVariants.{BadFile, BadRecord, BadText, BadTrace, CannotExport, NoMemory, NotProper, Overfull}
+use Rattle.hotsync_looks.specs.declared.status.Surplus.TheVariants.{Categories, Records}
 
 -- the most bytes that a source may have
 abbrev pub source_limit : ℕ
@@ -34,25 +35,16 @@ source_limit = 67108864
 
 -- ---- a database
 
--- which records are exported
-abbrev pub privacy_of : Export → Privacy
-privacy_of export = if export.without_private then WithoutPrivate else All
-
--- the text of a database in a form, where it holds something that has it
-abbrev pub export_text : Export → ExportForm → DatabaseValue → Option (List ℕ)
-export_text export Text database =
-    if holds_memos database.head then Some (memos_text (exported_memos (privacy_of export) database)) else None
-
--- what a look prints of a database, where it prints something of one
-abbrev pub look_text : Look → DatabaseValue → Option (List ℕ)
-look_text Check database = Some (check_text database)
-look_text Show database = Some (show_text database)
-look_text (Exported export) database = export_text export export.form database
-look_text Verify database = None
-look_text Picture database = None
+-- what a look prints of a database, or why it prints nothing
+abbrev pub look_text : Look → DatabaseValue → Result (List ℕ) NoText
+look_text Check database = Ok (check_text database)
+look_text Show database = Ok (show_text database)
+look_text (Exported export) database = form_export export export.form database
+look_text _ database = Err Absent
 
 -- a look at a database
 abbrev pub IsDatabaseLook : Look → Type 0
+IsDatabaseLook (Import _) = ⊥
 IsDatabaseLook Verify = ⊥
 IsDatabaseLook Picture = ⊥
 IsDatabaseLook _ = ⊤
@@ -66,20 +58,42 @@ HasForm form _ = ⊥
 pub record IsDatabaseText (look : Look) (bytes text : List ℕ) : Type 0 where
   pub database : DatabaseValue
   pub file : IsFileText database bytes
-  pub is : look_text look database ≡ Some text
+  pub is : look_text look database ≡ Ok text
 
--- the bytes are the file of a database of this name, of which the look prints nothing
+-- the bytes are the file of a database of this name, which holds nothing that the look prints
 pub record IsUnfit (look : Look) (name bytes : List ℕ) : Type 0 where
   pub database : DatabaseValue
   pub file : IsFileText database bytes
   pub name_is : database.head.name ≡ name
-  pub no_text : look_text look database ≡ None
+  pub no_text : look_text look database ≡ Err Absent
+
+-- the bytes are the file of a database whose first record that is out of its form is this one, at this place in it
+pub record HasBadRecord (look : Look) (index place : ℕ) (bytes : List ℕ) : Type 0 where
+  pub database : DatabaseValue
+  pub file : IsFileText database bytes
+  pub no_text : look_text look database ≡ Err (OutOfForm index place)
 
 -- what a status says of a database of which a look prints nothing
 abbrev pub NoTextSays : Look → DatabaseValue → Status → Type 0
-NoTextSays look database (CannotExport name form) = HasForm form look × (database.head.name ≡ name) × (look_text look database ≡ None)
+NoTextSays look database (CannotExport name form) =
+    HasForm form look × (database.head.name ≡ name) × (look_text look database ≡ Err Absent)
+NoTextSays look database (BadRecord index place) = look_text look database ≡ Err (OutOfForm index place)
 NoTextSays look database NoMemory = ⊤
 NoTextSays look database _ = ⊥
+
+-- what it makes of a call that there is no text of the database of this name
+abbrev pub export_status : List ℕ → ExportForm → ExportFault → Status
+export_status name form export.CannotExport = CannotExport name form
+export_status name form (export.BadRecord index place) = BadRecord index place
+export_status name form export.NoMemory = NoMemory
+
+-- ---- a text of memos
+
+-- the bytes are the text of the memos of a database, whose file this is
+pub record IsImported (bytes file : List ℕ) : Type 0 where
+  pub database : DatabaseValue
+  pub read : import_in bytes ≡ Ok database
+  pub is : file ≡ canonical database
 
 -- ---- a trace
 
@@ -115,14 +129,18 @@ abbrev pub IsTextOf : Look → List ℕ → List ℕ → Type 0
 IsTextOf Check bytes text = IsDatabaseText Check bytes text
 IsTextOf Show bytes text = IsDatabaseText Show bytes text
 IsTextOf (Exported export) bytes text = IsDatabaseText (Exported export) bytes text
+IsTextOf (Import form) bytes text = IsImported bytes text
 IsTextOf Verify bytes text = IsProperText bytes text
 IsTextOf Picture bytes text = IsPageText bytes text
 
--- why a look prints nothing of the bytes of a file: they break a rule of the format of a database, are a database that has no such text, have a
--- line that is none of a trace, or are a trace that breaks a rule
+-- why a look prints nothing of the bytes of a file: they break a rule of the format of a database, are a database that holds nothing of
+-- the kind, or one with a record that is out of its form, are no text of memos, have a line that is none of a trace, or are a trace that
+-- breaks a rule
 pub data Cause : Type 0 where
   Broken : BadKind → ℕ → Cause
   Unfit : List ℕ → Cause
+  BadItem : ℕ → ℕ → Cause
+  Misfit : ImportFault → Cause
   Untraced : ℕ → Cause
   Improper : Rule → Cause
 
@@ -130,7 +148,13 @@ pub data Cause : Type 0 where
 abbrev pub IsDatabaseCause : Look → List ℕ → Cause → Type 0
 IsDatabaseCause look bytes (Broken kind place) = BreaksRule bytes kind place
 IsDatabaseCause look bytes (Unfit name) = IsUnfit look name bytes
+IsDatabaseCause look bytes (BadItem index place) = HasBadRecord look index place bytes
 IsDatabaseCause look bytes _ = ⊥
+
+-- bytes that are read as a text of memos
+abbrev pub IsImportCause : List ℕ → Cause → Type 0
+IsImportCause bytes (Misfit fault) = import_in bytes ≡ Err fault
+IsImportCause bytes _ = ⊥
 
 -- bytes that are read as a trace
 abbrev pub IsReadingCause : List ℕ → Cause → Type 0
@@ -147,14 +171,24 @@ abbrev pub IsCauseOf : Look → List ℕ → Cause → Type 0
 IsCauseOf Check bytes cause = IsDatabaseCause Check bytes cause
 IsCauseOf Show bytes cause = IsDatabaseCause Show bytes cause
 IsCauseOf (Exported export) bytes cause = IsDatabaseCause (Exported export) bytes cause
+IsCauseOf (Import form) bytes cause = IsImportCause bytes cause
 IsCauseOf Verify bytes cause = IsTraceCause bytes cause
 IsCauseOf Picture bytes cause = IsReadingCause bytes cause
+
+-- a status that says why a text of memos makes no database
+abbrev pub SaysMisfit : ImportFault → Status → Type 0
+SaysMisfit (imports.BadText line) (BadText found) = found ≡ line
+SaysMisfit imports.TooManyCategories (Overfull what) = what ≡ Categories
+SaysMisfit imports.TooManyRecords (Overfull what) = what ≡ Records
+SaysMisfit _ _ = ⊥
 
 -- a status that says so, where the file bears this name
 abbrev pub Says : Look → List ℕ → Cause → Status → Type 0
 Says look file (Broken kind place) (BadFile side name found at) =
     (side ≡ Source) × (string_bytes {Z = Global} name ≡ file) × (found ≡ kind) × (at ≡ place)
 Says look file (Unfit name) (CannotExport found form) = HasForm form look × (found ≡ name)
+Says look file (BadItem index place) (BadRecord found at) = (found ≡ index) × (at ≡ place)
+Says look file (Misfit fault) status = SaysMisfit fault status
 Says look file (Untraced line) (BadTrace found) = found ≡ line
 Says look file (Improper rule) (NotProper found) = found ≡ rule
 Says look file _ _ = ⊥
@@ -166,6 +200,10 @@ Refuses look file bytes status = ((cause : Cause) × IsCauseOf look bytes cause 
 -- the same where the bytes are looked at as a database
 abbrev pub RefusesDatabase : Look → List ℕ → List ℕ → Status → Type 0
 RefusesDatabase look file bytes status = ((cause : Cause) × IsDatabaseCause look bytes cause × Says look file cause status) ⊎ (status ≡ NoMemory)
+
+-- the same where they are read as a text of memos
+abbrev pub RefusesImport : List ℕ → Status → Type 0
+RefusesImport bytes status = ((fault : ImportFault) × (import_in bytes ≡ Err fault) × SaysMisfit fault status) ⊎ (status ≡ NoMemory)
 
 -- the same where they are read as a trace
 abbrev pub RefusesReading : List ℕ → Status → Type 0

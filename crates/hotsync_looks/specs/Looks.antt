@@ -7,7 +7,7 @@ use Rattle.hotsync_looks.specs.Opening.{Opens, OpensAtMost}
 use Rattle.hotsync_looks.specs.Printed.{IsPrinted}
 use Rattle.hotsync_looks.specs.Told.{SinkTold, SourceTold}
 use Rattle.hotsync_looks.specs.declared.status.Status.{Status}
-use Rattle.hotsync_looks.specs.declared.status.Status.TheVariants.{Done, BadFile, BadTrace, CannotExport, NotProper, SourceRead, TooLong, OutWrite, NoMemory}
+use Rattle.hotsync_looks.specs.declared.status.Status.TheVariants.{Done, BadFile, BadRecord, BadText, BadTrace, CannotExport, NotProper, Overfull, SourceRead, TooLong, OutWrite, NoMemory}
 
 -- the text of a look at these bytes, which the source holds where it tells what it holds
 pub record IsTextIn (look : Look) (left : Option (List ℕ)) (text : List ℕ) : Type 0 where
@@ -42,6 +42,9 @@ SourceShows look file status bytes = IsRefused look file status bytes
 abbrev pub IsLookRefusal : Status → Type 0
 IsLookRefusal (BadFile _ _ _ _) = ⊤
 IsLookRefusal (CannotExport _ _) = ⊤
+IsLookRefusal (BadRecord _ _) = ⊤
+IsLookRefusal (BadText _) = ⊤
+IsLookRefusal (Overfull _) = ⊤
 IsLookRefusal (BadTrace _) = ⊤
 IsLookRefusal (NotProper _) = ⊤
 IsLookRefusal SourceRead = ⊤

@@ -6,6 +6,8 @@
 #![tactic(auto)]
 
 mod bad_file;
+mod exported;
+mod imported;
 mod look;
 mod packets;
 mod printed_name;
@@ -19,4 +21,4 @@ pub use packets::print_packets;
 pub use printed_name::push_name;
 pub use printing::{print_no_memory, print_refusal, print_status, print_text};
 pub use source::read_source;
-pub use status::{FileSide, Status};
+pub use status::{FileSide, Status, Surplus};

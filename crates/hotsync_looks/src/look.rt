@@ -1,22 +1,25 @@
 // A look at a file: at the database in it, or at the trace.
-ghost use Rattle.std.specs.Prelude.{◌≡◌, ◌≤◌, IfErr, IfOk, IfSome, IsErrOf, OnOk, Some, length, string_bytes};
+ghost use Rattle.std.specs.Prelude.{◌≡◌, ◌≤◌, IfErr, IfOk, IfSome, IsErrOf, Ok as OkValue, OnOk, length, string_bytes};
 ghost use Rattle.hs_folders.specs.Causes.{Rose};
 ghost use Rattle.hotsync_looks.specs.LookTexts as texts;
-ghost use Rattle.hotsync_looks.specs.LookTexts.{IsDatabaseLook, IsDatabaseText, IsTextOf, Refuses, RefusesDatabase, export_text, look_text as text_of_look, source_limit};
+ghost use Rattle.hotsync_looks.specs.LookTexts.{IsDatabaseLook, IsDatabaseText, IsTextOf, Refuses, RefusesDatabase, look_text as text_of_look, source_limit};
+ghost use Rattle.hotsync_looks.specs.ExportTexts.{form_export};
 ghost use Rattle.hotsync_looks.specs.Looks.{IsLook, IsLookRefusal, IsTextIn, SourceShows};
 ghost use Rattle.hotsync_looks.specs.Opening.{Opens, OpensAtMost};
 
 use crate::bad_file::fault_status;
+use crate::exported::exported_text;
+use crate::imported::imported_file;
 use crate::printing::{print_refusal, print_text};
 use crate::source::read_source;
 use crate::status::{FileSide, Status};
 use crate::traced::{picture_text, verdict_text};
+use export_choice::ExportFault;
 use file_text::{check_text, show_text};
 use hs_folders::{Sink, Source};
 use pdb_files::read_database;
-use pdb_values::Database;
-use record_export::{ExportFault, Privacy, memos_text};
-use run_words::{Export, Look, LookWords};
+use pdb_values::{Database, DbName};
+use run_words::{Export, ExportForm, ImportForm, Look, LookWords};
 use std::alloc::Global;
 
 /// Reads a file, and prints what the look wants of it.
@@ -42,7 +45,7 @@ pub fn look_at<S: Source, O: Sink>(
         result }
 {
     match look_into(alloc, words.look, words.file, source) {
-        Ok(text) => print_text(text.as_str(), out),
+        Ok(text) => print_text(&text, out),
         Err(refusal) => print_refusal(alloc, refusal, out),
     }
 }
@@ -54,8 +57,8 @@ fn look_into<S: Source>(
     look: Look,
     file: &str,
     source: &mut S,
-) -> Result<String, Status>
-    ensures text { IfOk result (λ text. IsTextIn look (S.left source.old) (string_bytes text)) }
+) -> Result<Vec<u8>, Status>
+    ensures text { IfOk result (λ text. IsTextIn look (S.left source.old) text.items) }
     ensures shown { IfErr result (λ refusal. IfSome (S.left source.old)
         (SourceShows look file.now refusal)) }
     ensures failed { IsErrOf result Status.SourceRead → Rose (S.faults source.old)
@@ -71,16 +74,19 @@ fn look_into<S: Source>(
     Ok(text)
 }
 
-// The text of the bytes of a file.
-fn bytes_text(alloc: Global, look: Look, file: &str, bytes: &[u8]) -> Result<String, Status>
+// What the look prints of the bytes of a file.
+fn bytes_text(alloc: Global, look: Look, file: &str, bytes: &[u8]) -> Result<Vec<u8>, Status>
     requires { length bytes.now ≤ source_limit }
-    ensures text { IfOk result (λ text. IsTextOf look bytes.now (string_bytes text)) }
+    ensures text { IfOk result (λ text. IsTextOf look bytes.now text.items) }
     ensures refused { IfErr result (λ refusal. Refuses look file.now bytes.now refusal) }
 {
     match look {
-        Look::Verify => verdict_text(alloc, bytes),
-        Look::Picture => picture_text(alloc, bytes),
-        Look::Check | Look::Show | Look::Export(_) => read_text(alloc, look, file, bytes),
+        Look::Verify => Ok(verdict_text(alloc, bytes)?.into_bytes()),
+        Look::Picture => Ok(picture_text(alloc, bytes)?.into_bytes()),
+        Look::Import(ImportForm::Text) => imported_file(alloc, bytes),
+        Look::Check | Look::Show | Look::Export(_) => {
+            Ok(read_text(alloc, look, file, bytes)?.into_bytes())
+        }
     }
 }
 
@@ -103,42 +109,44 @@ fn read_text(alloc: Global, look: Look, file: &str, bytes: &[u8]) -> Result<Stri
 fn database_text(alloc: Global, look: Look, database: &Database) -> Result<String, Status>
     requires { IsDatabaseLook look }
     ensures text { IfOk result (λ text. text_of_look look database.now
-        ≡ Some (string_bytes text)) }
+        ≡ OkValue (string_bytes text)) }
     ensures refused { IfErr result (λ refusal. texts.NoTextSays look database.now refusal) }
 {
     let text = match look {
         Look::Check => check_text(alloc, database)?,
         Look::Show => show_text(alloc, database)?,
-        Look::Export(export) => exported_text(alloc, export, database)?,
-        Look::Verify | Look::Picture => unreachable!(),
+        Look::Export(export) => form_text(alloc, export, database)?,
+        Look::Import(_) | Look::Verify | Look::Picture => unreachable!(),
     };
     Ok(text)
 }
 
 // The text of a database in the form that is wanted.
-fn exported_text(alloc: Global, export: Export, database: &Database) -> Result<String, Status>
-    ensures text { IfOk result (λ text. export_text export export.form database.now
-        ≡ Some (string_bytes text)) }
+fn form_text(alloc: Global, export: Export, database: &Database) -> Result<String, Status>
+    ensures text { IfOk result (λ text. form_export export export.form database.now
+        ≡ OkValue (string_bytes text)) }
     ensures refused { IfErr result (λ refusal.
         texts.NoTextSays (Look.Export export) database.now refusal) }
 {
-    match memos_text(alloc, database, privacy_of(export)) {
+    match exported_text(alloc, export, database) {
         Ok(text) => Ok(text),
-        Err(ExportFault::CannotExport) => Err(Status::CannotExport {
-            name: database.head().name.copy(),
-            form: export.form,
-        }),
-        Err(ExportFault::NoMemory) => Err(Status::NoMemory),
+        Err(fault) => Err(export_status(&database.head().name, export.form, fault)),
     }
 }
 
-// Which records are exported.
-fn privacy_of(export: Export) -> Privacy
-    ensures { result ≡ texts.privacy_of export }
+// What it makes of the call that there is no text of the database of this name.
+fn export_status(name: &DbName, form: ExportForm, fault: ExportFault) -> Status
+    ensures { result ≡ texts.export_status name.now form fault }
 {
-    if export.without_private {
-        Privacy::WithoutPrivate
-    } else {
-        Privacy::All
+    match fault {
+        ExportFault::CannotExport => Status::CannotExport {
+            name: name.copy(),
+            form,
+        },
+        ExportFault::BadRecord { index, place } => Status::BadRecord {
+            index: index as u64,
+            place: place as u64,
+        },
+        ExportFault::NoMemory => Status::NoMemory,
     }
 }

@@ -19,7 +19,7 @@ pub fn print_packets<O: Sink>(alloc: Global, hex: &str, out: &mut O) -> Status
         result }
 {
     match packets_text(alloc, hex) {
-        Ok(text) => print_text(text.as_str(), out),
+        Ok(text) => print_text(text.as_bytes(), out),
         Err(AllocError) => print_no_memory(out),
     }
 }

@@ -1,11 +1,11 @@
 // The lines that a call prints, and the status that stands once they are printed.
 ghost use Rattle.std.specs.Prelude.{◌≡◌, ◌≢◌, ◌⊎◌, ◌≤◌, ◌++◌, IfOk, OnOk, string_bytes};
-ghost use Rattle.hotsync_looks.specs.Lines.{bad_file_line as line_of_bad_file, count_text, counts_text as text_of_counts, database_line as line_of_database, did_text as text_of_did, done_lines as lines_of_done, end_word as word_of_end, export_line as line_of_export, form_word as word_of_form, folder_word as word_of_folder, mode_word as word_of_mode, no_memory_line, number_line as line_of_number, refusal_line as line_of_refusal, rule_word as word_of_rule, skip_word, users_line as line_of_users, word_line as line_of_word};
+ghost use Rattle.hotsync_looks.specs.Lines.{bad_file_line as line_of_bad_file, count_text, counts_text as text_of_counts, database_line as line_of_database, did_text as text_of_did, done_lines as lines_of_done, end_word as word_of_end, export_line as line_of_export, form_word as word_of_form, folder_word as word_of_folder, mode_word as word_of_mode, no_memory_line, number_line as line_of_number, record_line as line_of_record, refusal_line as line_of_refusal, rule_word as word_of_rule, skip_word, surplus_word as word_of_surplus, users_line as line_of_users, word_line as line_of_word};
 ghost use Rattle.hotsync_looks.specs.Printed.{IsPrinted, IsPrintedStatus, IsRefusal};
 ghost use Rattle.hs_folders.specs.Appends.{AppendsPrefix};
 
 use crate::printed_name::push_name;
-use crate::status::{FileSide, Status};
+use crate::status::{FileSide, Status, Surplus};
 use hs_folders::{Sink, SinkFault};
 use pdb_files::BadKind;
 use pdb_values::DbName;
@@ -55,14 +55,14 @@ fn print_done<O: Sink>(alloc: Global, databases: &[DbReport], out: &mut O) -> St
     ensures count { O.faults out.old ≤ O.faults out.new }
 {
     match done_lines(alloc, databases) {
-        Ok(lines) => print_text(lines.as_str(), out),
+        Ok(lines) => print_text(lines.as_bytes(), out),
         Err(AllocError) => print_no_memory(out),
     }
 }
 
 /// Prints the text of what was done. A failing sink makes the status `OutWrite`.
 #[tactic(auto, using(crate::proofs::PrintedLaws::memory_printed))]
-pub fn print_text<O: Sink>(text: &str, out: &mut O) -> Status
+pub fn print_text<O: Sink>(text: &[u8], out: &mut O) -> Status
     ensures status { (result ≡ Status.Done) ⊎ (result ≡ Status.OutWrite) ⊎
         (result ≡ Status.NoMemory) }
     ensures printed { IsPrinted (λ printed. printed ≡ text.now)
@@ -71,7 +71,7 @@ pub fn print_text<O: Sink>(text: &str, out: &mut O) -> Status
         result }
     ensures count { O.faults out.old ≤ O.faults out.new }
 {
-    match out.write_all(text.as_bytes()) {
+    match out.write_all(text) {
         Ok(()) => Status::Done,
         Err(SinkFault::Failed) => Status::OutWrite,
         Err(SinkFault::NoMemory) => print_no_memory(out),
@@ -235,6 +235,9 @@ fn refusal_line(alloc: Global, refusal: &Status) -> Result<String, AllocError>
             place,
         } => bad_file_line(alloc, *side, name.as_str(), *kind, *place),
         Status::CannotExport { name, form } => export_line(alloc, name, *form),
+        Status::BadRecord { index, place } => record_line(alloc, *index, *place),
+        Status::BadText(line) => number_line(alloc, "bad text line ", *line),
+        Status::Overfull(what) => word_line(alloc, "too many ", surplus_word(*what)),
         Status::BadTrace(line) => number_line(alloc, "bad trace line ", u64::from(*line)),
         Status::NotProper(rule) => word_line(alloc, "not proper ", rule_word(*rule)),
         Status::TooMany(end) => word_line(alloc, "too many databases ", end_word(*end)),
@@ -334,7 +337,29 @@ fn form_word(form: ExportForm) -> &'static str
 {
     match form {
         ExportForm::Text => "txt",
+        ExportForm::Cards => "vcf",
+        ExportForm::Calendar(_) => "ics",
     }
+}
+
+// The word of what a text has too many of.
+fn surplus_word(what: Surplus) -> &'static str
+    ensures { result.now ≡ word_of_surplus what }
+{
+    match what {
+        Surplus::Categories => "categories",
+        Surplus::Records => "records",
+    }
+}
+
+// The line of a record that is out of its form.
+#[tactic(auto, unfolding(crate::specs::Lines::record_line))]
+fn record_line(alloc: Global, index: u64, place: u64) -> Result<String, AllocError>
+    ensures { IfOk result (λ line. string_bytes line ≡ line_of_record index place) }
+{
+    let mut line = String::from_str(alloc, "bad record ")?;
+    write!(line, "{index} {place}\n")?;
+    Ok(line)
 }
 
 // The line of a database that has no such form.

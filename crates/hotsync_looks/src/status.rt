@@ -20,6 +20,13 @@ pub enum FileSide {
     Source,
 }
 
+/// What a text has too many of.
+#[derive(Clone, Copy, PartialEq, Eq)]
+pub enum Surplus {
+    Categories,
+    Records,
+}
+
 /// How a call of the program ended.
 #[derive(Drop)]
 pub enum Status {
@@ -44,6 +51,15 @@ pub enum Status {
         name: DbName,
         form: ExportForm,
     },
+    /// The source's record of this number, from 0 on, is out of its form at this place in it.
+    BadRecord {
+        index: u64,
+        place: u64,
+    },
+    /// The first line of the source, from 1 on, that is none of a text of memos.
+    BadText(u64),
+    /// The source has more of these than a database holds.
+    Overfull(Surplus),
     /// The first line of the source, from 1 on, that is none of a trace.
     BadTrace(u32),
     /// The trace breaks this rule, and keeps those before it.
@@ -163,6 +179,9 @@ impl Status {
             | Status::TooLong
             | Status::BadFile { .. }
             | Status::CannotExport { .. }
+            | Status::BadRecord { .. }
+            | Status::BadText(_)
+            | Status::Overfull(_)
             | Status::BadTrace(_)
             | Status::TooMany(_) => 3,
             Status::HandheldFolder

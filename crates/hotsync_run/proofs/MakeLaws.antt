@@ -38,7 +38,7 @@ use Rattle.hotsync_run.specs.declared.report.Report.{Report}
 use Rattle.hotsync_looks.specs.declared.status.Status.{Status}
 use Rattle.hotsync_looks.specs.declared.status.Status.TheVariants.{Done, Usage, BadScript, TooLong, BadFile, TooMany, HandheldFolder, DesktopFolder, SourceRead}
 use Rattle.hotsync_looks.specs.declared.status.Status.TheVariants.{TraceWrite, OutWrite, NoMemory, LineDown, Unplugged, Aborted, Undetected, OtherUser}
-use Rattle.hotsync_looks.specs.declared.status.Status.TheVariants.{TooManyUsers, Limit, NewHandheld, WrongSide, InUse, CannotExport, BadTrace, NotProper}
+use Rattle.hotsync_looks.specs.declared.status.Status.TheVariants.{TooManyUsers, Limit, NewHandheld, WrongSide, InUse, CannotExport, BadRecord, BadText, Overfull, BadTrace, NotProper}
 use Rattle.hotsync_run.proofs.MadeItems.{drawn_short}
 use Rattle.hotsync_run.proofs.MadeLimits.{none_lost, none_over}
 use Rattle.hotsync_run.proofs.MadeReports.{AsksNothing, made_device, made_meeting, made_meets, made_slot, reports_are}
@@ -143,6 +143,9 @@ module _ {items : List Item} (after : SidesTold) (report : Report) (are : AreIte
   by_status (InUse end) asks ends unsaid up caused numbered shows palm desk = absurd ends
   by_status SourceRead asks ends unsaid up caused numbered shows palm desk = absurd ends
   by_status (CannotExport name form) asks ends unsaid up caused numbered shows palm desk = absurd ends
+  by_status (BadRecord index place) asks ends unsaid up caused numbered shows palm desk = absurd ends
+  by_status (BadText line) asks ends unsaid up caused numbered shows palm desk = absurd ends
+  by_status (Overfull what) asks ends unsaid up caused numbered shows palm desk = absurd ends
   by_status (BadTrace line) asks ends unsaid up caused numbered shows palm desk = absurd ends
   by_status (NotProper rule) asks ends unsaid up caused numbered shows palm desk = absurd ends
   by_status HandheldFolder asks ends unsaid up caused numbered shows palm desk = absurd (no_rise (subst (Rose 0) calm (palm refl)))

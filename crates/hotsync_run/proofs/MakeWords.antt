@@ -2,12 +2,12 @@
 use Rattle.std.proofs.lemmas.Grind.{common_steps}
 use Rattle.std.proofs.Common.{◌≡◌, ◌≤◌, ℕ, Bool, List, [], ◌∷◌, subst, arith}
 use Rattle.std.specs.Prelude.{Option, None, Some, codes, bytes_eq, cond, option_and_then, option_map}
-use Rattle.run_words.specs.Commands.{Task, Sync, LookAt, Scan, Make, export_form, export_of, export_task_in, file_of, make_form, make_in, make_of, packet_of, task_behind, task_of}
-use Rattle.run_words.specs.Exports.{export_in}
+use Rattle.run_words.specs.Commands.{Task, Sync, LookAt, Scan, Make, export_form, export_of, export_task_in, file_of, import_form, import_of, import_task_in, make_form, make_in, make_of, packet_of, task_behind, task_of}
+use Rattle.run_words.specs.Exports.{export_in, import_in}
 use Rattle.run_words.specs.Forms.{is_of_form, plain_at}
 use Rattle.run_words.specs.Numbers.{as_count, count_of, number_of}
 use Rattle.run_words.specs.Runs.{run_of}
-use Rattle.run_words.specs.declared.look.Export.{Export}
+use Rattle.run_words.specs.declared.look.Look.{Look}
 use Rattle.run_words.specs.declared.look.Look.TheVariants as looks
 
 -- what words ask for makes of a count at most 5,000 items
@@ -36,25 +36,31 @@ few_made : (words : List (List ℕ)) → IsFew (make_of words)
 unfolding make_of
 few_made words = few_if (is_of_form make_form words) (make_in words) None (few_seeded (option_and_then number_of (plain_at 0 words)) (plain_at 1 words)) tt
 
-few_looked : (file : Option (List ℕ)) (export : Option Export) → IsFew (option_and_then (λ f. option_map (λ x. LookAt (looks.Export x) f) export) file)
-few_looked None export = tt
-few_looked (Some file) None = tt
-few_looked (Some file) (Some export) = tt
+few_looked : {A : Type 0} (look : A → Look) (file : Option (List ℕ)) (o : Option A) → IsFew (option_and_then (λ f. option_map (λ x. LookAt (look x) f) o) file)
+few_looked look None o = tt
+few_looked look (Some file) None = tt
+few_looked look (Some file) (Some x) = tt
 
-few_exported : (words : List (List ℕ)) → IsFew (export_of words)
+few_exported : (now : Option ℕ) (words : List (List ℕ)) → IsFew (export_of now words)
 unfolding export_of
-few_exported words = few_if (is_of_form export_form words) (export_task_in words) None (few_looked (plain_at 0 words) (export_in words)) tt
+few_exported now words =
+    few_if (is_of_form export_form words) (export_task_in now words) None (few_looked looks.Export (plain_at 0 words) (export_in now words)) tt
+
+few_imported : (words : List (List ℕ)) → IsFew (import_of words)
+unfolding import_of
+few_imported words = few_if (is_of_form import_form words) (import_task_in words) None (few_looked looks.Import (plain_at 0 words) (import_in words)) tt
 
 few_behind : (now : Option ℕ) (command : List ℕ) (words : List (List ℕ)) → IsFew (task_behind now command words)
 few_behind now command words =
     few_if (bytes_eq command (codes "run")) _ _ (few_map Sync (run_of now words) (λ run. tt))
     (few_if (bytes_eq command (codes "check")) _ _ (few_map (LookAt _) (file_of words) (λ file. tt))
     (few_if (bytes_eq command (codes "show")) _ _ (few_map (LookAt _) (file_of words) (λ file. tt))
-    (few_if (bytes_eq command (codes "export")) _ _ (few_exported words)
+    (few_if (bytes_eq command (codes "export")) _ _ (few_exported now words)
+    (few_if (bytes_eq command (codes "import")) _ _ (few_imported words)
     (few_if (bytes_eq command (codes "verify")) _ _ (few_map (LookAt _) (file_of words) (λ file. tt))
     (few_if (bytes_eq command (codes "picture")) _ _ (few_map (LookAt _) (file_of words) (λ file. tt))
     (few_if (bytes_eq command (codes "packet")) _ _ (few_map Scan (packet_of words) (λ bytes. tt))
-    (few_if (bytes_eq command (codes "make")) _ _ (few_made words) tt)))))))
+    (few_if (bytes_eq command (codes "make")) _ _ (few_made words) tt))))))))
 
 few_words : (now : Option ℕ) (words : List (List ℕ)) → IsFew (task_of now words)
 unfolding task_of

@@ -22,7 +22,7 @@ use Rattle.hotsync_run.specs.declared.report.SessionEnd.TheVariants.{Ended}
 use Rattle.hotsync_looks.specs.declared.status.Status.{Status}
 use Rattle.hotsync_looks.specs.declared.status.Status.TheVariants.{Done, Usage, BadScript, TooLong, BadFile, TooMany, HandheldFolder, DesktopFolder, SourceRead}
 use Rattle.hotsync_looks.specs.declared.status.Status.TheVariants.{TraceWrite, OutWrite, NoMemory, LineDown, Unplugged, Aborted, Undetected, OtherUser}
-use Rattle.hotsync_looks.specs.declared.status.Status.TheVariants.{TooManyUsers, Limit, NewHandheld, WrongSide, InUse, CannotExport, BadTrace, NotProper}
+use Rattle.hotsync_looks.specs.declared.status.Status.TheVariants.{TooManyUsers, Limit, NewHandheld, WrongSide, InUse, CannotExport, BadRecord, BadText, Overfull, BadTrace, NotProper}
 
 commit_some : (meeting : Meeting) → 0 < length (requests_before_commit meeting)
 commit_some meeting = omega (arith, before-longer meeting (replicate (adds_of meeting) 0))
@@ -61,6 +61,9 @@ module _ {meeting : Meeting} {report : Report} {answered : ℕ} where
   tells_stop (InUse side) it why by = absurd it.ends
   tells_stop SourceRead it why by = absurd it.ends
   tells_stop (CannotExport name form) it why by = absurd it.ends
+  tells_stop (BadRecord index place) it why by = absurd it.ends
+  tells_stop (BadText line) it why by = absurd it.ends
+  tells_stop (Overfull what) it why by = absurd it.ends
   tells_stop (BadTrace line) it why by = absurd it.ends
   tells_stop (NotProper rule) it why by = absurd it.ends
   tells_stop (OtherUser handheld desktop) it why by = absurd (none_answered it tt it.shows.1 (omega arith) by)

@@ -52,7 +52,7 @@ use Rattle.hotsync_run.specs.declared.report.SessionEnd.TheVariants.{Ended}
 use Rattle.hotsync_looks.specs.declared.status.Status.{Status}
 use Rattle.hotsync_looks.specs.declared.status.Status.TheVariants.{Done, Usage, BadScript, TooLong, BadFile, TooMany, HandheldFolder, DesktopFolder, SourceRead}
 use Rattle.hotsync_looks.specs.declared.status.Status.TheVariants.{TraceWrite, OutWrite, NoMemory, LineDown, Unplugged, Aborted, Undetected, OtherUser}
-use Rattle.hotsync_looks.specs.declared.status.Status.TheVariants.{TooManyUsers, Limit, NewHandheld, WrongSide, InUse, CannotExport, BadTrace, NotProper}
+use Rattle.hotsync_looks.specs.declared.status.Status.TheVariants.{TooManyUsers, Limit, NewHandheld, WrongSide, InUse, CannotExport, BadRecord, BadText, Overfull, BadTrace, NotProper}
 
 -- ---- the frames tell one story
 
@@ -233,6 +233,9 @@ module _ (meeting : Meeting) where
   whole_over (InUse side) over short whole = absurd over.ends
   whole_over SourceRead over short whole = absurd over.ends
   whole_over (CannotExport name form) over short whole = absurd over.ends
+  whole_over (BadRecord index place) over short whole = absurd over.ends
+  whole_over (BadText line) over short whole = absurd over.ends
+  whole_over (Overfull what) over short whole = absurd over.ends
   whole_over (BadTrace line) over short whole = absurd over.ends
   whole_over (NotProper rule) over short whole = absurd over.ends
   whole_over (OtherUser handheld desktop) over short whole = absurd (stopped_short whole (short tt))

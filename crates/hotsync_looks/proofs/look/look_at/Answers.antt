@@ -9,7 +9,7 @@ returns-in-Ok g c =
     let left = g.S.Source.left c.args.source.now in
     let found = c.in-Ok.ensures in
     look_done c.args.words.file.now _ _ c.print_text.ensures.status found.text found.path found.opened
-    (printed_weaken (IsTextIn c.args.words.look left) (λ text is. subst (IsTextIn c.args.words.look left) (sym (is ∙ c.as_str.ensures.value))
+    (printed_weaken (IsTextIn c.args.words.look left) (λ text is. subst (IsTextIn c.args.words.look left) (sym (is ∙ c.deref.ensures.value))
     found.text) c.print_text.ensures.printed)
 
 pub returns-in-Err : goal.returns-in-Err

@@ -1,0 +1,16 @@
+use Rattle.std.specs.Prelude.{string_bytes}
+use Rattle.std.specs.declared.alloc.Global.{Global}
+use Rattle.card_export.specs.Exports.{exported_cards, first_bad_address, holds_addresses}
+use Rattle.card_export.specs.Properties.{cards_text}
+use Rattle.hotsync_looks.proofs.ExportLaws.{refusal_says}
+use Rattle.hotsync_looks.proofs.exported.card_text.Goals as goal
+
+pub returns-clause-refused : goal.returns-clause-refused
+returns-clause-refused c =
+    let e = c.cards_text.ensures in
+    let database = c.args.database.now in
+    let told =
+    refusal_says (string_bytes {Z = Global}) (cards_text (exported_cards c.privacy_of.result database)) (holds_addresses database.head) c.broken_of.result
+    (first_bad_address c.privacy_of.result database) c.cards_text.result e.kind.1 e.kind.0 (λ i p x. let t = (e.bad i p).0 x in (t.1, t.2))
+    in
+    rw (c.privacy_of.ensures, c.broken_of.ensures) at told

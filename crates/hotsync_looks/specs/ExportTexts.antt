@@ -1,0 +1,81 @@
+-- What an export makes of a database: a text, or why there is none.
+use Rattle.std.specs.Prelude.{◌≡◌, ⊤, ℕ, Bool, true, false, List, Option, Some, None, Result, Ok, Err, if◌then◌else◌}
+use Rattle.pdb_values.specs.Databases.{DatabaseValue}
+use Rattle.export_choice.specs.Choices.{BadItem, first_bad}
+use Rattle.export_choice.specs.declared.choice.BrokenRecords.{BrokenRecords}
+use Rattle.export_choice.specs.declared.choice.BrokenRecords.TheVariants.{Kept, Refused}
+use Rattle.export_choice.specs.declared.choice.Privacy.{Privacy}
+use Rattle.export_choice.specs.declared.choice.Privacy.TheVariants.{All, WithoutPrivate}
+use Rattle.export_choice.specs.declared.fault.ExportFault.{ExportFault}
+use Rattle.export_choice.specs.declared.fault.ExportFault.TheVariants as fault
+use Rattle.record_export.specs.Exports.{exported_memos, holds_memos}
+use Rattle.record_export.specs.Memos.{memos_text}
+use Rattle.card_export.specs.Exports.{exported_cards, first_bad_address, holds_addresses}
+use Rattle.card_export.specs.Properties.{cards_text}
+use Rattle.calendar_export.specs.Exports.{exported, fault_of, is_of_kind, source_of}
+use Rattle.calendar_export.specs.Items.{calendar_text}
+use Rattle.calendar_export.specs.declared.kind.Kind.{Kind}
+use Rattle.calendar_export.specs.declared.kind.Kind.TheVariants.{Dates, Tasks}
+use Rattle.run_words.specs.declared.look.Export.{Export}
+use Rattle.run_words.specs.declared.look.ExportForm.{ExportForm}
+use Rattle.run_words.specs.declared.look.ExportForm.TheVariants.{Text, Cards, Calendar}
+
+-- which records are exported
+abbrev pub privacy_of : Export → Privacy
+privacy_of export = if export.without_private then WithoutPrivate else All
+
+-- what becomes of those that are out of their form
+abbrev pub broken_of : Export → BrokenRecords
+broken_of export = if export.keep_broken then Kept else Refused
+
+-- why a database has no text in a form: it holds nothing of the form, or its first record that is out of its own form
+pub data NoText : Type 0 where
+  Absent : NoText
+  OutOfForm : ℕ → ℕ → NoText
+
+-- a text, unless a record is out of its form and such records are refused
+abbrev pub unless_bad : BrokenRecords → Option BadItem → List ℕ → Result (List ℕ) NoText
+unless_bad Kept bad text = Ok text
+unless_bad Refused None text = Ok text
+unless_bad Refused (Some bad) text = Err (OutOfForm bad.index bad.place)
+
+-- of a database that holds what has the form
+abbrev pub if_held : Bool → Result (List ℕ) NoText → Result (List ℕ) NoText
+if_held true text = text
+if_held false text = Err Absent
+
+-- its memos
+abbrev pub memos_export : Export → DatabaseValue → Result (List ℕ) NoText
+memos_export export database =
+    if_held (holds_memos database.head) (Ok (memos_text (exported_memos (privacy_of export) database)))
+
+-- its addresses, as cards
+abbrev pub cards_export : Export → DatabaseValue → Result (List ℕ) NoText
+cards_export export database =
+    if_held (holds_addresses database.head)
+    (unless_bad (broken_of export) (first_bad_address (privacy_of export) database)
+    (cards_text (exported_cards (privacy_of export) database)))
+
+-- its tasks, or its dates, as a calendar that was made then
+abbrev pub kind_export : Kind → ℕ → Export → DatabaseValue → Result (List ℕ) NoText
+kind_export kind made export database =
+    if_held (is_of_kind kind database.head)
+    (unless_bad (broken_of export) (first_bad (fault_of kind) (privacy_of export) 0 database.records)
+    (calendar_text (source_of made database) (exported kind (privacy_of export) database)))
+
+-- its tasks, if it holds any, else its dates
+abbrev pub calendar_export : ℕ → Export → DatabaseValue → Result (List ℕ) NoText
+calendar_export made export database =
+    if is_of_kind Tasks database.head then kind_export Tasks made export database else kind_export Dates made export database
+
+-- a database in the form of an export
+abbrev pub form_export : Export → ExportForm → DatabaseValue → Result (List ℕ) NoText
+form_export export Text database = memos_export export database
+form_export export Cards database = cards_export export database
+form_export export (Calendar made) database = calendar_export made export database
+
+-- an answer of a call that exports is the text, says why there is none, or that memory ran out
+abbrev pub SaysNoText : Result (List ℕ) NoText → ExportFault → Type 0
+SaysNoText said fault.CannotExport = said ≡ Err Absent
+SaysNoText said (fault.BadRecord index place) = said ≡ Err (OutOfForm index place)
+SaysNoText said fault.NoMemory = ⊤

@@ -1,0 +1,121 @@
+// The text of a database in the form that is wanted.
+ghost use Rattle.std.specs.Prelude.{◌≡◌, ◌↔◌, IfErr, IfOk, IsErrOf, Ok as OkValue, false, string_bytes};
+ghost use Rattle.hotsync_looks.specs.ExportTexts as texts;
+ghost use Rattle.hotsync_looks.specs.ExportTexts.{SaysNoText, calendar_export, cards_export, form_export, kind_export, memos_export};
+ghost use Rattle.calendar_export.specs.Exports.{is_of_kind};
+ghost use Rattle.calendar_export.specs.declared.kind.Kind.TheVariants.{Dates, Tasks};
+
+use calendar_export::{dates_text, tasks_text};
+use card_export::cards_text;
+use export_choice::{BrokenRecords, ExportFault, Privacy};
+use pdb_values::{Database, PalmDate};
+use record_export::memos_text;
+use run_words::{Export, ExportForm};
+use std::alloc::Global;
+
+/// The text of a database in the form that is wanted.
+pub fn exported_text(
+    alloc: Global,
+    export: Export,
+    database: &Database,
+) -> Result<String, ExportFault>
+    ensures text { IfOk result (λ text. form_export export export.form database.now
+        ≡ OkValue (string_bytes text)) }
+    ensures refused { IfErr result (SaysNoText (form_export export export.form database.now)) }
+{
+    match export.form {
+        ExportForm::Text => plain_text(alloc, export, database),
+        ExportForm::Cards => card_text(alloc, export, database),
+        ExportForm::Calendar(seconds) => {
+            let made = PalmDate::of_seconds(seconds);
+            calendar_text(alloc, made, export, database)
+        }
+    }
+}
+
+// Which records are exported.
+fn privacy_of(export: Export) -> Privacy
+    ensures { result ≡ texts.privacy_of export }
+{
+    if export.without_private {
+        Privacy::WithoutPrivate
+    } else {
+        Privacy::All
+    }
+}
+
+// What becomes of those that are out of their form.
+fn broken_of(export: Export) -> BrokenRecords
+    ensures { result ≡ texts.broken_of export }
+{
+    if export.keep_broken {
+        BrokenRecords::Kept
+    } else {
+        BrokenRecords::Refused
+    }
+}
+
+// Its memos, as plain text.
+fn plain_text(alloc: Global, export: Export, database: &Database) -> Result<String, ExportFault>
+    ensures text { IfOk result (λ text. memos_export export database.now
+        ≡ OkValue (string_bytes text)) }
+    ensures refused { IfErr result (SaysNoText (memos_export export database.now)) }
+{
+    memos_text(alloc, database, privacy_of(export))
+}
+
+// Its addresses, as cards.
+fn card_text(alloc: Global, export: Export, database: &Database) -> Result<String, ExportFault>
+    ensures text { IfOk result (λ text. cards_export export database.now
+        ≡ OkValue (string_bytes text)) }
+    ensures refused { IfErr result (SaysNoText (cards_export export database.now)) }
+{
+    cards_text(alloc, database, privacy_of(export), broken_of(export))
+}
+
+// Its tasks, as a calendar that was made then.
+fn task_text(
+    alloc: Global,
+    made: PalmDate,
+    export: Export,
+    database: &Database,
+) -> Result<String, ExportFault>
+    ensures text { IfOk result (λ text. kind_export Tasks made export database.now
+        ≡ OkValue (string_bytes text)) }
+    ensures refused { IfErr result (SaysNoText (kind_export Tasks made export database.now)) }
+    ensures kind { IsErrOf result ExportFault.CannotExport
+        ↔ (is_of_kind Tasks database.now.head ≡ false) }
+{
+    tasks_text(alloc, database, made, privacy_of(export), broken_of(export))
+}
+
+// Its dates, likewise.
+fn date_text(
+    alloc: Global,
+    made: PalmDate,
+    export: Export,
+    database: &Database,
+) -> Result<String, ExportFault>
+    ensures text { IfOk result (λ text. kind_export Dates made export database.now
+        ≡ OkValue (string_bytes text)) }
+    ensures refused { IfErr result (SaysNoText (kind_export Dates made export database.now)) }
+{
+    dates_text(alloc, database, made, privacy_of(export), broken_of(export))
+}
+
+// Its tasks or its dates.
+fn calendar_text(
+    alloc: Global,
+    made: PalmDate,
+    export: Export,
+    database: &Database,
+) -> Result<String, ExportFault>
+    ensures text { IfOk result (λ text. calendar_export made export database.now
+        ≡ OkValue (string_bytes text)) }
+    ensures refused { IfErr result (SaysNoText (calendar_export made export database.now)) }
+{
+    match task_text(alloc, made, export, database) {
+        Err(ExportFault::CannotExport) => date_text(alloc, made, export, database),
+        answer => answer,
+    }
+}
