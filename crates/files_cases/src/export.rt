@@ -1,7 +1,13 @@
 // Databases of a Palm's own applications, and their texts.
+ghost use Rattle.std.specs.Prelude.{◌≤◌};
+
+use calendar_export::{dates_text, tasks_text};
+use card_export::cards_text;
 use case_words::{bytes_at, number_at, short_in, word};
+use export_choice::{BrokenRecords, ExportFault, Privacy};
+use memo_import::{ImportFault, import_memos};
 use pdb_values::{Category, Content, Database, DbHead, DbName, FourCc, PalmDate, Record, RecordId};
-use record_export::{ExportFault, Privacy, memos_text};
+use record_export::memos_text;
 use std::alloc::{AllocError, Global};
 
 /// One database at most, and the categories at the head of its app block.
@@ -23,19 +29,28 @@ impl Exports {
 
     /// Does what a line on texts of databases asks for.
     pub fn obey(&mut self, words: &[&str]) -> Result<String, AllocError> {
-        let said = match word(words, 0) {
-            "new" => self.renew(words),
+        match word(words, 0) {
+            "new" | "app" | "label" | "custom" | "record" => {
+                let said = self.fill(words)?;
+                String::from_str(self.alloc, said)
+            }
+            "import" => self.import(&bytes_at(self.alloc, words, 1)),
+            form => self.text_as(form),
+        }
+    }
+
+    // Makes the database, or one part of it.
+    fn fill(&mut self, words: &[&str]) -> Result<&'static str, AllocError> {
+        match word(words, 0) {
+            "new" => Ok(self.renew(words)),
             "app" => {
                 self.app = vec![in self.alloc; 0; number_at(words, 1) as usize]?;
-                self.set_app()
+                Ok(self.set_app())
             }
-            "label" => self.label(number_at(words, 1), &bytes_at(self.alloc, words, 2)),
-            "record" => self.record(words),
-            "txt" => return self.text(Privacy::All),
-            "txt-public" => return self.text(Privacy::WithoutPrivate),
-            _ => "no such line",
-        };
-        String::from_str(self.alloc, said)
+            "label" => Ok(self.label(number_at(words, 1), &bytes_at(self.alloc, words, 2))),
+            "custom" => Ok(self.custom(number_at(words, 1), &bytes_at(self.alloc, words, 2))),
+            _ => Ok(self.record(words)),
+        }
     }
 
     // An empty database of a type, a creator and attributes.
@@ -49,9 +64,20 @@ impl Exports {
         }
     }
 
-    // Writes a label of 16 bytes into the app block, and as much of it as there is.
+    // Writes the label of a category.
     fn label(&mut self, category: u32, label: &[u8]) -> &'static str {
-        let begin = 2 + 16 * (category as usize % 16);
+        self.label_at(2 + 16 * (category as usize % 16), label)
+    }
+
+    // Writes the label of a custom field of addresses, counted from 1.
+    fn custom(&mut self, number: u32, label: &[u8]) -> &'static str {
+        self.label_at(282 + 16 * (13 + number as usize % 16), label)
+    }
+
+    // Writes a label of 16 bytes into the app block, and as much of it as there is.
+    fn label_at(&mut self, begin: usize, label: &[u8]) -> &'static str
+        requires { begin ≤ 1000 }
+    {
         for (place, byte) in label.iter().take(16).enumerate() {
             if let Some(cell) = self.app.get_mut(begin + place) {
                 *cell = *byte;
@@ -88,15 +114,73 @@ impl Exports {
         }
     }
 
-    fn text(&self, privacy: Privacy) -> Result<String, AllocError> {
+    // The text in a form, or why there is none.
+    fn text_as(&self, form: &str) -> Result<String, AllocError> {
         let Some(database) = &self.database else {
             return String::from_str(self.alloc, "no database");
         };
-        match memos_text(self.alloc, database, privacy) {
+        let (privacy, broken) = wishes_of(form);
+        let alloc = self.alloc;
+        match form {
+            "txt" | "txt-public" => self.said_of(memos_text(alloc, database, privacy)),
+            "vcf" | "vcf-public" | "vcf-kept" => {
+                self.said_of(cards_text(alloc, database, privacy, broken))
+            }
+            "tasks" | "tasks-public" | "tasks-kept" => {
+                self.said_of(tasks_text(alloc, database, made(), privacy, broken))
+            }
+            "dates" | "dates-kept" => {
+                self.said_of(dates_text(alloc, database, made(), privacy, broken))
+            }
+            _ => String::from_str(alloc, "no such line"),
+        }
+    }
+
+    // Takes the database of a text of memos, and gives the text of its memos.
+    fn import(&mut self, text: &[u8]) -> Result<String, AllocError> {
+        match import_memos(self.alloc, text) {
+            Ok(database) => {
+                self.database = Some(database);
+                self.text_as("txt")
+            }
+            Err(ImportFault::BadText(line)) => format!(in self.alloc; "bad text line {line}"),
+            Err(ImportFault::TooManyCategories) => {
+                String::from_str(self.alloc, "too many categories")
+            }
+            Err(ImportFault::TooManyRecords) => String::from_str(self.alloc, "too many records"),
+            Err(ImportFault::NoMemory) => String::from_str(self.alloc, "no memory"),
+        }
+    }
+
+    // The text, or why there is none.
+    fn said_of(&self, text: Result<String, ExportFault>) -> Result<String, AllocError> {
+        match text {
             Ok(text) => Ok(text),
             Err(ExportFault::CannotExport) => String::from_str(self.alloc, "cannot export"),
+            Err(ExportFault::BadRecord { index, place }) => {
+                format!(in self.alloc; "bad record {index} {place}")
+            }
             Err(ExportFault::NoMemory) => String::from_str(self.alloc, "no memory"),
         }
+    }
+}
+
+// Which records stand in a text, by the last word of its line.
+fn wishes_of(form: &str) -> (Privacy, BrokenRecords) {
+    match form {
+        "txt-public" | "vcf-public" | "tasks-public" => {
+            (Privacy::WithoutPrivate, BrokenRecords::Refused)
+        }
+        "vcf-kept" | "tasks-kept" | "dates-kept" => (Privacy::All, BrokenRecords::Kept),
+        _ => (Privacy::All, BrokenRecords::Refused),
+    }
+}
+
+// When the calendars are made.
+fn made() -> PalmDate {
+    match PalmDate::read_text("2001-09-09T01:46:40") {
+        Ok(date) => date,
+        Err(_) => PalmDate::of_seconds(0),
     }
 }
 

@@ -22,7 +22,10 @@
 //! - A file: `db file H`, or `db zeros LENGTH PLACE=BYTE..`, which has the name `A`; then `db parse`, which makes it the
 //!   database, `db head`, `db entries`, `db write`, `db again`, `db check`, `db show`; `db laws`.
 //! - Texts: `export new TYPE CREATOR ATTRIBUTES` (a database), `export app LENGTH` (zeros), `export label CATEGORY H`,
-//!   `export record ID live|deleted open|private CATEGORY H`, and then `export txt`, `export txt-public`.
+//!   `export custom NUMBER H` (the label of a custom field), `export record ID live|deleted open|private CATEGORY H`, and
+//!   then `export txt`, `export txt-public`; `export vcf`, `export vcf-public`, `export vcf-kept` (broken records are kept);
+//!   `export tasks`, `export tasks-public`, `export tasks-kept`, `export dates`, `export dates-kept` (made at
+//!   2001-09-09T01:46:40); `export import H` (the database of a text of memos, and then its text again).
 //! - Folders made of a seed and a count: `made files SEED COUNT` prints each file with its bytes, and `made sums SEED COUNT`
 //!   with its length and the number that its bytes are as digits to the base 31, modulo 2 to the 32.
 #![tactic(auto)]

@@ -1,6 +1,8 @@
 // What words say.
 use pdb_values::DbName;
-use run_clap::{Command, ExportForm, Look, LookWords, RunWords, WordsFault, read_command};
+use run_clap::{
+    Command, ExportForm, ImportForm, Look, LookWords, RunWords, WordsFault, read_command,
+};
 use run_words::{ActionWord, Target, action_of, command_of, read_actions};
 use std::alloc::{AllocError, Global};
 use std::fmt::Write;
@@ -32,12 +34,21 @@ fn look_text(alloc: Global, words: &LookWords<'_>) -> Result<String, AllocError>
         Look::Verify => format!(in alloc; "verify file {file}\n"),
         Look::Picture => format!(in alloc; "picture file {file}\n"),
         Look::Export(export) => {
-            let form = match export.form {
-                ExportForm::Text => "txt",
-            };
-            let without = export.without_private;
-            format!(in alloc; "export file {file} as {form} without-private {without}\n")
+            let form = form_text(alloc, export.form)?;
+            let (without, keep) = (export.without_private, export.keep_broken);
+            format!(in alloc;
+                "export file {file} as {form} without-private {without} keep-broken {keep}\n"
+            )
         }
+        Look::Import(ImportForm::Text) => format!(in alloc; "import file {file} as txt\n"),
+    }
+}
+
+fn form_text(alloc: Global, form: ExportForm) -> Result<String, AllocError> {
+    match form {
+        ExportForm::Text => String::from_str(alloc, "txt"),
+        ExportForm::Cards => String::from_str(alloc, "vcf"),
+        ExportForm::Calendar(made) => format!(in alloc; "ics date {}", made),
     }
 }
 
