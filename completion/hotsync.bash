@@ -3,7 +3,7 @@ _hotsync() {
     local word=${COMP_WORDS[COMP_CWD]}
     COMPREPLY=()
     if [ "$COMP_CWD" -eq 1 ]; then
-        COMPREPLY=($(compgen -W 'run check show export verify picture packet make' -- "$word"))
+        COMPREPLY=($(compgen -W 'run check show export import verify picture packet make' -- "$word"))
         return
     fi
     case ${COMP_WORDS[1]} in
@@ -20,7 +20,13 @@ _hotsync() {
         ;;
     export)
         case $word in
-        -*) COMPREPLY=($(compgen -W '--as=txt --without-private' -- "$word")) ;;
+        -*) COMPREPLY=($(compgen -W '--as=txt --as=vcf --as=ics --date=now --without-private --keep-broken' -- "$word")) ;;
+        *) COMPREPLY=($(compgen -f -- "$word")) ;;
+        esac
+        ;;
+    import)
+        case $word in
+        -*) COMPREPLY=($(compgen -W '--as=txt' -- "$word")) ;;
         *) COMPREPLY=($(compgen -f -- "$word")) ;;
         esac
         ;;
