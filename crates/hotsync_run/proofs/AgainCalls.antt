@@ -1,5 +1,5 @@
 -- The sessions of calls, one behind another: what each left is what the next one meets.
-use Rattle.std.proofs.Common.{◌≡◌, ◌⊎◌, ◌∙◌, ap, refl, sym, subst, arith, inr, ℕ, List, [], ◌∷◌}
+use Rattle.std.proofs.Common.{◌≡◌, ◌⊎◌, ◌∙◌, ap, refl, sym, subst, inr, ℕ, List, [], ◌∷◌}
 use Rattle.std.specs.Prelude.{Option, IfSome}
 use Rattle.std.specs.Option.{option_map}
 use Rattle.hs_folders.specs.FileMaps.{FileMap}
@@ -12,7 +12,8 @@ use Rattle.hotsync_run.specs.Ends.{StoppedBefore, StoppedBehind}
 use Rattle.hotsync_run.specs.Headline.{IsAnsweredRun, RunCall}
 use Rattle.hotsync_run.specs.LineRuns.{log_in}
 use Rattle.hotsync_run.specs.Meetings.{Meets}
-use Rattle.hotsync_run.specs.Runs.{SentNothing, SessionRan}
+use Rattle.hotsync_run.specs.Runs.{SessionRan, run_command}
+use Rattle.hotsync_run.specs.SessionCalls.{SentNothing}
 use Rattle.hotsync_run.specs.Told.{CallTold}
 use Rattle.hotsync_run.specs.Wishes.{actions_by}
 use Rattle.hotsync_run.specs.declared.report.SessionEnd.{SessionEnd}
@@ -20,8 +21,10 @@ use Rattle.hotsync_run.specs.declared.report.SessionEnd.TheVariants.{Ended, NotS
 use Rattle.hotsync_run.proofs.AgainLaws.{AllPrecede, Ran, ended-behind, given_in, last_ran, laters, taken-up}
 
 pub session_in : (call : RunCall) {end : SessionEnd} → call.report.end ≡ end → IsAnsweredRun call
-    → ByEnd end (SentNothing call.run call.before call.after call.status call.report) (SessionRan call.run call.before call.after call.status call.report)
-session_in call is did = grind arith
+    → ByEnd end (SentNothing (run_command call.run) call.before call.after call.status call.report) (SessionRan call.run call.before call.after call.status call.report)
+session_in call is did =
+    subst (λ (e : SessionEnd). ByEnd e (SentNothing (run_command call.run) call.before call.after call.status call.report)
+    (SessionRan call.run call.before call.after call.status call.report)) is did.ran.shown
 
 abbrev pub ran-of : (call : RunCall) → SessionRan call.run call.before call.after call.status call.report → Ran
 ran-of call ran = record {
@@ -34,7 +37,7 @@ ran-of call ran = record {
   picked = ran.meets.picked;
   handheld = ran.meets.handheld;
   desktop = ran.meets.desktop;
-  line = ran.talked.line;
+  line = ran.talked.spoke.line;
   left = ran.talked.left;
 }
 
@@ -83,11 +86,11 @@ last-session call all =
 
 module _ (call next : RunCall) (later : List RunCall) (did : DidRun call) (repeat : IsRepeat call next) (behind : AreSessions next later) where
   -- a call that sent nothing before the others
-  silent-before : call.report.end ≡ NotStarted → SentNothing call.run call.before call.after call.status call.report → AreSessions call (next ∷ later)
+  silent-before : call.report.end ≡ NotStarted → SentNothing (run_command call.run) call.before call.after call.status call.report → AreSessions call (next ∷ later)
   silent-before is sent =
       let palm : next.before.palm.contents ≡ call.before.palm.contents = repeat.palm ∙ sent.handheld.contents in
       let desk : FinishesAs call.before.desk.contents next.before.desk.contents =
-      ap (λ (told : Option FileMap). option_map finished told) repeat.desk ∙ sent.desktop.stands in
+      ap (λ (told : Option FileMap). option_map finished told) repeat.desk ∙ sent.desktop.stands.stands in
       let device = behind.ran.meeting.device in
       record {
         first = behind.first;
@@ -155,7 +158,7 @@ module _ (call next : RunCall) (later : List RunCall) (did : DidRun call) (repea
         last_after = behind.last_after;
       }
 
-  call-before : (end : SessionEnd) → call.report.end ≡ end → ByEnd end (SentNothing call.run call.before call.after call.status call.report)
+  call-before : (end : SessionEnd) → call.report.end ≡ end → ByEnd end (SentNothing (run_command call.run) call.before call.after call.status call.report)
       (SessionRan call.run call.before call.after call.status call.report) → AreSessions call (next ∷ later)
   call-before NotStarted is sent = silent-before is sent
   call-before Stopped is session =

@@ -136,7 +136,7 @@ met-device {ran} {next} is =
     (subst (λ (told : Option FileMap). Stands told ran.line.last.databases ran.line.last.user) (sym is.palm) ran.line.stands) next.handheld
 
 met-front : {ran next : Ran} → Precedes ran next → MeetingFront ran.meeting ran.report.writes (given_in ran) next.meeting.device
-met-front {ran} is = grind (arith, met-device is, front_of ran.meeting ran.line ran.left.issued)
+met-front {ran} is = grind (arith, met-device is, front_of ran.meeting.device (requests ran.meeting) ran.line ran.left.issued)
 
 -- before the commit the slots are as they were, and behind it they are merged
 slots-before : {ran next : Ran} → Precedes ran next → StoppedBefore ran.meeting ran.before.desk ran.after.desk ran.report
@@ -240,7 +240,7 @@ pub got-of : (ran : Ran) → EndedSession ran.meeting ran.after.palm ran.after.d
     → GotAllIds (action_at ran.meeting name) (found_of ran.meeting name) (ids_at ran.meeting (given_in ran) name)
 got-of ran ended name active =
     (front-behind ran.meeting ran.report.writes (given_in ran) ran.line.last ran.left.sound (none-over ran ended)
-    (front_of ran.meeting ran.line ran.left.issued) (all-written ran ended)).free name active
+    (front_of ran.meeting.device (requests ran.meeting) ran.line ran.left.issued) (all-written ran ended)).free name active
 
 -- ---- one behind another
 

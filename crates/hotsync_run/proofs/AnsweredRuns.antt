@@ -18,7 +18,8 @@ use Rattle.hotsync_run.specs.Ends.{SessionLeft}
 use Rattle.hotsync_run.specs.LineRuns.{LineRan, exchanges_in, log_in}
 use Rattle.hotsync_run.specs.Makes.{IsMake, MadeNothing, MadeRan}
 use Rattle.hotsync_run.specs.Reports.{IsNotStarted}
-use Rattle.hotsync_run.specs.Runs.{IsRun, SentNothing, SessionRan}
+use Rattle.hotsync_run.specs.Runs.{IsRun, SessionRan, run_command}
+use Rattle.hotsync_run.specs.SessionCalls.{SentNothing}
 use Rattle.hotsync_run.specs.Talks.{Talked}
 use Rattle.hotsync_looks.specs.Told.{SinkTold}
 use Rattle.hotsync_run.specs.Told.{CallTold, FolderTold, SidesTold}
@@ -51,7 +52,7 @@ module _ {rules : List RuleValue} {before after : FolderTold} {report : Report} 
 
 talked_answered : {rules : List RuleValue} {meeting : Meeting} {before after : SidesTold} {status : Status} {report : Report}
     → Talked rules meeting before after status report → AreAnswered report
-talked_answered talked = session_answered talked.line talked.left
+talked_answered talked = session_answered talked.spoke.line talked.left
 
 not_started : {report : Report} → IsNotStarted report → AreAnswered report
 not_started is = grind arith
@@ -65,7 +66,7 @@ run-answered run before after out out_after status report is = by report.end is.
     session : SessionRan run before after status report → AreAnswered report
     session ran = talked_answered ran.talked
 
-    by : (end : SessionEnd) → ByEnd end (SentNothing run before after status report) (SessionRan run before after status report) → AreAnswered report
+    by : (end : SessionEnd) → ByEnd end (SentNothing (run_command run) before after status report) (SessionRan run before after status report) → AreAnswered report
     by NotStarted sent = not_started sent.report_is
     by Ended ran = session ran
     by Stopped ran = session ran

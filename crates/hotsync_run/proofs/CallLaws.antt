@@ -1,14 +1,21 @@
 -- A call whose words were not read for want of memory.
 use Rattle.std.proofs.lemmas.Grind.{common_steps}
-use Rattle.std.proofs.Common.{arith, ◌≡◌, ◌⊎◌}
-use Rattle.std.specs.Prelude.{Option}
-use Rattle.run_words.specs.Commands.{Task}
+use Rattle.std.proofs.Common.{arith, ◌≡◌, ◌⊎◌, inl, inr, refl, subst, sym}
+use Rattle.std.specs.Prelude.{None, Option, Some}
+use Rattle.run_words.specs.Commands.{LookAt, Make, Scan, Sync, Task}
 use Rattle.hotsync_run.specs.Calls.{IsCall}
+use Rattle.hotsync_run.specs.Causes.{ByEnd, HasBegun}
+use Rattle.hotsync_looks.proofs.PrintedLaws.{printed_weaken}
+use Rattle.hotsync_looks.specs.Lines.{done_lines}
 use Rattle.hotsync_looks.specs.Printed.{IsPrinted}
 use Rattle.hotsync_looks.specs.Told.{SinkTold}
 use Rattle.hotsync_run.specs.Told.{CallTold}
 use Rattle.hotsync_run.specs.Reports.{IsNotStarted}
+use Rattle.hotsync_run.specs.Runs.{run_command}
+use Rattle.hotsync_run.specs.SessionCalls.{IsSessionCall, SentNothing, SessionCommand}
+use Rattle.hotsync_run.proofs.RefusedRuns.{stands_same, stays_same}
 use Rattle.hotsync_run.specs.declared.report.Report.{Report}
+use Rattle.hotsync_run.specs.declared.report.SessionEnd.{SessionEnd}
 use Rattle.hotsync_looks.specs.declared.status.Status.{Status}
 use Rattle.hotsync_looks.specs.declared.status.Status.TheVariants.{NoMemory}
 
@@ -16,7 +23,51 @@ use Rattle.hotsync_looks.specs.declared.status.Status.TheVariants.{NoMemory}
 pub only_memory : {status : Status} → (status ≡ NoMemory) ⊎ (status ≡ NoMemory) → status ≡ NoMemory
 only_memory e = grind (arith, common_steps)
 
+-- a command with a session that stops before an object is touched
+unread_session : (command : SessionCommand) (before : CallTold) {out out_after : SinkTold} {report : Report}
+    → command.Kept before.desk before.desk NoMemory → IsNotStarted report
+    → IsPrinted (λ text. ⊥) out out_after NoMemory → IsSessionCall command before before out out_after NoMemory report
+unread_session command before {report = report} kept is printed =
+    let none : HasBegun report.end → ⊥ = λ begun. subst HasBegun is.end begun in
+    let sent : SentNothing command before before NoMemory report = record {
+      judged = inl refl;
+      report_is = is;
+      handheld = record { contents = refl; moments = refl };
+      desktop = kept;
+      trace = refl;
+    } in
+    record {
+      ran = record {
+        shown = subst (λ (e : SessionEnd). ByEnd e (SentNothing command before before NoMemory report) (command.Had before before NoMemory report))
+            (sym is.end) sent;
+        blames = record {
+          source = λ e. cc;
+          folders = record { handheld = λ e. cc; desktop = λ e. cc };
+          handheld_in_use = λ e. cc;
+          desktop_in_use = λ e. cc;
+          trace = λ e. cc;
+        };
+        opened = record {
+          handheld = inl refl;
+          desktop = inl refl;
+          source = inl refl;
+          trace = inl refl;
+          handheld_opened = λ begun. absurd (none begun);
+          desktop_opened = λ begun. absurd (none begun);
+          source_opened = λ begun. absurd (none begun);
+          trace_opened = λ begun. absurd (none begun);
+        };
+      };
+      printed = printed_weaken (λ text. text ≡ done_lines report.databases.items) (λ text no. absurd no) printed;
+      complete = λ calm. inr (inl refl);
+    }
+
 -- what is known of a call that stops before its words are read
 pub unread_call : (task : Option Task) (before : CallTold) {out out_after : SinkTold} {report : Report} → IsNotStarted report
     → IsPrinted (λ text. ⊥) out out_after NoMemory → IsCall task before before out out_after NoMemory report
-unread_call task before is printed = grind (arith, common_steps)
+unread_call (Some (Sync run)) before is printed =
+    unread_session (run_command run) before (record { stands = stands_same refl; unread = λ unread. stays_same refl }) is printed
+unread_call None before is printed = grind (arith, common_steps)
+unread_call (Some (LookAt look file)) before is printed = grind (arith, common_steps)
+unread_call (Some (Scan bytes)) before is printed = grind (arith, common_steps)
+unread_call (Some (Make seed count)) before is printed = grind (arith, common_steps)

@@ -20,7 +20,8 @@ use Rattle.run_words.specs.Runs.{Run}
 use Rattle.hotsync_run.specs.Causes.{IsLineDown, cause_in}
 use Rattle.hotsync_run.specs.Clean.{AreSaidOnce, GoesThrough, HasNoLines, IsLineStop}
 use Rattle.hotsync_run.specs.LineRuns.{frames_in}
-use Rattle.hotsync_run.specs.Runs.{HasRun, SentNothing, SessionRan}
+use Rattle.hotsync_run.specs.Runs.{HasRun, SessionRan, run_command}
+use Rattle.hotsync_run.specs.SessionCalls.{SentNothing}
 use Rattle.hotsync_run.specs.Scripts.{IsScripted}
 use Rattle.hotsync_run.specs.Told.{CallTold}
 use Rattle.hotsync_run.specs.declared.report.Report.{Report}
@@ -28,7 +29,7 @@ use Rattle.hotsync_looks.specs.declared.status.Status.{Status}
 use Rattle.hotsync_looks.specs.declared.status.Status.TheVariants.{LineDown, Unplugged, Aborted, Undetected}
 use Rattle.hotsync_run.proofs.MakeLines.{no_stop}
 use Rattle.hotsync_run.proofs.RunLaws.{refused_not_stopped}
-use Rattle.hotsync_run.proofs.TraceLaws.{by_end_both}
+use Rattle.hotsync_run.proofs.RetoldLaws.{by_end_both}
 use Rattle.hotsync_run.proofs.UndisturbedLaws.{last_fate}
 
 -- ---- nothing is said twice
@@ -113,10 +114,10 @@ module _ {run : Run} {before after : CallTold} {status : Status} {report : Repor
         stands status report.faulted.items (frames_in report),
       )
 
-  silent_through : SentNothing run before after status report → GoesThrough status report
+  silent_through : SentNothing (run_command run) before after status report → GoesThrough status report
   silent_through sent = grind (arith, stands, refused_not_stopped run before status)
 
   pub goes_through_whole : HasNoLines run.script before.source.left → HasRun run before after status report → GoesThrough status report
   goes_through_whole without has =
-      by_end_both report.end {A = SentNothing run before after status report} {B = SessionRan run before after status report} {C = GoesThrough status report}
+      by_end_both report.end {A = SentNothing (run_command run) before after status report} {B = SessionRan run before after status report} {C = GoesThrough status report}
       silent_through (session_through without) has.shown

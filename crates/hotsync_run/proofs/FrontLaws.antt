@@ -11,9 +11,7 @@ use Rattle.desktop_session.specs.Says.{Begins, IsPrefix, grown, sent}
 use Rattle.line_script.specs.Rules.{RuleValue}
 use Rattle.line_world.specs.Logs.{LogValue, no_log}
 use Rattle.line_world.specs.Worlds.{IsLog, WorldValue, world_talk}
-use Rattle.sync_session.specs.Fronts.{MeetingFront}
-use Rattle.sync_session.specs.Sessions.{requests}
-use Rattle.session_plan.specs.Tasks.{Meeting}
+use Rattle.session_parts.specs.Fronts.{Front}
 use Rattle.hotsync_run.specs.LineRuns.{LineRan, log_in, write_count}
 use Rattle.hotsync_run.specs.Told.{FolderTold}
 use Rattle.hotsync_run.specs.declared.report.Report.{Report}
@@ -76,8 +74,8 @@ performed-begins {report} line prefix =
     ∙ take-append-le (length (log_in report).replies) (log_in report).issued prefix.rest line.log.performed_few)
 
 -- the handheld stands where a beginning of the session's requests leads it
-pub front_of : (meeting : Meeting) {rules : List RuleValue} {before after : FolderTold} {report : Report}
-    (line : LineRan rules meeting.device before after report)
-    → IsPrefix (log_in report).issued (requests meeting) → MeetingFront meeting report.writes report.given.items line.last
+pub front_of : (device : Device) (asked : List (List ℕ)) {rules : List RuleValue} {before after : FolderTold} {report : Report}
+    (line : LineRan rules device before after report)
+    → IsPrefix (log_in report).issued asked → Front device asked report.writes report.given.items line.last
 unfolding write_count
-front_of meeting {report} line prefix = grind (arith, performed-begins line prefix, length (log_in report).replies)
+front_of device asked {report} line prefix = grind (arith, performed-begins line prefix, length (log_in report).replies)

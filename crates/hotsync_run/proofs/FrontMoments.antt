@@ -13,10 +13,8 @@ use Rattle.dlp_commands.specs.DeviceRuns.{DeviceRun, Exchange, Ran, exchanged}
 use Rattle.desktop_session.specs.Says.{IsPrefix}
 use Rattle.line_script.specs.Rules.{RuleValue}
 use Rattle.line_world.specs.Folders.{StoodAfterSome}
-use Rattle.sync_session.specs.Fronts.{MeetingFront}
-use Rattle.sync_session.specs.Sessions.{requests}
-use Rattle.session_plan.specs.Tasks.{Meeting}
-use Rattle.hotsync_run.specs.Ends.{StandsAtFront}
+use Rattle.session_parts.specs.Fronts.{Front}
+use Rattle.hotsync_run.specs.Sessions.{StandsAtFront}
 use Rattle.hotsync_run.specs.LineRuns.{LineRan, exchanges_in, log_in}
 use Rattle.hotsync_run.specs.Told.{FolderTold}
 use Rattle.hotsync_run.specs.declared.report.Report.{Report}
@@ -34,17 +32,17 @@ same_length : (exchanges : List Exchange) → length (replies_of exchanges) ≡ 
 same_length [] = refl
 same_length (exchange ∷ exchanges) = ap (λ (n : ℕ). suc n) (same_length exchanges)
 
--- a device at a front of the session
-pub record IsAtFront (meeting : Meeting) (device : Device) : Type 0 where
+-- a device at a front of these requests
+pub record IsAtFront (device : Device) (whole : List (List ℕ)) (reached : Device) : Type 0 where
   pub writes : ℕ
   pub given : List ℕ
-  pub front : MeetingFront meeting writes given device
+  pub front : Front device whole writes given reached
 
 -- behind some of the exchanges the handheld is at one
-pub front-some : (meeting : Meeting) {rules : List RuleValue} {before after : FolderTold} {report : Report}
-    → LineRan rules meeting.device before after report → IsPrefix (log_in report).issued (requests meeting) → (some later : List Exchange)
-    (device : Device) → exchanges_in report ≡ some ++ later → Ran meeting.device some device → IsAtFront meeting device
-front-some meeting {report} line prefix some later device is ran =
+pub front-some : (device : Device) (whole : List (List ℕ)) {rules : List RuleValue} {before after : FolderTold} {report : Report}
+    → LineRan rules device before after report → IsPrefix (log_in report).issued whole → (some later : List Exchange)
+    (reached : Device) → exchanges_in report ≡ some ++ later → Ran device some reached → IsAtFront device whole reached
+front-some device whole {report} line prefix some later reached is ran =
     let asked = requests_of some in
     let count = length asked in
     let begins = performed-prefix line.log prefix in
@@ -52,23 +50,23 @@ front-some meeting {report} line prefix some later device is ran =
     let all = exchanged-requests (log_in report).performed (log_in report).replies (omega (arith, same)) in
     let parts : asked ++ requests_of later ≡ (log_in report).performed =
     sym (map-append (λ (exchange : Exchange). exchange.request) some later) ∙ ap requests_of (sym is) ∙ all in
-    let whole : asked ++ (requests_of later ++ begins.rest) ≡ requests meeting =
+    let joined : asked ++ (requests_of later ++ begins.rest) ≡ whole =
     sym (append_assoc asked (requests_of later) begins.rest) ∙ ap (λ (l : List (List ℕ)). l ++ begins.rest) parts ∙ begins.is in
-    let first : take count (requests meeting) ≡ asked = ap (λ (l : List (List ℕ)). take count l) (sym whole)
+    let first : take count whole ≡ asked = ap (λ (l : List (List ℕ)). take count l) (sym joined)
     ∙ take-append_seam asked (requests_of later ++ begins.rest) in
-    let run : DeviceRun meeting.device asked (replies_of some) device = record {
+    let run : DeviceRun device asked (replies_of some) reached = record {
       same = same_length some;
-      ran = subst (λ (l : List Exchange). Ran meeting.device l device) (sym (exchanged-parts some)) ran;
+      ran = subst (λ (l : List Exchange). Ran device l reached) (sym (exchanged-parts some)) ran;
     } in
     record {
-      writes = length (filter changes (take count (requests meeting)));
+      writes = length (filter changes (take count whole));
       given = flat_map (λ (exchange : Exchange). given_in exchange.request exchange.reply)
-          (exchanged (take count (requests meeting)) (replies_of some));
+          (exchanged (take count whole) (replies_of some));
       front = record {
         count = count;
         replies = replies_of some;
-        reached = device;
-        run = subst (λ (l : List (List ℕ)). DeviceRun meeting.device l (replies_of some) device) (sym first) run;
+        reached = reached;
+        run = subst (λ (l : List (List ℕ)). DeviceRun device l (replies_of some) reached) (sym first) run;
         holds = refl;
         ids = refl;
         databases = refl;
@@ -77,17 +75,17 @@ front-some meeting {report} line prefix some later device is ran =
     }
 
 -- so a moment that stood for it stands at a front
-front_at : (meeting : Meeting) {rules : List RuleValue} {before after : FolderTold} {report : Report} → LineRan rules meeting.device before after report
-    → IsPrefix (log_in report).issued (requests meeting) → (told : Option FileMap) → StoodAfterSome meeting.device (exchanges_in report) told
-    → StandsAtFront meeting told
-front_at meeting line prefix told stood =
-    let at = front-some meeting line prefix stood.before stood.after stood.device stood.is stood.ran in
-    record { writes = at.writes; given = at.given; device = stood.device; front = at.front; stands = stood.stands }
+front_at : (device : Device) (whole : List (List ℕ)) {rules : List RuleValue} {before after : FolderTold} {report : Report}
+    → LineRan rules device before after report → IsPrefix (log_in report).issued whole → (told : Option FileMap)
+    → StoodAfterSome device (exchanges_in report) told → StandsAtFront device whole told
+front_at device whole line prefix told stood =
+    let at = front-some device whole line prefix stood.before stood.after stood.device stood.is stood.ran in
+    record { writes = at.writes; given = at.given; reached = stood.device; front = at.front; stands = stood.stands }
 
 -- so is each moment
-pub fronts_at_moments : (meeting : Meeting) {rules : List RuleValue} (before : FolderTold) {after : FolderTold} {report : Report}
-    → LineRan rules meeting.device before after report → IsPrefix (log_in report).issued (requests meeting)
-    → EachMomentSince (StandsAtFront meeting) before.moments after.moments
-fronts_at_moments meeting before {after} {report} line prefix =
-    moments_weaken (StoodAfterSome meeting.device (exchanges_in report)) (StandsAtFront meeting) before.moments after.moments line.moments
-    (front_at meeting line prefix)
+pub fronts_at_moments : (device : Device) (whole : List (List ℕ)) {rules : List RuleValue} (before : FolderTold) {after : FolderTold} {report : Report}
+    → LineRan rules device before after report → IsPrefix (log_in report).issued whole
+    → EachMomentSince (StandsAtFront device whole) before.moments after.moments
+fronts_at_moments device whole before {after} {report} line prefix =
+    moments_weaken (StoodAfterSome device (exchanges_in report)) (StandsAtFront device whole) before.moments after.moments line.moments
+    (front_at device whole line prefix)

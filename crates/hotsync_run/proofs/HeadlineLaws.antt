@@ -5,7 +5,8 @@ use Rattle.session_plan.specs.Tasks.{Meeting}
 use Rattle.hotsync_run.specs.Causes.{ByEnd, HasBegun}
 use Rattle.hotsync_run.specs.Headline.{ActsOnce, FairStaysUp, Headline, IsAnsweredRun, IsWhatItSays, LeavesTheMerge, RunCall, TellsCause}
 use Rattle.hotsync_run.specs.Meetings.{Meets}
-use Rattle.hotsync_run.specs.Runs.{SentNothing, SessionRan}
+use Rattle.hotsync_run.specs.Runs.{SessionRan, run_command}
+use Rattle.hotsync_run.specs.SessionCalls.{SentNothing}
 use Rattle.hotsync_run.specs.Scripts.{IsScripted}
 use Rattle.hotsync_run.specs.declared.report.SessionEnd.{SessionEnd}
 use Rattle.hotsync_run.specs.declared.report.SessionEnd.TheVariants.{NotStarted, Ended, Stopped}
@@ -23,7 +24,7 @@ silent_by Stopped Not Began is silent = cc
 
 module _ (call : RunCall) (is : IsAnsweredRun call) where
   abbrev Silent : Type 0
-  Silent = SentNothing call.run call.before call.after call.status call.report
+  Silent = SentNothing (run_command call.run) call.before call.after call.status call.report
 
   abbrev Session : Type 0
   Session = SessionRan call.run call.before call.after call.status call.report
@@ -44,22 +45,22 @@ module _ (call : RunCall) (is : IsAnsweredRun call) where
           scripted = ran.scripted;
           meets = ran.meets;
           once = record {
-            answered = talked.line.answered;
-            once = talked.line.log;
-            reached = talked.line.last;
-            steps = talked.line.ran;
-            keeps = talked.line.stands;
+            answered = talked.spoke.line.answered;
+            once = talked.spoke.line.log;
+            reached = talked.spoke.line.last;
+            steps = talked.spoke.line.ran;
+            keeps = talked.spoke.line.stands;
           };
-          line = record { trace = talked.line.proper; told = talked.line.told; written = ran.traced };
+          line = record { trace = talked.spoke.line.proper; told = talked.spoke.line.told; written = ran.traced };
           cause = record {
-            ends = talked.ends;
-            cause = talked.caused;
-            stops = talked.stops;
+            ends = talked.spoke.why.ends;
+            cause = talked.spoke.why.caused;
+            stops = talked.spoke.why.stops;
             blames = is.ran.blames;
-            shows = talked.shows;
-            refused = talked.refused;
+            shows = talked.shows.status_is;
+            refused = talked.shows.refused;
           };
-          fair = talked.fair;
+          fair = talked.spoke.why.fair;
           leaves = record {
             begins = talked.left.issued;
             ended = talked.left.ended;
@@ -67,10 +68,10 @@ module _ (call : RunCall) (is : IsAnsweredRun call) where
             given = talked.left.given;
             desktop = talked.left.moments;
             commit = ran.changed;
-            reached = talked.line.last;
-            handheld = talked.front;
-            keeps = talked.line.stands;
-            files = keeps-bytes talked.line talked.left;
+            reached = talked.spoke.line.last;
+            handheld = talked.spoke.front;
+            keeps = talked.spoke.line.stands;
+            files = keeps-bytes talked.spoke.line talked.left;
             limit = talked.left.over;
             loss = talked.left.losing;
           };

@@ -34,7 +34,8 @@ use Rattle.hotsync_run.specs.Ends.{StoppedBefore, StoppedBehind}
 use Rattle.hotsync_run.specs.Headline.{IsAnsweredRun, RunCall}
 use Rattle.hotsync_run.specs.LineRuns.{exchanges_in}
 use Rattle.hotsync_run.specs.Meetings.{Meets}
-use Rattle.hotsync_run.specs.Runs.{SentNothing, SessionRan}
+use Rattle.hotsync_run.specs.Runs.{SessionRan, run_command}
+use Rattle.hotsync_run.specs.SessionCalls.{SentNothing}
 use Rattle.hotsync_run.specs.Undisturbed.{AreGood, EndsWell, IsCalm, IsGoodDesktop, IsGoodHandheld}
 use Rattle.hotsync_run.specs.declared.report.SessionEnd.{SessionEnd}
 use Rattle.hotsync_run.specs.declared.report.SessionEnd.TheVariants.{Ended, NotStarted, Stopped}
@@ -217,11 +218,11 @@ module _ (call : RunCall) (good : AreGood call.before) where
         ];
       }
 
-  good-call : (end : SessionEnd) → call.report.end ≡ end → ByEnd end (SentNothing call.run call.before call.after call.status call.report)
+  good-call : (end : SessionEnd) → call.report.end ≡ end → ByEnd end (SentNothing (run_command call.run) call.before call.after call.status call.report)
       (SessionRan call.run call.before call.after call.status call.report) → AreGood call.after
   good-call NotStarted is sent = record {
     handheld = subst IsGoodHandheld (sym sent.handheld.contents) good.handheld;
-    desktop = good-finished call.before.desk.contents call.after.desk.contents good.desktop sent.desktop.stands;
+    desktop = good-finished call.before.desk.contents call.after.desk.contents good.desktop sent.desktop.stands.stands;
   }
   good-call Stopped is session = good-session session ((ran-of call session).left.stopped is)
   good-call Ended is session =
@@ -239,12 +240,12 @@ module _ (call : RunCall) (good : AreGood call.before) where
       (openable-at ran good.desktop given (within session.meeting session.meets))
 
   each-call : (end : SessionEnd) → ((meeting : Meeting) → Meets call.run call.before meeting → first_over meeting ≡ None)
-      → ByEnd end (SentNothing call.run call.before call.after call.status call.report)
+      → ByEnd end (SentNothing (run_command call.run) call.before call.after call.status call.report)
       (SessionRan call.run call.before call.after call.status call.report)
       → EachMomentSince (λ told. IfSome told IsOpenable) call.before.desk.moments call.after.desk.moments
   each-call NotStarted within sent =
       moments_weaken (FinishesAs call.before.desk.contents) (λ told. IfSome told IsOpenable) call.before.desk.moments call.after.desk.moments
-      sent.desktop.each_moment (λ told same. finishes_openable call.before.desk.contents told same (openable-before good.desktop))
+      sent.desktop.stands.each_moment (λ told same. finishes_openable call.before.desk.contents told same (openable-before good.desktop))
   each-call Stopped within session = each-session within session
   each-call Ended within session = each-session within session
 

@@ -49,7 +49,7 @@ use Rattle.front_laws.proofs.FrontLaws.{after-none, commit-ids, commit-told, ses
 use Rattle.front_laws.proofs.MergeActs.{merged}
 use Rattle.hotsync_run.specs.Ends.{EndedSession, SessionLeft, StoppedBefore, StoppedBehind}
 use Rattle.hotsync_run.specs.LineRuns.{exchanges_in, log_in, write_count}
-use Rattle.hotsync_run.specs.Talks.{left_databases, left_end}
+use Rattle.hotsync_run.specs.Closings.{left_databases, left_end}
 use Rattle.hotsync_run.specs.Told.{FolderTold}
 use Rattle.hotsync_run.specs.declared.report.Report.{Report}
 use Rattle.hotsync_run.proofs.EndLaws.{BeganWith, LoggedAll, began_with, count-append, logged_all, none-front, none-given, performed-prefix, prefix-count}

@@ -32,7 +32,8 @@ use Rattle.hotsync_run.specs.Ends.{StatusShows}
 use Rattle.hotsync_run.specs.LineRuns.{frames_in}
 use Rattle.hotsync_run.specs.Makes.{HasMade, MadeNothing, MadeRan, files_told, made_run, made_script, made_told}
 use Rattle.hotsync_looks.specs.Printed.{IsPrintedStatus}
-use Rattle.hotsync_run.specs.Talks.{IsTalk, KeptSilent, Talked, TalkedFor}
+use Rattle.hotsync_run.specs.Sessions.{KeptSilent}
+use Rattle.hotsync_run.specs.Talks.{IsRunTalk, Talked, TalkedFor}
 use Rattle.hotsync_run.specs.Told.{FolderTold, SidesTold}
 use Rattle.hotsync_run.specs.declared.report.Report.{Report}
 use Rattle.hotsync_looks.specs.declared.status.Status.{Status}
@@ -44,7 +45,8 @@ use Rattle.hotsync_run.proofs.MadeLimits.{none_lost, none_over}
 use Rattle.hotsync_run.proofs.MadeReports.{AsksNothing, made_device, made_meeting, made_meets, made_slot, reports_are}
 use Rattle.hotsync_run.proofs.MadeSides.{AreItems, made_desktop, made_finished, made_handheld, made_user_is}
 use Rattle.hotsync_run.proofs.MakeLines.{made_fair, never_stops}
-use Rattle.hotsync_run.proofs.TraceLaws.{by_end_both, by_end_then, talked_memory, talked_unsaid}
+use Rattle.hotsync_run.proofs.RetoldLaws.{by_end_both, by_end_then, retold_printed}
+use Rattle.hotsync_run.proofs.TraceLaws.{talked_retold}
 
 -- ---- the made folders
 
@@ -74,12 +76,12 @@ told_alone is = λ k. record { contents = is k; moments = None; paths = None; fa
 pub made_given : (items : List Item) {run : Run} {rules : List RuleValue} {device : Device} {slots : List SlotValue}
     {before after : SidesTold} {status : Status} {report : Report}
     → run ≡ made_run → rules ≡ made_script → before.palm ≡ files_told (handheld_files items) → before.desk ≡ files_told (desktop_files items)
-    → IsTalk run rules device slots before after status report → IsTalk made_run made_script device slots (made_told items) after status report
+    → IsRunTalk run rules device slots before after status report → IsRunTalk made_run made_script device slots (made_told items) after status report
 made_given items {run} {rules} {device} {slots} {before} {after} {status} {report} run_is rules_are palm_is desk_is talk =
     let sides : before ≡ made_told items = λ k. record { palm = palm_is k; desk = desk_is k } in
-    subst (λ (r : Run). IsTalk r made_script device slots (made_told items) after status report) run_is
-    (subst (λ (r : List RuleValue). IsTalk run r device slots (made_told items) after status report) rules_are
-    (subst (λ (s : SidesTold). IsTalk run rules device slots s after status report) sides talk))
+    subst (λ (r : Run). IsRunTalk r made_script device slots (made_told items) after status report) run_is
+    (subst (λ (r : List RuleValue). IsRunTalk run r device slots (made_told items) after status report) rules_are
+    (subst (λ (s : SidesTold). IsRunTalk run rules device slots s after status report) sides talk))
 
 meets : (items : List Item) (device : Device) (slots : List SlotValue) (wishes : Wishes) → AreItems items
     → HoldsAll (handheld_files items) device.databases device.user → device.handles ≡ no_handles → IsDesk (Some (desktop_files items)) slots
@@ -93,7 +95,7 @@ asks_nothing wishes slow actions = record { slow = slow; actions = actions }
 
 pub made_talk : {items : List Item} {device : Device} {slots : List SlotValue} (after : SidesTold) {status : Status} {report : Report}
     → AreItems items → IsMadeMerge items → HoldsAll (handheld_files items) device.databases device.user → device.handles ≡ no_handles
-    → IsDesk (Some (desktop_files items)) slots → IsTalk made_run made_script device slots (made_told items) after status report
+    → IsDesk (Some (desktop_files items)) slots → IsRunTalk made_run made_script device slots (made_told items) after status report
     → HasMade items status report
 made_talk {items} {device} {slots} after {status} {report} are merged holds closed desk talk =
     by_end_then report.end {A = KeptSilent (made_told items) after status report}
@@ -165,7 +167,7 @@ module _ {items : List Item} (after : SidesTold) (report : Report) (are : AreIte
 
   pub made_ends : {device : Device} {slots : List SlotValue} {status : Status} → HoldsAll (handheld_files items) device.databases device.user
       → device.handles ≡ no_handles → IsDesk (Some (desktop_files items)) slots
-      → IsTalk made_run made_script device slots (made_told items) after status report → IsUnsaid status → (status ≡ Done) ⊎ (status ≡ NoMemory)
+      → IsRunTalk made_run made_script device slots (made_told items) after status report → IsUnsaid status → (status ≡ Done) ⊎ (status ≡ NoMemory)
   made_ends {device} {slots} {status} holds closed desk talk unsaid =
       by_end_both report.end {A = KeptSilent (made_told items) after status report}
       {B = TalkedFor made_run made_script device slots (made_told items) after status report} {C = (status ≡ Done) ⊎ (status ≡ NoMemory)}
@@ -173,8 +175,9 @@ module _ {items : List Item} (after : SidesTold) (report : Report) (are : AreIte
       let talked = had.talked in
       let meeting = meets items device slots had.wishes are holds closed desk in
       let asks = asks_nothing had.wishes had.asked.slow had.asked.actions in
-      by_status status asks talked.ends unsaid (talked.fair (made_fair (length (frames_in report)))) talked.caused talked.line.proper.numbered
-      (subst (λ (m : Meeting). StatusShows m report status) meeting talked.shows) talk.blames.handheld talk.blames.desktop) talk.shown
+      let why = talked.spoke.why in
+      by_status status asks why.ends unsaid (why.fair (made_fair (length (frames_in report)))) why.caused talked.spoke.line.proper.numbered
+      (subst (λ (m : Meeting). StatusShows m report status) meeting talked.shows.status_is) talk.blames.handheld talk.blames.desktop) talk.shown
 
 -- ---- what is printed
 
@@ -192,23 +195,15 @@ module _ (items : List Item) (status : Status) (report : Report) where
     databases = ran.databases;
   }
 
-  made_memory : HasMade items status report → HasMade items NoMemory report
-  made_memory has =
-      by_end_then report.end {A = MadeNothing status report} {B = MadeRan items status report} {C = MadeNothing NoMemory report}
-      {D = MadeRan items NoMemory report}
-      (λ nothing. record { memory = refl; report_is = nothing.report_is }) (λ ran. ran_as ran (talked_memory ran.talked.talked)) has
-
-  made_unsaid : status ≡ Done → HasMade items status report → HasMade items OutWrite report
-  made_unsaid done has =
-      by_end_then report.end {A = MadeNothing status report} {B = MadeRan items status report} {C = MadeNothing OutWrite report}
-      {D = MadeRan items OutWrite report}
-      (λ nothing. let memory = nothing.memory in absurd cc) (λ ran. ran_as ran (talked_unsaid ran.talked.talked done)) has
+  nothing_printed : (printed : Status) → IsPrintedStatus status printed → MadeNothing status report → MadeNothing printed report
+  nothing_printed printed e nothing = grind (arith, common_steps)
 
   -- what is known of it stays, whatever is printed of it
   pub made_printed : (printed : Status) → IsPrintedStatus status printed → HasMade items status report → HasMade items printed report
-  made_printed printed (inl same) has = subst (λ (s : Status). HasMade items s report) (sym same) has
-  made_printed printed (inr (inl memory)) has = grind (arith, made_memory has)
-  made_printed printed (inr (inr unsaid)) has = grind (arith, made_unsaid unsaid.0 has)
+  made_printed printed is has =
+      by_end_then report.end {A = MadeNothing status report} {B = MadeRan items status report} {C = MadeNothing printed report}
+      {D = MadeRan items printed report} (nothing_printed printed is)
+      (λ ran. ran_as ran (talked_retold printed (retold_printed printed is) ran.talked.talked)) has
 
 pub ends_printed : {status : Status} (printed : Status) → IsPrintedStatus status printed → (status ≡ Done) ⊎ (status ≡ NoMemory)
     → (printed ≡ Done) ⊎ (printed ≡ NoMemory) ⊎ (printed ≡ OutWrite)

@@ -55,5 +55,5 @@ made-proper seed count out out_after status report is begun = by report.end is.r
 
     by : (end : SessionEnd) → ByEnd end (MadeNothing status report) (MadeRan items status report) → HasBegun end → IsProperTrace (frames_in report)
     by NotStarted nothing begun = absurd begun
-    by Ended ran begun = line_proper ran.talked.talked.line
-    by Stopped ran begun = line_proper ran.talked.talked.line
+    by Ended ran begun = line_proper ran.talked.talked.spoke.line
+    by Stopped ran begun = line_proper ran.talked.talked.spoke.line

@@ -13,12 +13,13 @@ use Rattle.trace_text.specs.declared.frame.End.{End}
 use Rattle.trace_text.specs.declared.frame.End.TheVariants as line_end
 use Rattle.hotsync_run.specs.Causes.{ByEnd, HasBegun}
 use Rattle.hotsync_looks.specs.Opening.{OpensAtMost, OpensGivenAtMost}
-use Rattle.hotsync_run.specs.Refusals.{BlamesHandheld, BlamesScript, DesktopRefuses, HandheldRefuses, HasDesktop, HasHandheld, IsDesktopFailure, IsHandheldFailure}
+use Rattle.hotsync_run.specs.Refusals.{BlamesHandheld, BlamesSource, DesktopRefuses, HandheldRefuses, HasDesktop, HasHandheld, IsDesktopFailure, IsHandheldFailure}
 use Rattle.hotsync_run.specs.Refusals.{IsTraceRefusal, LeavesDesktopUnread}
 use Rattle.hotsync_looks.specs.FolderFaults.{desktop_status, handheld_status}
 use Rattle.hotsync_run.specs.Refusals.{TraceRefuses}
 use Rattle.hotsync_run.specs.Reports.{IsNotStarted}
-use Rattle.hotsync_run.specs.Runs.{HasRun, OpensNamed, SentNothing, SessionRan, StandsAsItDid, StaysAsItWas}
+use Rattle.hotsync_run.specs.Runs.{HasRun, SessionRan, StandsAsItDid, run_command, run_paths}
+use Rattle.hotsync_run.specs.SessionCalls.{OpensNamed, SentNothing, StaysAsItWas}
 use Rattle.hotsync_run.specs.Scripts.{HasScript, IsScriptRefusal, ScriptRefuses}
 use Rattle.hotsync_run.specs.Told.{CallTold, FolderTold}
 use Rattle.hotsync_run.specs.declared.report.Report.{Report}
@@ -47,7 +48,7 @@ pub record IsHandheldAlone (refusal : Status) : Type 0 where
   pub trace : refusal ≡ TraceWrite → ⊥
   pub done : refusal ≡ Done → ⊥
   pub out : refusal ≡ OutWrite → ⊥
-  pub script : BlamesScript refusal → ⊥
+  pub script : BlamesSource refusal → ⊥
   pub in_use : refusal ≡ InUse line_end.Desktop → ⊥
   pub unread : LeavesDesktopUnread refusal → ⊥
 
@@ -72,7 +73,7 @@ pub record IsDesktopAlone (refusal : Status) : Type 0 where
   pub trace : refusal ≡ TraceWrite → ⊥
   pub done : refusal ≡ Done → ⊥
   pub out : refusal ≡ OutWrite → ⊥
-  pub script : BlamesScript refusal → ⊥
+  pub script : BlamesSource refusal → ⊥
   pub palm : BlamesHandheld refusal → ⊥
   pub in_use : refusal ≡ InUse line_end.Handheld → ⊥
 
@@ -97,7 +98,7 @@ pub record IsTraceAlone (refusal : Status) : Type 0 where
   pub desktop : refusal ≡ DesktopFolder → ⊥
   pub done : refusal ≡ Done → ⊥
   pub out : refusal ≡ OutWrite → ⊥
-  pub script : BlamesScript refusal → ⊥
+  pub script : BlamesSource refusal → ⊥
   pub palm : BlamesHandheld refusal → ⊥
   pub in_use : (end : End) → refusal ≡ InUse end → ⊥
   pub unread : LeavesDesktopUnread refusal → ⊥
@@ -116,24 +117,24 @@ stands_same {before} same = grind (arith, no_moment (FinishesAs before.contents)
 module _ (run : Run) (before after : CallTold) {report : Report} (is : IsNotStarted report) where
   opens_refused : OpensAtMost run.handheld before.palm.paths after.palm.paths → OpensAtMost run.desktop before.desk.paths after.desk.paths
       → OpensGivenAtMost run.script before.source.paths after.source.paths → OpensGivenAtMost run.trace before.trace.paths after.trace.paths
-      → OpensNamed run before after report.end
+      → OpensNamed (run_paths run) before after report.end
   opens_refused handheld desktop script trace =
       let none : HasBegun report.end → ⊥ = λ begun. subst HasBegun is.end begun in
       record {
         handheld = handheld;
         desktop = desktop;
-        script = script;
+        source = script;
         trace = trace;
         handheld_opened = λ begun. absurd (none begun);
         desktop_opened = λ begun. absurd (none begun);
-        script_opened = λ begun. absurd (none begun);
+        source_opened = λ begun. absurd (none begun);
         trace_opened = λ begun. absurd (none begun);
       }
 
-  shows_refused : (status : Status) → SentNothing run before after status report
-      → ByEnd report.end (SentNothing run before after status report) (SessionRan run before after status report)
+  shows_refused : (status : Status) → SentNothing (run_command run) before after status report
+      → ByEnd report.end (SentNothing (run_command run) before after status report) (SessionRan run before after status report)
   shows_refused status sent =
-      subst (λ (e : SessionEnd). ByEnd e (SentNothing run before after status report) (SessionRan run before after status report)) (sym is.end) sent
+      subst (λ (e : SessionEnd). ByEnd e (SentNothing (run_command run) before after status report) (SessionRan run before after status report)) (sym is.end) sent
 
   -- a run whose script refuses it
   pub by_script : {refusal : Status} → ScriptRefuses run.script before.source.left refusal
@@ -146,8 +147,7 @@ module _ (run : Run) (before after : CallTold) {report : Report} (is : IsNotStar
           judged = inr (inl refuses);
           report_is = is;
           handheld = stays_same palm;
-          desktop = stands_same desk;
-          unread = λ unread. stays_same desk;
+          desktop = record { stands = stands_same desk; unread = λ unread. stays_same desk };
           trace = ap (λ told. told.taken) trace;
         });
         blames = record {
@@ -173,8 +173,7 @@ module _ (run : Run) (before after : CallTold) {report : Report} (is : IsNotStar
           judged = inr (inr (script, inl refuses));
           report_is = is;
           handheld = stays;
-          desktop = stands_same desk;
-          unread = λ unread. stays_same desk;
+          desktop = record { stands = stands_same desk; unread = λ unread. stays_same desk };
           trace = ap (λ told. told.taken) trace;
         });
         blames = record {
@@ -201,8 +200,7 @@ module _ (run : Run) (before after : CallTold) {report : Report} (is : IsNotStar
           judged = inr (inr (script, inr (handheld, inl refuses)));
           report_is = is;
           handheld = stays;
-          desktop = stands;
-          unread = unread;
+          desktop = record { stands = stands; unread = unread };
           trace = ap (λ told. told.taken) trace;
         });
         blames = record {
@@ -229,8 +227,7 @@ module _ (run : Run) (before after : CallTold) {report : Report} (is : IsNotStar
           judged = inr (inr (script, inr (handheld, inr (desktop, refuses))));
           report_is = is;
           handheld = stays;
-          desktop = stands;
-          unread = λ unread. absurd (alone.unread unread);
+          desktop = record { stands = stands; unread = λ unread. absurd (alone.unread unread) };
           trace = taken;
         });
         blames = record {

@@ -1,6 +1,6 @@
 -- What is known of a run, whatever is printed of it.
 use Rattle.std.proofs.lemmas.Grind.{common_steps}
-use Rattle.std.proofs.Common.{◌≡◌, ◌≢◌, ◌⊎◌, ℕ, List, inl, inr, refl, sym, subst, arith}
+use Rattle.std.proofs.Common.{◌≡◌, ◌≢◌, ℕ, List, inl, inr, refl, sym, subst, arith}
 use Rattle.std.specs.Prelude.{Option}
 use Rattle.handheld_files.specs.declared.fault.OpenFault.{OpenFault}
 use Rattle.desk_store.specs.declared.fault.DeskOpenFault.{DeskOpenFault}
@@ -10,17 +10,17 @@ use Rattle.hotsync_looks.specs.Printed.{IsPrintedStatus}
 use Rattle.hotsync_run.specs.Refusals.{IsDesktopFailure, IsHandheldFailure}
 use Rattle.hotsync_run.specs.Refusals.{IsRefused}
 use Rattle.hotsync_looks.specs.FolderFaults.{desktop_status, handheld_status}
-use Rattle.hotsync_run.specs.Runs.{HasRun, SentNothing, SessionRan}
+use Rattle.hotsync_run.specs.Runs.{HasRun, SessionRan, run_command}
 use Rattle.hotsync_run.specs.Scripts.{IsScriptRefusal}
-use Rattle.hotsync_run.specs.Talks.{Talked}
 use Rattle.hotsync_looks.specs.Told.{SinkTold}
-use Rattle.hotsync_run.specs.Told.{CallTold, sides_of}
+use Rattle.hotsync_run.specs.Told.{CallTold}
 use Rattle.hotsync_run.specs.Traces.{IsTraced}
-use Rattle.hotsync_run.proofs.TraceLaws.{by_end_then, talked_memory, talked_unsaid}
+use Rattle.hotsync_run.proofs.CallPrinted.{IsPrintable, call_printed}
+use Rattle.hotsync_run.proofs.RetoldLaws.{IsRetold, StaysShown}
+use Rattle.hotsync_run.proofs.TraceLaws.{talked_retold}
 use Rattle.hotsync_run.specs.declared.report.Report.{Report}
 use Rattle.hotsync_looks.specs.declared.status.Status.{Status}
-use Rattle.hotsync_looks.specs.declared.status.Status.TheVariants.{Done, OutWrite}
-use Rattle.hotsync_looks.specs.declared.status.Status.TheVariants.{NoMemory}
+use Rattle.hotsync_looks.specs.declared.status.Status.TheVariants.{Done, NoMemory}
 
 traced_as : {path : Option (List ℕ)} {text : List ℕ} {before after : SinkTold} {status : Status} (other : Status)
     → (other ≡ Done → status ≡ Done) → (other ≢ NoMemory → status ≢ NoMemory) → IsTraced path text before after status
@@ -31,46 +31,7 @@ traced_as other was_done served traced = record {
   whole = λ named calm other_is. traced.whole named calm (served other_is);
 }
 
-module _ {run : Run} {before after : CallTold} {status : Status} {report : Report} where
-  sent_memory : SentNothing run before after status report → SentNothing run before after NoMemory report
-  sent_memory sent =
-      record {
-        judged = inl refl;
-        report_is = sent.report_is;
-        handheld = sent.handheld;
-        desktop = sent.desktop;
-        unread = λ unread. absurd unread;
-        trace = sent.trace;
-      }
-
-  ran_as : {other : Status} (ran : SessionRan run before after status report)
-      → Talked ran.rules ran.meeting (sides_of before) (sides_of after) other report → (other ≡ Done → status ≡ Done)
-      → (other ≢ NoMemory → status ≢ NoMemory) → SessionRan run before after other report
-  ran_as {other} ran talked was_done served = record {
-    rules = ran.rules;
-    scripted = ran.scripted;
-    meeting = ran.meeting;
-    meets = ran.meets;
-    changed = ran.changed;
-    talked = talked;
-    traced = traced_as other was_done served ran.traced;
-  }
-
-  -- a run whose status can't be said for want of memory
-  run_memory : HasRun run before after status report → HasRun run before after NoMemory report
-  run_memory has = record {
-    shown = by_end_then report.end {A = SentNothing run before after status report} {B = SessionRan run before after status report}
-        {C = SentNothing run before after NoMemory report} {D = SessionRan run before after NoMemory report} sent_memory (λ ran. ran_as ran
-        (talked_memory ran.talked) (λ e. cc) (λ served. absurd (served refl))) has.shown;
-    blames = record {
-      source = λ e. cc;
-      folders = record { handheld = λ e. cc; desktop = λ e. cc };
-      handheld_in_use = λ e. cc;
-      desktop_in_use = λ e. cc;
-      trace = λ e. cc;
-    };
-    opened = has.opened;
-  }
+-- ---- what was judged
 
 refused_not_done : (run : Run) (before : CallTold) {status : Status} → IsRefused run before status → status ≡ Done → ⊥
 refused_not_done run before e f = grind (arith, common_steps)
@@ -108,30 +69,33 @@ module _ (run : Run) (before : CallTold) (status : Status) where
         | inr is ↦ subst (λ (s : Status). ¬ IsLineStop s) (sym is) (λ no. no)
       ]
 
-  sent_not_done : (status ≡ NoMemory) ⊎ IsRefused run before status → status ≡ Done → ⊥
-  sent_not_done (inl memory) done = cc
-  sent_not_done (inr refused) done = refused_not_done run before refused done
+-- ---- the run
 
--- one that was done and can't be said because standard output failed
-module _ {run : Run} {before after : CallTold} {status : Status} {report : Report} (has : HasRun run before after status report) where
-  run_unsaid : status ≡ Done → HasRun run before after OutWrite report
-  run_unsaid done = record {
-    shown = by_end_then report.end {A = SentNothing run before after status report} {B = SessionRan run before after status report}
-        {C = SentNothing run before after OutWrite report} {D = SessionRan run before after OutWrite report}
-        (λ sent. absurd (sent_not_done run before status sent.judged done)) (λ ran. ran_as ran (talked_unsaid ran.talked done) (λ e. cc) (λ served e. cc))
-        has.shown;
-    blames = record {
-      source = λ e. cc;
-      folders = record { handheld = λ e. cc; desktop = λ e. cc };
-      handheld_in_use = λ e. cc;
-      desktop_in_use = λ e. cc;
-      trace = λ e. cc;
-    };
-    opened = has.opened;
-  }
+retold_done : {status : Status} (other : Status) → IsRetold status other → other ≡ Done → status ≡ Done
+retold_done other e done = grind (arith, common_steps)
 
-  -- what is known of a run stays, whatever is printed of it
-  pub run_printed : (printed : Status) → IsPrintedStatus status printed → HasRun run before after printed report
-  run_printed printed (inl same) = subst (λ (s : Status). HasRun run before after s report) (sym same) has
-  run_printed printed (inr (inl memory)) = subst (λ (s : Status). HasRun run before after s report) (sym memory) (run_memory has)
-  run_printed printed (inr (inr unsaid)) = subst (λ (s : Status). HasRun run before after s report) (sym unsaid.1) (run_unsaid unsaid.0)
+retold_served : {status : Status} (other : Status) → IsRetold status other → other ≢ NoMemory → status ≢ NoMemory
+retold_served other e served = grind (arith, common_steps)
+
+ran_retold : (run : Run) (before after : CallTold) → StaysShown (SessionRan run before after)
+ran_retold run before after status other report is ran = record {
+  rules = ran.rules;
+  scripted = ran.scripted;
+  meeting = ran.meeting;
+  meets = ran.meets;
+  changed = ran.changed;
+  talked = talked_retold other is ran.talked;
+  traced = traced_as other (retold_done other is) (retold_served other is) ran.traced;
+}
+
+run_printable : (run : Run) → IsPrintable (run_command run)
+run_printable run = record {
+  not_done = λ before judged. refused_not_done run before judged refl;
+  kept = λ before after status kept. record { stands = kept.stands; unread = λ unread. absurd unread };
+  stays = λ before after. ran_retold run before after;
+}
+
+-- what is known of a run stays, whatever is printed of it
+pub run_printed : {run : Run} {before after : CallTold} {status : Status} {report : Report} → HasRun run before after status report
+    → (printed : Status) → IsPrintedStatus status printed → HasRun run before after printed report
+run_printed {run} has printed is = call_printed (run_printable run) printed is has

@@ -19,18 +19,21 @@ use Rattle.session_plan.specs.Merges.{merged_slots}
 use Rattle.sync_session.specs.Outcomes.{StandsForSlots}
 use Rattle.session_plan.specs.Tasks.{Meeting, meeting_of}
 use Rattle.trace_text.specs.declared.frame.End.TheVariants as line_end
-use Rattle.hotsync_run.specs.Ends.{SessionLeft, StandsAtFront}
+use Rattle.hotsync_run.specs.Ends.{SessionLeft}
 use Rattle.hotsync_run.specs.LineRuns.{LineRan, exchanges_in}
 use Rattle.hotsync_looks.specs.Opening.{Opens, OpensGiven, OpensGivenAtMost}
-use Rattle.hotsync_run.specs.Refusals.{BlamesScript}
+use Rattle.hotsync_run.specs.Refusals.{BlamesSource}
 use Rattle.hotsync_run.specs.Refusals.{LeavesDesktopUnread}
-use Rattle.hotsync_run.specs.Runs.{HasRun, SentNothing, SessionRan, StandsAsItDid, StaysAsItWas}
+use Rattle.hotsync_run.specs.Runs.{HasRun, SessionRan, StandsAsItDid, run_command}
+use Rattle.hotsync_run.specs.SessionCalls.{SentNothing, StaysAsItWas}
+use Rattle.hotsync_run.specs.Sessions.{Agenda, KeptSilent, Spoke, StandsAtFront}
 use Rattle.hotsync_run.specs.Scripts.{IsScripted}
-use Rattle.hotsync_run.specs.Talks.{DesktopRan, IsTalk, KeptSilent, Talked, TalkedFor}
+use Rattle.hotsync_run.specs.Talks.{DesktopRan, IsRunTalk, Talked, TalkedFor}
 use Rattle.hotsync_looks.specs.Told.{SinkTold, SourceTold}
 use Rattle.hotsync_run.specs.Told.{CallTold, FolderTold, SidesTold, sides_of}
 use Rattle.hotsync_run.specs.Traces.{IsTraced, TracesReport}
-use Rattle.hotsync_run.proofs.TraceLaws.{by_end_then, talk_not_in_use, talk_not_script}
+use Rattle.hotsync_run.proofs.RetoldLaws.{by_end_then}
+use Rattle.hotsync_run.proofs.TraceLaws.{talk_not_in_use, talk_not_source}
 use Rattle.hotsync_run.specs.declared.report.Report.{Report}
 use Rattle.hotsync_run.specs.declared.report.SessionEnd.{SessionEnd}
 use Rattle.hotsync_looks.specs.declared.status.Status.{Status}
@@ -57,6 +60,19 @@ line_from rules device first before after report stays line = record {
   writes = line.writes;
   to_handheld = line.to_handheld;
   to_desktop = line.to_desktop;
+}
+
+-- what was said, told from an earlier time on
+spoke_from : {agenda : Agenda} {first before after : FolderTold} {status : Status} {report : Report} → StaysAsItWas first before
+    → Spoke agenda before after status report → Spoke agenda first after status report
+spoke_from {agenda} {first} {before} {after} {report = report} stays spoke = record {
+  line = line_from agenda.rules agenda.device first before after report stays spoke.line;
+  issued = spoke.issued;
+  why = spoke.why;
+  dealt = spoke.dealt;
+  stopped = spoke.stopped;
+  front = spoke.front;
+  fronts = subst (λ (m : Moments). EachMomentSince (StandsAtFront agenda.device agenda.asked) m after.moments) stays.moments spoke.fronts;
 }
 
 -- what a session left, told from before a journal was finished on
@@ -87,19 +103,9 @@ talked_from : {rules : List RuleValue} {meeting : Meeting} {first : SidesTold} (
     {report : Report} → StaysAsItWas first.palm before.palm → StandsAsItDid first.desk before.desk → Talked rules meeting before after status report
     → Talked rules meeting first after status report
 talked_from {rules} {meeting} {first} before {after} {report} stays stood talked = record {
-  line = line_from rules meeting.device first.palm before.palm after.palm report stays talked.line;
-  ends = talked.ends;
-  caused = talked.caused;
-  stops = talked.stops;
-  fair = talked.fair;
-  faulted = talked.faulted;
-  dealt = talked.dealt;
-  stopped = talked.stopped;
+  spoke = spoke_from stays talked.spoke;
   left = left_from stood talked.left;
   shows = talked.shows;
-  refused = talked.refused;
-  front = talked.front;
-  fronts = subst (λ (m : Moments). EachMomentSince (StandsAtFront meeting) m after.palm.moments) stays.moments talked.fronts;
 }
 
 traced_from : {path : Option (List ℕ)} {text : List ℕ} (first : SinkTold) {before after : SinkTold} {status : Status} → before.taken ≡ first.taken
@@ -163,13 +169,15 @@ both_told palm desk = record { palm = palm; desk = desk }
 module _ {run : Run} (before after : CallTold) {palm desk : FolderTold} {trace : SinkTold} {rules : List RuleValue} {device : Device}
     {slots : List SlotValue} {status : Status} {report : Report} (opened : AreOpened run before after.source palm desk trace rules device slots) where
   silent_run : TracesReport run.trace report trace after.trace status → KeptSilent (both_told palm desk) (sides_of after) status report
-      → SentNothing run before after status report
+      → SentNothing (run_command run) before after status report
   silent_run traced silent = record {
     judged = inl silent.memory;
     report_is = silent.report_is;
     handheld = subst (StaysAsItWas before.palm) (sym silent.handheld) opened.stays;
-    desktop = subst (StandsAsItDid before.desk) (sym silent.desktop) opened.stands;
-    unread = λ unread. absurd (subst LeavesDesktopUnread silent.memory unread);
+    desktop = record {
+      stands = subst (StandsAsItDid before.desk) (sym silent.desktop) opened.stands;
+      unread = λ unread. absurd (subst LeavesDesktopUnread silent.memory unread);
+    };
     trace = traced.silent silent.report_is.frames ∙ opened.trace_taken;
   }
 
@@ -192,14 +200,14 @@ module _ {run : Run} (before after : CallTold) {palm desk : FolderTold} {trace :
   }
 
   -- a run with a session
-  pub by_session : IsTalk run rules device slots (both_told palm desk) (sides_of after) status report → TracesReport run.trace report trace after.trace status
+  pub by_session : IsRunTalk run rules device slots (both_told palm desk) (sides_of after) status report → TracesReport run.trace report trace after.trace status
       → HasRun run before after status report
   by_session talk traced = record {
     shown = by_end_then report.end {A = KeptSilent (both_told palm desk) (sides_of after) status report}
-        {B = TalkedFor run rules device slots (both_told palm desk) (sides_of after) status report} {C = SentNothing run before after status report}
+        {B = TalkedFor run rules device slots (both_told palm desk) (sides_of after) status report} {C = SentNothing (run_command run) before after status report}
         {D = SessionRan run before after status report} (silent_run traced) (session_run traced) talk.shown;
     blames = record {
-      source = λ e. absurd (talk_not_script talk (subst BlamesScript (sym e) tt));
+      source = λ e. absurd (talk_not_source talk (subst BlamesSource (sym e) tt));
       folders = record {
         handheld = λ e. rose_earlier (2 ^ 64 - 1) before.palm.faults palm.faults after.palm.faults opened.palm_later (talk.blames.handheld e);
         desktop = λ e. rose_earlier (2 ^ 64 - 1) before.desk.faults desk.faults after.desk.faults opened.desk_later (talk.blames.desktop e);
@@ -211,11 +219,11 @@ module _ {run : Run} (before after : CallTold) {palm desk : FolderTold} {trace :
     opened = record {
       handheld = inr (talk.paths.handheld ∙ opened.palm_opened);
       desktop = inr (talk.paths.desktop ∙ opened.desk_opened);
-      script = opened.script;
+      source = opened.script;
       trace = subst (OpensGivenAtMost run.trace before.trace.paths) (sym traced.paths) opened.trace_at_most;
       handheld_opened = λ begun. talk.paths.handheld ∙ opened.palm_opened;
       desktop_opened = λ begun. talk.paths.desktop ∙ opened.desk_opened;
-      script_opened = λ begun. opened.script_opened;
+      source_opened = λ begun. opened.script_opened;
       trace_opened = λ begun. subst (OpensGiven run.trace before.trace.paths) (sym traced.paths) opened.trace_opened;
     };
   }

@@ -15,7 +15,7 @@ use Rattle.desktop_session.specs.Says.{IsPrefix}
 use Rattle.line_script.specs.Rules.{RuleValue}
 use Rattle.sync_session.specs.Fronts.{MeetingFront}
 use Rattle.session_plan.specs.Limits.{first_over}
-use Rattle.sync_session.specs.Sessions.{before_writes, writes_before_commit}
+use Rattle.sync_session.specs.Sessions.{before_writes, requests, writes_before_commit}
 use Rattle.session_plan.specs.Tasks.{Meeting}
 use Rattle.sync_session.proofs.QuietLaws.{quiet-before_writes}
 use Rattle.front_laws.specs.Sound.{IsSoundMeeting}
@@ -90,7 +90,7 @@ module _ {rules : List RuleValue} {meeting : Meeting} {before after desk desk_af
     where
       by : (over : Option (List ℕ)) → first_over meeting ≡ over → HasSkipped meeting reached
       by None none skipped idle =
-          let at = front-some meeting line left.issued front back reached is ran in
+          let at = front-some meeting.device (requests meeting) line left.issued front back reached is ran in
           at-front meeting at.writes at.given reached left.sound none at.front skipped idle
       by (Some name) passed skipped idle =
           ap (λ (ds : List DatabaseValue). database_of skipped ds)

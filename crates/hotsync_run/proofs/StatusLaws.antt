@@ -27,9 +27,10 @@ use Rattle.session_plan.specs.Tasks.{Meeting}
 use Rattle.session_parts.specs.declared.report.DbReport.{DbReport}
 use Rattle.session_parts.specs.declared.stop.Stop.{Stop}
 use Rattle.session_parts.specs.declared.stop.Stop.TheVariants as stop
-use Rattle.hotsync_run.specs.Causes.{down_status, fault_status, stop_status}
-use Rattle.hotsync_run.specs.Ends.{IsCutShort, IsToldRefusal, SaidAll, StatusShows, status_refused}
-use Rattle.hotsync_run.specs.Talks.{left_status}
+use Rattle.hotsync_run.specs.Causes.{IsCutShort, down_status, fault_status, stop_status}
+use Rattle.hotsync_run.specs.Ends.{IsToldRefusal, StatusShows, status_refused}
+use Rattle.hotsync_run.specs.LineRuns.{SaidAll}
+use Rattle.hotsync_run.specs.Closings.{left_status}
 use Rattle.hotsync_run.specs.Told.{FolderTold}
 use Rattle.hotsync_run.specs.declared.report.Report.{Report}
 use Rattle.hotsync_looks.specs.declared.status.Status.{Status}

@@ -1,19 +1,14 @@
 -- Where the last frame ends the run, the status names it.
 use Rattle.std.proofs.Common.{arith, ◌≡◌, ◌<◌, ap, inl, inr, refl, ℕ, List, length}
-use Rattle.std.specs.Prelude.{Some, replicate}
+use Rattle.std.specs.Prelude.{Some}
 use Rattle.line_steps.specs.declared.harm.Stop.{Stop}
 use Rattle.line_world.proofs.StopLaws.{goes-on, stops-so}
 use Rattle.line_world.specs.Causes.{BearsOut}
 use Rattle.line_world.specs.Stops.{EndsBy, stop_cause}
 use Rattle.line_world.specs.Worlds.{EndsAcknowledged}
 use Rattle.line_world.specs.declared.down.Down.TheVariants as down
-use Rattle.sync_session.specs.Sessions.{adds_of}
-use Rattle.sync_session.specs.Outcomes.{requests_before_commit}
-use Rattle.session_plan.specs.Tasks.{Meeting}
-use Rattle.hotsync_run.proofs.LeftLaws.{before-longer}
-use Rattle.hotsync_run.proofs.WholeLaws.{goes_on, two-first}
+use Rattle.hotsync_run.proofs.WholeLaws.{goes_on}
 use Rattle.hotsync_run.specs.Causes.{EndsAs, cause_in, down_status}
-use Rattle.hotsync_run.specs.Ends.{SaidAll, StatusShows}
 use Rattle.hotsync_run.specs.LineRuns.{frames_in, log_in}
 use Rattle.hotsync_run.specs.Stops.{TellsStop}
 use Rattle.hotsync_run.specs.Whole.{DealtWith, StopsAnswered}
@@ -24,30 +19,26 @@ use Rattle.hotsync_looks.specs.declared.status.Status.TheVariants.{Done, Usage, 
 use Rattle.hotsync_looks.specs.declared.status.Status.TheVariants.{TraceWrite, OutWrite, NoMemory, LineDown, Unplugged, Aborted, Undetected, OtherUser}
 use Rattle.hotsync_looks.specs.declared.status.Status.TheVariants.{TooManyUsers, Limit, NewHandheld, WrongSide, InUse, CannotExport, BadRecord, BadText, Overfull, BadTrace, NotProper}
 
-commit_some : (meeting : Meeting) → 0 < length (requests_before_commit meeting)
-commit_some meeting = omega (arith, before-longer meeting (replicate (adds_of meeting) 0))
-
 -- all that is known of a status and the frames behind it
-pub record Spoken (meeting : Meeting) (status : Status) (report : Report) (answered : ℕ) : Type 0 where
+pub record Spoken (asked : List (List ℕ)) (status : Status) (report : Report) (answered : ℕ) : Type 0 where
   pub ends : EndsAs status report.end
   pub caused : BearsOut (cause_in status report.faulted.items) (frames_in report)
-  pub dealt : DealtWith meeting status report answered
-  pub shows : StatusShows meeting report status
+  pub dealt : DealtWith asked status report answered
+  pub some : StopsAnswered status → 0 < length (log_in report).issued
   pub acked : 0 < answered → length (log_in report).issued ≡ answered → EndsAcknowledged (log_in report) (frames_in report)
 
-module _ {meeting : Meeting} {report : Report} {answered : ℕ} where
+module _ {asked : List (List ℕ)} {report : Report} {answered : ℕ} where
   -- a session that ended went over whole
-  none_ended : {status : Status} {why : Stop} → Spoken meeting status report answered → report.end ≡ Ended → EndsBy why (frames_in report) → ⊥
+  none_ended : {status : Status} {why : Stop} → Spoken asked status report answered → report.end ≡ Ended → EndsBy why (frames_in report) → ⊥
   none_ended it ended by = goes_on by ((it.dealt.whole ended).acked.acked)
 
   -- one that stopped behind the answers to some requests ends with an acknowledgement
-  none_answered : {status : Status} {why : Stop} {said : List (List ℕ)} → Spoken meeting status report answered → StopsAnswered status
-      → SaidAll said report → 0 < length said → EndsBy why (frames_in report) → ⊥
-  none_answered it stops all some by =
+  none_answered : {status : Status} {why : Stop} → Spoken asked status report answered → StopsAnswered status → EndsBy why (frames_in report) → ⊥
+  none_answered it stops by =
       let same = it.dealt.all (inr stops) in
-      goes_on by ((it.acked (omega (arith, some, same, ap length all.issued)) same).acked)
+      goes_on by ((it.acked (omega (arith, it.some stops, same)) same).acked)
 
-  pub tells_stop : (status : Status) → Spoken meeting status report answered → TellsStop status (frames_in report)
+  pub tells_stop : (status : Status) → Spoken asked status report answered → TellsStop status (frames_in report)
   tells_stop Done it why by = absurd (none_ended it it.ends by)
   tells_stop TraceWrite it why by = absurd (none_ended it it.ends by)
   tells_stop OutWrite it why by = absurd (none_ended it it.ends by)
@@ -66,11 +57,11 @@ module _ {meeting : Meeting} {report : Report} {answered : ℕ} where
   tells_stop (Overfull what) it why by = absurd it.ends
   tells_stop (BadTrace line) it why by = absurd it.ends
   tells_stop (NotProper rule) it why by = absurd it.ends
-  tells_stop (OtherUser handheld desktop) it why by = absurd (none_answered it tt it.shows.1 (omega arith) by)
-  tells_stop TooManyUsers it why by = absurd (none_answered it tt it.shows.1 (omega arith) by)
-  tells_stop (Limit name) it why by = absurd (none_answered it tt it.shows.1 (omega (arith, two-first meeting)) by)
-  tells_stop (NewHandheld name) it why by = absurd (none_answered it tt it.shows.2 (omega (arith, two-first meeting)) by)
-  tells_stop DesktopFolder it why by = absurd (none_answered it tt it.shows (commit_some meeting) by)
+  tells_stop (OtherUser handheld desktop) it why by = absurd (none_answered it tt by)
+  tells_stop TooManyUsers it why by = absurd (none_answered it tt by)
+  tells_stop (Limit name) it why by = absurd (none_answered it tt by)
+  tells_stop (NewHandheld name) it why by = absurd (none_answered it tt by)
+  tells_stop DesktopFolder it why by = absurd (none_answered it tt by)
   tells_stop (LineDown end) it why by = absurd (goes-on by it.caused.0.go)
   tells_stop HandheldFolder it why by = absurd (goes-on by it.caused)
   tells_stop (Unplugged number) it why by =

@@ -30,7 +30,8 @@ use Rattle.hotsync_looks.specs.Printed.{IsPrinted}
 use Rattle.hotsync_looks.specs.FolderFaults.{desktop_status, handheld_status}
 use Rattle.hotsync_run.specs.Refusals.{DesktopRefuses, HandheldRefuses, IsDesktopFailure, IsHandheldFailure, IsRefused}
 use Rattle.hotsync_run.specs.Refusals.{is_desktop, is_handheld}
-use Rattle.hotsync_run.specs.Runs.{HasRun, SentNothing, SessionRan}
+use Rattle.hotsync_run.specs.Runs.{HasRun, SessionRan, run_command}
+use Rattle.hotsync_run.specs.SessionCalls.{SentNothing}
 use Rattle.hotsync_run.specs.Scripts.{IsScript, IsScriptRefusal, ScriptRefuses, ScriptShows}
 use Rattle.hotsync_looks.specs.Told.{SinkTold}
 use Rattle.hotsync_run.specs.Told.{CallTold}
@@ -188,13 +189,13 @@ session_ends_well {status} {report} calm blames ran =
     let talked = ran.talked in
     let kind = calm.calm.line ran.rules ran.scripted in
     ends_well {meeting = ran.meeting} status {report = report} (record {
-      ends = talked.ends;
-      caused = talked.caused;
-      shows = talked.shows;
+      ends = talked.spoke.why.ends;
+      caused = talked.spoke.why.caused;
+      shows = talked.shows.status_is;
       blames = blames;
-      up = talked.fair kind.fair;
-      unplugged = never_unplugged (fate_by ran.rules) (frames_in report) talked.line.proper.numbered kind.goes_on;
-      aborted = never_aborted (fate_by ran.rules) (frames_in report) talked.line.proper.numbered kind.goes_on;
+      up = talked.spoke.why.fair kind.fair;
+      unplugged = never_unplugged (fate_by ran.rules) (frames_in report) talked.spoke.line.proper.numbered kind.goes_on;
+      aborted = never_aborted (fate_by ran.rules) (frames_in report) talked.spoke.line.proper.numbered kind.goes_on;
       may_meet = calm.calm.sides ran.meeting ran.meets;
     })
 
@@ -223,5 +224,5 @@ module _ (run : Run) (before after : CallTold) (out out_after : SinkTold) (statu
         trace = λ e. failed.tracing (has.blames.trace e);
         out = λ e. failed.printing (printed.failed e);
       } in
-      by_end_well report.end (SentNothing run before after status report) (SessionRan run before after status report) (EndsWell status report)
+      by_end_well report.end (SentNothing (run_command run) before after status report) (SessionRan run before after status report) (EndsWell status report)
       (λ sent. sent_nothing_well calm blames sent.judged) (session_ends_well calm blames) has.shown

@@ -1,5 +1,5 @@
 -- What holds of every call, by what its words ask for.
-use Rattle.std.specs.Prelude.{◌≡◌, ◌⊎◌, ⊤, ℕ, IsSome, List, Option, None, Some, String, map, string_bytes}
+use Rattle.std.specs.Prelude.{◌≡◌, ◌⊎◌, ⊤, ℕ, List, Option, None, Some, String, map, string_bytes}
 use Rattle.std.specs.declared.alloc.Global.{Global}
 use Rattle.hs_folders.specs.declared.folder.Folder.{Ghosts as FolderMembers}
 use Rattle.hs_folders.specs.declared.sink.Sink.{Ghosts as SinkMembers}
@@ -8,7 +8,8 @@ use Rattle.run_words.specs.Commands.{Task, Sync, LookAt, Scan, Make, task_of}
 use Rattle.hotsync_looks.specs.Looks.{IsLook}
 use Rattle.hotsync_run.specs.Makes.{IsMake}
 use Rattle.hotsync_looks.specs.Printed.{IsPrinted}
-use Rattle.hotsync_run.specs.Runs.{IsRun}
+use Rattle.hotsync_run.specs.Runs.{IsRun, run_paths}
+use Rattle.hotsync_run.specs.SessionCalls.{Paths}
 use Rattle.hotsync_looks.specs.Scans.{IsScanned}
 use Rattle.hotsync_looks.specs.Told.{SinkTold, sink_told}
 use Rattle.hotsync_run.specs.Told.{CallTold, call_told}
@@ -61,24 +62,18 @@ OfCall Fact palms desks sources traces outs palm desk source trace out answer re
     (sink_told outs.taken outs.paths outs.faults out)
     (sink_told outs.taken outs.paths outs.faults said) answer.status answer.report
 
--- the words ask for a run
-abbrev pub IsSync : Option Task → Type 0
-IsSync (Some (Sync run)) = ⊤
-IsSync _ = ⊥
-
 -- the words ask for a session: for a run, or for one between made folders
 abbrev pub HasSession : Option Task → Type 0
 HasSession (Some (Sync run)) = ⊤
 HasSession (Some (Make seed count)) = ⊤
 HasSession _ = ⊥
 
--- the words ask for a look at a file, or for a run with a script
-abbrev pub ReadsSource : Option Task → Type 0
-ReadsSource (Some (LookAt look file)) = ⊤
-ReadsSource (Some (Sync run)) = IsSome run.script
-ReadsSource _ = ⊥
+-- no path
+abbrev pub no_paths : Paths
+no_paths = record { handheld = None; desktop = None; source = None; trace = None }
 
--- the words ask for a run with a trace
-abbrev pub WritesTrace : Option Task → Type 0
-WritesTrace (Some (Sync run)) = IsSome run.trace
-WritesTrace _ = ⊥
+-- the paths that words give to each object: those of a run, and the file of a look
+abbrev pub paths_of : Option Task → Paths
+paths_of (Some (Sync run)) = run_paths run
+paths_of (Some (LookAt look file)) = record no_paths { source = Some file }
+paths_of _ = no_paths

@@ -94,6 +94,16 @@ IsFallen (Undetected number) = ⊤
 IsFallen HandheldFolder = ⊤
 IsFallen other = ⊥
 
+-- the line went down, the handheld's folder failed, or memory ran out
+abbrev pub IsCutShort : Status → Type 0
+IsCutShort (LineDown end) = ⊤
+IsCutShort (Unplugged number) = ⊤
+IsCutShort (Aborted number) = ⊤
+IsCutShort (Undetected number) = ⊤
+IsCutShort HandheldFolder = ⊤
+IsCutShort NoMemory = ⊤
+IsCutShort other = ⊥
+
 -- neither the trace nor standard output is blamed yet
 abbrev pub IsUnsaid : Status → Type 0
 IsUnsaid TraceWrite = ⊥

@@ -1,10 +1,8 @@
 -- What a session left of both sides, by what both held before it.
 use Rattle.std.specs.Prelude.{◌≡◌, ◌⊎◌, ◌≤◌, ⊤, ℕ, List, [], ◌∷◌, map, IfSome, IsErr, IsSome, Option, None, Some, Result, Ok, Err}
-use Rattle.hs_folders.specs.FileMaps.{FileMap}
 use Rattle.hs_folders.specs.Moments.{EachMomentSince}
 use Rattle.pdb_values.specs.declared.slot.Slot.TheVariants.{Full}
 use Rattle.pdb_values.specs.declared.user.UserInfo.{UserInfo}
-use Rattle.palm_device.specs.Devices.{Device}
 use Rattle.handheld_files.specs.Openings.{Stands}
 use Rattle.desk_journal.specs.Overlays.{FinishesAs}
 use Rattle.desk_store.specs.Desks.{IsDesk}
@@ -12,7 +10,6 @@ use Rattle.desktop_session.specs.Acts.{text}
 use Rattle.desktop_session.specs.Requests.{reading_user}
 use Rattle.desktop_session.specs.Says.{IsPrefix}
 use Rattle.desktop_session.specs.declared.fault.SessionFault.{SessionFault}
-use Rattle.sync_session.specs.Fronts.{MeetingFront}
 use Rattle.session_plan.specs.Limits.{first_over}
 use Rattle.session_plan.specs.Losses.{first_loss}
 use Rattle.session_plan.specs.Merges.{merged_device, merged_slots}
@@ -21,13 +18,13 @@ use Rattle.session_plan.specs.Reports.{reports}
 use Rattle.sync_session.specs.Sessions.{before_writes, requests, writes_before_commit}
 use Rattle.session_plan.specs.Tasks.{Meeting}
 use Rattle.front_laws.specs.Sound.{IsSoundMeeting}
-use Rattle.hotsync_run.specs.Causes.{fault_status}
-use Rattle.hotsync_run.specs.LineRuns.{log_in}
+use Rattle.hotsync_run.specs.Causes.{IsCutShort, fault_status}
+use Rattle.hotsync_run.specs.LineRuns.{SaidAll, log_in}
 use Rattle.hotsync_run.specs.Told.{FolderTold}
 use Rattle.hotsync_run.specs.declared.report.Report.{Report}
 use Rattle.hotsync_run.specs.declared.report.SessionEnd.TheVariants.{Ended, Stopped}
 use Rattle.hotsync_looks.specs.declared.status.Status.{Status}
-use Rattle.hotsync_looks.specs.declared.status.Status.TheVariants.{HandheldFolder, DesktopFolder, NoMemory, LineDown, Unplugged, Aborted, Undetected, OtherUser}
+use Rattle.hotsync_looks.specs.declared.status.Status.TheVariants.{DesktopFolder, OtherUser}
 use Rattle.hotsync_looks.specs.declared.status.Status.TheVariants.{TooManyUsers, Limit, NewHandheld}
 
 -- It ended: each of the session's requests was issued and performed, both folders stand for the merge under the ids that new records got, the
@@ -63,20 +60,7 @@ pub record SessionLeft (meeting : Meeting) (palm_after desk desk_after : FolderT
   pub given : List ℕ
   pub moments : EachMomentSince (λ told. FinishesAs desk.contents told ⊎ StandsForSlots (merged_slots meeting given) told) desk.moments desk_after.moments
 
--- what a folder told stands for a handheld at a front of the session: behind some of its requests, with the writes among them and the ids that these gave
-pub record StandsAtFront (meeting : Meeting) (told : Option FileMap) : Type 0 where
-  pub writes : ℕ
-  pub given : List ℕ
-  pub device : Device
-  pub front : MeetingFront meeting writes given device
-  pub stands : Stands told device.databases device.user
-
 -- ---- why it stopped
-
--- these requests were issued and performed, and no others
-pub record SaidAll (requests : List (List ℕ)) (report : Report) : Type 0 where
-  pub issued : (log_in report).issued ≡ requests
-  pub performed : (log_in report).performed ≡ requests
 
 -- What a status shows of a session. For its user it stopped behind the request for it alone; for a limit, or where none would be passed for a new handheld,
 -- once all was read and nothing written; and the desktop's folder failed at the commit, where all that precedes it was performed and nothing behind it was issued.
@@ -97,17 +81,13 @@ status_refused (Ok user) (Some name) loss = Some (Limit name)
 status_refused (Ok user) None (Some name) = Some (NewHandheld name)
 status_refused (Ok user) None None = None
 
--- the line went down, the handheld's folder failed, or memory ran out
-abbrev pub IsCutShort : Status → Type 0
-IsCutShort (LineDown end) = ⊤
-IsCutShort (Unplugged number) = ⊤
-IsCutShort (Aborted number) = ⊤
-IsCutShort (Undetected number) = ⊤
-IsCutShort HandheldFolder = ⊤
-IsCutShort NoMemory = ⊤
-IsCutShort other = ⊥
-
 -- where both sides refuse a session, its status says so, unless it was cut short before
 abbrev pub IsToldRefusal : Meeting → Status → Type 0
 IsToldRefusal meeting status =
     IfSome (status_refused (seat_of meeting) (first_over meeting) (first_loss meeting)) (λ refused. (status ≡ refused) ⊎ IsCutShort status)
+
+-- what the status of a session between both sides shows of them, and which it is where they refuse
+-- it
+pub record ShowsMeeting (meeting : Meeting) (status : Status) (report : Report) : Type 0 where
+  pub status_is : StatusShows meeting report status
+  pub refused : IsToldRefusal meeting status

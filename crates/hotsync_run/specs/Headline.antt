@@ -32,8 +32,9 @@ use Rattle.hotsync_run.specs.Ends.{EndedSession, IsToldRefusal, StatusShows, Sto
 use Rattle.hotsync_run.specs.Kept.{KeepsBytes}
 use Rattle.hotsync_run.specs.LineRuns.{frames_in, log_in}
 use Rattle.hotsync_run.specs.Meetings.{Meets}
-use Rattle.hotsync_run.specs.Runs.{BlamesByCount, IsRun}
+use Rattle.hotsync_run.specs.Runs.{IsRun}
 use Rattle.hotsync_run.specs.Scripts.{IsScripted}
+use Rattle.hotsync_run.specs.SessionCalls.{BlamesByCount}
 use Rattle.hotsync_run.specs.Stops.{TellsStop}
 use Rattle.hotsync_run.specs.Talks.{DesktopRan}
 use Rattle.hotsync_looks.specs.Told.{SinkTold}

@@ -3,6 +3,7 @@ pub mod Calls
 pub mod Causes
 pub mod Clean
 pub mod Clocks
+pub mod Closings
 pub mod Ends
 pub mod Equal
 pub mod Headline
@@ -14,6 +15,8 @@ pub mod Refusals
 pub mod Reports
 pub mod Runs
 pub mod Scripts
+pub mod SessionCalls
+pub mod Sessions
 pub mod Stops
 pub mod Systems
 pub mod Talks

@@ -33,6 +33,11 @@ log_in report = record {
 abbrev pub frames_in : Report → List FrameValue
 frames_in report = map frame_value report.frames.items
 
+-- these requests were issued and performed, and no others
+pub record SaidAll (requests : List (List ℕ)) (report : Report) : Type 0 where
+  pub issued : (log_in report).issued ≡ requests
+  pub performed : (log_in report).performed ≡ requests
+
 -- each performed request, with its reply
 abbrev pub exchanges_in : Report → List Exchange
 exchanges_in report = exchanged (texts report.performed.items) (texts report.replies.items)

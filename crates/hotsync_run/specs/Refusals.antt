@@ -7,11 +7,9 @@ use Rattle.pdb_values.specs.declared.user.UserInfo.{UserInfo}
 use Rattle.folder_files.specs.FileNames.{desktop_info_file, device_info_file}
 use Rattle.handheld_files.specs.Openings as handheld
 use Rattle.handheld_files.specs.declared.fault.OpenFault.{OpenFault}
-use Rattle.handheld_files.specs.declared.fault.OpenFault.TheVariants as opening
 use Rattle.desk_journal.specs.Overlays.{finished}
 use Rattle.desk_store.specs.Desks as desktop
 use Rattle.desk_store.specs.declared.fault.DeskOpenFault.{DeskOpenFault}
-use Rattle.desk_store.specs.declared.fault.DeskOpenFault.TheVariants as desk_opening
 use Rattle.run_words.specs.Runs.{Run}
 use Rattle.trace_text.specs.declared.frame.End.TheVariants as end
 use Rattle.hotsync_looks.specs.FolderFaults.{desktop_status, handheld_status}
@@ -103,12 +101,14 @@ IsRefused run before refusal =
     ⊎ (HasHandheld before.palm.contents × (DesktopRefuses before.desk.contents refusal
     ⊎ (HasDesktop before.desk.contents × TraceRefuses run.trace refusal)))))
 
--- one that blames the script, which is judged before a folder is touched
-abbrev pub BlamesScript : Status → Type 0
-BlamesScript TooLong = ⊤
-BlamesScript (BadScript _) = ⊤
-BlamesScript SourceRead = ⊤
-BlamesScript _ = ⊥
+-- one that blames the source, the script of a run or the file of a look, which is judged before a
+-- folder is touched
+abbrev pub BlamesSource : Status → Type 0
+BlamesSource TooLong = ⊤
+BlamesSource (BadScript _) = ⊤
+BlamesSource SourceRead = ⊤
+BlamesSource (BadFile side.Source _ _ _) = ⊤
+BlamesSource _ = ⊥
 
 -- one that blames the handheld, whose folder is opened and judged before the desktop's is touched
 abbrev pub BlamesHandheld : Status → Type 0

@@ -7,8 +7,6 @@ use Rattle.line_steps.specs.Stories.{told_from}
 use Rattle.line_talk.specs.Telling.{bytes_of, init, wake}
 use Rattle.line_world.specs.Logs.{LogValue}
 use Rattle.line_world.specs.Worlds.{EndsAcknowledged}
-use Rattle.sync_session.specs.Sessions.{requests}
-use Rattle.session_plan.specs.Tasks.{Meeting}
 use Rattle.hotsync_run.specs.Causes.{IsFallen, IsLineDown}
 use Rattle.hotsync_run.specs.LineRuns.{frames_in, log_in}
 use Rattle.hotsync_run.specs.declared.report.Report.{Report}
@@ -36,11 +34,11 @@ StopsAnswered (NewHandheld name) = ⊤
 StopsAnswered DesktopFolder = ⊤
 StopsAnswered other = ⊥
 
--- All of the session's requests were issued, the frames tell the desktop a reply to each, and they end with its acknowledgement of the last one, the
--- reply to the
--- end of the session; the run goes on behind it.
-pub record WentWhole (meeting : Meeting) (report : Report) : Type 0 where
-  pub issued : (log_in report).issued ≡ requests meeting
+-- All that is asked was issued, the frames tell the desktop a reply to each request, and they end
+-- with its acknowledgement of the last one, the reply to the end of the session; the run goes on
+-- behind it.
+pub record WentWhole (asked : List (List ℕ)) (report : Report) : Type 0 where
+  pub issued : (log_in report).issued ≡ asked
   pub replied : length (log_in report).replies ≡ length (log_in report).issued
   pub told : IsStory Handheld (frames_in report) (told_from 0 (bytes_of wake ∷ (log_in report).replies))
   pub acked : EndsAcknowledged (log_in report) (frames_in report)
@@ -48,11 +46,12 @@ pub record WentWhole (meeting : Meeting) (report : Report) : Type 0 where
 -- How far it was dealt with, by how it ended. Where the line is down or the handheld's folder failed, the last request wasn't answered,
 -- if one was issued; where the folder failed it wasn't performed. Only there, or where memory ran out, a request was left without an answer. A
 -- session ended exactly where it went over whole, unless memory ran out.
-pub record DealtWith (meeting : Meeting) (status : Status) (report : Report) (answered : ℕ) : Type 0 where
+pub record DealtWith (asked : List (List ℕ)) (status : Status) (report : Report) (answered : ℕ)
+    : Type 0 where
   pub done : ((log_in report).issued ≡ []) ⊎ TellsDone status (log_in report) answered (frames_in report)
   pub fallen : IsFallen status → ((log_in report).issued ≡ []) ⊎ (answered < length (log_in report).issued)
   pub unserved : status ≡ HandheldFolder → length (log_in report).performed < length (log_in report).issued
   pub all : (report.end ≡ Ended) ⊎ StopsAnswered status → length (log_in report).issued ≡ answered
   pub cut : answered < length (log_in report).issued → IsFallen status ⊎ (status ≡ NoMemory)
-  pub whole : report.end ≡ Ended → WentWhole meeting report
-  pub over : WentWhole meeting report → (report.end ≡ Ended) ⊎ (status ≡ NoMemory)
+  pub whole : report.end ≡ Ended → WentWhole asked report
+  pub over : WentWhole asked report → (report.end ≡ Ended) ⊎ (status ≡ NoMemory)

@@ -1,7 +1,7 @@
 // The top call.
-ghost use Rattle.std.specs.Prelude.{◌≡◌};
-ghost use Rattle.hotsync_run.specs.Calls.{HasSession, IsCall, IsSync, OfCall, ReadsSource, WritesTrace, task_in};
-ghost use Rattle.hotsync_run.specs.Refusals.{BlamesHandheld, BlamesScript};
+ghost use Rattle.std.specs.Prelude.{◌≡◌, None};
+ghost use Rattle.hotsync_run.specs.Calls.{HasSession, IsCall, OfCall, paths_of, task_in};
+ghost use Rattle.hotsync_run.specs.Refusals.{BlamesHandheld, BlamesSource};
 ghost use Rattle.hotsync_run.specs.Reports.{IsNotStarted};
 
 use crate::answer::Answer;
@@ -34,17 +34,17 @@ pub fn hotsync<H: Folder, D: Folder, S: Source, T: Sink, O: Sink>(
     // Nothing goes over a line but in a session.
     ensures report { ¬ HasSession (task_in now words.now) → IsNotStarted result.report }
 
-    // What is judged later is not touched: the folders where the script is blamed, the desktop's where the handheld's is.
-    ensures script_first { IsSync (task_in now words.now) → BlamesScript result.status
+    // What is judged later is not touched: the folders where the source is blamed, the desktop's where the handheld's is.
+    ensures source_first { BlamesSource result.status
         → (result.device ≡ device) × (result.desk ≡ desk) }
     ensures handheld_first { result.report.end ≡ SessionEnd.NotStarted
         → BlamesHandheld result.status → result.desk ≡ desk }
 
-    // What the words don't name is not touched.
-    ensures device { ¬ IsSync (task_in now words.now) → result.device ≡ device }
-    ensures desk { ¬ IsSync (task_in now words.now) → result.desk ≡ desk }
-    ensures source { ¬ ReadsSource (task_in now words.now) → source.new ≡ source.old }
-    ensures trace { ¬ WritesTrace (task_in now words.now) → trace.new ≡ trace.old }
+    // What the words give no path is not touched.
+    ensures device { (paths_of (task_in now words.now)).handheld ≡ None → result.device ≡ device }
+    ensures desk { (paths_of (task_in now words.now)).desktop ≡ None → result.desk ≡ desk }
+    ensures source { (paths_of (task_in now words.now)).source ≡ None → source.new ≡ source.old }
+    ensures trace { (paths_of (task_in now words.now)).trace ≡ None → trace.new ≡ trace.old }
 {
     match read_command(alloc, now, words) {
         Ok(Command::Run(run)) => run_folders(alloc, &run, device, desk, source, trace, out),

@@ -1,7 +1,7 @@
 // How a session ended, for its report.
 ghost use Rattle.std.specs.Prelude.{◌≡◌, ◌⊎◌, [], IfOk, option_copied};
 ghost use Rattle.hotsync_run.specs.Causes.{down_status as status_of_down, fault_status as status_of_fault, numbers_by, numbers_in, stop_status as status_of_stop};
-ghost use Rattle.hotsync_run.specs.Talks.{IsLeft};
+ghost use Rattle.hotsync_run.specs.Closings.{IsLeft};
 
 use crate::report::SessionEnd;
 use desktop_session::SessionFault;

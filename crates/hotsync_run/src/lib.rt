@@ -9,6 +9,7 @@
 
 mod answer;
 mod clock;
+mod closing;
 mod command;
 mod hints;
 mod left;

@@ -1,9 +1,9 @@
 // What the program does with the words that it was called with.
 ghost use Rattle.std.specs.Prelude.{◌≡◌, ◌↔◌, IfOk, IsErr, IsErrOf, None, drop};
 ghost use Rattle.std.specs.Process.{exit_status};
-ghost use Rattle.hotsync_run.specs.Calls.{HasSession, IsCall, IsSync, OfCall, ReadsSource, WritesTrace, task_in};
+ghost use Rattle.hotsync_run.specs.Calls.{HasSession, IsCall, OfCall, paths_of, task_in};
 ghost use Rattle.hotsync_looks.specs.Codes.{code_of};
-ghost use Rattle.hotsync_run.specs.Refusals.{BlamesHandheld, BlamesScript};
+ghost use Rattle.hotsync_run.specs.Refusals.{BlamesHandheld, BlamesSource};
 ghost use Rattle.hotsync_run.specs.Reports.{IsNotStarted};
 ghost use Rattle.hotsync_run.specs.Systems.{AreUntold, EndsProgram, IsSystemCall};
 ghost use Rattle.hotsync_looks.specs.Told.{sink_told};
@@ -55,15 +55,19 @@ pub fn run_program<H: Folder, D: Folder, S: Source, T: Sink, O: Sink>(
     ensures report { ¬ HasSession (task_in now (drop 1 args.now))
         → IsNotStarted result.answer.report }
 
-    // What is judged later is not touched, and neither is what the words don't name.
-    ensures script_first { IsSync (task_in now (drop 1 args.now)) → BlamesScript result.answer.status
+    // What is judged later is not touched, and neither is what the words give no path.
+    ensures source_first { BlamesSource result.answer.status
         → (result.answer.device ≡ device) × (result.answer.desk ≡ desk) }
     ensures handheld_first { result.answer.report.end ≡ SessionEnd.NotStarted
         → BlamesHandheld result.answer.status → result.answer.desk ≡ desk }
-    ensures device { ¬ IsSync (task_in now (drop 1 args.now)) → result.answer.device ≡ device }
-    ensures desk { ¬ IsSync (task_in now (drop 1 args.now)) → result.answer.desk ≡ desk }
-    ensures source { ¬ ReadsSource (task_in now (drop 1 args.now)) → source.new ≡ source.old }
-    ensures trace { ¬ WritesTrace (task_in now (drop 1 args.now)) → trace.new ≡ trace.old }
+    ensures device { (paths_of (task_in now (drop 1 args.now))).handheld ≡ None
+        → result.answer.device ≡ device }
+    ensures desk { (paths_of (task_in now (drop 1 args.now))).desktop ≡ None
+        → result.answer.desk ≡ desk }
+    ensures source { (paths_of (task_in now (drop 1 args.now))).source ≡ None
+        → source.new ≡ source.old }
+    ensures trace { (paths_of (task_in now (drop 1 args.now))).trace ≡ None
+        → trace.new ≡ trace.old }
 {
     let answer = hotsync(alloc, now, words_of(args), device, desk, source, trace, out);
     Ended {

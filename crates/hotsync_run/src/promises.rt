@@ -21,8 +21,9 @@ ghost use Rattle.hotsync_run.specs.LineRuns.{exchanges_in, frames_in};
 ghost use Rattle.hotsync_looks.specs.Looks.{IsLook};
 ghost use Rattle.hotsync_run.specs.Meetings.{Meets};
 ghost use Rattle.hotsync_looks.specs.PrintedNames.{is_printable, printed_name};
-ghost use Rattle.hotsync_run.specs.Runs.{SentNothing};
+ghost use Rattle.hotsync_run.specs.Runs.{run_command};
 ghost use Rattle.hotsync_run.specs.Scripts.{IsScripted};
+ghost use Rattle.hotsync_run.specs.SessionCalls.{SentNothing};
 ghost use Rattle.hotsync_run.specs.Told.{CallTold};
 ghost use Rattle.hotsync_run.specs.Undisturbed.{AreGood, EndsWell, IsCalm, IsUndisturbed};
 ghost use Rattle.hotsync_run.specs.declared.report.SessionEnd.TheVariants.{Ended, NotStarted};
@@ -95,7 +96,7 @@ pub fn what_a_run_leaves_can_be_opened()
 /// What is refused changes nothing: a run before its session, and words that are out of the form.
 pub fn what_is_refused_changes_nothing()
     ensures run { (call : RunCall) → IsAnsweredRun call → call.report.end ≡ NotStarted
-        → SentNothing call.run call.before call.after call.status call.report }
+        → SentNothing (run_command call.run) call.before call.after call.status call.report }
     ensures words { (call : Call) → IsAnsweredCall call → call.task ≡ None
         → IsNothing call.out call.out_after call.status }
 {}

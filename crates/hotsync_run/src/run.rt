@@ -5,9 +5,9 @@ ghost use Rattle.desk_store.specs.Shelves.{AreInOrder};
 ghost use Rattle.handheld_files.specs.Openings.{AreKept, Stands, opened_device};
 ghost use Rattle.palm_device.specs.Bounds.{IsBounded};
 ghost use Rattle.hotsync_run.specs.Calls.{OfCall};
-ghost use Rattle.hotsync_run.specs.Refusals.{BlamesHandheld, BlamesScript};
+ghost use Rattle.hotsync_run.specs.Refusals.{BlamesHandheld, BlamesSource};
 ghost use Rattle.hotsync_run.specs.Runs.{HasRun, IsRun};
-ghost use Rattle.hotsync_run.specs.Talks.{IsTalk};
+ghost use Rattle.hotsync_run.specs.Talks.{IsRunTalk};
 ghost use Rattle.hotsync_run.specs.Traces.{TracesReport};
 ghost use Rattle.hotsync_looks.specs.Told.{sink_told};
 ghost use Rattle.hotsync_run.specs.Told.{call_told, sides_told};
@@ -41,7 +41,7 @@ pub fn run_folders<H: Folder, D: Folder, S: Source, T: Sink, O: Sink>(
         H.Folder D.Folder S.Source T.Sink O.Sink
         device desk source.old trace.old out.old
         result source.new trace.new out.new }
-    ensures script_first { BlamesScript result.status
+    ensures source_first { BlamesSource result.status
         → (result.device ≡ device) × (result.desk ≡ desk) }
     ensures handheld_first { result.report.end ≡ SessionEnd.NotStarted
         → BlamesHandheld result.status → result.desk ≡ desk }
@@ -77,7 +77,7 @@ fn judged_run<H: Folder, D: Folder, S: Source, T: Sink>(
         HasRun (run_view words.now) (told device desk source.old trace.old)
         (told result.device result.desk source.new trace.new) result.status result.report }
     ensures unprinted { result.status ≢ Status.OutWrite }
-    ensures script_first { BlamesScript result.status
+    ensures source_first { BlamesSource result.status
         → (result.device ≡ device) × (result.desk ≡ desk) }
     ensures handheld_first { result.report.end ≡ SessionEnd.NotStarted
         → BlamesHandheld result.status → result.desk ≡ desk }
@@ -121,7 +121,7 @@ fn traced_talk<H: Folder, D: Folder, T: Sink>(
     requires proper { IsBounded (opened_device store.databases store.user) }
     requires ordered { AreInOrder desk.slots }
     requires bounded { AreBounded desk.slots }
-    ensures talk { let told = sides_told H.Folder D.Folder in IsTalk (run_view words.now) script
+    ensures talk { let told = sides_told H.Folder D.Folder in IsRunTalk (run_view words.now) script
         (opened_device store.databases store.user) desk.slots (told store.folder desk.folder)
         (told result.device result.desk) result.status result.report }
     ensures unprinted { result.status ≢ Status.OutWrite }

@@ -8,13 +8,12 @@ ghost use Rattle.palm_device.specs.Bounds.{IsBounded};
 ghost use Rattle.palm_device.specs.Handles.{no_handles};
 ghost use Rattle.run_words.specs.Views.{run_view};
 ghost use Rattle.hotsync_run.specs.Causes.{IsUnsaid};
-ghost use Rattle.hotsync_run.specs.Talks.{IsTalk};
+ghost use Rattle.hotsync_run.specs.Talks.{IsRunTalk};
 ghost use Rattle.hotsync_run.specs.Told.{sides_told};
 ghost use Rattle.hotsync_run.specs.Wishes.{AsksFor};
 
 use crate::answer::Answer;
-use crate::left::{Left, left_of};
-use crate::reporting::report_of;
+use crate::closing::{Closed, close_session};
 use crate::wishes::wishes_of;
 use desk_store::Desk;
 use handheld_server::Server;
@@ -43,7 +42,7 @@ pub fn talk<H: Folder, D: Folder>(
     requires proper { IsBounded (opened_device store.databases store.user) }
     requires ordered { AreInOrder desk.slots }
     requires bounded { AreBounded desk.slots }
-    ensures talk { let told = sides_told H.Folder D.Folder in IsTalk (run_view words.now) script
+    ensures talk { let told = sides_told H.Folder D.Folder in IsRunTalk (run_view words.now) script
         (opened_device store.databases store.user) desk.slots (told store.folder desk.folder)
         (told result.device result.desk) result.status result.report }
     ensures unsaid { IsUnsaid result.status }
@@ -87,21 +86,19 @@ fn speak<H: Folder, D: Folder>(
     requires silent { world.log ≡ no_log }
     requires begun { world.begun ≡ false }
     requires cause { world.cause ≡ None }
-    ensures talk { let told = sides_told H.Folder D.Folder in IsTalk (run_view words.now)
+    ensures talk { let told = sides_told H.Folder D.Folder in IsRunTalk (run_view words.now)
         world.script world.server.device desk.slots (told world.server.folder desk.folder)
         (told result.device result.desk) result.status result.report }
     ensures unsaid { IsUnsaid result.status }
 {
     let outcome = run_session(alloc, world, desk, wishes);
     let Outcome { link, folder, end } = outcome;
-    let left = left_of(alloc, end, link.cause());
-    let Left {
+    let closed = close_session(alloc, link, end);
+    let Closed {
         status,
-        end,
-        databases,
-        faulted,
-    } = left;
-    let (report, device) = report_of(link, end, databases, faulted);
+        report,
+        device,
+    } = closed;
     Answer {
         status,
         report,

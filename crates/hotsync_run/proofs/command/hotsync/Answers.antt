@@ -7,6 +7,7 @@ use Rattle.hotsync_looks.specs.Told.{sink_told, source_told}
 use Rattle.hotsync_run.specs.Told.{CallTold, folder_told}
 use Rattle.hotsync_run.proofs.CallLaws.{only_memory, unread_call}
 use Rattle.hotsync_run.proofs.MakeWords.{few_asked}
+use Rattle.hotsync_run.proofs.PathLaws.{copied_none, look_source, run_desktop, run_handheld, run_source, run_trace}
 use Rattle.hotsync_run.proofs.command.hotsync.Goals as goal
 
 pub make-status-requires : goal.make-status-requires
@@ -29,3 +30,25 @@ returns-in-Err-NoMemory-clause-run g c =
     let memory = only_memory said.ensures.status in
     rw (end.ensures.status, end.ensures.device, end.ensures.desk, memory)
     (unread_call (task_of c.args.now (map string_bytes c.args.words.now)) before end.ensures.report (rw memory at said.ensures.printed))
+
+pub returns-in-Ok-Run-clause-device : goal.returns-in-Ok-Run-clause-device
+returns-in-Ok-Run-clause-device g c = λ none.
+    absurd (run_handheld (c.in-Ok-Run.ensures.command ∙ ap (λ (command : Command). Some (task_view command)) c.in-Ok-Run.field-0-is) none)
+
+pub returns-in-Ok-Run-clause-desk : goal.returns-in-Ok-Run-clause-desk
+returns-in-Ok-Run-clause-desk g c = λ none.
+    absurd (run_desktop (c.in-Ok-Run.ensures.command ∙ ap (λ (command : Command). Some (task_view command)) c.in-Ok-Run.field-0-is) none)
+
+pub returns-in-Ok-Run-clause-source : goal.returns-in-Ok-Run-clause-source
+returns-in-Ok-Run-clause-source g c = λ none.
+    c.run_folders.ensures.source (copied_none _
+    (run_source (c.in-Ok-Run.ensures.command ∙ ap (λ (command : Command). Some (task_view command)) c.in-Ok-Run.field-0-is) none))
+
+pub returns-in-Ok-Run-clause-trace : goal.returns-in-Ok-Run-clause-trace
+returns-in-Ok-Run-clause-trace g c = λ none.
+    c.run_folders.ensures.trace (copied_none _
+    (run_trace (c.in-Ok-Run.ensures.command ∙ ap (λ (command : Command). Some (task_view command)) c.in-Ok-Run.field-0-is) none))
+
+pub returns-in-Ok-Look-clause-source : goal.returns-in-Ok-Look-clause-source
+returns-in-Ok-Look-clause-source g c = λ none.
+    absurd (look_source (c.in-Ok-Look.ensures.command ∙ ap (λ (command : Command). Some (task_view command)) c.in-Ok-Look.field-0-is) none)

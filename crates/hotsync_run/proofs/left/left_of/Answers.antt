@@ -1,5 +1,5 @@
 use Rattle.std.specs.Option.{option_copied}
-use Rattle.hotsync_run.proofs.TalkLaws.{left_stopped}
+use Rattle.hotsync_run.proofs.SpokeLaws.{left_stopped}
 use Rattle.hotsync_run.proofs.left.left_of.Goals as goal
 
 pub returns-in-Err : goal.returns-in-Err

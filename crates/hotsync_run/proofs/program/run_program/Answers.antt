@@ -5,3 +5,12 @@ returns-clause-report g c = λ no. c.hotsync-answer.ensures.report (rw c.words_o
 
 pub returns-clause-source : goal.returns-clause-source
 returns-clause-source g c = λ no. c.hotsync-answer.ensures.source (rw c.words_of.ensures no)
+
+pub returns-clause-device : goal.returns-clause-device
+returns-clause-device g c = λ no. c.hotsync-answer.ensures.device (rw c.words_of.ensures no)
+
+pub returns-clause-desk : goal.returns-clause-desk
+returns-clause-desk g c = λ no. c.hotsync-answer.ensures.desk (rw c.words_of.ensures no)
+
+pub returns-clause-trace : goal.returns-clause-trace
+returns-clause-trace g c = λ no. c.hotsync-answer.ensures.trace (rw c.words_of.ensures no)

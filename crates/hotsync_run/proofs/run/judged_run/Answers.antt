@@ -4,7 +4,7 @@ use Rattle.hotsync_looks.specs.Told.{sink_told, source_told}
 use Rattle.hotsync_run.specs.Told.{CallTold, folder_told}
 use Rattle.hotsync_run.proofs.RefusedRuns.{by_desktop, by_handheld, by_script, by_trace}
 use Rattle.hotsync_run.proofs.SessionRuns.{by_session}
-use Rattle.hotsync_run.proofs.TraceLaws.{talk_not_handheld, talk_not_script}
+use Rattle.hotsync_run.proofs.TraceLaws.{talk_not_handheld, talk_not_source}
 use Rattle.hotsync_run.proofs.run.judged_run.Goals as goal
 
 pub returns-in-Err-open_desktop-clause-ran : goal.returns-in-Err-open_desktop-clause-ran
@@ -132,8 +132,8 @@ returns-in-Err-open_handheld-clause-ran g c =
     (record { contents = c.in-Err-open_handheld.ensures.contents; moments = c.in-Err-open_handheld.ensures.moments })
     c.in-Err-open_handheld.ensures.path refl refl)
 
-pub returns-in-Ok-open_trace-clause-script_first : goal.returns-in-Ok-open_trace-clause-script_first
-returns-in-Ok-open_trace-clause-script_first g c = λ blames. absurd (talk_not_script c.traced_talk.ensures.talk blames)
+pub returns-in-Ok-open_trace-clause-source_first : goal.returns-in-Ok-open_trace-clause-source_first
+returns-in-Ok-open_trace-clause-source_first g c = λ blames. absurd (talk_not_source c.traced_talk.ensures.talk blames)
 
 pub returns-in-Ok-open_trace-clause-handheld_first : goal.returns-in-Ok-open_trace-clause-handheld_first
 returns-in-Ok-open_trace-clause-handheld_first g c = λ is blames. absurd (talk_not_handheld c.traced_talk.ensures.talk is blames)

@@ -1,10 +1,18 @@
 use Rattle.std.proofs.Common.{◌∙◌, ap, sym}
-use Rattle.hotsync_run.proofs.TraceLaws.{talk_traced, unprinted_traced}
+use Rattle.handheld_files.specs.Openings.{opened_device}
+use Rattle.run_words.specs.Views.{run_view}
+use Rattle.hotsync_run.specs.Told.{sides_told}
+use Rattle.hotsync_run.proofs.RetoldLaws.{talk_traced, unprinted_traced}
+use Rattle.hotsync_run.proofs.TraceLaws.{talked_for_retold}
 use Rattle.hotsync_run.proofs.run.traced_talk.Goals as goal
 
 pub returns-clause-talk : goal.returns-clause-talk
 returns-clause-talk g c =
-    talk_traced c.write_frames-status.result c.talk-answer.ensures.talk c.write_frames-status.ensures.traces.stands.status_is
+    let before = sides_told g.H.Folder g.D.Folder c.args.store.folder c.args.desk.folder in
+    let after = sides_told g.H.Folder g.D.Folder c.talk-answer.result.device c.talk-answer.result.desk in
+    talk_traced c.write_frames-status.result
+    (talked_for_retold (run_view c.args.words.now) c.args.script (opened_device c.args.store.databases c.args.store.user) c.args.desk.slots before after)
+    c.talk-answer.ensures.talk c.write_frames-status.ensures.traces.stands.status_is
 
 pub returns-clause-unprinted : goal.returns-clause-unprinted
 returns-clause-unprinted g c =

@@ -1,0 +1,34 @@
+-- The paths that words give, by what they ask for.
+use Rattle.std.proofs.Common.{◌≡◌, Bor, refl, subst, List, ℕ}
+use Rattle.std.specs.Prelude.{None, Option, Some, option_copied}
+use Rattle.run_words.specs.Commands.{LookAt, Sync, Task}
+use Rattle.run_words.specs.Runs.{Run}
+use Rattle.run_words.specs.declared.look.Look.{Look}
+use Rattle.hotsync_run.specs.Calls.{paths_of}
+
+-- a word that is not given is none
+pub copied_none : {A : Type 0} (word : Option (Bor A)) → option_copied word ≡ None → word ≡ None
+copied_none None e = refl
+copied_none (Some word) e = cc
+
+some_is_none : {A : Type 0} {a : A} → Some a ≡ None → ⊥
+some_is_none e = cc
+
+module _ {task : Option Task} {run : Run} (is : task ≡ Some (Sync run)) where
+  -- a run names both folders
+  pub run_handheld : (paths_of task).handheld ≡ None → ⊥
+  run_handheld none = some_is_none (subst (λ (t : Option Task). (paths_of t).handheld ≡ None) is none)
+
+  pub run_desktop : (paths_of task).desktop ≡ None → ⊥
+  run_desktop none = some_is_none (subst (λ (t : Option Task). (paths_of t).desktop ≡ None) is none)
+
+  -- and its script and its trace where the words do
+  pub run_source : (paths_of task).source ≡ None → run.script ≡ None
+  run_source none = subst (λ (t : Option Task). (paths_of t).source ≡ None) is none
+
+  pub run_trace : (paths_of task).trace ≡ None → run.trace ≡ None
+  run_trace none = subst (λ (t : Option Task). (paths_of t).trace ≡ None) is none
+
+-- a look names its file
+pub look_source : {task : Option Task} {look : Look} {file : List ℕ} → task ≡ Some (LookAt look file) → (paths_of task).source ≡ None → ⊥
+look_source is none = some_is_none (subst (λ (t : Option Task). (paths_of t).source ≡ None) is none)
