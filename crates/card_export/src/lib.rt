@@ -19,3 +19,4 @@ mod phone;
 mod place;
 
 pub use export::cards_text;
+pub use label::custom_label;

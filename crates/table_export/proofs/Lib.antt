@@ -1,0 +1,4 @@
+pub mod ReadLaws
+pub mod RowLaws
+pub mod TableLaws
+pub mod TextLaws

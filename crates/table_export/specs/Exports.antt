@@ -1,0 +1,109 @@
+-- The tables of databases: a head row with the names of the columns, and a row for each record that is exported.
+use Rattle.std.specs.Prelude.{ℕ, ◌&&◌, Bool, not, List, [], ◌∷◌, ◌++◌, codes, filter, map, replicate, Option, Result, Ok, Err, if◌then◌else◌}
+use Rattle.std.specs.Int.{bytes_high_first}
+use Rattle.std.specs.List.{flat_map}
+use Rattle.std.specs.Result.{result_err}
+use Rattle.std.specs.Str.{bytes_eq}
+use Rattle.hex.specs.Hex.{encode_lower}
+use Rattle.pdb_values.specs.declared.head.DbHead.{DbHead}
+use Rattle.pdb_values.specs.declared.record.Record.{Record}
+use Rattle.pdb_values.specs.Databases.{DatabaseValue}
+use Rattle.pdb_values.specs.Heads.{holds_resources}
+use Rattle.palm_records.specs.Addresses.{AddressValue, address_in}
+use Rattle.palm_records.specs.Tasks.{TaskValue, task_in}
+use Rattle.export_choice.specs.declared.choice.Privacy.{Privacy}
+use Rattle.export_choice.specs.Choices.{BadItem, first_bad, is_exported, shown_label}
+use Rattle.csv.specs.Writing.{row_text}
+use Rattle.card_export.specs.Exports.{text_of}
+use Rattle.table_export.specs.Addresses.{address_columns, address_names}
+use Rattle.table_export.specs.Tables.{palm_field, table_writer}
+use Rattle.table_export.specs.Tasks.{task_columns, task_names}
+use Rattle.table_export.specs.declared.kind.Kind.{Kind}
+use Rattle.table_export.specs.declared.kind.Kind.TheVariants.{Addresses, Tasks}
+
+-- the creator of the databases of a kind
+abbrev pub creator_of : Kind → List ℕ
+creator_of Addresses = codes "addr"
+creator_of Tasks = codes "todo"
+
+-- a database of a kind: records of type `DATA` and of its creator
+abbrev pub is_of_kind : Kind → DbHead → Bool
+is_of_kind kind head =
+    not (holds_resources head.attributes)
+    && (bytes_eq head.kind.0 (codes "DATA") && bytes_eq head.creator.0 (creator_of kind))
+
+-- the place where bytes are out of the form of their kind
+abbrev pub place_in : Kind → List ℕ → Option ℕ
+place_in Addresses bytes = result_err (address_in bytes)
+place_in Tasks bytes = result_err (task_in bytes)
+
+-- the place where a record is out of the form of its kind
+abbrev pub fault_of : Kind → Record → Option ℕ
+fault_of kind item = place_in kind item.content.bytes
+
+-- the first record that is exported and out of its form, if any is
+abbrev pub first_bad_item : Kind → Privacy → DatabaseValue → Option BadItem
+first_bad_item kind wanted database = first_bad (fault_of kind) wanted 0 database.records
+
+-- the id in six hexadecimal digits
+abbrev pub id_digits : ℕ → List ℕ
+id_digits id = encode_lower (bytes_high_first 3 id)
+
+-- the mark of a private record
+abbrev pub private_text : Bool → List ℕ
+private_text secret = if secret then codes "private" else []
+
+-- the first columns: the id, the mark, the label of the category
+abbrev pub origin_columns : Option (List ℕ) → Record → List (List ℕ)
+origin_columns app item =
+    id_digits item.id ∷ private_text item.content.secret
+    ∷ palm_field (shown_label app item.content.category) ∷ []
+
+-- a record that is out of its form: no other column than the last one
+abbrev pub unread_columns : ℕ → List ℕ → List (List ℕ)
+unread_columns count bytes = replicate count [] ++ encode_lower bytes ∷ []
+
+-- the columns of an address, and the empty last one
+abbrev pub address_or : List ℕ → Result AddressValue ℕ → List (List ℕ)
+address_or bytes (Ok address) = address_columns address ++ [] ∷ []
+address_or bytes (Err place) = unread_columns 24 bytes
+
+-- the columns of a task, and the empty last one
+abbrev pub task_or : List ℕ → Result TaskValue ℕ → List (List ℕ)
+task_or bytes (Ok task) = task_columns task ++ [] ∷ []
+task_or bytes (Err place) = unread_columns 5 bytes
+
+-- the columns of what a record's bytes say, or of the bytes
+abbrev pub content_columns : Kind → List ℕ → List (List ℕ)
+content_columns Addresses bytes = address_or bytes (address_in bytes)
+content_columns Tasks bytes = task_or bytes (task_in bytes)
+
+-- the row of a record
+abbrev pub item_row : Kind → Option (List ℕ) → Record → List (List ℕ)
+item_row kind app item = origin_columns app item ++ content_columns kind item.content.bytes
+
+-- the names of the columns of a kind, with the labels of an app block
+abbrev pub content_names : Kind → List ℕ → List (List ℕ)
+content_names Addresses block = address_names block
+content_names Tasks block = task_names
+
+-- the head row
+unfoldable pub head_row : Kind → List ℕ → List (List ℕ)
+head_row kind block =
+    (codes "id" ∷ codes "private" ∷ codes "category" ∷ [])
+    ++ (content_names kind block ++ codes "record" ∷ [])
+
+-- the rows of a database: the head row, and those of the records that are exported, in their order
+abbrev pub exported_rows : Kind → Privacy → DatabaseValue → List (List (List ℕ))
+exported_rows kind wanted database =
+    head_row kind (text_of database.app)
+    ∷ map (item_row kind database.app) (filter (is_exported wanted) database.records)
+
+-- what a record adds to the text
+abbrev pub item_text : Kind → Option (List ℕ) → Privacy → Record → List ℕ
+item_text kind app wanted item =
+    if is_exported wanted item then row_text table_writer (item_row kind app item) else []
+
+-- what records add to it
+abbrev pub items_text : Kind → Option (List ℕ) → Privacy → List Record → List ℕ
+items_text kind app wanted items = flat_map (item_text kind app wanted) items

@@ -1,0 +1,4 @@
+pub mod Addresses
+pub mod Exports
+pub mod Tables
+pub mod Tasks
