@@ -3,6 +3,7 @@ use Rattle.std.proofs.Common.{◌≡◌, ap, refl, sym, ℕ, Bool, true, false, 
 use Rattle.std.specs.Prelude.{IfErr, IfOk, Option, None, Some, Result, if◌then◌else◌}
 use Rattle.export_choice.specs.Choices.{BadItem}
 use Rattle.export_choice.specs.declared.choice.BrokenRecords.{BrokenRecords}
+use Rattle.export_choice.specs.declared.choice.Privacy.{Privacy}
 use Rattle.export_choice.specs.declared.choice.BrokenRecords.TheVariants.{Kept, Refused}
 use Rattle.export_choice.specs.declared.fault.ExportFault.{ExportFault}
 use Rattle.export_choice.specs.declared.fault.ExportFault.TheVariants as fault
@@ -30,6 +31,16 @@ module _ {T : Type 0} (bytes : T → List ℕ) (text : List ℕ) where
   refusal_says true broken bad (Err (fault.BadRecord index place)) none kind found =
       let is = found index place refl in rw (is.0, is.1) refl
   refusal_says held broken bad (Err fault.NoMemory) none kind found = tt
+
+-- the same of a text and a first bad record by the privacy that the call was given
+pub refusal_says_by : {T : Type 0} (bytes : T → List ℕ) (text : Privacy → List ℕ) (bad : Privacy → Option BadItem) (held : Bool) (given wanted : Privacy)
+    (told asked : BrokenRecords) (result : Result T ExportFault) → given ≡ wanted → told ≡ asked
+    → (held ≡ false → result ≡ Err fault.CannotExport) → (result ≡ Err fault.CannotExport → held ≡ false)
+    → ((index place : ℕ) → result ≡ Err (fault.BadRecord index place)
+    → (told ≡ Refused) × (bad given ≡ Some (record { index = index; place = place })))
+    → IfErr result (SaysNoText (if_held held (unless_bad asked (bad wanted) (text wanted))))
+refusal_says_by bytes text bad held given wanted told asked result is_wanted is_asked none kind found =
+    rw (← is_wanted, ← is_asked) (refusal_says bytes (text given) held told (bad given) result none kind found)
 
 -- of two kinds the second is looked at where the database does not hold the first
 pub other_text : {T : Type 0} (bytes : T → List ℕ) (held : Bool) (one other : Result (List ℕ) NoText) (result : Result T ExportFault) → held ≡ false

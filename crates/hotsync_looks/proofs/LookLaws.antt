@@ -26,10 +26,8 @@ use Rattle.pdb_files.specs.declared.fault.FileFault.TheVariants.{NoMemory as NoM
 use Rattle.hotsync_looks.specs.BadFiles.{BreaksRule, StandsFor}
 use Rattle.hotsync_looks.specs.declared.status.FileSide.TheVariants.{Source}
 use Rattle.hotsync_looks.specs.LookTexts.{BadItem, Cause, Broken, HasBadRecord, Misfit, Unfit, Untraced, Improper, IsCauseOf, IsDatabaseCause, IsDatabaseText, IsImportCause, IsImported, IsUnfit}
-use Rattle.hotsync_looks.specs.LookTexts.{IsPageText, IsProperText, IsReadingCause, IsTextOf, IsTraceCause, NoTextSays, Refuses, RefusesDatabase, RefusesImport, RefusesReading, RefusesTrace, Says, SaysMisfit, look_text, source_limit}
+use Rattle.hotsync_looks.specs.LookTexts.{IsPageText, IsProperText, IsReadingCause, IsTextOf, IsTraceCause, NoTextSays, Refuses, RefusesDatabase, RefusesImport, RefusesReading, RefusesTrace, Says, look_text, source_limit}
 use Rattle.hotsync_looks.specs.ExportTexts.{NoText, Absent, OutOfForm}
-use Rattle.memo_import.specs.Databases.{import_in}
-use Rattle.memo_import.specs.declared.fault.ImportFault.{ImportFault}
 use Rattle.hotsync_looks.specs.Looks.{IsLook, IsLookRefusal, IsReadable, IsTextIn, SourceShows}
 use Rattle.hotsync_looks.specs.Opening.{Opens, OpensAtMost}
 use Rattle.hotsync_looks.specs.Printed.{IsPrinted}

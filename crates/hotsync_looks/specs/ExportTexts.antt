@@ -16,9 +16,13 @@ use Rattle.calendar_export.specs.Exports.{exported, fault_of, is_of_kind, source
 use Rattle.calendar_export.specs.Items.{calendar_text}
 use Rattle.calendar_export.specs.declared.kind.Kind.{Kind}
 use Rattle.calendar_export.specs.declared.kind.Kind.TheVariants.{Dates, Tasks}
+use Rattle.table_export.specs.Exports as table
+use Rattle.table_export.specs.Tables.{table_text}
+use Rattle.table_export.specs.declared.kind.Kind.{Kind as TableKind}
+use Rattle.table_export.specs.declared.kind.Kind.TheVariants as rows
 use Rattle.run_words.specs.declared.look.Export.{Export}
 use Rattle.run_words.specs.declared.look.ExportForm.{ExportForm}
-use Rattle.run_words.specs.declared.look.ExportForm.TheVariants.{Text, Cards, Calendar}
+use Rattle.run_words.specs.declared.look.ExportForm.TheVariants.{Text, Cards, Table, Calendar}
 
 -- which records are exported
 abbrev pub privacy_of : Export → Privacy
@@ -56,6 +60,19 @@ cards_export export database =
     (unless_bad (broken_of export) (first_bad_address (privacy_of export) database)
     (cards_text (exported_cards (privacy_of export) database)))
 
+-- its addresses, or its tasks, as a table
+abbrev pub rows_export : TableKind → Export → DatabaseValue → Result (List ℕ) NoText
+rows_export kind export database =
+    if_held (table.is_of_kind kind database.head)
+    (unless_bad (broken_of export) (table.first_bad_item kind (privacy_of export) database)
+    (table_text (table.exported_rows kind (privacy_of export) database)))
+
+-- its addresses, if it holds any, else its tasks
+abbrev pub table_export : Export → DatabaseValue → Result (List ℕ) NoText
+table_export export database =
+    if table.is_of_kind rows.Addresses database.head then rows_export rows.Addresses export database
+    else rows_export rows.Tasks export database
+
 -- its tasks, or its dates, as a calendar that was made then
 abbrev pub kind_export : Kind → ℕ → Export → DatabaseValue → Result (List ℕ) NoText
 kind_export kind made export database =
@@ -72,6 +89,7 @@ calendar_export made export database =
 abbrev pub form_export : Export → ExportForm → DatabaseValue → Result (List ℕ) NoText
 form_export export Text database = memos_export export database
 form_export export Cards database = cards_export export database
+form_export export Table database = table_export export database
 form_export export (Calendar made) database = calendar_export made export database
 
 -- an answer of a call that exports is the text, says why there is none, or that memory ran out

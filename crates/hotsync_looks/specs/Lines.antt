@@ -9,7 +9,7 @@ use Rattle.pdb_values.specs.Stems.{stem_of}
 use Rattle.pdb_files.specs.BadKinds.{word_of}
 use Rattle.pdb_files.specs.declared.bad_kind.BadKind.{BadKind}
 use Rattle.run_words.specs.declared.look.ExportForm.{ExportForm}
-use Rattle.run_words.specs.declared.look.ExportForm.TheVariants.{Text, Cards, Calendar}
+use Rattle.run_words.specs.declared.look.ExportForm.TheVariants.{Text, Cards, Table, Calendar}
 use Rattle.hotsync_looks.specs.PrintedNames.{printed_name}
 use Rattle.hotsync_looks.specs.declared.status.FileSide.{FileSide}
 use Rattle.hotsync_looks.specs.declared.status.FileSide.TheVariants.{Handheld, Desktop, Source}
@@ -85,6 +85,7 @@ users_line handheld desktop = codes "other user " ++ user_text handheld ++ codes
 abbrev pub form_word : ExportForm → List ℕ
 form_word Text = codes "txt"
 form_word Cards = codes "vcf"
+form_word Table = codes "csv"
 form_word (Calendar made) = codes "ics"
 
 -- `cannot export STEM as FORM`

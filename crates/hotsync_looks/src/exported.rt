@@ -1,9 +1,11 @@
 // The text of a database in the form that is wanted.
 ghost use Rattle.std.specs.Prelude.{◌≡◌, ◌↔◌, IfErr, IfOk, IsErrOf, Ok as OkValue, false, string_bytes};
 ghost use Rattle.hotsync_looks.specs.ExportTexts as texts;
-ghost use Rattle.hotsync_looks.specs.ExportTexts.{SaysNoText, calendar_export, cards_export, form_export, kind_export, memos_export};
+ghost use Rattle.hotsync_looks.specs.ExportTexts.{SaysNoText, calendar_export, cards_export, form_export, kind_export, memos_export, rows_export, table_export};
 ghost use Rattle.calendar_export.specs.Exports.{is_of_kind};
 ghost use Rattle.calendar_export.specs.declared.kind.Kind.TheVariants.{Dates, Tasks};
+ghost use Rattle.table_export.specs.Exports as table;
+ghost use Rattle.table_export.specs.declared.kind.Kind.TheVariants as rows;
 
 use calendar_export::{dates_text, tasks_text};
 use card_export::cards_text;
@@ -12,6 +14,7 @@ use pdb_values::{Database, PalmDate};
 use record_export::memos_text;
 use run_words::{Export, ExportForm};
 use std::alloc::Global;
+use table_export::{addresses_table, tasks_table};
 
 /// The text of a database in the form that is wanted.
 pub fn exported_text(
@@ -26,6 +29,7 @@ pub fn exported_text(
     match export.form {
         ExportForm::Text => plain_text(alloc, export, database),
         ExportForm::Cards => card_text(alloc, export, database),
+        ExportForm::Table => table_text(alloc, export, database),
         ExportForm::Calendar(seconds) => {
             let made = PalmDate::of_seconds(seconds);
             calendar_text(alloc, made, export, database)
@@ -71,6 +75,39 @@ fn card_text(alloc: Global, export: Export, database: &Database) -> Result<Strin
     ensures refused { IfErr result (SaysNoText (cards_export export database.now)) }
 {
     cards_text(alloc, database, privacy_of(export), broken_of(export))
+}
+
+// Its addresses, as a table.
+fn address_rows(alloc: Global, export: Export, database: &Database) -> Result<String, ExportFault>
+    ensures text { IfOk result (λ text. rows_export rows.Addresses export database.now
+        ≡ OkValue (string_bytes text)) }
+    ensures refused { IfErr result (SaysNoText
+        (rows_export rows.Addresses export database.now)) }
+    ensures kind { IsErrOf result ExportFault.CannotExport
+        ↔ (table.is_of_kind rows.Addresses database.now.head ≡ false) }
+{
+    addresses_table(alloc, database, privacy_of(export), broken_of(export))
+}
+
+// Its tasks, likewise.
+fn task_rows(alloc: Global, export: Export, database: &Database) -> Result<String, ExportFault>
+    ensures text { IfOk result (λ text. rows_export rows.Tasks export database.now
+        ≡ OkValue (string_bytes text)) }
+    ensures refused { IfErr result (SaysNoText (rows_export rows.Tasks export database.now)) }
+{
+    tasks_table(alloc, database, privacy_of(export), broken_of(export))
+}
+
+// Its addresses or its tasks.
+fn table_text(alloc: Global, export: Export, database: &Database) -> Result<String, ExportFault>
+    ensures text { IfOk result (λ text. table_export export database.now
+        ≡ OkValue (string_bytes text)) }
+    ensures refused { IfErr result (SaysNoText (table_export export database.now)) }
+{
+    match address_rows(alloc, export, database) {
+        Err(ExportFault::CannotExport) => task_rows(alloc, export, database),
+        answer => answer,
+    }
 }
 
 // Its tasks, as a calendar that was made then.

@@ -338,6 +338,7 @@ fn form_word(form: ExportForm) -> &'static str
     match form {
         ExportForm::Text => "txt",
         ExportForm::Cards => "vcf",
+        ExportForm::Table => "csv",
         ExportForm::Calendar(_) => "ics",
     }
 }

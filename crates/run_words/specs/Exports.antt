@@ -4,7 +4,7 @@ use Rattle.run_words.specs.Forms.{has_flag, value_of}
 use Rattle.run_words.specs.Runs.{date_at}
 use Rattle.run_words.specs.declared.look.Export.{Export}
 use Rattle.run_words.specs.declared.look.ExportForm.{ExportForm}
-use Rattle.run_words.specs.declared.look.ExportForm.TheVariants.{Text, Cards, Calendar}
+use Rattle.run_words.specs.declared.look.ExportForm.TheVariants.{Text, Cards, Table, Calendar}
 use Rattle.run_words.specs.declared.look.ImportForm.{ImportForm}
 use Rattle.run_words.specs.declared.look.ImportForm.TheVariants as imports
 
@@ -12,7 +12,8 @@ use Rattle.run_words.specs.declared.look.ImportForm.TheVariants as imports
 abbrev pub plain_form : List ℕ → Option ExportForm
 plain_form word =
     if bytes_eq word (codes "txt") then Some Text
-    else (if bytes_eq word (codes "vcf") then Some Cards else None)
+    else (if bytes_eq word (codes "vcf") then Some Cards
+    else (if bytes_eq word (codes "csv") then Some Table else None))
 
 -- the form of a text that has this date
 abbrev pub dated_form : Option ℕ → List ℕ → List ℕ → Option ExportForm

@@ -11,6 +11,8 @@ pub enum ExportForm {
     Text,
     /// Cards: `--as=vcf`.
     Cards,
+    /// A table: `--as=csv`.
+    Table,
     /// A calendar that says when it was made, in seconds since 1904-01-01T00:00:00: `--as=ics --date=D`.
     Calendar(u32),
 }
@@ -66,6 +68,7 @@ fn plain_form(word: &str) -> Option<ExportForm>
     match word {
         "txt" => Some(ExportForm::Text),
         "vcf" => Some(ExportForm::Cards),
+        "csv" => Some(ExportForm::Table),
         _ => None,
     }
 }

@@ -1,6 +1,5 @@
 use Rattle.std.proofs.lemmas.Grind.{common_steps}
-use Rattle.std.proofs.Common.{arith, ◌≡◌, ◌∙◌, sym, subst}
-use Rattle.hotsync_looks.specs.Looks.{IsLookRefusal}
+use Rattle.std.proofs.Common.{arith}
 use Rattle.hotsync_looks.proofs.LookLaws.{refusal_known}
 use Rattle.hotsync_looks.proofs.look.look_into.Goals as goal
 
