@@ -1,0 +1,12 @@
+pub mod AgainLaws
+pub mod ByIdLaws
+pub mod ByLabelLaws
+pub mod FoundLaws
+pub mod JoinedLaws
+pub mod MergedLaws
+pub mod OwnedLaws
+pub mod PlaceLaws
+pub mod RoundLaws
+pub mod SetLaws
+pub mod Settled
+pub mod TextLaws

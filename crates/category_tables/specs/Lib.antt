@@ -1,0 +1,6 @@
+pub mod Makings
+pub mod Merges
+pub mod Owned
+pub mod Swaps
+pub mod Tables
+pub mod Texts
