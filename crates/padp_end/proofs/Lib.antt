@@ -1,0 +1,4 @@
+pub mod SayingLaws
+pub mod WaitingLaws
+pub mod ArrivalLaws
+pub mod TakingLaws

@@ -1,0 +1,5 @@
+pub mod Arrivals
+pub mod Outgoings
+pub mod Ends
+pub mod Holding
+pub mod Laws
