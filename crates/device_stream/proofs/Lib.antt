@@ -1,0 +1,4 @@
+pub mod TakingLaws
+pub mod HandLaws
+pub mod CourseLaws
+pub mod ListenLaws
