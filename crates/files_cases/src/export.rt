@@ -9,6 +9,7 @@ use memo_import::{ImportFault, import_memos};
 use pdb_values::{Category, Content, Database, DbHead, DbName, FourCc, PalmDate, Record, RecordId};
 use record_export::memos_text;
 use std::alloc::{AllocError, Global};
+use table_export::{addresses_table, tasks_table};
 
 /// One database at most, and the categories at the head of its app block.
 #[derive(Drop)]
@@ -126,6 +127,12 @@ impl Exports {
             "vcf" | "vcf-public" | "vcf-kept" => {
                 self.said_of(cards_text(alloc, database, privacy, broken))
             }
+            "csv" | "csv-public" | "csv-kept" => {
+                self.said_of(addresses_table(alloc, database, privacy, broken))
+            }
+            "csv-tasks" | "csv-tasks-public" | "csv-tasks-kept" => {
+                self.said_of(tasks_table(alloc, database, privacy, broken))
+            }
             "tasks" | "tasks-public" | "tasks-kept" => {
                 self.said_of(tasks_text(alloc, database, made(), privacy, broken))
             }
@@ -168,10 +175,12 @@ impl Exports {
 // Which records stand in a text, by the last word of its line.
 fn wishes_of(form: &str) -> (Privacy, BrokenRecords) {
     match form {
-        "txt-public" | "vcf-public" | "tasks-public" => {
+        "txt-public" | "vcf-public" | "csv-public" | "csv-tasks-public" | "tasks-public" => {
             (Privacy::WithoutPrivate, BrokenRecords::Refused)
         }
-        "vcf-kept" | "tasks-kept" | "dates-kept" => (Privacy::All, BrokenRecords::Kept),
+        "vcf-kept" | "csv-kept" | "csv-tasks-kept" | "tasks-kept" | "dates-kept" => {
+            (Privacy::All, BrokenRecords::Kept)
+        }
         _ => (Privacy::All, BrokenRecords::Refused),
     }
 }

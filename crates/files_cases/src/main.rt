@@ -24,13 +24,18 @@
 //! - Texts: `export new TYPE CREATOR ATTRIBUTES` (a database), `export app LENGTH` (zeros), `export label CATEGORY H`,
 //!   `export custom NUMBER H` (the label of a custom field), `export record ID live|deleted open|private CATEGORY H`, and
 //!   then `export txt`, `export txt-public`; `export vcf`, `export vcf-public`, `export vcf-kept` (broken records are kept);
-//!   `export tasks`, `export tasks-public`, `export tasks-kept`, `export dates`, `export dates-kept` (made at
-//!   2001-09-09T01:46:40); `export import H` (the database of a text of memos, and then its text again).
+//!   `export csv`, `export csv-public`, `export csv-kept` (addresses as a table), `export csv-tasks`,
+//!   `export csv-tasks-public`, `export csv-tasks-kept` (tasks as a table); `export tasks`, `export tasks-public`,
+//!   `export tasks-kept`, `export dates`, `export dates-kept` (made at 2001-09-09T01:46:40); `export import H` (the database
+//!   of a text of memos, and then its text again).
+//! - Tables of categories: `categories read H`, which writes the table again, and `categories merge H H`, of a handheld's and
+//!   a desktop's.
 //! - Folders made of a seed and a count: `made files SEED COUNT` prints each file with its bytes, and `made sums SEED COUNT`
 //!   with its length and the number that its bytes are as digits to the base 31, modulo 2 to the 32.
 #![tactic(auto)]
 
 mod calls;
+mod categories;
 mod database;
 mod export;
 mod file;
@@ -106,6 +111,7 @@ impl<'r> Cases<'r> {
             "shelf" => shelf::obey(self.alloc, &mut self.shelf, call),
             "db" => self.loaded.obey(call),
             "export" => self.exports.obey(call),
+            "categories" => categories::obey(self.alloc, call),
             "made" => made::obey(self.alloc, call),
             _ => value::obey(self.alloc, line, words),
         }

@@ -48,6 +48,7 @@ fn form_text(alloc: Global, form: ExportForm) -> Result<String, AllocError> {
     match form {
         ExportForm::Text => String::from_str(alloc, "txt"),
         ExportForm::Cards => String::from_str(alloc, "vcf"),
+        ExportForm::Table => String::from_str(alloc, "csv"),
         ExportForm::Calendar(made) => format!(in alloc; "ics date {}", made),
     }
 }
