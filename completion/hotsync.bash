@@ -20,7 +20,7 @@ _hotsync() {
         ;;
     export)
         case $word in
-        -*) COMPREPLY=($(compgen -W '--as=txt --as=vcf --as=ics --date=now --without-private --keep-broken' -- "$word")) ;;
+        -*) COMPREPLY=($(compgen -W '--as=txt --as=vcf --as=csv --as=ics --date=now --without-private --keep-broken' -- "$word")) ;;
         *) COMPREPLY=($(compgen -f -- "$word")) ;;
         esac
         ;;
