@@ -1,0 +1,197 @@
+-- Databases that are read whole, one after another, each kept in its file.
+use Rattle.std.proofs.lemmas.List.{append-nil, map-append}
+use Rattle.std.proofs.Common.{◌≡◌, ◌∙◌, ◌+◌, ◌≤◌, ap, refl, sym, subst, ℕ, List, [], ◌∷◌, ◌++◌, length, map, take, append_assoc}
+use Rattle.std.specs.Prelude.{Option, Some, None, IfErr, Result, Ok, Err}
+use Rattle.std.specs.Global.{Vec}
+use Rattle.std.specs.FinMap as finmap
+use Rattle.std.specs.Option.{option_map}
+use Rattle.hs_folders.specs.FileMaps.{FileMap}
+use Rattle.pdb_values.specs.Databases.{DatabaseValue}
+use Rattle.pdb_values.specs.declared.head.DbHead.{DbHead}
+use Rattle.desk_journal.specs.Entries.{EntryValue}
+use Rattle.desk_journal.specs.Overlays.{put_all}
+use Rattle.desktop_session.proofs.StopLaws.{fell_none, stops_none}
+use Rattle.desktop_session.specs.declared.fault.SessionFault.TheVariants as session
+use Rattle.slow_mirror.proofs.NewsLaws.{SplitAt, take_all, take_none}
+use Rattle.session_parts.specs.Causes.{IsLater}
+use Rattle.session_parts.specs.Rests.{IsFirst}
+use Rattle.session_parts.specs.Spans.{Spans}
+use Rattle.session_parts.specs.declared.stop.Stop.{Stop}
+use Rattle.session_parts.specs.declared.stop.Stop.TheVariants as stop
+use Rattle.session_parts.proofs.EachLaws.{EachSoFar, each_none, each_on}
+use Rattle.session_parts.proofs.LinkWords.{LinkFault, SessionFault, SessionValue, Talk, text}
+use Rattle.install_backup.specs.declared.moved.Moved.{Moved}
+use Rattle.install_backup.specs.Backups.{IsBackupCause, IsKept, IsUnkept, KeepsOne, KeepsSome, SaysCopied, backups_under, file_of, kept_moved, next_acts}
+
+put_all-append : (xs ys : List EntryValue) (held : FileMap) → put_all (xs ++ ys) held ≡ put_all ys (put_all xs held)
+put_all-append [] ys held = refl
+put_all-append (x ∷ xs) ys held = put_all-append xs ys (finmap.insert held x.name x.bytes)
+
+put_twice : (xs ys : List EntryValue) (o : Option FileMap) → option_map (put_all ys) (option_map (put_all xs) o) ≡ option_map (put_all (xs ++ ys)) o
+put_twice xs ys None = refl
+put_twice xs ys (Some held) = ap (λ (m : FileMap). Some m) (sym (put_all-append xs ys held))
+
+pub put_none : (o : Option FileMap) → o ≡ option_map (put_all []) o
+put_none None = refl
+put_none (Some held) = refl
+
+first_one : (o : Option Talk) → IsFirst o 1
+first_one None = tt
+first_one (Some talk) = λ none. refl
+
+-- ---- one
+
+module _ {L F : Type 0} {talk : L → Option Talk} {since : L → L → Type 0} {fault : L → Option LinkFault} {downs : L → ℕ} (contents : F → Option FileMap)
+    {head : DbHead} {old new : SessionValue L} {folder after : F} where
+  pub one_unread : {cause : SessionFault} {why : Stop} → Spans talk since fault downs (backups_under (talk old.link) head) (SaysCopied (talk old.link) head) old new (Err cause)
+      → contents after ≡ contents folder → why ≡ stop.Session cause → KeepsOne talk since fault downs contents head old new folder after (Err why)
+  one_unread {cause} spans same is = record { read = Err cause; spans = spans; kept = (same, is) }
+
+  pub one_unkept : {whole : DatabaseValue} {why : Stop} → Spans talk since fault downs (backups_under (talk old.link) head) (SaysCopied (talk old.link) head) old new (Ok whole)
+      → contents after ≡ contents folder → IsUnkept why → KeepsOne talk since fault downs contents head old new folder after (Err why)
+  one_unkept {whole} spans same is = record { read = Ok whole; spans = spans; kept = (same, is) }
+
+  pub one_kept : {whole : DatabaseValue} {moved : Moved} → Spans talk since fault downs (backups_under (talk old.link) head) (SaysCopied (talk old.link) head) old new (Ok whole)
+      → contents after ≡ option_map (put_all (file_of whole ∷ [])) (contents folder) → moved ≡ kept_moved whole
+      → KeepsOne talk since fault downs contents head old new folder after (Ok moved)
+  one_kept {whole} spans put is = record { read = Ok whole; spans = spans; kept = (put, is) }
+
+-- ---- several
+
+-- these were read whole so far, and are kept
+pub record KeptSoFar {L F : Type 0} (talk : L → Option Talk) (since : L → L → Type 0) (fault : L → Option LinkFault) (downs : L → ℕ)
+    (contents : F → Option FileMap) (done : List DbHead) (moved : List Moved) (old now : SessionValue L) (folder after : F) : Type 0 where
+  pub wholes : List DatabaseValue
+  pub each : EachSoFar talk since fault downs backups_under SaysCopied done wholes old now
+  pub files : contents after ≡ option_map (put_all (map file_of wholes)) (contents folder)
+  pub told : moved ≡ map kept_moved wholes
+
+module _ {L F : Type 0} {talk : L → Option Talk} {since : L → L → Type 0} {fault : L → Option LinkFault} {downs : L → ℕ} {contents : F → Option FileMap}
+    {old : SessionValue L} {folder : F} where
+  pub kept_begin : (itself : (a : L) → since a a) (heads : List DbHead) {moved : List Moved} → moved ≡ []
+      → KeptSoFar talk since fault downs contents (take 0 heads) moved old old folder folder
+  kept_begin itself heads none = record {
+    wholes = [];
+    each = subst (λ (hs : List DbHead). EachSoFar talk since fault downs backups_under SaysCopied hs [] old old) (sym (take_none heads)) (each_none itself);
+    files = put_none (contents folder);
+    told = none;
+  }
+
+  module _ {heads : List DbHead} {k : ℕ} {head : DbHead} (split : SplitAt heads k head) {moved : List Moved} {now new : SessionValue L} {here after : F} where
+    -- one more
+    pub kept_on : (since_more : (a b c : L) → since a b → since b c → since a c) {one : Moved} {more : List Moved}
+        → KeptSoFar talk since fault downs contents (take k heads) moved old now folder here → KeepsOne talk since fault downs contents head now new here after (Ok one)
+        → more ≡ moved ++ one ∷ [] → KeptSoFar talk since fault downs contents (take (k + 1) heads) more old new folder after
+    kept_on since_more {one} {more} before step grown = by step.read step.spans step.kept
+      where
+        by : (read : Result DatabaseValue SessionFault)
+            → Spans talk since fault downs (backups_under (talk now.link) head) (SaysCopied (talk now.link) head) now new read
+            → IsKept read (contents here) (contents after) (Ok one)
+            → KeptSoFar talk since fault downs contents (take (k + 1) heads) more old new folder after
+        by (Ok whole) spans kept = record {
+          wholes = before.wholes ++ whole ∷ [];
+          each = each_on split since_more before.each spans;
+          files = kept.0 ∙ ap (option_map (put_all (file_of whole ∷ []))) before.files
+              ∙ put_twice (map file_of before.wholes) (file_of whole ∷ []) (contents folder)
+              ∙ ap (λ (files : List EntryValue). option_map (put_all files) (contents folder)) (sym (map-append file_of before.wholes (whole ∷ [])));
+          told = grown ∙ ap (λ (m : Moved). moved ++ m ∷ []) kept.1 ∙ ap (λ (ms : List Moved). ms ++ kept_moved whole ∷ []) before.told
+              ∙ sym (map-append kept_moved before.wholes (whole ∷ []));
+        }
+        by (Err cause) spans kept = absurd kept
+
+    -- the next was refused, or its file
+    pub kept_stop : {why : Stop} → KeptSoFar talk since fault downs contents (take k heads) moved old now folder here
+        → KeepsOne talk since fault downs contents head now new here after (Err why)
+        → KeepsSome talk since fault downs contents heads old new folder after (Err why)
+    kept_stop {why} before step = record {
+      done = take k heads;
+      rest = head ∷ split.rest;
+      parts = split.is;
+      stretches = before.each.stretches;
+      wholes = before.wholes;
+      now = now.link;
+      firsts = before.each.firsts;
+      stops = before.each.so.stops;
+      does = before.each.so.does;
+      said = before.each.said;
+      files = same step.read step.kept ∙ before.files;
+      next = record { handle = step.spans.handle; given = step.spans.given };
+      first = step.spans.first;
+      behind = step.spans.stops;
+      all = tt;
+      told = tt;
+      cause = cause_of why step.read step.kept step.spans.cause;
+      closed = tt;
+    }
+      where
+        same : (read : Result DatabaseValue SessionFault) → IsKept read (contents here) (contents after) (Err why)
+            → contents after ≡ contents here
+        same (Ok whole) kept = kept.0
+        same (Err cause) kept = kept.0
+
+        unkept : (why : Stop) → IsUnkept why → IsBackupCause fault new.link why
+        unkept stop.DeskFault is = tt
+        unkept (stop.Session session.NoMemory) is = tt
+        unkept (stop.Session session.Down) is = absurd is
+        unkept (stop.Session (session.Refused code)) is = absurd is
+        unkept (stop.Session (session.OtherUser one two)) is = absurd is
+        unkept (stop.Session (session.BadReply broken)) is = absurd is
+        unkept (stop.Session session.TooManyUsers) is = absurd is
+        unkept (stop.Limit name) is = absurd is
+        unkept (stop.NewHandheld name) is = absurd is
+
+        cause_of : (why : Stop) (read : Result DatabaseValue SessionFault) → IsKept read (contents here) (contents after) (Err why)
+            → IfErr read (IsLater (fault new.link)) → IsBackupCause fault new.link why
+        cause_of why (Ok whole) kept later = unkept why kept.1
+        cause_of why (Err cause) kept later = subst (IsBackupCause fault new.link) (sym kept.1) later
+
+  module _ {heads : List DbHead} {k : ℕ} {head : DbHead} (split : SplitAt heads k head) {new : SessionValue L} {after : F} where
+    -- memory ran out behind it
+    pub kept_lost : (itself : (a : L) → since a a) {more : List Moved} → KeptSoFar talk since fault downs contents (take (k + 1) heads) more old new folder after
+        → KeepsSome talk since fault downs contents heads old new folder after (Err (stop.Session session.NoMemory))
+    kept_lost itself before = record {
+      done = take (k + 1) heads;
+      rest = split.rest;
+      parts = ap (λ (hs : List DbHead). hs ++ split.rest) split.next ∙ append_assoc (take k heads) (head ∷ []) split.rest ∙ split.is;
+      stretches = before.each.stretches;
+      wholes = before.wholes;
+      now = new.link;
+      firsts = before.each.firsts;
+      stops = before.each.so.stops;
+      does = before.each.so.does;
+      said = before.each.said;
+      files = before.files;
+      next = record { handle = 1; given = [] };
+      first = first_one (talk new.link);
+      behind = stops_none talk since fault downs (map text (next_acts (talk new.link) split.rest (record { handle = 1; given = [] }))) new.link new.link refl
+          (itself new.link) (fell_none fault downs new.link);
+      all = tt;
+      told = tt;
+      cause = tt;
+      closed = tt;
+    }
+
+  -- all
+  pub kept_all : (itself : (a : L) → since a a) (heads : List DbHead) (k : ℕ) {moved : Vec Moved} {new : SessionValue L} {after : F} → length heads ≤ k
+      → KeptSoFar talk since fault downs contents (take k heads) moved.items old new folder after
+      → KeepsSome talk since fault downs contents heads old new folder after (Ok moved)
+  kept_all itself heads k {moved} {new} all before = record {
+    done = take k heads;
+    rest = [];
+    parts = append-nil (take k heads) ∙ take_all heads k all;
+    stretches = before.each.stretches;
+    wholes = before.wholes;
+    now = new.link;
+    firsts = before.each.firsts;
+    stops = before.each.so.stops;
+    does = before.each.so.does;
+    said = before.each.said;
+    files = before.files;
+    next = record { handle = 1; given = [] };
+    first = first_one (talk new.link);
+    behind = stops_none talk since fault downs [] new.link new.link refl (itself new.link) (fell_none fault downs new.link);
+    all = (refl, refl);
+    told = before.told;
+    cause = tt;
+    closed = before.each.so.abandoned;
+  }

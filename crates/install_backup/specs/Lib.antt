@@ -1,0 +1,11 @@
+pub mod BackedUp
+pub mod BackupActs
+pub mod BackupEnds
+pub mod Backups
+pub mod Copies
+pub mod InstallActs
+pub mod InstallEnds
+pub mod Installed
+pub mod Installs
+pub mod Puts
+pub mod Rooms

@@ -1,0 +1,102 @@
+// What an install makes of a database and of a handheld, and what a backup reads. Each function here does nothing: its contract is the law.
+ghost use Rattle.std.specs.Prelude.{◌≡◌, ◌++◌, ℕ, List, [], Some, false, true, flat_map};
+ghost use Rattle.std.specs.List.{AllByRecursion};
+ghost use Rattle.pdb_values.specs.Databases.{DatabaseValue};
+ghost use Rattle.pdb_values.specs.Heads.{is_read_only};
+ghost use Rattle.pdb_values.specs.NamedDatabases.{NamesRise, database_of, with_new, with_put, without_named};
+ghost use Rattle.pdb_values.specs.declared.record.Record.{Record};
+ghost use Rattle.pdb_values.specs.declared.resource.Resource.{Resource};
+ghost use Rattle.palm_device.specs.Blocks.{with_app, with_sort};
+ghost use Rattle.palm_device.specs.Bounds.{IsBoundedDatabase};
+ghost use Rattle.palm_device.specs.Devices.{Device, with_database};
+ghost use Rattle.palm_device.specs.Handles.{Base, base_at, is_writable};
+ghost use Rattle.palm_device.specs.Resources as resources;
+ghost use Rattle.palm_device.specs.Resources.{put_resource, with_resources};
+ghost use Rattle.dlp_commands.specs.Holding.{on_resources};
+ghost use Rattle.desktop_session.specs.Acts.{acted};
+ghost use Rattle.desktop_session.specs.Orders.{AreInOrder, CanDelete};
+ghost use Rattle.desktop_session.specs.Requests.{deleting, putting_resource, writing_app, writing_sort};
+ghost use Rattle.desktop_session.specs.Tellings.{device_after};
+ghost use Rattle.session_parts.specs.Rests.{IsAtRest};
+ghost use Rattle.install_backup.specs.BackedUp.{backed_up};
+ghost use Rattle.install_backup.specs.BackupActs.{backup_of};
+ghost use Rattle.install_backup.specs.BackupEnds.{backup_front, read_of};
+ghost use Rattle.install_backup.specs.InstallActs.{install_one};
+ghost use Rattle.install_backup.specs.Installed.{installed, installed_behind, with_installed};
+ghost use Rattle.install_backup.specs.Puts.{put_each};
+ghost use Rattle.install_backup.specs.Rooms.{has_room};
+
+/// Of resources that are put one after another, each in place of the first of its type and id, those are left that are installed.
+pub fn resources_are_put_in_turn()
+    ensures { (resources : List Resource) → put_each resources [] ≡ installed_behind [] resources }
+{}
+
+/// A database that may be taken away is gone then, where it was there, and all others stay.
+pub fn databases_go()
+    ensures { (device : Device) (name : List ℕ) → CanDelete device 0 name
+        → (acted (deleting name) device).1
+        ≡ record device { databases = without_named name device.databases } }
+{}
+
+/// Both blocks are written into an open database that may be written, and a resource into one of resources that has room for it.
+pub fn what_is_written_is_there()
+    ensures app { (device : Device) (handle : ℕ) (base : Base) (bytes : List ℕ)
+        → base_at device handle ≡ Some base → is_writable base ≡ true
+        → (acted (writing_app handle bytes) device).1
+        ≡ with_database device (with_app bytes base.database) }
+    ensures sort { (device : Device) (handle : ℕ) (base : Base) (bytes : List ℕ)
+        → base_at device handle ≡ Some base → is_writable base ≡ true
+        → (acted (writing_sort handle bytes) device).1
+        ≡ with_database device (with_sort bytes base.database) }
+    ensures resource { (device : Device) (handle : ℕ) (base : Base) (resource : Resource)
+        → base_at device handle ≡ Some base → is_writable base ≡ true
+        → on_resources base.database ≡ true
+        → resources.has_room resource.kind.0 resource.id base.database.resources ≡ true
+        → (acted (putting_resource handle resource.kind.0 resource.id resource.bytes) device).1
+        ≡ with_database device (with_resources (put_resource resource.kind.0 resource.id
+        resource.bytes base.database.resources) base.database) }
+{}
+
+/// An installed database keeps the bounds of one, is installed as it is, and stands where a new one goes once the one of its name is gone.
+pub fn installed_databases_are_databases()
+    ensures bounded { (database : DatabaseValue) → IsBoundedDatabase database
+        → IsBoundedDatabase (installed database) }
+    ensures again { (database : DatabaseValue)
+        → installed (installed database) ≡ installed database }
+    ensures placed { (database : DatabaseValue) (databases : List DatabaseValue)
+        → NamesRise databases
+        → with_new database (without_named database.head.name databases)
+        ≡ with_put database databases }
+{}
+
+/// On a handheld on which nothing is open, and which has room for it, a database that is not read-only is installed in place of the one of
+/// its name, and all else stays: each request may be asked at its turn, and nothing is open then.
+pub fn installs_arrive()
+    ensures order { (device : Device) (database : DatabaseValue) → IsAtRest device
+        → IsBoundedDatabase database → is_read_only database.head.attributes ≡ false
+        → has_room database.head.name device.databases ≡ true
+        → AreInOrder (install_one database 1 []) device }
+    ensures device { (device : Device) (database : DatabaseValue) → IsAtRest device
+        → IsBoundedDatabase database → is_read_only database.head.attributes ≡ false
+        → has_room database.head.name device.databases ≡ true
+        → device_after (install_one database 1 []) device
+        ≡ record device { databases = with_installed database device.databases } }
+    ensures rests { (device : Device) (database : DatabaseValue) → IsAtRest device
+        → IsBoundedDatabase database → has_room database.head.name device.databases ≡ true
+        → IsAtRest (record device { databases = with_installed database device.databases }) }
+{}
+
+/// What a backup reads of a handheld on which nothing is open is the handheld's database, without its seed, where no application is at work
+/// on a record of it.
+pub fn copies_are_the_devices()
+    ensures { (device : Device) (database : DatabaseValue) → IsAtRest device
+        → database_of database.head.name device.databases ≡ Some database
+        → AllByRecursion (λ (item : Record). item.busy ≡ false) database.records
+        → read_of device database ≡ backed_up database }
+{}
+
+/// A backup leaves a handheld on which nothing is open as it was, up to the request that ends the session.
+pub fn backups_change_nothing()
+    ensures { (device : Device) → IsAtRest device
+        → device_after (backup_front device ++ flat_map backup_of device.databases) device ≡ device }
+{}
