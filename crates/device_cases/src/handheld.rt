@@ -4,7 +4,7 @@ ghost use Rattle.std.specs.Prelude.{◌≡◌, true};
 use crate::made::Made;
 use crate::said::{answer, head_of, name_in, user_of};
 use crate::served::Served;
-use crate::{folder, loan};
+use crate::{folder, loan, streamed};
 use case_words::{number_at, short_in, word};
 use handheld_store::{OpenFault, Store};
 use hs_folders::MemFolder;
@@ -50,6 +50,7 @@ impl Handheld {
                 self.close();
                 Ok(String::new(alloc))
             }
+            "device" | "feed" => self.stream(words),
             "make" | "do" | "insert" | "handles" => self.made.obey(words),
             _ => self.ask(words),
         }
@@ -64,6 +65,27 @@ impl Handheld {
             Some(said) => Ok(said),
             None => folder::obey(self.alloc, &mut self.folder, words),
         }
+    }
+
+    // Runs a handheld's end over the server, and takes the folder back.
+    fn stream(&mut self, words: &[&str]) -> Result<String, AllocError> {
+        let alloc = self.alloc;
+        let Some(server) = self.served.take() else {
+            return String::from_str(alloc, "nothing serves");
+        };
+        if !server.is_sound() {
+            return String::from_str(alloc, "not sound");
+        }
+        if word(words, 0) == "device" {
+            let (said, folder) = streamed::run(alloc, server, words)?;
+            self.folder = folder;
+            return Ok(said);
+        }
+        let (said, folder) = streamed::feed(alloc, server, words)?;
+        if let Some(folder) = folder {
+            self.folder = folder;
+        }
+        Ok(said)
     }
 
     // Opens a store over the folder.

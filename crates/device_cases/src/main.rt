@@ -15,6 +15,11 @@
 //! - The server: `serve` puts one over the store. A line of hexadecimal is a request and prints the
 //!   reply; in both `<new>` stands for the id that the last new record got. `talk H` says one over
 //!   a link to the server.
+//! - The handheld's end over the server, which takes packets: `device MOST READ WRITE H` runs it over
+//!   these bytes in pieces of at most MOST, 0 for as many as there is room, where the READth call of the
+//!   source and the WRITEth of the sink fail, and says how it ended, how many requests it served, and
+//!   what it wrote. `feed H..` hands it these packets by hand and says its wake and what it says to
+//!   each. Both hand the folder back.
 //! - A database by itself: `make H ATTRIBUTES`, then `do CHANGE..`; `insert H..` sorts databases by
 //!   name, `handles` counts them up.
 #![tactic(auto)]
@@ -24,8 +29,10 @@ mod handheld;
 mod linked;
 mod loan;
 mod made;
+mod pieces;
 mod said;
 mod served;
+mod streamed;
 
 use handheld::Handheld;
 use std::io;

@@ -35,6 +35,11 @@ impl Served {
         Some(self.server.take()?.into_folder())
     }
 
+    /// The server, which is taken out.
+    pub fn take(&mut self) -> Option<Server<MemFolder>> {
+        self.server.take()
+    }
+
     /// The reply to a request. None: nothing serves.
     pub fn obey(&mut self, alloc: Global, words: &[&str]) -> Result<Option<String>, AllocError> {
         let Some(server) = self.server.take() else {
