@@ -56,7 +56,7 @@ filled device database = record device {
 abbrev pub made_base : DatabaseValue → Base
 made_base database = record { opened = just_opened database.head.name 0xC0; database = database }
 
-found : (database : DatabaseValue) (databases : List DatabaseValue) → database_of database.head.name (with_put database databases) ≡ Some database
+pub found : (database : DatabaseValue) (databases : List DatabaseValue) → database_of database.head.name (with_put database databases) ≡ Some database
 found database databases =
     database_of-with_put database.head.name database databases
     ∙ ap (λ b. cond b (Some database) (database_of database.head.name databases)) (bytes_eq-own database.head.name)

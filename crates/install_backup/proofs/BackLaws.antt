@@ -7,6 +7,8 @@ use Rattle.std.specs.Prelude.{Option, Some, None, IfErr, IfOk, IfSome, OnOk, Res
 use Rattle.std.specs.Global.{Vec}
 use Rattle.std.specs.Option.{option_map}
 use Rattle.hs_folders.specs.FileMaps.{FileMap}
+use Rattle.hs_folders.specs.Moments.{EachMomentSince, Moments}
+use Rattle.hs_folders.proofs.MomentLaws.{no_moment}
 use Rattle.pdb_values.specs.Databases.{DatabaseValue}
 use Rattle.pdb_values.specs.Slots.{slot_for}
 use Rattle.pdb_values.specs.declared.head.DbHead.{DbHead}
@@ -42,7 +44,7 @@ use Rattle.install_backup.specs.declared.moved.MoveOutcome.{MoveOutcome}
 use Rattle.install_backup.specs.declared.moved.Moved.{Moved}
 use Rattle.install_backup.specs.BackupActs.{backup_acts, backup_of}
 use Rattle.install_backup.specs.BackupEnds.{BackupEnds, BackupWent, Finishes, backup_front, next_of, read_of}
-use Rattle.install_backup.specs.Backups.{IsBackupCause, KeepsSome, SaysCopied, backups_under, file_of, kept_moved, next_acts}
+use Rattle.install_backup.specs.Backups.{HasSome, IsBackupCause, KeepsSome, SaysCopied, backups_under, file_of, kept_moved, next_acts}
 use Rattle.install_backup.proofs.KeepLaws.{put_none}
 use Rattle.install_backup.proofs.ReadWhole.{AreHeld, ReadsAll, acts_are, held_all, held_first, held_last, listed_of, reads_all}
 
@@ -151,16 +153,17 @@ lead_stops talk since fault downs {xs} {ys} zs a b lead stops =
     (sym (append_assoc xs lead.rest zs) ∙ ap (λ (acts : List Act). acts ++ zs) lead.is)
     (rw (map-append text xs (lead.rest ++ zs)) (stops_more talk since fault downs (map text xs) (map text (lead.rest ++ zs)) a b stops))
 
-module _ {L F : Type 0} {talk : L → Option Talk} {since : L → L → Type 0} {fault : L → Option LinkFault} {downs : L → ℕ} {contents : F → Option FileMap}
+module _ {L F : Type 0} {talk : L → Option Talk} {since : L → L → Type 0} {fault : L → Option LinkFault} {downs : L → ℕ} {contents : F → Option FileMap} {moments : F → Moments}
     (since_itself : (a : L) → since a a) (since_more : (a b c : L) → since a b → since b c → since a c) {told : Talk} {old : L} {folder : F}
     (is : talk old ≡ Some told) (rests : IsAtRest told.device) where
   none_ends : {new : L} {cause : SessionFault} → Stops talk since fault downs (map text (backup_front told.device ++ next_of told.device.databases)) old new
-      → IsLater (fault new) cause → BackupEnds talk since fault downs contents told.device old new folder folder (Err (stop.Session cause))
+      → IsLater (fault new) cause → BackupEnds talk since fault downs contents moments told.device old new folder folder (Err (stop.Session cause))
   none_ends {new} stops later = record {
     kept = [];
     later = told.device.databases;
     parts = refl;
     files = put_none (contents folder);
+    each_moment = no_moment (HasSome [] (contents folder)) (moments folder) (moments folder) refl;
     stops = stops;
     now = new;
     behind = inl refl;
@@ -170,7 +173,7 @@ module _ {L F : Type 0} {talk : L → Option Talk} {since : L → L → Type 0} 
 
   -- both sides did not meet
   pub unmet_ends : {halted : Halted L} → MeetsOrNot talk since fault downs (0 ∷ []) false old (Err halted)
-      → BackupEnds talk since fault downs contents told.device old halted.link folder folder (Err (stop.Session halted.cause))
+      → BackupEnds talk since fault downs contents moments told.device old halted.link folder folder (Err (stop.Session halted.cause))
   unmet_ends {halted} (inl meets) =
       let more = told_behind (λ d. (k : ℕ) → k + 1 < meets.count → has_more (list_reply d k) ≡ true) told.device (talk old) (tells_it is) meets.more in
       let all : ℕ = max 1 (length told.device.databases) in
@@ -185,7 +188,7 @@ module _ {L F : Type 0} {talk : L → Option Talk} {since : L → L → Type 0} 
       (rw lost.0 (since_itself old)) (rw lost.0 (fell_none fault downs old))) tt)
 
   module _ {met : Met L} (meets : Meets talk since fault downs (0 ∷ []) false old (Ok met)) {left : MoveOutcome L F}
-      (went : BackupWent talk since fault downs contents met.heads.items met.linked folder left) where
+      (went : BackupWent talk since fault downs contents moments met.heads.items met.linked folder left) where
     abbrev link : L
     link = met.linked.link
 
@@ -213,7 +216,7 @@ module _ {L F : Type 0} {talk : L → Option Talk} {since : L → L → Type 0} 
         (tells_on told.device told.device (backup_front told.device) (talk old) (tells_it is)
         (after-append greeting (listings all) told.device ∙ ap (device_after (listings all)) (greeting_same told.device) ∙ listings_same all told.device))
 
-    abbrev some : KeepsSome talk since fault downs contents met.heads.items met.linked went.now folder left.folder went.answer
+    abbrev some : KeepsSome talk since fault downs contents moments met.heads.items met.linked went.now folder left.folder went.answer
     some = went.keeps
 
     split : SplitHeads some.done some.rest told.device.databases
@@ -274,15 +277,22 @@ module _ {L F : Type 0} {talk : L → Option Talk} {since : L → L → Type 0} 
         ∙ ap (λ (ws : List DatabaseValue). option_map (put_all (map file_of ws)) (contents folder)) all.wholes_are
         ∙ ap (λ (es : List EntryValue). option_map (put_all es) (contents folder)) (files-are told.device split.kept)
 
+    moments_are : EachMomentSince (HasSome (map (λ (d : DatabaseValue). file_of (read_of told.device d)) split.kept) (contents folder)) (moments folder)
+        (moments left.folder)
+    moments_are =
+        subst (λ (es : List EntryValue). EachMomentSince (HasSome es (contents folder)) (moments folder) (moments left.folder))
+        (ap (map file_of) all.wholes_are ∙ files-are told.device split.kept) some.each_moment
+
     ends : (answer : Result (Vec Moved) Stop) (new : L) → Stops talk since fault downs (map text (next_of split.later)) some.now new
         → IfOk answer (λ moved. (split.later ≡ [])
         × (Does talk (backup_acts told.device) old new × (moved.items ≡ map (λ (d : DatabaseValue). kept_moved (read_of told.device d)) told.device.databases)))
-        → IfErr answer (IsBackupCause fault new) → BackupEnds talk since fault downs contents told.device old new folder left.folder answer
+        → IfErr answer (IsBackupCause fault new) → BackupEnds talk since fault downs contents moments told.device old new folder left.folder answer
     ends answer new stops ended cause = record {
       kept = split.kept;
       later = split.later;
       parts = split.parts;
       files = files;
+      each_moment = moments_are;
       stops = all_stops stops;
       now = some.now;
       behind = inr (all_does, stops);
@@ -295,7 +305,7 @@ module _ {L F : Type 0} {talk : L → Option Talk} {since : L → L → Type 0} 
     none_later (d ∷ later) same = absurd cc
 
     unended : (why : Stop) (new : L) → new ≡ went.now.link → IsBackupCause fault went.now.link why
-        → BackupEnds talk since fault downs contents told.device old new folder left.folder (Err why)
+        → BackupEnds talk since fault downs contents moments told.device old new folder left.folder (Err why)
     unended why new same cause =
         rw same (ends (Err why) went.now.link
         (next_stops some.rest split.later split.rest_is (held_last told.device.databases split.kept split.later held) some.behind) tt cause)
@@ -303,7 +313,7 @@ module _ {L F : Type 0} {talk : L → Option Talk} {since : L → L → Type 0} 
     by : (answer told_end : Result (Vec Moved) Stop) → OnOk answer ((some.rest ≡ []) × (went.now.link ≡ some.now))
         → IfOk answer (λ moved. moved.items ≡ map kept_moved some.wholes) → IfErr answer (IsBackupCause fault went.now.link)
         → Finishes talk since fault downs went.now.link left.link answer told_end
-        → BackupEnds talk since fault downs contents told.device old left.link folder left.folder told_end
+        → BackupEnds talk since fault downs contents moments told.device old left.link folder left.folder told_end
     unfolding backup_acts
     by (Ok moved) (Ok other) whole said cause finishes =
         let none : split.later ≡ [] = none_later split.later (sym whole.0 ∙ split.rest_is) in
@@ -331,11 +341,11 @@ module _ {L F : Type 0} {talk : L → Option Talk} {since : L → L → Type 0} 
     by (Ok moved) (Err (stop.NewHandheld name)) whole said cause finishes = absurd finishes
     by (Err why) told_end whole said cause finishes = rw finishes.1 (unended why left.link finishes.0 cause)
 
-    pub met_ends : BackupEnds talk since fault downs contents told.device old left.link folder left.folder left.end
+    pub met_ends : BackupEnds talk since fault downs contents moments told.device old left.link folder left.folder left.end
     met_ends = by went.answer left.end some.all some.told some.cause went.finishes
 
   pub over_ends : {met : Met L} → MeetsOrNot talk since fault downs (0 ∷ []) false old (Ok met) → {left : MoveOutcome L F}
-      → BackupWent talk since fault downs contents met.heads.items met.linked folder left
-      → BackupEnds talk since fault downs contents told.device old left.link folder left.folder left.end
+      → BackupWent talk since fault downs contents moments met.heads.items met.linked folder left
+      → BackupEnds talk since fault downs contents moments told.device old left.link folder left.folder left.end
   over_ends (inl meets) went = met_ends meets went
   over_ends (inr lost) went = absurd lost

@@ -60,7 +60,7 @@ read_only-installed head = ap (λ n. not (n == 0)) (and_assoc 0x0002 head.attrib
 pub head-again : (head : DbHead) → installed_head (installed_head head) ≡ installed_head head
 head-again head = ap (λ n. record (installed_head head) { attributes = n }) (and_assoc 0x7fff head.attributes 0x7fff)
 
-head-bounded : (head : DbHead) → IsBoundedHead head → IsBoundedHead (installed_head head)
+pub head-bounded : (head : DbHead) → IsBoundedHead head → IsBoundedHead (installed_head head)
 head-bounded head bounded =
     let less = and_le_l head.attributes 0x7fff in
     let small = bounded.attributes in

@@ -16,10 +16,14 @@ pub mod KeepLaws
 pub mod ManyLaws
 pub mod MetLaws
 pub mod OpenReadLaws
+pub mod OthersLaws
+pub mod PlainLaws
 pub mod ReadWhole
 pub mod RecordLaws
 pub mod ResourceLaws
 pub mod RoomLaws
+pub mod StayLaws
+pub mod TurnLaws
 pub mod WentLaws
 pub mod WholeLaws
 pub mod WrittenLaws

@@ -18,18 +18,25 @@ each_read asks (suc count) = each_read asks count ++ asks count ∷ []
 
 -- so many entries
 abbrev pub entry_reads : Bool → ℕ → ℕ → List Act
-entry_reads of_resources handle count = if of_resources then each_read (reading_resource handle) count else each_read (reading_at handle) count
+entry_reads of_resources handle count =
+    if of_resources then each_read (reading_resource handle) count
+    else each_read (reading_at handle) count
 
 -- the number of entries, both blocks, and the entries
 abbrev pub backup_under : Bool → ℕ → ℕ → List Act
-backup_under of_resources count handle = counting handle ∷ reading_app handle ∷ reading_sort handle ∷ entry_reads of_resources handle count
+backup_under of_resources count handle =
+    counting handle ∷ reading_app handle ∷ reading_sort handle
+    ∷ entry_reads of_resources handle count
 
 -- one database of a handheld on which nothing is open
 unfoldable pub backup_of : DatabaseValue → List Act
 backup_of database =
     within (opening_to_read database.head.name)
-    (λ handle given. backup_under (holds_resources database.head.attributes) (entry_count database) handle) 1 []
+    (λ handle given. backup_under (holds_resources database.head.attributes)
+    (entry_count database) handle) 1 []
 
 -- the whole session
 unfoldable pub backup_acts : Device → List Act
-backup_acts device = greeting ++ (listings (max 1 (length device.databases)) ++ (flat_map backup_of device.databases ++ ending ∷ []))
+backup_acts device =
+    greeting ++ (listings (max 1 (length device.databases))
+    ++ (flat_map backup_of device.databases ++ ending ∷ []))

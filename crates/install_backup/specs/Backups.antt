@@ -1,8 +1,10 @@
--- Databases of a handheld that are backed up one after another, each into its file as soon as it was read whole and closed.
+-- Databases of a handheld that are backed up one after another, each into its file as soon as it
+-- was read whole and closed.
 use Rattle.std.specs.Prelude.{◌≡◌, ℕ, List, [], ◌∷◌, ◌++◌, map, Option, Some, IfErr, IfOk, IfSome, OnOk, Result, Ok, Err}
 use Rattle.std.specs.Global.{Vec}
 use Rattle.std.specs.Option.{option_map}
 use Rattle.hs_folders.specs.FileMaps.{FileMap}
+use Rattle.hs_folders.specs.Moments.{EachMomentSince, IsBeforeOrAfter, Moments}
 use Rattle.pdb_values.specs.Databases.{DatabaseValue}
 use Rattle.pdb_values.specs.Heads.{holds_resources}
 use Rattle.pdb_values.specs.declared.head.DbHead.{DbHead}
@@ -41,10 +43,13 @@ kept_moved database = record { name = database.head.name; entries = Some (entry_
 unfoldable pub backups_under : Option Talk → DbHead → ℕ → List ℕ → List Act
 backups_under told head handle given =
     within (opening_to_read head.name)
-    (λ handle given. backup_under (holds_resources head.attributes) (entries_of (saying (opening_to_read head.name ∷ []) told) handle) handle) handle given
+    (λ handle given. backup_under (holds_resources head.attributes)
+    (entries_of (saying (opening_to_read head.name ∷ []) told) handle) handle) handle given
 
 abbrev pub SaysCopied : Option Talk → DbHead → ℕ → List ℕ → DatabaseValue → Type 0
-SaysCopied told head handle given whole = IfSome (saying (opening_to_read head.name ∷ []) told) (λ talk. whole ≡ copied head handle talk.device)
+SaysCopied told head handle given whole =
+    IfSome (saying (opening_to_read head.name ∷ []) told)
+    (λ talk. whole ≡ copied head handle talk.device)
 
 -- what is told of a folder in which the files of a beginning of these were put over the others
 pub record HasSome (files : List EntryValue) (before told : Option FileMap) : Type 0 where
@@ -61,19 +66,27 @@ IsUnkept stop.DeskFault = Unit {0}
 IsUnkept (stop.Session session.NoMemory) = Unit {0}
 IsUnkept other = ⊥
 
--- where it was read whole and closed, its file holds it, or was not replaced; where it was not, the folder is as before
-abbrev pub IsKept : Result DatabaseValue SessionFault → Option FileMap → Option FileMap → Result Moved Stop → Type 0
-IsKept (Ok whole) before after (Ok moved) = (after ≡ option_map (put_all (file_of whole ∷ [])) before) × (moved ≡ kept_moved whole)
+-- where it was read whole and closed, its file holds it, or was not replaced; where it was not, the
+-- folder is as before
+abbrev pub IsKept : Result DatabaseValue SessionFault → Option FileMap → Option FileMap
+    → Result Moved Stop → Type 0
+IsKept (Ok whole) before after (Ok moved) =
+    (after ≡ option_map (put_all (file_of whole ∷ [])) before) × (moved ≡ kept_moved whole)
 IsKept (Ok whole) before after (Err why) = (after ≡ before) × IsUnkept why
 IsKept (Err cause) before after (Ok moved) = ⊥
 IsKept (Err cause) before after (Err why) = (after ≡ before) × (why ≡ stop.Session cause)
 
--- one database was read, and its file kept
-pub record KeepsOne {L F : Type 0} (talk : L → Option Talk) (since : L → L → Type 0) (fault : L → Option LinkFault) (downs : L → ℕ)
-    (contents : F → Option FileMap) (head : DbHead) (old new : SessionValue L) (folder after : F) (answer : Result Moved Stop) : Type 0 where
+-- one database was read, and its file kept, whole or not at all at each moment
+pub record KeepsOne {L F : Type 0} (talk : L → Option Talk) (since : L → L → Type 0)
+    (fault : L → Option LinkFault) (downs : L → ℕ)
+    (contents : F → Option FileMap) (moments : F → Moments) (head : DbHead)
+    (old new : SessionValue L) (folder after : F) (answer : Result Moved Stop) : Type 0 where
   pub read : Result DatabaseValue SessionFault
-  pub spans : Spans talk since fault downs (backups_under (talk old.link) head) (SaysCopied (talk old.link) head) old new read
+  pub spans : Spans talk since fault downs (backups_under (talk old.link) head)
+      (SaysCopied (talk old.link) head) old new read
   pub kept : IsKept read (contents folder) (contents after) answer
+  pub each_moment : EachMomentSince (IsBeforeOrAfter (contents folder) (contents after))
+      (moments folder) (moments after)
 
 -- ---- several
 
@@ -88,10 +101,14 @@ IsBackupCause fault new (stop.Session cause) = IsLater (fault new) cause
 IsBackupCause fault new stop.DeskFault = Unit {0}
 IsBackupCause fault new other = ⊥
 
--- The first of these databases were read whole and closed, one after another, and their files are kept, and no others; of the next one no
--- more was asked for than its reading. Where it did not stop, these are all.
-pub record KeepsSome {L F : Type 0} (talk : L → Option Talk) (since : L → L → Type 0) (fault : L → Option LinkFault) (downs : L → ℕ)
-    (contents : F → Option FileMap) (heads : List DbHead) (old new : SessionValue L) (folder after : F) (answer : Result (Vec Moved) Stop) : Type 0 where
+-- The first of these databases were read whole and closed, one after another, and their files are
+-- kept, and no others; of the next one no
+-- more was asked for than its reading. Where it did not stop, these are all. At each moment the
+-- files of a beginning of them were kept.
+pub record KeepsSome {L F : Type 0} (talk : L → Option Talk) (since : L → L → Type 0)
+    (fault : L → Option LinkFault) (downs : L → ℕ)
+    (contents : F → Option FileMap) (moments : F → Moments) (heads : List DbHead)
+    (old new : SessionValue L) (folder after : F) (answer : Result (Vec Moved) Stop) : Type 0 where
   pub done : List DbHead
   pub rest : List DbHead
   pub parts : done ++ rest ≡ heads
@@ -99,10 +116,13 @@ pub record KeepsSome {L F : Type 0} (talk : L → Option Talk) (since : L → L 
   pub wholes : List DatabaseValue
   pub now : L
   pub firsts : AreFirst backups_under (talk old.link) done stretches
-  pub stops : Stops talk since fault downs (map text (each_acts backups_under (talk old.link) done stretches)) old.link now
+  pub stops : Stops talk since fault downs
+      (map text (each_acts backups_under (talk old.link) done stretches)) old.link now
   pub does : Does talk (each_acts backups_under (talk old.link) done stretches) old.link now
   pub said : EachSays backups_under SaysCopied (talk old.link) done stretches wholes
   pub files : contents after ≡ option_map (put_all (map file_of wholes)) (contents folder)
+  pub each_moment : EachMomentSince (HasSome (map file_of wholes) (contents folder))
+      (moments folder) (moments after)
   pub next : Stretch
   pub first : IsFirst (talk now) next.handle
   pub behind : Stops talk since fault downs (map text (next_acts (talk now) rest next)) now new.link

@@ -1,4 +1,5 @@
--- A database as a handheld's replies tell it (pilot-link, `dlp.c`: dlp_ReadRecordByIndex, dlp_ReadResourceByIndex, dlp_ReadAppBlock).
+-- A database as a handheld's replies tell it (pilot-link, `dlp.c`: dlp_ReadRecordByIndex,
+-- dlp_ReadResourceByIndex, dlp_ReadAppBlock).
 use Rattle.std.specs.Prelude.{ℕ, zero, suc, Bool, true, false, List, [], ◌∷◌, ◌++◌, Option, None, Result, Ok, Err, if◌then◌else◌}
 use Rattle.pdb_values.specs.Databases.{DatabaseValue}
 use Rattle.pdb_values.specs.Heads.{has_bit, holds_resources}
@@ -32,7 +33,11 @@ record_from lent = record {
   deleted = is_gone (lent_kind lent.attributes);
   dirty = has_bit 0x40 lent.attributes;
   busy = false;
-  content = record { category = lent.category; secret = has_bit 0x10 lent.attributes; bytes = lent.bytes };
+  content = record {
+    category = lent.category;
+    secret = has_bit 0x10 lent.attributes;
+    bytes = lent.bytes;
+  };
 }
 
 -- a resource that was lent
@@ -54,13 +59,16 @@ resources_in read = has_in (λ value. resource_from (resource_of value)) read
 -- what the device's replies to acts at so many indexes have
 unfoldable pub each_told : {X : Type 0} → (ℕ → Act) → (List ℕ → List X) → Device → ℕ → List X
 each_told asks read device zero = []
-each_told asks read device (suc count) = each_told asks read device count ++ read (acted (asks count) device).0
+each_told asks read device (suc count) =
+    each_told asks read device count ++ read (acted (asks count) device).0
 
 abbrev pub records_told : Device → ℕ → ℕ → List Record
-records_told device handle count = each_told (reading_at handle) (λ bytes. records_in (reply_at 0x20 bytes)) device count
+records_told device handle count =
+    each_told (reading_at handle) (λ bytes. records_in (reply_at 0x20 bytes)) device count
 
 abbrev pub resources_told : Device → ℕ → ℕ → List Resource
-resources_told device handle count = each_told (reading_resource handle) (λ bytes. resources_in (reply_at 0x23 bytes)) device count
+resources_told device handle count =
+    each_told (reading_resource handle) (λ bytes. resources_in (reply_at 0x23 bytes)) device count
 
 -- the block that a reply has; error 5 says that there is none
 abbrev pub or_no_block : Result (Option (List ℕ)) SessionFault → Option (List ℕ)
@@ -77,11 +85,14 @@ blocked head app sort = record { head = head; app = app; sort = sort; records = 
 -- with so many entries, as the device's replies have them
 abbrev pub with_entries : DatabaseValue → Device → ℕ → ℕ → DatabaseValue
 with_entries database device handle count =
-    if holds_resources database.head.attributes then record database { resources = resources_told device handle count }
+    if holds_resources database.head.attributes
+    then record database { resources = resources_told device handle count }
     else record database { records = records_told device handle count }
 
 -- the database under a handle, of this head
 unfoldable pub copied : DbHead → ℕ → Device → DatabaseValue
 copied head handle device =
-    with_entries (blocked head (block_in (reply_at 0x1B (acted (reading_app handle) device).0)) (block_in (reply_at 0x1D (acted (reading_sort handle) device).0)))
+    with_entries
+    (blocked head (block_in (reply_at 0x1B (acted (reading_app handle) device).0))
+    (block_in (reply_at 0x1D (acted (reading_sort handle) device).0)))
     device handle (entries_told device handle)

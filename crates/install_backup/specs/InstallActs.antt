@@ -39,22 +39,27 @@ entry_acts handle database =
 -- both blocks, and the entries
 unfoldable pub fill_acts : DatabaseValue → ℕ → List ℕ → List Act
 fill_acts database handle given =
-    block_acts writing_app handle database.app ++ (block_acts writing_sort handle database.sort ++ entry_acts handle database)
+    block_acts writing_app handle database.app
+    ++ (block_acts writing_sort handle database.sort ++ entry_acts handle database)
 
 -- one database: the one of its name goes, and it is made and filled
 unfoldable pub install_one : DatabaseValue → ℕ → List ℕ → List Act
-install_one database handle given = deleting database.head.name ∷ within (making (installed_head database.head)) (fill_acts database) handle given
+install_one database handle given =
+    deleting database.head.name
+    ∷ within (making (installed_head database.head)) (fill_acts database) handle given
 
 -- a read-only database can't be written, and is passed over
 abbrev pub is_installable : DatabaseValue → Bool
 is_installable database = not (is_read_only database.head.attributes)
 
 unfoldable pub installs_under : Option Talk → DatabaseValue → ℕ → List ℕ → List Act
-installs_under told database handle given = if is_installable database then install_one database handle given else []
+installs_under told database handle given =
+    if is_installable database then install_one database handle given else []
 
 -- one after another, each under handle 1
 unfoldable pub installs_of : List DatabaseValue → List Act
-installs_of databases = flat_map (λ database. install_one database 1 []) (filter is_installable databases)
+installs_of databases =
+    flat_map (λ database. install_one database 1 []) (filter is_installable databases)
 
 -- the whole session
 unfoldable pub install_acts : List DatabaseValue → List Act
@@ -62,7 +67,9 @@ install_acts databases = greeting ++ (installs_of databases ++ ending ∷ [])
 
 -- how many entries are written: each resource of the file, or each record that is to be installed
 unfoldable pub written_count : DatabaseValue → ℕ
-written_count database = if holds_resources database.head.attributes then length database.resources else length (installed_records database.records)
+written_count database =
+    if holds_resources database.head.attributes then length database.resources
+    else length (installed_records database.records)
 
 -- nothing is told of a read-only one
 abbrev pub entries_told : DatabaseValue → Option ℕ

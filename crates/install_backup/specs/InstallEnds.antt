@@ -24,32 +24,45 @@ use Rattle.install_backup.specs.Rooms.{has_room}
 -- ---- over any link
 
 -- why an install stopped behind the greeting
-abbrev pub IsInstallCause : {L : Type 0} → (L → Option Talk) → (L → Option LinkFault) → List DatabaseValue → SessionValue L → L → Stop → Type 0
+abbrev pub IsInstallCause : {L : Type 0} → (L → Option Talk) → (L → Option LinkFault)
+    → List DatabaseValue → SessionValue L → L → Stop → Type 0
 IsInstallCause talk fault databases old new (stop.Session cause) = IsLater (fault new) cause
 IsInstallCause talk fault databases old new (stop.Limit name) = StopsAt talk databases name old new
 IsInstallCause talk fault databases old new other = ⊥
 
--- The databases were installed one after another, as far as it went; and once all were, the session was to be ended.
-pub record InstallWent {L F : Type 0} (talk : L → Option Talk) (since : L → L → Type 0) (fault : L → Option LinkFault) (downs : L → ℕ)
+-- The databases were installed one after another, as far as it went; and once all were, the session
+-- was to be ended.
+pub record InstallWent {L F : Type 0} (talk : L → Option Talk) (since : L → L → Type 0)
+    (fault : L → Option LinkFault) (downs : L → ℕ)
     (databases : List DatabaseValue) (old : SessionValue L) (left : MoveOutcome L F) : Type 0 where
   pub stretches : List Stretch
   pub firsts : AreFirst installs_under (talk old.link) databases stretches
   pub moved : List Moved
   pub last : List Act
-  pub whole : (last ≡ []) ⊎ ((last ≡ ending ∷ []) × EachSays installs_under SaysMoved (talk old.link) databases stretches moved)
-  pub stops : Stops talk since fault downs (map text (each_acts installs_under (talk old.link) databases stretches ++ last)) old.link left.link
-  pub does : IfOk left.end (λ moved. Does talk (each_acts installs_under (talk old.link) databases stretches ++ ending ∷ []) old.link left.link)
-  pub said : IfOk left.end (λ moved. EachSays installs_under SaysMoved (talk old.link) databases stretches moved.items)
+  pub whole : (last ≡ [])
+      ⊎ ((last ≡ ending ∷ [])
+      × EachSays installs_under SaysMoved (talk old.link) databases stretches moved)
+  pub stops : Stops talk since fault downs
+      (map text (each_acts installs_under (talk old.link) databases stretches
+      ++ last)) old.link left.link
+  pub does : IfOk left.end
+      (λ moved. Does talk
+      (each_acts installs_under (talk old.link) databases stretches
+      ++ ending ∷ []) old.link left.link)
+  pub said : IfOk left.end
+      (λ moved. EachSays installs_under SaysMoved (talk old.link) databases stretches moved.items)
   pub cause : IfErr left.end (IsInstallCause talk fault databases old left.link)
 
 -- ---- over a link that tells a handheld on which nothing is open
 
--- the first of these databases that the handheld would have no room for, among these and those that are installed before it
+-- the first of these databases that the handheld would have no room for, among these and those that
+-- are installed before it
 abbrev pub first_full : List DatabaseValue → List DatabaseValue → Option (List ℕ)
 first_full [] held = None
 first_full (database ∷ databases) held =
     if is_installable database then (
-    if has_room database.head.name held then first_full databases (with_installed database held) else Some database.head.name
+    if has_room database.head.name held then first_full databases (with_installed database held)
+    else Some database.head.name
     ) else first_full databases held
 
 -- the databases of a handheld on which these were installed
@@ -58,8 +71,10 @@ all_installed [] held = held
 all_installed (database ∷ databases) held =
     all_installed databases (if is_installable database then with_installed database held else held)
 
--- it stopped at this database for want of room: all before it were installed, and no more was asked for than that it be made
-pub record IsFull {L : Type 0} (talk : L → Option Talk) (databases : List DatabaseValue) (device : Device) (old new : L) (name : List ℕ) : Type 0 where
+-- it stopped at this database for want of room: all before it were installed, and no more was asked
+-- for than that it be made
+pub record IsFull {L : Type 0} (talk : L → Option Talk) (databases : List DatabaseValue)
+    (device : Device) (old new : L) (name : List ℕ) : Type 0 where
   pub first : first_full databases device.databases ≡ Some name
   pub before : List DatabaseValue
   pub one : DatabaseValue
@@ -68,13 +83,17 @@ pub record IsFull {L : Type 0} (talk : L → Option Talk) (databases : List Data
   pub named : name ≡ one.head.name
   pub does : Does talk (greeting ++ (installs_of before ++ making_acts one)) old new
 
--- The cause of a stop: the link is down, or has no fault and a reply was an error or none that can be read, or memory was wanted; or it is a limit.
-abbrev pub IsInstallStop : {L : Type 0} → (L → Option Talk) → (L → Option LinkFault) → List DatabaseValue → Device → L → L → Stop → Type 0
+-- The cause of a stop: the link is down, or has no fault and a reply was an error or none that can
+-- be read, or memory was wanted; or it is a limit.
+abbrev pub IsInstallStop : {L : Type 0} → (L → Option Talk) → (L → Option LinkFault)
+    → List DatabaseValue → Device → L → L → Stop → Type 0
 IsInstallStop talk fault databases device old new (stop.Session cause) = IsLater (fault new) cause
-IsInstallStop talk fault databases device old new (stop.Limit name) = IsFull talk databases device old new name
+IsInstallStop talk fault databases device old new (stop.Limit name) =
+    IsFull talk databases device old new name
 IsInstallStop talk fault databases device old new other = ⊥
 
--- it stopped for the limit at this database, unless its link, a reply or its memory stopped it before
+-- it stopped for the limit at this database, unless its link, a reply or its memory stopped it
+-- before
 abbrev pub StopsAtLimit : List ℕ → Result (Vec Moved) Stop → Type 0
 StopsAtLimit name (Ok moved) = ⊥
 StopsAtLimit name (Err (stop.Session cause)) = Unit {0}
@@ -82,15 +101,19 @@ StopsAtLimit name (Err (stop.Limit other)) = other ≡ name
 StopsAtLimit name (Err other) = ⊥
 
 -- all was said and answered, all had room, and this is told of each
-pub record IsInstalled {L : Type 0} (talk : L → Option Talk) (databases : List DatabaseValue) (device : Device) (old new : L) (moved : List Moved) : Type 0 where
+pub record IsInstalled {L : Type 0} (talk : L → Option Talk) (databases : List DatabaseValue)
+    (device : Device) (old new : L) (moved : List Moved) : Type 0 where
   pub does : Does talk (install_acts databases) old new
   pub room : first_full databases device.databases ≡ None
   pub told : moved ≡ map moved_of databases
 
 -- An install of these databases ended, or stopped, and why.
-pub record InstallEnds {L : Type 0} (talk : L → Option Talk) (since : L → L → Type 0) (fault : L → Option LinkFault) (downs : L → ℕ)
-    (databases : List DatabaseValue) (device : Device) (old new : L) (answer : Result (Vec Moved) Stop) : Type 0 where
+pub record InstallEnds {L : Type 0} (talk : L → Option Talk) (since : L → L → Type 0)
+    (fault : L → Option LinkFault) (downs : L → ℕ)
+    (databases : List DatabaseValue) (device : Device) (old new : L)
+    (answer : Result (Vec Moved) Stop) : Type 0 where
   pub stops : Stops talk since fault downs (map text (install_acts databases)) old new
   pub ended : IfOk answer (λ moved. IsInstalled talk databases device old new moved.items)
   pub cause : IfErr answer (IsInstallStop talk fault databases device old new)
-  pub limit : (name : List ℕ) → first_full databases device.databases ≡ Some name → StopsAtLimit name answer
+  pub limit : (name : List ℕ) → first_full databases device.databases ≡ Some name
+      → StopsAtLimit name answer

@@ -1,4 +1,5 @@
--- What a file's database becomes on a handheld that it is installed on (pilot-link, `pi-file.c`: pi_file_install).
+-- What a file's database becomes on a handheld that it is installed on (pilot-link, `pi-file.c`:
+-- pi_file_install).
 use Rattle.std.specs.Prelude.{◌≡◌, ℕ, Bool, false, List, [], ◌∷◌, map, filter, Option, None, Some, if◌then◌else◌}
 use Rattle.std.specs.List.{list_any}
 use Rattle.pdb_values.specs.Databases.{DatabaseValue}
@@ -13,7 +14,8 @@ use Rattle.palm_device.specs.FreshIds.{with_fresh_ids}
 use Rattle.palm_device.specs.Heads.{new_head}
 use Rattle.palm_device.specs.Resources.{is_resource}
 
--- name, type, creator, version and attributes, but not that it is open; no dates, no changes, no seed
+-- name, type, creator, version and attributes, but not that it is open; no dates, no changes, no
+-- seed
 abbrev pub installed_head : DbHead → DbHead
 installed_head head = new_head head.name head.kind.0 head.creator.0 head.attributes head.version
 
@@ -42,14 +44,16 @@ AreApart (resource ∷ later) = (list_any (same_key resource) later ≡ false) �
 -- the bytes of the last one of its type and id, among itself and those behind it
 unfoldable pub last_bytes : Resource → List Resource → List ℕ
 last_bytes resource [] = resource.bytes
-last_bytes resource (next ∷ later) = if same_key resource next then last_bytes next later else last_bytes resource later
+last_bytes resource (next ∷ later) =
+    if same_key resource next then last_bytes next later else last_bytes resource later
 
 -- of resources of one type and id the first one's place, with the last one's bytes
 unfoldable pub installed_behind : List Resource → List Resource → List Resource
 installed_behind earlier [] = []
 installed_behind earlier (resource ∷ later) =
     if list_any (same_key resource) earlier then installed_behind earlier later
-    else with_bytes (last_bytes resource later) resource ∷ installed_behind (resource ∷ earlier) later
+    else with_bytes (last_bytes resource later) resource
+    ∷ installed_behind (resource ∷ earlier) later
 
 unfoldable pub installed : DatabaseValue → DatabaseValue
 installed database = record {

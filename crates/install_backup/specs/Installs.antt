@@ -14,7 +14,8 @@ use Rattle.install_backup.specs.Installed.{installed_head}
 use Rattle.install_backup.specs.InstallActs.{installs_under, is_installable, moved_of}
 use Rattle.install_backup.specs.Rooms.{HadRoom, Judges, RestsFor}
 
--- what is told of one that was to be installed: that it was, where it had room, or that it was passed over
+-- what is told of one that was to be installed: that it was, where it had room, or that it was
+-- passed over
 abbrev pub SaysMoved : Option Talk → DatabaseValue → ℕ → List ℕ → Moved → Type 0
 SaysMoved told database handle given moved = (moved ≡ moved_of database) × HadRoom database told
 
@@ -22,9 +23,11 @@ SaysMoved told database handle given moved = (moved ≡ moved_of database) × Ha
 abbrev pub making_acts : DatabaseValue → List Act
 making_acts database = deleting database.head.name ∷ making (installed_head database.head) ∷ []
 
--- An install stopped at one of these databases, which it names, for want of room: those before it were installed or passed over, and no
+-- An install stopped at one of these databases, which it names, for want of room: those before it
+-- were installed or passed over, and no
 -- more was asked for than that it be made.
-pub record StopsAt {L : Type 0} (talk : L → Option Talk) (databases : List DatabaseValue) (name : List ℕ) (old : SessionValue L) (new : L) : Type 0 where
+pub record StopsAt {L : Type 0} (talk : L → Option Talk) (databases : List DatabaseValue)
+    (name : List ℕ) (old : SessionValue L) (new : L) : Type 0 where
   pub before : List DatabaseValue
   pub one : DatabaseValue
   pub rest : List DatabaseValue
@@ -40,8 +43,10 @@ pub record StopsAt {L : Type 0} (talk : L → Option Talk) (databases : List Dat
   pub asked : Does talk (making_acts one) now.link new
   pub room : Judges (RestsFor one) false one.head.name (talk now.link)
 
--- an install of several stops for a limit at one of them, or for what its link, a reply or its memory is the cause of
-abbrev pub IsLimit : {L : Type 0} → (L → Option Talk) → List DatabaseValue → SessionValue L → L → Stop → Type 0
+-- an install of several stops for a limit at one of them, or for what its link, a reply or its
+-- memory is the cause of
+abbrev pub IsLimit : {L : Type 0} → (L → Option Talk) → List DatabaseValue → SessionValue L → L
+    → Stop → Type 0
 IsLimit talk databases old new (stop.Session cause) = Unit {0}
 IsLimit talk databases old new (stop.Limit name) = StopsAt talk databases name old new
 IsLimit talk databases old new other = ⊥

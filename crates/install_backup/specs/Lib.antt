@@ -5,6 +5,7 @@ pub mod Backups
 pub mod Copies
 pub mod InstallActs
 pub mod InstallEnds
+pub mod InstallFronts
 pub mod Installed
 pub mod Installs
 pub mod Puts

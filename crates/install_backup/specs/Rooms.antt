@@ -1,4 +1,5 @@
--- Whether a handheld has room for a database: it has one of its name, or fewer than it can have (pilot-link, `pi-dlp.h`: dlpErrLimit).
+-- Whether a handheld has room for a database: it has one of its name, or fewer than it can have
+-- (pilot-link, `pi-dlp.h`: dlpErrLimit).
 use Rattle.std.specs.Prelude.{◌≡◌, ◌||◌, ◌==◌, ℕ, Bool, true, false, List, length, nat_lt, Option, IfSome, Result, Ok, Err, is_some, if◌then◌else◌}
 use Rattle.pdb_values.specs.Databases.{DatabaseValue}
 use Rattle.pdb_values.specs.NamedDatabases.{database_of}
@@ -17,11 +18,14 @@ use Rattle.install_backup.specs.InstallActs.{is_installable}
 
 -- databases among which there is room for one of this name
 abbrev pub has_room : List ℕ → List DatabaseValue → Bool
-has_room name databases = is_some (database_of name databases) || nat_lt (length databases) most_databases
+has_room name databases =
+    is_some (database_of name databases) || nat_lt (length databases) most_databases
 
--- where a device is told for which this holds, it has room for a database of this name, or it has none
+-- where a device is told for which this holds, it has room for a database of this name, or it has
+-- none
 abbrev pub Judges : (Device → Type 0) → Bool → List ℕ → Option Talk → Type 0
-Judges Holds room name told = IfSome told (λ talk. Holds talk.device → has_room name talk.device.databases ≡ room)
+Judges Holds room name told =
+    IfSome told (λ talk. Holds talk.device → has_room name talk.device.databases ≡ room)
 
 -- a handheld on which nothing is open, for a database that has a name
 abbrev pub RestsFor : DatabaseValue → Device → Type 0
@@ -29,13 +33,16 @@ RestsFor database device = IsAtRest device × IsName database.head.name
 
 -- a database that is installed had room
 abbrev pub HadRoom : DatabaseValue → Option Talk → Type 0
-HadRoom database told = is_installable database ≡ true → Judges (RestsFor database) true database.head.name told
+HadRoom database told =
+    is_installable database ≡ true → Judges (RestsFor database) true database.head.name told
 
 -- ---- why an install stops
 
--- what an install stops for, where a database of this name was to be made: a refusal of want of room is a limit
+-- what an install stops for, where a database of this name was to be made: a refusal of want of
+-- room is a limit
 abbrev pub stop_at : List ℕ → SessionFault → Stop
-stop_at name (session.Refused code) = if code.0 == limit then stop.Limit name else stop.Session (session.Refused code)
+stop_at name (session.Refused code) =
+    if code.0 == limit then stop.Limit name else stop.Session (session.Refused code)
 stop_at name cause = stop.Session cause
 
 -- the same as a session's own fault
@@ -48,9 +55,13 @@ abbrev pub fault_in : {A : Type 0} → Result A Stop → Result A SessionFault
 fault_in (Ok x) = Ok x
 fault_in (Err why) = Err (fault_of why)
 
--- A stop for a limit names the database that was to be made by these acts, which were all that was asked for. Where a device is told for
--- which this holds, it has no room for it. It stops for nothing else but what its link, a reply or its memory is the cause of.
-abbrev pub IsUnmade : {L : Type 0} → (L → Option Talk) → (Device → Type 0) → List Act → List ℕ → L → L → Stop → Type 0
+-- A stop for a limit names the database that was to be made by these acts, which were all that was
+-- asked for. Where a device is told for
+-- which this holds, it has no room for it. It stops for nothing else but what its link, a reply or
+-- its memory is the cause of.
+abbrev pub IsUnmade : {L : Type 0} → (L → Option Talk) → (Device → Type 0) → List Act → List ℕ → L
+    → L → Stop → Type 0
 IsUnmade talk Holds acts name old new (stop.Session cause) = Unit {0}
-IsUnmade talk Holds acts name old new (stop.Limit other) = (other ≡ name) × Does talk acts old new × Judges Holds false name (talk old)
+IsUnmade talk Holds acts name old new (stop.Limit other) =
+    (other ≡ name) × Does talk acts old new × Judges Holds false name (talk old)
 IsUnmade talk Holds acts name old new other = ⊥

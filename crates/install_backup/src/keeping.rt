@@ -2,6 +2,7 @@
 ghost use Rattle.std.specs.Prelude.{◌≡◌, ◌++◌, ◌∷◌, [], IfErr, IsErrOf, OnErr, OnOk, false};
 ghost use Rattle.std.specs.Option.{option_map};
 ghost use Rattle.hs_folders.specs.Causes.{HasCause};
+ghost use Rattle.hs_folders.specs.Moments.{EachMomentSince, IsBeforeOrAfter};
 ghost use Rattle.desk_journal.specs.Overlays.{put_all};
 ghost use Rattle.session_parts.specs.declared.stop.Stop.TheVariants as stops;
 ghost use Rattle.desktop_session.specs.declared.fault.SessionFault.TheVariants as session;
@@ -24,6 +25,9 @@ fn keep<D: Folder>(alloc: Global, folder: &mut D, database: &Database) -> Result
     ensures kept { OnOk result (D.contents folder.new
         ≡ option_map (put_all (file_of database.now ∷ [])) (D.contents folder.old)) }
     ensures stays { OnErr result (D.contents folder.new ≡ D.contents folder.old) }
+    ensures moments { EachMomentSince
+        (IsBeforeOrAfter (D.contents folder.old) (D.contents folder.new))
+        (D.moments folder.old) (D.moments folder.new) }
     ensures unkept { IfErr result IsUnkept }
     ensures cause { HasCause (D.faults folder.old) (D.faults folder.new)
         (IsErrOf result stops.DeskFault) }
@@ -58,7 +62,7 @@ fn keep_one<L: Link, D: Folder>(
     head: &DbHead,
 ) -> Result<Moved, Stop>
     requires { linked.old.abandoned ≡ false }
-    ensures keeps { KeepsOne L.talk L.since L.fault L.downs D.contents head.now linked.old
+    ensures keeps { KeepsOne L.talk L.since L.fault L.downs D.contents D.moments head.now linked.old
         linked.new folder.old folder.new result }
     ensures cause { HasCause (D.faults folder.old) (D.faults folder.new)
         (IsErrOf result stops.DeskFault) }
@@ -78,7 +82,7 @@ pub fn backup_all<L: Link, D: Folder>(
     heads: &[DbHead],
 ) -> Result<Vec<Moved>, Stop>
     requires { linked.old.abandoned ≡ false }
-    ensures keeps { KeepsSome L.talk L.since L.fault L.downs D.contents heads.now linked.old
+    ensures keeps { KeepsSome L.talk L.since L.fault L.downs D.contents D.moments heads.now linked.old
         linked.new folder.old folder.new result }
     ensures cause { HasCause (D.faults folder.old) (D.faults folder.new)
         (IsErrOf result stops.DeskFault) }

@@ -1,5 +1,5 @@
 // What an install makes of a database and of a handheld, and what a backup reads. Each function here does nothing: its contract is the law.
-ghost use Rattle.std.specs.Prelude.{◌≡◌, ◌++◌, ℕ, List, [], Some, false, true, flat_map};
+ghost use Rattle.std.specs.Prelude.{◌≡◌, ◌++◌, ℕ, List, [], None, Some, false, filter, flat_map, map, true};
 ghost use Rattle.std.specs.List.{AllByRecursion};
 ghost use Rattle.pdb_values.specs.Databases.{DatabaseValue};
 ghost use Rattle.pdb_values.specs.Heads.{is_read_only};
@@ -9,19 +9,22 @@ ghost use Rattle.pdb_values.specs.declared.resource.Resource.{Resource};
 ghost use Rattle.palm_device.specs.Blocks.{with_app, with_sort};
 ghost use Rattle.palm_device.specs.Bounds.{IsBoundedDatabase};
 ghost use Rattle.palm_device.specs.Devices.{Device, with_database};
-ghost use Rattle.palm_device.specs.Handles.{Base, base_at, is_writable};
+ghost use Rattle.palm_device.specs.Handles.{Base, base_at, is_writable, no_handles};
 ghost use Rattle.palm_device.specs.Resources as resources;
 ghost use Rattle.palm_device.specs.Resources.{put_resource, with_resources};
 ghost use Rattle.dlp_commands.specs.Holding.{on_resources};
-ghost use Rattle.desktop_session.specs.Acts.{acted};
+ghost use Rattle.desktop_session.specs.Acts.{acted, text};
 ghost use Rattle.desktop_session.specs.Orders.{AreInOrder, CanDelete};
 ghost use Rattle.desktop_session.specs.Requests.{deleting, putting_resource, writing_app, writing_sort};
 ghost use Rattle.desktop_session.specs.Tellings.{device_after};
+ghost use Rattle.session_parts.specs.Fronts.{Front};
 ghost use Rattle.session_parts.specs.Rests.{IsAtRest};
-ghost use Rattle.install_backup.specs.BackedUp.{backed_up};
+ghost use Rattle.install_backup.specs.BackedUp.{IsPlain, backed_up};
 ghost use Rattle.install_backup.specs.BackupActs.{backup_of};
 ghost use Rattle.install_backup.specs.BackupEnds.{backup_front, read_of};
-ghost use Rattle.install_backup.specs.InstallActs.{install_one};
+ghost use Rattle.install_backup.specs.InstallActs.{install_acts, install_one, is_installable};
+ghost use Rattle.install_backup.specs.InstallEnds.{first_full};
+ghost use Rattle.install_backup.specs.InstallFronts.{StandsInTurn};
 ghost use Rattle.install_backup.specs.Installed.{installed, installed_behind, with_installed};
 ghost use Rattle.install_backup.specs.Puts.{put_each};
 ghost use Rattle.install_backup.specs.Rooms.{has_room};
@@ -99,4 +102,43 @@ pub fn copies_are_the_devices()
 pub fn backups_change_nothing()
     ensures { (device : Device) → IsAtRest device
         → device_after (backup_front device ++ flat_map backup_of device.databases) device ≡ device }
+{}
+
+/// A plain database of a file comes back from a backup as it was, and so with its own canonical bytes: by what is installed of it and backed
+/// up, and over a handheld on which nothing is open, which has room for it.
+pub fn installs_come_back()
+    ensures database { (database : DatabaseValue) → IsBoundedDatabase database → IsPlain database
+        → backed_up (installed database) ≡ database }
+    ensures handheld { (device : Device) (database : DatabaseValue) → IsAtRest device
+        → IsBoundedDatabase database → IsPlain database
+        → is_read_only database.head.attributes ≡ false
+        → has_room database.head.name device.databases ≡ true
+        → read_of (device_after (install_one database 1 []) device) (installed database)
+        ≡ database }
+{}
+
+/// Wherever an install stops, the handheld, on which nothing was open, has the user that it had, and each database whose name no file has
+/// that is installed: the first so many requests lead to no other device, however each was answered.
+pub fn others_stay()
+    ensures user { (device after : Device) (databases : List DatabaseValue) (writes : ℕ)
+        (given : List ℕ) → device.handles ≡ no_handles
+        → AllByRecursion IsBoundedDatabase databases
+        → Front device (map text (install_acts databases)) writes given after
+        → after.user ≡ device.user }
+    ensures others { (device after : Device) (databases : List DatabaseValue) (writes : ℕ)
+        (given name : List ℕ) → device.handles ≡ no_handles
+        → AllByRecursion IsBoundedDatabase databases
+        → Front device (map text (install_acts databases)) writes given after
+        → database_of name (filter is_installable databases) ≡ None
+        → database_of name after.databases ≡ database_of name device.databases }
+{}
+
+/// Wherever an install of several stops, on a handheld on which nothing was open, and which has room for all of them: those in front of one
+/// are installed, and each database of another name is as it was then.
+pub fn installs_come_in_turn()
+    ensures { (device after : Device) (databases : List DatabaseValue) (writes : ℕ) (given : List ℕ)
+        → IsAtRest device → AllByRecursion IsBoundedDatabase databases
+        → first_full databases device.databases ≡ None
+        → Front device (map text (install_acts databases)) writes given after
+        → StandsInTurn databases device after }
 {}

@@ -19,7 +19,7 @@ use std::alloc::Global;
 // The databases that were listed are kept, and the session is ended.
 fn backup_met<L: Link, D: Folder>(alloc: Global, met: Met<L>, folder: D) -> MoveOutcome<L, D>
     requires { met.linked.abandoned ≡ false }
-    ensures went { BackupWent L.talk L.since L.fault L.downs D.contents met.heads.items met.linked
+    ensures went { BackupWent L.talk L.since L.fault L.downs D.contents D.moments met.heads.items met.linked
         folder result }
     ensures cause { HasCause (D.faults folder) (D.faults result.folder)
         (IsErrOf result.end stops.DeskFault) }
@@ -57,10 +57,10 @@ fn backup_met<L: Link, D: Folder>(alloc: Global, met: Met<L>, folder: D) -> Move
 pub fn backup_session<L: Link, D: Folder>(alloc: Global, link: L, folder: D) -> MoveOutcome<L, D>
     requires { L.begun link ≡ false }
     ensures link { Leaves L.since L.fault L.downs link result.link }
-    ensures ran { BackupRan L.talk L.since L.fault L.downs D.contents link folder result }
+    ensures ran { BackupRan L.talk L.since L.fault L.downs D.contents D.moments link folder result }
     // Over a link that tells a handheld on which nothing is open.
     ensures ends { (told : Talk) → L.talk link ≡ Some told → IsAtRest told.device
-        → BackupEnds L.talk L.since L.fault L.downs D.contents told.device link result.link folder
+        → BackupEnds L.talk L.since L.fault L.downs D.contents D.moments told.device link result.link folder
         result.folder result.end }
     ensures cause { HasCause (D.faults folder) (D.faults result.folder)
         (IsErrOf result.end stops.DeskFault) }

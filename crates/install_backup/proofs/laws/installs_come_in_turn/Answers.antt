@@ -1,0 +1,6 @@
+-- Databases that are installed one after another.
+use Rattle.install_backup.proofs.TurnLaws.{fronts_stand}
+use Rattle.install_backup.proofs.laws.installs_come_in_turn.Goals as goal
+
+pub returns : goal.returns
+returns c = λ device after databases writes given rests bounded full front. fronts_stand device after databases writes given rests bounded full front
