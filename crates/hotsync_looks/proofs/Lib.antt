@@ -1,4 +1,6 @@
 pub mod ExportLaws
+pub mod FileBounds
+pub mod InstallLaws
 pub mod LookLaws
 pub mod PrintedLaws
 pub mod PrintedNameLaws

@@ -38,7 +38,7 @@ use Rattle.hotsync_looks.specs.declared.status.Status.TheVariants.{Done, BadFile
 -- ---- bytes of a database
 
 -- a database's file breaks no rule
-file_not_broken : {database : DatabaseValue} {bytes : List ℕ} {kind : BadKind} {place : ℕ} → IsFileText database bytes → BreaksRule bytes kind place → ⊥
+pub file_not_broken : {database : DatabaseValue} {bytes : List ℕ} {kind : BadKind} {place : ℕ} → IsFileText database bytes → BreaksRule bytes kind place → ⊥
 file_not_broken {database} {bytes} file broken = grind (arith, file-written database bytes file)
 
 -- bytes break one rule first

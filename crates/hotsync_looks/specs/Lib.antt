@@ -2,6 +2,7 @@ pub mod BadFiles
 pub mod Codes
 pub mod ExportTexts
 pub mod FolderFaults
+pub mod InstallFiles
 pub mod Lines
 pub mod LookTexts
 pub mod Looks

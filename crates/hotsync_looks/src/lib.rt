@@ -8,6 +8,7 @@
 mod bad_file;
 mod exported;
 mod imported;
+mod install_file;
 mod look;
 mod packets;
 mod printed_name;
@@ -16,6 +17,7 @@ mod source;
 mod status;
 mod traced;
 
+pub use install_file::read_install_file;
 pub use look::look_at;
 pub use packets::print_packets;
 pub use printed_name::push_name;

@@ -161,6 +161,7 @@ fn did_text(alloc: Global, did: Did) -> Result<String, AllocError>
     match did {
         Did::Synced(counts) => counts_text(alloc, counts),
         Did::Skipped(reason) => skip_text(alloc, reason),
+        Did::Installed(entries) => installed_text(alloc, entries),
     }
 }
 
@@ -185,6 +186,15 @@ fn skip_text(alloc: Global, reason: Skip) -> Result<String, AllocError>
 {
     let mut text = String::from_str(alloc, " skipped ")?;
     text.push_str(word_of_skip(reason))?;
+    Ok(text)
+}
+
+// How many entries a handheld has of a file.
+fn installed_text(alloc: Global, entries: u32) -> Result<String, AllocError>
+    ensures { IfOk result (λ text. string_bytes text ≡ text_of_did (Did.Installed entries)) }
+{
+    let mut text = String::new(alloc);
+    push_count(&mut text, " installed entries ", entries)?;
     Ok(text)
 }
 
@@ -257,6 +267,7 @@ fn refusal_line(alloc: Global, refusal: &Status) -> Result<String, AllocError>
         Status::TooManyUsers => String::from_str(alloc, "too many users\n"),
         Status::Limit(name) => limit_line(alloc, name),
         Status::NewHandheld(name) => new_handheld_line(alloc, name),
+        Status::CannotInstall(name) => cannot_install_line(alloc, name),
     }
 }
 
@@ -392,6 +403,15 @@ fn new_handheld_line(alloc: Global, name: &DbName) -> Result<String, AllocError>
 {
     let stem = name.file_stem(alloc)?;
     word_line(alloc, "new handheld ", stem.as_str())
+}
+
+// The line of a read-only database that was to be installed.
+fn cannot_install_line(alloc: Global, name: &DbName) -> Result<String, AllocError>
+    ensures { IfOk result (λ line. string_bytes line
+        ≡ line_of_refusal (Status.CannotInstall name.now)) }
+{
+    let stem = name.file_stem(alloc)?;
+    word_line(alloc, "cannot install ", stem.as_str())
 }
 
 // The line of a bad file.

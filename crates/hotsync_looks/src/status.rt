@@ -51,6 +51,8 @@ pub enum Status {
         name: DbName,
         form: ExportForm,
     },
+    /// The source's database of this name is read-only, and can't be written to a handheld.
+    CannotInstall(DbName),
     /// The source's record of this number, from 0 on, is out of its form at this place in it.
     BadRecord {
         index: u64,
@@ -199,7 +201,8 @@ impl Status {
             | Status::TooManyUsers
             | Status::Limit(_)
             | Status::NewHandheld(_)
-            | Status::WrongSide(_) => 7,
+            | Status::WrongSide(_)
+            | Status::CannotInstall(_) => 7,
         }
     }
 }

@@ -16,6 +16,7 @@ use Rattle.line_script.specs.Scripts.{AreLines, fate_by}
 use Rattle.line_steps.specs.declared.harm.Stop.{Stop}
 use Rattle.line_world.specs.Causes.{BearsOut}
 use Rattle.line_world.specs.Stops.{EndsBy}
+use Rattle.palm_device.specs.Devices.{Device}
 use Rattle.run_words.specs.Runs.{Run}
 use Rattle.hotsync_run.specs.Causes.{IsLineDown, cause_in}
 use Rattle.hotsync_run.specs.Clean.{AreSaidOnce, GoesThrough, HasNoLines, IsLineStop}
@@ -23,7 +24,8 @@ use Rattle.hotsync_run.specs.LineRuns.{frames_in}
 use Rattle.hotsync_run.specs.Runs.{HasRun, SessionRan, run_command}
 use Rattle.hotsync_run.specs.SessionCalls.{SentNothing}
 use Rattle.hotsync_run.specs.Scripts.{IsScripted}
-use Rattle.hotsync_run.specs.Told.{CallTold}
+use Rattle.hotsync_run.specs.Sessions.{Spoke}
+use Rattle.hotsync_run.specs.Told.{CallTold, FolderTold}
 use Rattle.hotsync_run.specs.declared.report.Report.{Report}
 use Rattle.hotsync_looks.specs.declared.status.Status.{Status}
 use Rattle.hotsync_looks.specs.declared.status.Status.TheVariants.{LineDown, Unplugged, Aborted, Undetected}
@@ -69,7 +71,7 @@ no_faults : (number count : ℕ) → faults_from (fate_by []) number count ≡ 0
 no_faults number zero = refl
 no_faults number (suc count) = let rest = no_faults (number + 1) count in omega (arith, rest)
 
-always_fair : (last : ℕ) → IsFairUpTo last (fate_by [])
+pub always_fair : (last : ℕ) → IsFairUpTo last (fate_by [])
 always_fair last number count some short near = let none = no_faults number count in omega (arith, none)
 
 none_ends : {why : Stop} {frames : List FrameValue} → AreNumbered 1 (fate_by []) frames → EndsBy why frames → ⊥
@@ -96,6 +98,17 @@ no-rules : (path left : Option (List ℕ)) {rules : List RuleValue} → HasNoLin
 no-rules None left none is = is
 no-rules (Some path) None none is = absurd none
 no-rules (Some path) (Some bytes) {rules} none is = no_rule rules (lines_of bytes) none.reads.1 is.reads.1
+
+-- ---- a session over a line that does no frame harm
+
+pub spoke_through : {device : Device} {asked : List (List ℕ)} {before after : FolderTold} {status : Status} {report : Report}
+    → Spoke (record { rules = []; device = device; asked = asked }) before after status report → GoesThrough status report
+spoke_through {status = status} {report} spoke =
+    let numbered = spoke.line.proper.numbered in
+    record {
+      once = said_once (past_of (frames_in report)) (past_is_well [] (frames_in report) tt (go_through 1 (frames_in report) numbered)) spoke.line.proper.faults;
+      stands = stands status report.faulted.items (frames_in report) (spoke.why.fair (always_fair (length (frames_in report)))) spoke.why.caused numbered;
+    }
 
 -- ---- a run
 

@@ -12,7 +12,7 @@ use Rattle.hotsync_run.specs.declared.report.SessionEnd.{SessionEnd}
 use Rattle.hotsync_run.specs.declared.report.SessionEnd.TheVariants.{NotStarted, Ended, Stopped}
 use Rattle.hotsync_run.proofs.SkippedLaws.{keeps-bytes}
 
-begun_by : (end : SessionEnd) (Not Began : Type 0) → ByEnd end Not Began → HasBegun end → Began
+pub begun_by : (end : SessionEnd) (Not Began : Type 0) → ByEnd end Not Began → HasBegun end → Began
 begun_by NotStarted Not Began is begun = absurd begun
 begun_by Ended Not Began is begun = is
 begun_by Stopped Not Began is begun = is

@@ -11,6 +11,13 @@ pub mod FrontLaws
 pub mod FrontMoments
 pub mod GoodHandheldLaws
 pub mod HeadlineLaws
+pub mod InstallActLaws
+pub mod InstallPromises
+pub mod InstallRefused
+pub mod InstallRuns
+pub mod InstallSaid
+pub mod InstallSpoke
+pub mod InstallWell
 pub mod KeptLaws
 pub mod LeftGoodLaws
 pub mod LeftLaws
@@ -30,6 +37,7 @@ pub mod PathLaws
 pub mod PickLaws
 pub mod ProperLaws
 pub mod QuietRuns
+pub mod RefusedCalls
 pub mod RefusedRuns
 pub mod RetoldLaws
 pub mod RunLaws

@@ -1,8 +1,9 @@
 -- The count of the words of `make`.
 use Rattle.std.proofs.lemmas.Grind.{common_steps}
 use Rattle.std.proofs.Common.{◌≡◌, ◌≤◌, ℕ, Bool, List, [], ◌∷◌, subst, arith}
-use Rattle.std.specs.Prelude.{Option, None, Some, codes, bytes_eq, cond, option_and_then, option_map}
-use Rattle.run_words.specs.Commands.{Task, Sync, LookAt, Scan, Make, export_form, export_of, export_task_in, file_of, import_form, import_of, import_task_in, make_form, make_in, make_of, packet_of, task_behind, task_of}
+use Rattle.std.specs.Prelude.{Option, None, Some, codes, bytes_eq, cond, is_some, option_and_then, option_map}
+use Rattle.run_words.specs.Commands.{Task, Sync, LookAt, Scan, Make, Install, export_form, export_of, export_task_in, file_of, import_form, import_of, import_task_in, install_between, install_of, make_form, make_in, make_of, packet_of, task_behind, task_of}
+use Rattle.run_words.specs.Betweens.{Between, between_of}
 use Rattle.run_words.specs.Exports.{export_in, import_in}
 use Rattle.run_words.specs.Forms.{is_of_form, plain_at}
 use Rattle.run_words.specs.Numbers.{as_count, count_of, number_of}
@@ -17,6 +18,7 @@ IsFew (Some (Sync run)) = Unit {0}
 IsFew (Some (LookAt look file)) = Unit {0}
 IsFew (Some (Scan bytes)) = Unit {0}
 IsFew (Some (Make seed count)) = count ≤ 5000
+IsFew (Some (Install between)) = Unit {0}
 
 few_if : (test : Bool) (one other : Option Task) → IsFew one → IsFew other → IsFew (cond test one other)
 few_if test one other a b = grind (arith, common_steps)
@@ -50,6 +52,14 @@ few_imported : (words : List (List ℕ)) → IsFew (import_of words)
 unfolding import_of
 few_imported words = few_if (is_of_form import_form words) (import_task_in words) None (few_looked looks.Import (plain_at 0 words) (import_in words)) tt
 
+few_between : (between : Option Between) → IsFew (option_and_then install_between between)
+few_between None = tt
+few_between (Some between) = few_if (is_some between.script) None (Some (Install between)) tt tt
+
+few_installed : (words : List (List ℕ)) → IsFew (install_of words)
+unfolding install_of
+few_installed words = few_between (between_of words)
+
 few_behind : (now : Option ℕ) (command : List ℕ) (words : List (List ℕ)) → IsFew (task_behind now command words)
 few_behind now command words =
     few_if (bytes_eq command (codes "run")) _ _ (few_map Sync (run_of now words) (λ run. tt))
@@ -60,7 +70,8 @@ few_behind now command words =
     (few_if (bytes_eq command (codes "verify")) _ _ (few_map (LookAt _) (file_of words) (λ file. tt))
     (few_if (bytes_eq command (codes "picture")) _ _ (few_map (LookAt _) (file_of words) (λ file. tt))
     (few_if (bytes_eq command (codes "packet")) _ _ (few_map Scan (packet_of words) (λ bytes. tt))
-    (few_if (bytes_eq command (codes "make")) _ _ (few_made words) tt))))))))
+    (few_if (bytes_eq command (codes "make")) _ _ (few_made words)
+    (few_if (bytes_eq command (codes "install")) _ _ (few_installed words) tt)))))))))
 
 few_words : (now : Option ℕ) (words : List (List ℕ)) → IsFew (task_of now words)
 unfolding task_of

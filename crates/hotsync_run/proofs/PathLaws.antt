@@ -1,7 +1,8 @@
 -- The paths that words give, by what they ask for.
 use Rattle.std.proofs.Common.{◌≡◌, Bor, refl, subst, List, ℕ}
 use Rattle.std.specs.Prelude.{None, Option, Some, option_copied}
-use Rattle.run_words.specs.Commands.{LookAt, Sync, Task}
+use Rattle.run_words.specs.Betweens.{Between}
+use Rattle.run_words.specs.Commands.{Install, LookAt, Sync, Task}
 use Rattle.run_words.specs.Runs.{Run}
 use Rattle.run_words.specs.declared.look.Look.{Look}
 use Rattle.hotsync_run.specs.Calls.{paths_of}
@@ -32,3 +33,15 @@ module _ {task : Option Task} {run : Run} (is : task ≡ Some (Sync run)) where
 -- a look names its file
 pub look_source : {task : Option Task} {look : Look} {file : List ℕ} → task ≡ Some (LookAt look file) → (paths_of task).source ≡ None → ⊥
 look_source is none = some_is_none (subst (λ (t : Option Task). (paths_of t).source ≡ None) is none)
+
+module _ {task : Option Task} {words : Between} (is : task ≡ Some (Install words)) where
+  -- an install names the handheld's folder and its file
+  pub install_handheld : (paths_of task).handheld ≡ None → ⊥
+  install_handheld none = some_is_none (subst (λ (t : Option Task). (paths_of t).handheld ≡ None) is none)
+
+  pub install_source : (paths_of task).source ≡ None → ⊥
+  install_source none = some_is_none (subst (λ (t : Option Task). (paths_of t).source ≡ None) is none)
+
+  -- and its trace where the words do
+  pub install_trace : (paths_of task).trace ≡ None → words.trace ≡ None
+  install_trace none = subst (λ (t : Option Task). (paths_of t).trace ≡ None) is none

@@ -22,7 +22,7 @@ use Rattle.hotsync_run.specs.declared.report.Report.{Report}
 use Rattle.hotsync_looks.specs.declared.status.Status.{Status}
 use Rattle.hotsync_looks.specs.declared.status.Status.TheVariants.{Done, NoMemory}
 
-traced_as : {path : Option (List ℕ)} {text : List ℕ} {before after : SinkTold} {status : Status} (other : Status)
+pub traced_as : {path : Option (List ℕ)} {text : List ℕ} {before after : SinkTold} {status : Status} (other : Status)
     → (other ≡ Done → status ≡ Done) → (other ≢ NoMemory → status ≢ NoMemory) → IsTraced path text before after status
     → IsTraced path text before after other
 traced_as other was_done served traced = record {
@@ -71,10 +71,10 @@ module _ (run : Run) (before : CallTold) (status : Status) where
 
 -- ---- the run
 
-retold_done : {status : Status} (other : Status) → IsRetold status other → other ≡ Done → status ≡ Done
+pub retold_done : {status : Status} (other : Status) → IsRetold status other → other ≡ Done → status ≡ Done
 retold_done other e done = grind (arith, common_steps)
 
-retold_served : {status : Status} (other : Status) → IsRetold status other → other ≢ NoMemory → status ≢ NoMemory
+pub retold_served : {status : Status} (other : Status) → IsRetold status other → other ≢ NoMemory → status ≢ NoMemory
 retold_served other e served = grind (arith, common_steps)
 
 ran_retold : (run : Run) (before after : CallTold) → StaysShown (SessionRan run before after)

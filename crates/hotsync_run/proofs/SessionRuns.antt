@@ -38,7 +38,7 @@ use Rattle.hotsync_run.specs.declared.report.Report.{Report}
 use Rattle.hotsync_run.specs.declared.report.SessionEnd.{SessionEnd}
 use Rattle.hotsync_looks.specs.declared.status.Status.{Status}
 
-rose_earlier : (most a b c : ℕ) → a ≤ b → min (b + 1) most ≤ c → min (a + 1) most ≤ c
+pub rose_earlier : (most a b c : ℕ) → a ≤ b → min (b + 1) most ≤ c → min (a + 1) most ≤ c
 rose_earlier most a b c less rose = omega (arith, rose, less)
 
 -- the line's part, told from an earlier time on
@@ -63,7 +63,7 @@ line_from rules device first before after report stays line = record {
 }
 
 -- what was said, told from an earlier time on
-spoke_from : {agenda : Agenda} {first before after : FolderTold} {status : Status} {report : Report} → StaysAsItWas first before
+pub spoke_from : {agenda : Agenda} {first before after : FolderTold} {status : Status} {report : Report} → StaysAsItWas first before
     → Spoke agenda before after status report → Spoke agenda first after status report
 spoke_from {agenda} {first} {before} {after} {report = report} stays spoke = record {
   line = line_from agenda.rules agenda.device first before after report stays spoke.line;
@@ -108,7 +108,7 @@ talked_from {rules} {meeting} {first} before {after} {report} stays stood talked
   shows = talked.shows;
 }
 
-traced_from : {path : Option (List ℕ)} {text : List ℕ} (first : SinkTold) {before after : SinkTold} {status : Status} → before.taken ≡ first.taken
+pub traced_from : {path : Option (List ℕ)} {text : List ℕ} (first : SinkTold) {before after : SinkTold} {status : Status} → before.taken ≡ first.taken
     → first.faults ≤ before.faults → IsTraced path text before after status → IsTraced path text first after status
 traced_from {text} first {before} {after} same later traced =
     let whole : option_map (λ taken. taken ++ text) before.taken ≡ option_map (λ taken. taken ++ text) first.taken =
@@ -207,13 +207,13 @@ module _ {run : Run} (before after : CallTold) {palm desk : FolderTold} {trace :
         {B = TalkedFor run rules device slots (both_told palm desk) (sides_of after) status report} {C = SentNothing (run_command run) before after status report}
         {D = SessionRan run before after status report} (silent_run traced) (session_run traced) talk.shown;
     blames = record {
-      source = λ e. absurd (talk_not_source talk (subst BlamesSource (sym e) tt));
+      source = λ e. absurd (talk_not_source talk (λ had. had.talked.spoke.why.ends) (subst BlamesSource (sym e) tt));
       folders = record {
         handheld = λ e. rose_earlier (2 ^ 64 - 1) before.palm.faults palm.faults after.palm.faults opened.palm_later (talk.blames.handheld e);
         desktop = λ e. rose_earlier (2 ^ 64 - 1) before.desk.faults desk.faults after.desk.faults opened.desk_later (talk.blames.desktop e);
       };
-      handheld_in_use = λ e. absurd (talk_not_in_use talk line_end.Handheld e);
-      desktop_in_use = λ e. absurd (talk_not_in_use talk line_end.Desktop e);
+      handheld_in_use = λ e. absurd (talk_not_in_use talk (λ had. had.talked.spoke.why.ends) line_end.Handheld e);
+      desktop_in_use = λ e. absurd (talk_not_in_use talk (λ had. had.talked.spoke.why.ends) line_end.Desktop e);
       trace = λ e. rose_earlier (2 ^ 64 - 1) before.trace.faults trace.faults after.trace.faults opened.trace_later (traced.failed e);
     };
     opened = record {

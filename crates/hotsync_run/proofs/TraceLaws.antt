@@ -18,8 +18,8 @@ use Rattle.trace_text.specs.declared.frame.End.{End}
 use Rattle.hotsync_run.specs.Causes.{EndsAs, IsCutShort, IsUnsaid}
 use Rattle.hotsync_run.specs.Ends.{IsToldRefusal, ShowsMeeting, status_refused}
 use Rattle.hotsync_run.specs.Refusals.{BlamesHandheld, BlamesSource}
-use Rattle.hotsync_run.specs.Sessions.{KeptSilent}
-use Rattle.hotsync_run.specs.Talks.{IsRunTalk, Talked, TalkedFor}
+use Rattle.hotsync_run.specs.Sessions.{IsTalk, KeptSilent}
+use Rattle.hotsync_run.specs.Talks.{Talked, TalkedFor}
 use Rattle.hotsync_looks.specs.Told.{SinkTold}
 use Rattle.hotsync_run.specs.Told.{SidesTold}
 use Rattle.hotsync_run.specs.Traces.{TracesText}
@@ -87,17 +87,18 @@ memory_not_source status is blames = subst BlamesSource is blames
 memory_not_handheld : (status : Status) → status ≡ NoMemory → BlamesHandheld status → ⊥
 memory_not_handheld status is blames = subst BlamesHandheld is blames
 
-module _ {run : Run} {rules : List RuleValue} {device : Device} {slots : List SlotValue} {before after : SidesTold} {status : Status}
-    {report : Report} (talk : IsRunTalk run rules device slots before after status report) where
+-- by what is known of it once it began
+module _ {Had : Status → Report → Type 0} {before after : SidesTold} {status : Status} {report : Report}
+    (talk : IsTalk Had before after status report) (ends : Had status report → EndsAs status report.end) where
   pub talk_not_source : BlamesSource status → ⊥
   talk_not_source blames =
-      by_end_both report.end {A = KeptSilent before after status report} {B = TalkedFor run rules device slots before after status report} {C = ⊥}
-      (λ kept. memory_not_source status kept.memory blames) (λ had. ends_not_source status report.end had.talked.spoke.why.ends blames) talk.shown
+      by_end_both report.end {A = KeptSilent before after status report} {B = Had status report} {C = ⊥}
+      (λ kept. memory_not_source status kept.memory blames) (λ had. ends_not_source status report.end (ends had) blames) talk.shown
 
   pub talk_not_in_use : (end : End) → status ≡ InUse end → ⊥
   talk_not_in_use end is =
-      by_end_both report.end {A = KeptSilent before after status report} {B = TalkedFor run rules device slots before after status report} {C = ⊥}
-      (λ kept. cc) (λ had. subst (λ (s : Status). EndsAs s report.end) is had.talked.spoke.why.ends) talk.shown
+      by_end_both report.end {A = KeptSilent before after status report} {B = Had status report} {C = ⊥}
+      (λ kept. cc) (λ had. subst (λ (s : Status). EndsAs s report.end) is (ends had)) talk.shown
 
   pub talk_not_handheld : report.end ≡ NotStarted → BlamesHandheld status → ⊥
   talk_not_handheld is blames = grind (arith, memory_not_handheld status)

@@ -85,7 +85,7 @@ right_handheld : {told : Option FileMap} → IsGoodHandheld told → IfSome told
 right_handheld good wrong = let both = subst (λ (t : Option FileMap). IfSome t (λ files. is_desktop files ≡ true)) good.is wrong in
     let right = good.side in cc
 
-judged_handheld : {told : Option FileMap} {refusal : Status} → IsGoodHandheld told → HandheldRefuses told refusal → IsHandheldFailure refusal
+pub judged_handheld : {told : Option FileMap} {refusal : Status} → IsGoodHandheld told → HandheldRefuses told refusal → IsHandheldFailure refusal
 judged_handheld good (inl failed) = failed
 judged_handheld good (inr (inl wrong)) = absurd (right_handheld good wrong.side)
 judged_handheld good (inr (inr refuses)) = elim (unshown_handheld refuses.fault good refuses.shown) [
@@ -111,7 +111,7 @@ judged_desktop good (inr (inr refuses)) = elim (unshown_desktop refuses.fault go
 ]
 
 -- no object is blamed
-record BlamesNone (status : Status) : Type 0 where
+pub record BlamesNone (status : Status) : Type 0 where
   pub source : status ≡ SourceRead → ⊥
   pub handheld : status ≡ HandheldFolder → ⊥
   pub desktop : status ≡ DesktopFolder → ⊥
@@ -120,7 +120,7 @@ record BlamesNone (status : Status) : Type 0 where
   pub trace : status ≡ TraceWrite → ⊥
   pub out : status ≡ OutWrite → ⊥
 
-failed_handheld : {status : Status} → BlamesNone status → IsHandheldFailure status → status ≡ NoMemory
+pub failed_handheld : {status : Status} → BlamesNone status → IsHandheldFailure status → status ≡ NoMemory
 failed_handheld blames (inl e) = absurd (blames.handheld e)
 failed_handheld blames (inr (inl e)) = absurd (blames.handheld_in_use e)
 failed_handheld blames (inr (inr e)) = e
@@ -147,11 +147,11 @@ last_fate number script [] last are = (number, are.1)
 last_fate number script (frame ∷ before) last are = last_fate (number + 1) script before last are.3
 
 -- a line that goes on under its script ends with no frame that is unplugged or aborted
-never_unplugged : (script : ℕ → FateValue) (frames : List FrameValue) → AreNumbered 1 script frames → ((number : ℕ) → is_stop (script number) ≡ false)
+pub never_unplugged : (script : ℕ → FateValue) (frames : List FrameValue) → AreNumbered 1 script frames → ((number : ℕ) → is_stop (script number) ≡ false)
     → EndsBy stop.Unplugged frames → ⊥
 never_unplugged script frames are goes_on ends = grind (arith, last_fate 1 script ends.before ends.last (subst (AreNumbered 1 script) ends.is are))
 
-never_aborted : (script : ℕ → FateValue) (frames : List FrameValue) → AreNumbered 1 script frames → ((number : ℕ) → is_stop (script number) ≡ false)
+pub never_aborted : (script : ℕ → FateValue) (frames : List FrameValue) → AreNumbered 1 script frames → ((number : ℕ) → is_stop (script number) ≡ false)
     → EndsBy stop.Aborted frames → ⊥
 never_aborted script frames are goes_on ends = grind (arith, last_fate 1 script ends.before ends.last (subst (AreNumbered 1 script) ends.is are))
 
@@ -201,7 +201,7 @@ session_ends_well {status} {report} calm blames ran =
 
 -- ---- both
 
-by_end_well : (end : SessionEnd) (Not Began Well : Type 0) → (Not → Well) → (Began → Well) → ByEnd end Not Began → Well
+pub by_end_well : (end : SessionEnd) (Not Began Well : Type 0) → (Not → Well) → (Began → Well) → ByEnd end Not Began → Well
 by_end_well end Not Began Well not began shown = grind (arith, common_steps)
 
 module _ (run : Run) (before after : CallTold) (out out_after : SinkTold) (status : Status) (report : Report) where

@@ -7,10 +7,12 @@ pub mod Closings
 pub mod Ends
 pub mod Equal
 pub mod Headline
+pub mod Installs
 pub mod Kept
 pub mod LineRuns
 pub mod Makes
 pub mod Meetings
+pub mod Moves
 pub mod Refusals
 pub mod Reports
 pub mod Runs

@@ -18,7 +18,7 @@ use Rattle.hotsync_run.specs.Told.{CallTold}
 use Rattle.hotsync_looks.specs.declared.status.FileSide.TheVariants as side
 use Rattle.hotsync_looks.specs.declared.status.Status.{Status}
 use Rattle.hotsync_looks.specs.declared.status.Status.TheVariants.{BadScript, TooLong, BadFile, TooMany, HandheldFolder, DesktopFolder, SourceRead, TraceWrite}
-use Rattle.hotsync_looks.specs.declared.status.Status.TheVariants.{NoMemory, WrongSide, InUse}
+use Rattle.hotsync_looks.specs.declared.status.Status.TheVariants.{NoMemory, WrongSide, InUse, CannotInstall}
 
 -- files with the information file of a desktop
 abbrev pub is_desktop : FileMap → Bool
@@ -101,13 +101,14 @@ IsRefused run before refusal =
     ⊎ (HasHandheld before.palm.contents × (DesktopRefuses before.desk.contents refusal
     ⊎ (HasDesktop before.desk.contents × TraceRefuses run.trace refusal)))))
 
--- one that blames the source, the script of a run or the file of a look, which is judged before a
--- folder is touched
+-- one that blames the source, the script of a run or the file of a look or of an install, which is
+-- judged before a folder is touched
 abbrev pub BlamesSource : Status → Type 0
 BlamesSource TooLong = ⊤
 BlamesSource (BadScript _) = ⊤
 BlamesSource SourceRead = ⊤
 BlamesSource (BadFile side.Source _ _ _) = ⊤
+BlamesSource (CannotInstall _) = ⊤
 BlamesSource _ = ⊥
 
 -- one that blames the handheld, whose folder is opened and judged before the desktop's is touched

@@ -3,8 +3,8 @@
 //!
 //! A run judges the line's script, the handheld's folder and the desktop's, in this order, and opens the
 //! trace. Then both sides have a whole session over a line that does with each frame what the script says.
-//! Beside it, a database file is counted or shown, so are the packets in captured bytes, and a session is had between
-//! folders that are made in memory.
+//! Beside it, a database file is counted or shown, so are the packets in captured bytes, a session is had between
+//! folders that are made in memory, and the database of a file is installed on a handheld.
 #![tactic(auto)]
 
 mod answer;
@@ -12,8 +12,11 @@ mod clock;
 mod closing;
 mod command;
 mod hints;
+mod install;
+mod install_talk;
 mod left;
 mod make;
+mod moved;
 mod program;
 pub mod promises;
 mod report;

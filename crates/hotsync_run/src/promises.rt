@@ -4,7 +4,8 @@ ghost use Rattle.std.specs.Prelude.{◌≡◌, ◌<◌, ℕ, List, None, Some, t
 ghost use Rattle.std.specs.List.{AllByRecursion};
 ghost use Rattle.line_script.specs.Rules.{RuleValue};
 ghost use Rattle.trace_check.specs.Judging.{IsProperTrace};
-ghost use Rattle.run_words.specs.Commands.{LookAt, Make};
+ghost use Rattle.run_words.specs.Betweens.{Between};
+ghost use Rattle.run_words.specs.Commands.{Install, LookAt, Make};
 ghost use Rattle.run_words.specs.declared.look.Look.{Look};
 ghost use Rattle.run_words.specs.Runs.{Run};
 ghost use Rattle.desk_store.specs.Desks.{StaysOpenable};
@@ -17,6 +18,7 @@ ghost use Rattle.hotsync_run.specs.Causes.{HasBegun};
 ghost use Rattle.hotsync_run.specs.Clean.{GoesThrough, HasNoLines};
 ghost use Rattle.hotsync_run.specs.Equal.{EndsEqual};
 ghost use Rattle.hotsync_run.specs.Headline.{ActsOnce, FairStaysUp, Headline, IsAnsweredRun, IsWhatItSays, LeavesTheMerge, RunCall, TellsCause};
+ghost use Rattle.hotsync_run.specs.Installs.{EndedInstall, InstallRan, install_command};
 ghost use Rattle.hotsync_run.specs.LineRuns.{exchanges_in, frames_in};
 ghost use Rattle.hotsync_looks.specs.Looks.{IsLook};
 ghost use Rattle.hotsync_run.specs.Meetings.{Meets};
@@ -147,6 +149,21 @@ pub fn a_run_is_never_refused()
     ensures made { (call : Call) (seed count : ℕ) → IsAnsweredCall call
         → call.task ≡ Some (Make seed count)
         → AllByRecursion IsAnsweredExchange (exchanges_in call.report) }
+{}
+
+/// An install that is refused before its session changes nothing. In its session neither end says anything twice, and no line stops
+/// it. Once it ended, the handheld has the file's database in place of the one of its name, and all else as it was.
+pub fn an_install_keeps_what_it_promises()
+    ensures refused { (call : Call) (words : Between) → IsAnsweredCall call
+        → call.task ≡ Some (Install words) → call.report.end ≡ NotStarted
+        → SentNothing (install_command words) call.before call.after call.status call.report }
+    ensures through { (call : Call) (words : Between) → IsAnsweredCall call
+        → call.task ≡ Some (Install words) → HasBegun call.report.end
+        → GoesThrough call.status call.report }
+    ensures ended { (call : Call) (words : Between) → IsAnsweredCall call
+        → call.task ≡ Some (Install words) → call.report.end ≡ Ended
+        → (ran : InstallRan words call.before call.after call.status call.report)
+        × EndedInstall ran.device ran.database call.after.palm call.report }
 {}
 
 /// No two names of files are printed alike, and each is printed in ASCII from the space to `~`.

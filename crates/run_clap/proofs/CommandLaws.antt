@@ -1,12 +1,13 @@
 -- What words ask for, by the form of their command.
 use Rattle.std.proofs.Common.{◌≡◌, ℕ, Bool, true, false, cond, List, [], ◌∷◌, refl, subst, sym, ap, ◌∙◌, arith, Option, Some, None, option_map, codes}
-use Rattle.std.specs.Prelude.{bytes_eq, option_and_then, ◌&&◌}
+use Rattle.std.specs.Prelude.{bytes_eq, is_some, option_and_then, ◌&&◌}
 use Rattle.std.proofs.lemmas.Bool.{and_parts}
 use Rattle.clap.specs.Simple.{is_simple, matches_of}
 use Rattle.clap.specs.Takes.{takes}
 use Rattle.clap.specs.Walk.{rows_of}
 use Rattle.clap.specs.declared.parser.matches.Found.{Found}
-use Rattle.run_words.specs.Commands.{Task, Sync, LookAt, Scan, Make, export_form, export_of, export_task_in, file_form, file_of, hex_bytes, import_form, import_of, import_task_in, make_form, make_in, make_of, packet_form, packet_of, task_of}
+use Rattle.run_words.specs.Betweens.{Between, between_form, between_in, between_of}
+use Rattle.run_words.specs.Commands.{Task, Sync, LookAt, Scan, Make, Install, export_form, export_of, export_task_in, file_form, file_of, hex_bytes, import_form, import_of, import_task_in, install_between, install_of, make_form, make_in, make_of, packet_form, packet_of, task_of}
 use Rattle.run_words.specs.Exports.{export_in, import_in}
 use Rattle.run_words.specs.Forms.{is_of_form, plain_at}
 use Rattle.run_words.specs.Runs.{are_actions_right, run_form, run_in, run_of}
@@ -126,7 +127,25 @@ module _ (now : Option ℕ) (first : List ℕ) (rest : List (List ℕ)) {task : 
       let right = kept (is_of_form file_form rest) (plain_at 0 rest) file.1 in
       subst (IsAsked now (first ∷ rest)) file.2 (record { first = first; rest = rest; are = refl; right = right.0; asks = (right.1, tt) })
 
-  chosen : (a b c d i v p m n : Bool)
+  between_asked : (between : Option Between) → between_of rest ≡ between → option_and_then install_between between ≡ Some task
+      → IsAsked now (first ∷ rest) task
+  unfolding between_of
+  between_asked None is e = cc
+  between_asked (Some between) is e =
+      let right = kept (is_of_form between_form rest) (between_in rest) is in
+      let given = unless (is_some between.script) e in
+      let same : Install between ≡ task = cc in
+      subst (IsAsked now (first ∷ rest)) same (record { first = first; rest = rest; are = refl; right = right.0; asks = right.1 })
+    where
+      unless : (b : Bool) → cond b None (Some (Install between)) ≡ Some task → Some (Install between) ≡ Some task
+      unless true e = cc
+      unless false e = e
+
+  install_asked : install_of rest ≡ Some task → IsAsked now (first ∷ rest) task
+  unfolding install_of
+  install_asked e = between_asked (between_of rest) refl e
+
+  chosen : (a b c d i v p m n s : Bool)
       → cond a (option_map Sync (run_of now rest))
       (cond b (option_map (LookAt Check) (file_of rest))
       (cond c (option_map (LookAt Show) (file_of rest))
@@ -134,25 +153,28 @@ module _ (now : Option ℕ) (first : List ℕ) (rest : List (List ℕ)) {task : 
       (cond i (import_of rest)
       (cond v (option_map (LookAt Verify) (file_of rest))
       (cond p (option_map (LookAt Picture) (file_of rest))
-      (cond m (option_map Scan (packet_of rest)) (cond n (make_of rest) None)))))))) ≡ Some task
+      (cond m (option_map Scan (packet_of rest))
+      (cond n (make_of rest) (cond s (install_of rest) None))))))))) ≡ Some task
       → IsAsked now (first ∷ rest) task
-  chosen true b c d i v p m n e = run_asked e
-  chosen false true c d i v p m n e = check_asked e
-  chosen false false true d i v p m n e = show_asked e
-  chosen false false false true i v p m n e = export_asked e
-  chosen false false false false true v p m n e = import_asked e
-  chosen false false false false false true p m n e = verify_asked e
-  chosen false false false false false false true m n e = picture_asked e
-  chosen false false false false false false false true n e = packet_asked e
-  chosen false false false false false false false false true e = make_asked e
-  chosen false false false false false false false false false e = cc
+  chosen true b c d i v p m n s e = run_asked e
+  chosen false true c d i v p m n s e = check_asked e
+  chosen false false true d i v p m n s e = show_asked e
+  chosen false false false true i v p m n s e = export_asked e
+  chosen false false false false true v p m n s e = import_asked e
+  chosen false false false false false true p m n s e = verify_asked e
+  chosen false false false false false false true m n s e = picture_asked e
+  chosen false false false false false false false true n s e = packet_asked e
+  chosen false false false false false false false false true s e = make_asked e
+  chosen false false false false false false false false false true e = install_asked e
+  chosen false false false false false false false false false false e = cc
 
 words_ask : (now : Option ℕ) (words : List (List ℕ)) {task : Task} → task_of now words ≡ Some task → IsAsked now words task
 unfolding task_of
 words_ask now [] e = cc
 words_ask now (first ∷ rest) e =
     chosen now first rest (bytes_eq first (codes "run")) (bytes_eq first (codes "check")) (bytes_eq first (codes "show")) (bytes_eq first (codes "export"))
-    (bytes_eq first (codes "import")) (bytes_eq first (codes "verify")) (bytes_eq first (codes "picture")) (bytes_eq first (codes "packet")) (bytes_eq first (codes "make")) e
+    (bytes_eq first (codes "import")) (bytes_eq first (codes "verify")) (bytes_eq first (codes "picture")) (bytes_eq first (codes "packet")) (bytes_eq first (codes "make"))
+    (bytes_eq first (codes "install")) e
 
 -- ---- each of the forms has names that differ
 
@@ -234,6 +256,19 @@ make_proper = record {
   flag_names = refl;
 }
 
+between_proper : Proper between_form
+between_proper = record {
+  few = omega arith;
+  plain = refl;
+  options = refl;
+  flags = refl;
+  plain_options = refl;
+  plain_flags = refl;
+  options_flags = refl;
+  option_names = refl;
+  flag_names = refl;
+}
+
 look_proper : (look : Look) → Proper (look_form look)
 look_proper Check = file_proper
 look_proper Show = file_proper
@@ -247,6 +282,7 @@ task_proper (Sync run) = run_proper
 task_proper (LookAt look file) = look_proper look
 task_proper (Scan bytes) = packet_proper
 task_proper (Make seed count) = make_proper
+task_proper (Install between) = between_proper
 
 -- ---- words in the form are taken by the command of their form, and its matches hold what they ask for
 

@@ -11,5 +11,6 @@ mod values;
 
 pub use read::{WordsFault, read_command};
 pub use run_words::{
-    Command, Export, ExportForm, ImportForm, Look, LookWords, MakeWords, PacketWords, RunWords,
+    BetweenWords, Command, Export, ExportForm, ImportForm, Look, LookWords, MakeWords, PacketWords,
+    RunWords,
 };

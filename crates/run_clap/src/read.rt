@@ -6,12 +6,12 @@ ghost use Rattle.run_words.specs.Commands.{task_of};
 ghost use Rattle.run_words.specs.Views.{form_view, task_view};
 
 use crate::form::form_command;
-use crate::values::{export_in, import_in, make_in, run_in};
+use crate::values::{between_in, export_in, import_in, make_in, run_in};
 use clap::error::ErrorKind;
 use clap::{ArgMatches, Error};
 use run_words::{
-    Command, EXPORT, FILE, IMPORT, Look, LookWords, MAKE, PACKET, PacketWords, RUN, WordForm,
-    command_of,
+    BETWEEN, Command, EXPORT, FILE, IMPORT, Look, LookWords, MAKE, PACKET, PacketWords, RUN,
+    WordForm, command_of,
 };
 use std::alloc::Global;
 
@@ -40,6 +40,7 @@ fn form_of(command: &Command<'_>) -> WordForm<'static>
         },
         Command::Packet(_) => PACKET,
         Command::Make(_) => MAKE,
+        Command::Install(_) => BETWEEN,
     }
 }
 
@@ -105,6 +106,10 @@ fn command_in<'a>(
         },
         Command::Make(_) => match make_in(matches) {
             Some(make) => Some(Command::Make(make)),
+            None => None,
+        },
+        Command::Install(_) => match between_in(matches) {
+            Some(words) => Some(Command::Install(words)),
             None => None,
         },
     }

@@ -2,15 +2,16 @@
 ghost use Rattle.std.specs.Prelude.{◌≡◌, ℕ, List, option_copied, option_map};
 ghost use Rattle.clap.specs.Words.{found_of};
 ghost use Rattle.run_clap.specs.Reads.{HoldsWords};
+ghost use Rattle.run_words.specs.Betweens.{between_form, between_in as between_of_words};
 ghost use Rattle.run_words.specs.Commands.{Make, export_form, import_form, make_form, make_in as make_of_words};
 ghost use Rattle.run_words.specs.Exports.{export_in as export_of_words, import_in as import_of_words};
 ghost use Rattle.run_words.specs.Runs.{run_form, run_in as run_of_words};
-ghost use Rattle.run_words.specs.Views.{run_view};
+ghost use Rattle.run_words.specs.Views.{between_view, run_view};
 
 use clap::ArgMatches;
 use run_words::{
-    Export, ImportForm, MakeWords, RunWords, count_in, date_in, export_form_in, import_form_in,
-    number_in,
+    BetweenWords, Export, ImportForm, MakeWords, RunWords, count_in, date_in, export_form_in,
+    import_form_in, number_in,
 };
 
 // The run that matches hold, at the date now.
@@ -62,4 +63,21 @@ pub fn make_in<'a>(matches: &ArgMatches<'a>) -> Option<MakeWords>
     let seed = number_in(matches.get_str("seed")?)?;
     let count = count_in(matches.get_str("count")?)?;
     Some(MakeWords { seed, count })
+}
+
+// The paths that matches hold, and what stands beside them.
+pub fn between_in<'a>(matches: &ArgMatches<'a>) -> Option<BetweenWords<'a>>
+    ensures { (words : List (List ℕ)) → HoldsWords between_form words (found_of matches.now)
+        → option_map between_view result ≡ between_of_words words }
+{
+    let handheld = matches.get_str("handheld")?;
+    let other = matches.get_str("other")?;
+    let script = matches.get_str("script");
+    let trace = matches.get_str("trace");
+    Some(BetweenWords {
+        handheld,
+        other,
+        script,
+        trace,
+    })
 }

@@ -1,5 +1,6 @@
 -- What words ask for, by the first of them.
-use Rattle.std.specs.Prelude.{ℕ, false, true, List, [], ◌∷◌, Option, Some, None, codes, bytes_eq, option_map, option_and_then, if◌then◌else◌}
+use Rattle.std.specs.Prelude.{ℕ, false, true, List, [], ◌∷◌, Option, Some, None, codes, bytes_eq, is_some, option_map, option_and_then, if◌then◌else◌}
+use Rattle.run_words.specs.Betweens.{Between, between_of}
 use Rattle.run_words.specs.declared.look.Look.{Look}
 use Rattle.run_words.specs.declared.look.Look.TheVariants.{Check, Show, Export, Import, Verify, Picture}
 use Rattle.run_words.specs.Exports.{export_in, import_in}
@@ -8,12 +9,13 @@ use Rattle.run_words.specs.Numbers.{number_of, count_of}
 use Rattle.run_words.specs.Runs.{Run, run_of}
 use Rattle.run_words.specs.Words.{is_hex, bytes_of}
 
--- a run, a look at a file, the packets in some bytes, or a run over folders made of a seed and a count
+-- a run, a look at a file, the packets in some bytes, a run over folders made of a seed and a count, or an install of a file
 pub data Task : Type 0 where
   Sync : Run → Task
   LookAt : Look → List ℕ → Task
   Scan : List ℕ → Task
   Make : ℕ → ℕ → Task
+  Install : Between → Task
 
 -- plain words alone, of these names
 abbrev pub plain_form : List (List ℕ) → Form
@@ -86,6 +88,14 @@ import_task_in words =
 unfoldable pub import_of : List (List ℕ) → Option Task
 import_of words = if is_of_form import_form words then import_task_in words else None
 
+-- the install of these words, which give no script: its line loses nothing
+abbrev pub install_between : Between → Option Task
+install_between between = if is_some between.script then None else Some (Install between)
+
+-- the install that the words behind `install` ask for
+unfoldable pub install_of : List (List ℕ) → Option Task
+install_of words = option_and_then install_between (between_of words)
+
 -- what the words behind a command ask for, at the date now
 abbrev pub task_behind : Option ℕ → List ℕ → List (List ℕ) → Option Task
 task_behind now command words =
@@ -97,7 +107,8 @@ task_behind now command words =
     else (if bytes_eq command (codes "verify") then option_map (LookAt Verify) (file_of words)
     else (if bytes_eq command (codes "picture") then option_map (LookAt Picture) (file_of words)
     else (if bytes_eq command (codes "packet") then option_map Scan (packet_of words)
-    else (if bytes_eq command (codes "make") then make_of words else None))))))))
+    else (if bytes_eq command (codes "make") then make_of words
+    else (if bytes_eq command (codes "install") then install_of words else None)))))))))
 
 -- what these words ask for, where the date now is this, if it can be told
 unfoldable pub task_of : Option ℕ → List (List ℕ) → Option Task

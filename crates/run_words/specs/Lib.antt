@@ -1,4 +1,5 @@
 pub mod Actions
+pub mod Betweens
 pub mod Commands
 pub mod Exports
 pub mod Forms

@@ -1,9 +1,11 @@
 -- What contracts see of words, and of what they give.
 use Rattle.std.specs.Prelude.{map, option_copied}
-use Rattle.run_words.specs.Commands.{Task, Sync, LookAt, Scan, Make}
+use Rattle.run_words.specs.Betweens.{Between}
+use Rattle.run_words.specs.Commands.{Task, Sync, LookAt, Scan, Make, Install}
 use Rattle.run_words.specs.Forms.{Form, NamedOption}
 use Rattle.run_words.specs.Runs.{Run}
 use Rattle.run_words.specs.Words.{bytes_of}
+use Rattle.run_words.specs.declared.between.BetweenWords.{BetweenWords}
 use Rattle.run_words.specs.declared.command.Command.{Command}
 use Rattle.run_words.specs.declared.command.Command.TheVariants as commands
 use Rattle.run_words.specs.declared.form.ValueOption.{ValueOption}
@@ -35,9 +37,19 @@ run_view run = record {
   add_user = run.add_user;
 }
 
+-- both paths of the words
+abbrev pub between_view : BetweenWords → Between
+between_view words = record {
+  handheld = words.handheld.now;
+  other = words.other.now;
+  script = option_copied words.script;
+  trace = option_copied words.trace;
+}
+
 -- what the words ask for
 abbrev pub task_view : Command → Task
 task_view (commands.Run run) = Sync (run_view run)
 task_view (commands.Look look) = LookAt look.look look.file.now
 task_view (commands.Packet packet) = Scan (bytes_of packet.hex.now)
 task_view (commands.Make make) = Make make.seed make.count
+task_view (commands.Install words) = Install (between_view words)

@@ -1,10 +1,11 @@
 // Commands.
 ghost use Rattle.std.specs.Prelude.{◌≡◌, map, string_bytes, option_map};
-ghost use Rattle.run_words.specs.Commands.{LookAt, Scan, Sync, export_of, file_of, import_of, make_of, packet_of, task_of};
+ghost use Rattle.run_words.specs.Commands.{LookAt, Scan, Sync, export_of, file_of, import_of, install_of, make_of, packet_of, task_of};
 ghost use Rattle.run_words.specs.Exports.{export_in as export_of_words, import_in as import_of_words};
 ghost use Rattle.run_words.specs.Runs.{run_of};
 ghost use Rattle.run_words.specs.Views.{task_view};
 
+use crate::between::{BetweenWords, between_words};
 use crate::form::{ValueOption, WordForm, has_flag, is_of_form, plain_at, value_of};
 use crate::hexadecimal::is_hex;
 use crate::look::{Export, ImportForm, Look, LookWords, export_form_in, import_form_in};
@@ -85,6 +86,8 @@ pub enum Command<'a> {
     Packet(PacketWords<'a>),
     /// `make`.
     Make(MakeWords),
+    /// `install`.
+    Install(BetweenWords<'a>),
 }
 
 /// What these words ask for, by the first of them, or `None` exactly where they are not in the form. `now` is the
@@ -106,6 +109,7 @@ pub fn command_of<'a>(now: Option<u32>, words: &'a [String]) -> Option<Command<'
         "picture" => look_command(Look::Picture, words),
         "packet" => packet_command(words),
         "make" => make_command(words),
+        "install" => install_command(words),
         _ => None,
     }
 }
@@ -208,4 +212,16 @@ fn make_command<'a>(words: &'a [String]) -> Option<Command<'a>>
     let seed = number_in(plain_at(words, 0)?)?;
     let count = count_in(plain_at(words, 1)?)?;
     Some(Command::Make(MakeWords { seed, count }))
+}
+
+// The handheld and the file behind `install`. Its line loses nothing, so there is no script.
+#[tactic(auto, unfolding(crate::specs::Commands::install_of))]
+fn install_command<'a>(words: &'a [String]) -> Option<Command<'a>>
+    ensures { option_map task_view result ≡ install_of (map string_bytes words.entry.now) }
+{
+    let between = between_words(words)?;
+    if between.script.is_some() {
+        return None;
+    }
+    Some(Command::Install(between))
 }

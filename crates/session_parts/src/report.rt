@@ -18,6 +18,8 @@ pub enum Did {
     Synced(Counts),
     /// Nothing, and why.
     Skipped(Skip),
+    /// The handheld has it from a file, of so many entries.
+    Installed(u32),
 }
 
 /// How a database was synchronised, in numbers of records.

@@ -7,7 +7,7 @@ use Rattle.hotsync_looks.specs.Told.{sink_told, source_told}
 use Rattle.hotsync_run.specs.Told.{CallTold, folder_told}
 use Rattle.hotsync_run.proofs.CallLaws.{only_memory, unread_call}
 use Rattle.hotsync_run.proofs.MakeWords.{few_asked}
-use Rattle.hotsync_run.proofs.PathLaws.{copied_none, look_source, run_desktop, run_handheld, run_source, run_trace}
+use Rattle.hotsync_run.proofs.PathLaws.{copied_none, install_handheld, install_source, install_trace, look_source, run_desktop, run_handheld, run_source, run_trace}
 use Rattle.hotsync_run.proofs.command.hotsync.Goals as goal
 
 pub make-status-requires : goal.make-status-requires
@@ -52,3 +52,16 @@ returns-in-Ok-Run-clause-trace g c = λ none.
 pub returns-in-Ok-Look-clause-source : goal.returns-in-Ok-Look-clause-source
 returns-in-Ok-Look-clause-source g c = λ none.
     absurd (look_source (c.in-Ok-Look.ensures.command ∙ ap (λ (command : Command). Some (task_view command)) c.in-Ok-Look.field-0-is) none)
+
+pub returns-in-Ok-Install-clause-device : goal.returns-in-Ok-Install-clause-device
+returns-in-Ok-Install-clause-device g c = λ none.
+    absurd (install_handheld (c.in-Ok-Install.ensures.command ∙ ap (λ (command : Command). Some (task_view command)) c.in-Ok-Install.field-0-is) none)
+
+pub returns-in-Ok-Install-clause-source : goal.returns-in-Ok-Install-clause-source
+returns-in-Ok-Install-clause-source g c = λ none.
+    absurd (install_source (c.in-Ok-Install.ensures.command ∙ ap (λ (command : Command). Some (task_view command)) c.in-Ok-Install.field-0-is) none)
+
+pub returns-in-Ok-Install-clause-trace : goal.returns-in-Ok-Install-clause-trace
+returns-in-Ok-Install-clause-trace g c = λ none.
+    c.install_file.ensures.trace (copied_none _
+    (install_trace (c.in-Ok-Install.ensures.command ∙ ap (λ (command : Command). Some (task_view command)) c.in-Ok-Install.field-0-is) none))

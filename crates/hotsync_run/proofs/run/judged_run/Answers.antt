@@ -133,7 +133,7 @@ returns-in-Err-open_handheld-clause-ran g c =
     c.in-Err-open_handheld.ensures.path refl refl)
 
 pub returns-in-Ok-open_trace-clause-source_first : goal.returns-in-Ok-open_trace-clause-source_first
-returns-in-Ok-open_trace-clause-source_first g c = λ blames. absurd (talk_not_source c.traced_talk.ensures.talk blames)
+returns-in-Ok-open_trace-clause-source_first g c = λ blames. absurd (talk_not_source c.traced_talk.ensures.talk (λ had. had.talked.spoke.why.ends) blames)
 
 pub returns-in-Ok-open_trace-clause-handheld_first : goal.returns-in-Ok-open_trace-clause-handheld_first
-returns-in-Ok-open_trace-clause-handheld_first g c = λ is blames. absurd (talk_not_handheld c.traced_talk.ensures.talk is blames)
+returns-in-Ok-open_trace-clause-handheld_first g c = λ is blames. absurd (talk_not_handheld c.traced_talk.ensures.talk (λ had. had.talked.spoke.why.ends) is blames)

@@ -1,0 +1,36 @@
+-- What an install promises, by what is known of its call.
+use Rattle.std.proofs.Common.{◌≡◌, subst, sym}
+use Rattle.std.specs.Prelude.{Option, Some}
+use Rattle.run_words.specs.Betweens.{Between}
+use Rattle.run_words.specs.Commands.{Install, Task}
+use Rattle.hotsync_run.specs.Calls.{Call, IsAnsweredCall, IsCall}
+use Rattle.hotsync_run.specs.Causes.{ByEnd, HasBegun}
+use Rattle.hotsync_run.specs.Clean.{GoesThrough}
+use Rattle.hotsync_run.specs.Installs.{EndedInstall, InstallRan, IsInstall, install_command}
+use Rattle.hotsync_run.specs.SessionCalls.{SentNothing}
+use Rattle.hotsync_run.proofs.CleanLaws.{spoke_through}
+use Rattle.hotsync_run.proofs.HeadlineLaws.{begun_by}
+use Rattle.hotsync_run.specs.declared.report.SessionEnd.{SessionEnd}
+use Rattle.hotsync_run.specs.declared.report.SessionEnd.TheVariants.{Ended, NotStarted}
+
+module _ (call : Call) (words : Between) (is : IsAnsweredCall call) (task : call.task ≡ Some (Install words)) where
+  abbrev Silent : Type 0
+  Silent = SentNothing (install_command words) call.before call.after call.status call.report
+
+  abbrev Session : Type 0
+  Session = InstallRan words call.before call.after call.status call.report
+
+  answered : IsInstall words call.before call.after call.out call.out_after call.status call.report
+  answered = subst (λ (task : Option Task). IsCall task call.before call.after call.out call.out_after call.status call.report) task is
+
+  pub install_refused : call.report.end ≡ NotStarted → Silent
+  install_refused none = subst (λ (e : SessionEnd). ByEnd e Silent Session) none answered.ran.shown
+
+  pub install_ran : HasBegun call.report.end → Session
+  install_ran begun = begun_by call.report.end Silent Session answered.ran.shown begun
+
+  pub install_through : HasBegun call.report.end → GoesThrough call.status call.report
+  install_through begun = spoke_through (install_ran begun).had.spoke
+
+  pub install_ended : call.report.end ≡ Ended → (ran : Session) × EndedInstall ran.device ran.database call.after.palm call.report
+  install_ended ended = let ran = install_ran (subst HasBegun (sym ended) tt) in (ran, ran.had.left ended)
