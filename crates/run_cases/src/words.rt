@@ -1,7 +1,8 @@
 // What words say.
 use pdb_values::DbName;
 use run_clap::{
-    Command, ExportForm, ImportForm, Look, LookWords, RunWords, WordsFault, read_command,
+    BetweenWords, Command, ExportForm, ImportForm, Look, LookWords, RunWords, WordsFault,
+    read_command,
 };
 use run_words::{ActionWord, Target, action_of, command_of, read_actions};
 use std::alloc::{AllocError, Global};
@@ -21,9 +22,19 @@ pub fn words_text(alloc: Global, now: Option<u32>, line: &str) -> Result<String,
         Ok(Command::Make(make)) => {
             format!(in alloc; "make seed {} count {}\n", make.seed, make.count)
         }
+        Ok(Command::Install(words)) => install_text(alloc, &words),
         Err(WordsFault::Usage) if !in_form => String::from_str(alloc, "usage\n"),
         Err(_) => String::from_str(alloc, "no memory\n"),
     }
+}
+
+fn install_text(alloc: Global, words: &BetweenWords<'_>) -> Result<String, AllocError> {
+    format!(in alloc;
+        "install handheld {} other {} trace {}\n",
+        words.handheld,
+        words.other,
+        words.trace.unwrap_or("-")
+    )
 }
 
 fn look_text(alloc: Global, words: &LookWords<'_>) -> Result<String, AllocError> {
