@@ -3,7 +3,7 @@ _hotsync() {
     local word=${COMP_WORDS[COMP_CWD]}
     COMPREPLY=()
     if [ "$COMP_CWD" -eq 1 ]; then
-        COMPREPLY=($(compgen -W 'run check show export import verify picture packet make' -- "$word"))
+        COMPREPLY=($(compgen -W 'run check show export import verify picture packet install make' -- "$word"))
         return
     fi
     case ${COMP_WORDS[1]} in
@@ -27,6 +27,17 @@ _hotsync() {
     import)
         case $word in
         -*) COMPREPLY=($(compgen -W '--as=txt' -- "$word")) ;;
+        *) COMPREPLY=($(compgen -f -- "$word")) ;;
+        esac
+        ;;
+    install)
+        case $word in
+        -*)
+            COMPREPLY=($(compgen -W '--trace=' -- "$word"))
+            if [ "${#COMPREPLY[@]}" -eq 1 ]; then
+                compopt -o nospace
+            fi
+            ;;
         *) COMPREPLY=($(compgen -f -- "$word")) ;;
         esac
         ;;
