@@ -1,0 +1,11 @@
+pub mod AgainLaws
+pub mod BlockLaws
+pub mod ChangeLaws
+pub mod CommitLaws
+pub mod CountLaws
+pub mod FileLaws
+pub mod JobLaws
+pub mod LabelLaws
+pub mod LeaveLaws
+pub mod SameLaws
+pub mod SwapLaws

@@ -1,0 +1,18 @@
+-- What changes is what the desktop takes.
+use Rattle.std.proofs.Common.{sym, subst, map}
+use Rattle.std.specs.List.{AllByRecursion}
+use Rattle.pdb_values.specs.NamedDatabases.{NamesRise}
+use Rattle.desk_store.specs.Changes.{IsDbChange}
+use Rattle.desk_store.specs.Views.{shelves_in}
+use Rattle.desk_store.specs.declared.change.DbChange.{DbChange}
+use Rattle.std.specs.Prelude.{List}
+use Rattle.category_mirror.proofs.ChangeLaws.{changes-fit, changes-rise}
+use Rattle.category_mirror.proofs.session.prepare.Goals as goal
+
+pub returns-clause-fit : goal.returns-clause-fit
+returns-clause-fit g c = record {
+  may = rw c.deref.ensures.value at (c.may_commit.ensures (c.if-not-may_commit.false));
+  rise = subst (λ (changes : List DbChange). NamesRise (map (λ (change : DbChange). change.rows) changes)) (sym c.in_ok-changes.ensures)
+      (changes-rise (shelves_in c.args.desk.now) c.args.jobs.now c.args.merges.now c.requires.rise);
+  each = subst (AllByRecursion IsDbChange) (sym c.in_ok-changes.ensures) (changes-fit (shelves_in c.args.desk.now) c.args.jobs.now c.args.merges.now);
+}

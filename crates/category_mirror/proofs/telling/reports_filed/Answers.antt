@@ -1,0 +1,26 @@
+-- One report comes behind another.
+use Rattle.std.proofs.Common.{◌<◌, arith, length}
+use Rattle.slow_mirror.proofs.NewsLaws.{split_at, take_all}
+use Rattle.desk_store.specs.Views.{shelves_in}
+use Rattle.category_mirror.specs.Courses.{reports_filed}
+use Rattle.category_mirror.proofs.ChangeLaws.{report_is, reports-step}
+use Rattle.category_mirror.proofs.telling.reports_filed.Goals as goal
+
+pub loop-index-init : goal.loop-index-init
+unfolding reports_filed
+loop-index-init g c = c.new-made.ensures.items
+
+pub loop-index-preserved : goal.loop-index-preserved
+loop-index-preserved g c =
+    let less : c.loop-index.index < length c.args.merges.now = omega (arith, c.requires, c.loop-index-test.true) in
+    reports-step (shelves_in c.args.desk.now) c.args.jobs.now c.args.merges.now c.loop-index.index c.requires
+    (split_at c.args.jobs.now c.loop-index.index c.index-jobs-index.result c.loop-index-test.true c.index-jobs-index.is)
+    (split_at c.args.merges.now c.loop-index.index c.index-merges-index.result less c.index-merges-index.is) c.loop-index.invariant
+    c.in_ok-push.ensures.items
+    (report_is (shelves_in c.args.desk.now) c.index-jobs-index.result c.index-merges-index.result c.copy.ensures (rw c.rows.ensures at c.did_of.ensures))
+
+pub returns : goal.returns
+returns g c =
+    let past = c.loop-index-test.false in
+    rw (take_all c.args.jobs.now c.loop-index.index past, take_all c.args.merges.now c.loop-index.index (omega (arith, c.requires, past))) at
+    c.loop-index.invariant

@@ -1,0 +1,7 @@
+use Rattle.std.proofs.Common.{◌≡◌, take}
+use Rattle.desk_store.specs.Views.{shelves_in}
+use Rattle.category_mirror.specs.Courses.{reports_filed}
+use Rattle.category_mirror.proofs.telling.reports_filed.Given as goal
+
+abbrev pub invariant-loop-index : goal.invariant-loop-index
+invariant-loop-index g l = l.made.items ≡ reports_filed (shelves_in l.desk) (take l.index l.jobs) (take l.index l.merges)

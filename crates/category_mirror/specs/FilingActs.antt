@@ -1,0 +1,80 @@
+-- What a session says that brings categories together.
+use Rattle.std.specs.Prelude.{◌≡◌, ℕ, List, [], ◌∷◌, Option, None, Some, IfSome, Result, Ok, Err, option_and_then}
+use Rattle.pdb_values.specs.Databases.{DatabaseValue}
+use Rattle.pdb_values.specs.NamedDatabases.{database_of}
+use Rattle.palm_device.specs.Devices.{Device}
+use Rattle.dlp_replies.specs.ReplyReading.{reply_at}
+use Rattle.dlp_commands.specs.Talks.{Talk}
+use Rattle.desk_store.specs.Shelves.{ShelvesValue}
+use Rattle.desktop_session.specs.declared.fault.SessionFault.{SessionFault}
+use Rattle.desktop_session.specs.Acts.{Act, acted}
+use Rattle.desktop_session.specs.Answers.{block_of, or_none, said_in}
+use Rattle.desktop_session.specs.Requests.{opening, reading_app, writing_app}
+use Rattle.desktop_session.specs.Says.{saying}
+use Rattle.session_parts.specs.declared.skip.Skip.{Skip}
+use Rattle.session_parts.specs.Spans.{within}
+use Rattle.category_mirror.specs.declared.job.FilingJob.{FilingJob}
+use Rattle.category_mirror.specs.Blocks.{MergeValue, blocks_merge, written_block}
+
+-- the block that a reply has; error 5 says that there is none
+abbrev pub block_or_none : Result (Option (List ℕ)) SessionFault → Option (List ℕ)
+block_or_none (Ok block) = block
+block_or_none (Err fault) = None
+
+abbrev pub block_in : List ℕ → Option (List ℕ)
+block_in reply = block_or_none (or_none (said_in block_of (reply_at 0x1B reply)))
+
+-- the app block of an open database, as the device's reply tells it
+abbrev pub app_told : Device → ℕ → Option (List ℕ)
+app_told device handle = block_in (acted (reading_app handle) device).0
+
+-- the same, where a device is told
+abbrev pub app_of : Option Talk → ℕ → Option (List ℕ)
+app_of None handle = None
+app_of (Some talk) handle = app_told talk.device handle
+
+-- a block that is there is written
+abbrev pub writes_where : ℕ → Option (List ℕ) → List Act
+writes_where handle None = []
+writes_where handle (Some block) = writing_app handle block ∷ []
+
+-- under the handle of a database: its block is read, and the merged one written where it differs
+unfoldable pub filed_under : Option (List ℕ) → Option Talk → ℕ → List Act
+filed_under rows_app told handle =
+    reading_app handle
+    ∷ writes_where handle
+    (written_block (app_of told handle) (blocks_merge (app_of told handle) rows_app))
+
+-- the app block of a slot's rows
+abbrev pub rows_app : ShelvesValue → List ℕ → Option (List ℕ)
+rows_app shelves name =
+    option_and_then (λ (database : DatabaseValue). database.app) (database_of name shelves.rows)
+
+abbrev pub unless_skipped : Option Skip → List Act → List Act
+unless_skipped (Some skip) acts = []
+unless_skipped None acts = acts
+
+-- one database of a session, by what was told before it; nothing of one that is skipped
+unfoldable pub files_under : ShelvesValue → Option Talk → FilingJob → ℕ → List ℕ → List Act
+files_under shelves told job handle given =
+    unless_skipped job.skip
+    (within (opening job.name)
+    (λ handle given.
+    filed_under (rows_app shelves job.name) (saying (opening job.name ∷ []) told) handle)
+    handle given)
+
+-- a merge is that of these blocks, where a device is told
+abbrev pub IsMergeTold : Option (List ℕ) → Option Talk → ℕ → Option MergeValue → Type 0
+IsMergeTold rows_app told handle merge =
+    IfSome told (λ talk. merge ≡ blocks_merge (app_told talk.device handle) rows_app)
+
+abbrev pub SaysUnless : Option Skip → Option MergeValue → Type 0 → Type 0
+SaysUnless (Some skip) merge says = merge ≡ None
+SaysUnless None merge says = says
+
+-- what a session tells of one database: how its categories come together
+unfoldable pub SaysFiled : ShelvesValue → Option Talk → FilingJob → ℕ → List ℕ
+    → Option MergeValue → Type 0
+SaysFiled shelves told job handle given merge =
+    SaysUnless job.skip merge
+    (IsMergeTold (rows_app shelves job.name) (saying (opening job.name ∷ []) told) handle merge)

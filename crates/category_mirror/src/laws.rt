@@ -1,0 +1,58 @@
+// What holds of categories that were brought together. Each function here does nothing: its contract is the law.
+ghost use Rattle.std.specs.Prelude.{◌≡◌, ◌<◌, ℕ, IsSome, List, None, Option, Some, false, map, true};
+ghost use Rattle.std.specs.List.{AllByRecursion};
+ghost use Rattle.pdb_values.specs.Databases.{DatabaseValue};
+ghost use Rattle.pdb_values.specs.declared.record.Record.{Record};
+ghost use Rattle.category_tables.specs.Tables.{IsTable, TableValue, is_used};
+ghost use Rattle.category_tables.specs.Merges.{places_of};
+ghost use Rattle.category_tables.specs.Swaps.{IsSwapOf};
+ghost use Rattle.category_mirror.specs.Blocks.{MergeValue, begins_with, blocks_merge, merged_block, written_block};
+ghost use Rattle.category_mirror.specs.Filings.{AreOfCategories, filed_block, filed_rows, swapped_record};
+ghost use Rattle.category_mirror.specs.Refiled.{is_refiled, refiled_record, refiled_rows};
+
+/// Where a session stopped once the handheld had its merged block, and the next one ends, both sides have what the first would have left:
+/// before the desktop's commit, and behind it.
+pub fn a_stopped_session_is_made_up_for()
+    ensures block_before { (handheld : Option (List ℕ)) (rows : DatabaseValue)
+        → filed_block (filed_block handheld rows) rows ≡ filed_block handheld rows }
+    ensures rows_before { (handheld : Option (List ℕ)) (rows : DatabaseValue)
+        → filed_rows (filed_block handheld rows) rows ≡ filed_rows handheld rows }
+    ensures block_behind { (handheld : Option (List ℕ)) (rows : DatabaseValue)
+        → AreOfCategories rows.records
+        → filed_block (filed_block handheld rows) (filed_rows handheld rows)
+        ≡ filed_block handheld rows }
+    ensures rows_behind { (handheld : Option (List ℕ)) (rows : DatabaseValue)
+        → AreOfCategories rows.records
+        → filed_rows (filed_block handheld rows) (filed_rows handheld rows)
+        ≡ filed_rows handheld rows }
+{}
+
+/// A session behind one that ended, where nothing changed on either side, writes no block, and no row changes on the desktop.
+pub fn a_second_session_changes_nothing()
+    ensures block { (handheld : Option (List ℕ)) (rows : DatabaseValue)
+        → AreOfCategories rows.records → written_block (filed_block handheld rows)
+        (blocks_merge (filed_block handheld rows) (filed_rows handheld rows).app) ≡ None }
+    ensures rows { (handheld : Option (List ℕ)) (rows : DatabaseValue) (merge : MergeValue)
+        → AreOfCategories rows.records
+        → blocks_merge (filed_block handheld rows) (filed_rows handheld rows).app ≡ Some merge
+        → is_refiled merge (filed_rows handheld rows) ≡ false }
+{}
+
+/// Records whose desktop exchanged two of the handheld's numbers, in its table and in each of them, get their own numbers again.
+pub fn a_swap_is_undone()
+    ensures { (handheld desktop : TableValue) (i j : ℕ) (records : List Record) → IsTable handheld
+        → IsTable desktop → IsSwapOf i j handheld.entries desktop.entries
+        → AllByRecursion (λ (item : Record). (item.content.category < 16)
+        × (is_used handheld.entries item.content.category ≡ true)) records
+        → map (refiled_record (places_of handheld desktop)) (map (swapped_record i j) records)
+        ≡ records }
+{}
+
+/// A block that begins with the merged table stays as it is where that is put at its head, and rows with a block that do not change stay as
+/// they are.
+pub fn what_does_not_change_stays()
+    ensures block { (table : TableValue) (block : List ℕ) → begins_with table block ≡ true
+        → merged_block table block ≡ block }
+    ensures rows { (merge : MergeValue) (rows : DatabaseValue) → IsSome rows.app
+        → is_refiled merge rows ≡ false → refiled_rows merge rows ≡ rows }
+{}

@@ -1,0 +1,202 @@
+// A session that brings the categories of both sides together, from the greeting to the end.
+ghost use Rattle.std.specs.Prelude.{◌≡◌, ◌≤◌, ◌⊎◌, IfOk, false, length};
+ghost use Rattle.desk_store.specs.Views.{shelves_in};
+ghost use Rattle.pdb_values.specs.Slots.{slot_for as slot_of};
+ghost use Rattle.desktop_session.specs.declared.fault.SessionFault.TheVariants as session;
+ghost use Rattle.session_parts.specs.declared.stop.Stop.TheVariants as stops;
+ghost use Rattle.session_parts.specs.Leaving.{Leaves};
+ghost use Rattle.session_parts.specs.Meets.{IsSeated};
+ghost use Rattle.session_plan.specs.Fits.{Rise};
+ghost use Rattle.category_mirror.specs.Changes.{AreCommittable, changes_filed as changes_of};
+ghost use Rattle.category_mirror.specs.Courses.{Carries, Files, FilingRan, Finishes, Turns, picked_for};
+ghost use Rattle.category_mirror.specs.Courses.{reports_filed as reports_of, stopped as left_by};
+ghost use Rattle.category_mirror.specs.Jobs.{names_filed};
+ghost use Rattle.category_mirror.specs.Leaving.{LeavesFolder};
+
+use crate::changing::changes_filed;
+use crate::committing::{commit_filed, may_commit};
+use crate::filing::file_all;
+use crate::job::{FilingJob, filing_jobs};
+use crate::merge::Merge;
+use crate::report::{FiledReport, FilingOutcome};
+use crate::telling::reports_filed;
+use desk_store::{DbChange, Desk};
+use desktop_session::{Halted, Linked, SessionFault};
+use dlp_commands::Link;
+use hs_folders::Folder;
+use pdb_values::slot_for;
+use session_parts::{Met, Stop, meet_over};
+use std::alloc::{AllocError, Global};
+
+// A session that stopped, and the desktop as it is.
+fn stopped<L: Link, D: Folder>(link: L, desk: Desk<D>, stop: Stop) -> FilingOutcome<L, D>
+    ensures { result ≡ left_by link desk.folder stop }
+{
+    FilingOutcome {
+        link,
+        folder: desk.into_folder(),
+        end: Err(stop),
+    }
+}
+
+// The link of a session that goes no further.
+fn link_of<L: Link>(linked: Linked<L>) -> L
+    ensures { result ≡ linked.link }
+{
+    let Halted { link, .. } = linked.halt(SessionFault::NoMemory);
+    link
+}
+
+// The session is ended.
+fn finish<L: Link, D: Folder>(
+    linked: Linked<L>,
+    desk: Desk<D>,
+    reports: Vec<FiledReport>,
+) -> FilingOutcome<L, D>
+    requires { linked.abandoned ≡ false }
+    ensures { Finishes L.talk L.since L.fault L.downs reports linked desk.folder result }
+{
+    match linked.finish() {
+        Ok(ended) => FilingOutcome {
+            link: ended.link,
+            folder: desk.into_folder(),
+            end: Ok(reports),
+        },
+        Err(Halted { link, cause }) => stopped(link, desk, Stop::Session(cause)),
+    }
+}
+
+// What the desktop gets, and what is told of it.
+struct Prepared {
+    changes: Vec<DbChange>,
+    reports: Vec<FiledReport>,
+}
+
+// What changes on the desktop by these merges, and what is told of each database. What the desktop would not take counts as if there were
+// no memory for it.
+fn prepare<D: Folder>(
+    alloc: Global,
+    desk: &Desk<D>,
+    jobs: &[FilingJob],
+    merges: &[Option<Merge>],
+) -> Result<Prepared, AllocError>
+    requires rise { Rise (names_filed jobs.now) }
+    requires count { length merges.now ≡ length jobs.now }
+    ensures changes { IfOk result (λ prepared. prepared.changes.items
+        ≡ changes_of (shelves_in desk.now) jobs.now merges.now) }
+    ensures reports { IfOk result (λ prepared. prepared.reports.items
+        ≡ reports_of (shelves_in desk.now) jobs.now merges.now) }
+    ensures fit { IfOk result (λ prepared. AreCommittable prepared.changes.items desk.now) }
+{
+    let changes = changes_filed(alloc, desk, jobs, merges)?;
+    let reports = reports_filed(alloc, desk, jobs, merges)?;
+    if !may_commit(desk, &changes) {
+        return Err(AllocError);
+    }
+    Ok(Prepared { changes, reports })
+}
+
+// The desktop commits what changes, and then the session is ended.
+fn commit<L: Link, D: Folder>(
+    linked: Linked<L>,
+    desk: Desk<D>,
+    prepared: Prepared,
+) -> FilingOutcome<L, D>
+    requires open { linked.abandoned ≡ false }
+    requires fit { AreCommittable prepared.changes.items desk }
+    ensures { Carries L.talk L.since L.fault L.downs D.contents D.moments D.paths D.faults
+        prepared.changes.items prepared.reports linked desk result }
+{
+    let Prepared { changes, reports } = prepared;
+    match commit_filed(desk, changes) {
+        Ok(desk) => finish(linked, desk, reports),
+        Err((fault, folder)) => FilingOutcome {
+            link: link_of(linked),
+            folder,
+            end: Err(Stop::from(fault)),
+        },
+    }
+}
+
+// The desktop gets what the merges change of it.
+fn turn<L: Link, D: Folder>(
+    alloc: Global,
+    linked: Linked<L>,
+    desk: Desk<D>,
+    jobs: &[FilingJob],
+    merges: &[Option<Merge>],
+) -> FilingOutcome<L, D>
+    requires open { linked.abandoned ≡ false }
+    requires rise { Rise (names_filed jobs.now) }
+    requires count { length merges.now ≡ length jobs.now }
+    ensures { Turns L.talk L.since L.fault L.downs D.contents D.moments D.paths D.faults jobs.now
+        merges.now linked desk result
+        ⊎ (result ≡ left_by linked.link desk.folder (stops.Session session.NoMemory)) }
+{
+    match prepare(alloc, &desk, jobs, merges) {
+        Ok(prepared) => commit(linked, desk, prepared),
+        Err(AllocError) => stopped(link_of(linked), desk, Stop::Session(SessionFault::NoMemory)),
+    }
+}
+
+// The slot of the handheld's user is picked, and the categories are brought together.
+fn file_met<L: Link, D: Folder>(
+    alloc: Global,
+    met: Met<L>,
+    desk: Desk<D>,
+    users: &[u32],
+) -> FilingOutcome<L, D>
+    requires open { met.linked.abandoned ≡ false }
+    requires some { 1 ≤ length users.now }
+    requires room { length users.now ≤ 16 }
+    requires count { length users.now ≡ length desk.slots }
+    requires seated { IsSeated (slot_of users.now met.linked.user.user false) }
+    ensures { Files L.talk L.since L.fault L.downs D.contents D.moments D.paths D.faults met
+        (picked_for users.now met.linked.user.user desk) result }
+{
+    let Met { linked, heads } = met;
+    let mut linked = linked;
+    let mut desk = desk;
+    desk.pick(slot_for(users, linked.user().user, false));
+    match filing_jobs(alloc, &heads, &desk) {
+        Ok(jobs) => match file_all(alloc, &mut linked, &desk, &jobs) {
+            Ok(merges) => turn(alloc, linked, desk, &jobs, &merges),
+            Err(cause) => stopped(link_of(linked), desk, Stop::Session(cause)),
+        },
+        Err(AllocError) => stopped(link_of(linked), desk, Stop::Session(SessionFault::NoMemory)),
+    }
+}
+
+// A session from its beginning.
+fn run<L: Link, D: Folder>(alloc: Global, link: L, desk: Desk<D>) -> FilingOutcome<L, D>
+    requires { L.begun link ≡ false }
+    ensures { FilingRan L.talk L.since L.fault L.downs D.contents D.moments D.paths D.faults
+        link desk result }
+{
+    match desk.users(alloc) {
+        Ok(users) => match meet_over(alloc, link, &users, false) {
+            Ok(met) => file_met(alloc, met, desk, &users),
+            Err(Halted { link, cause }) => stopped(link, desk, Stop::Session(cause)),
+        },
+        Err(AllocError) => stopped(link, desk, Stop::Session(SessionFault::NoMemory)),
+    }
+}
+
+/// Runs a session that brings the categories of a handheld behind a link and of a desktop together, from the wake to the end: both sides
+/// meet, where the handheld's user has a slot; the block of each database is read, and the merged one written where it differs; the desktop
+/// commits what changes of the picked slot, its marks as they are, and nothing where nothing changes.
+///
+/// The link and the desktop's folder come back however it ended. The desktop's folder changes only behind all writes of the handheld.
+pub fn file_session<L: Link, D: Folder>(
+    alloc: Global,
+    link: L,
+    desk: Desk<D>,
+) -> FilingOutcome<L, D>
+    requires { L.begun link ≡ false }
+    ensures link { Leaves L.since L.fault L.downs link result.link }
+    ensures folder { LeavesFolder D.contents D.moments D.paths D.faults desk.folder result }
+    ensures ran { FilingRan L.talk L.since L.fault L.downs D.contents D.moments D.paths D.faults
+        link desk result }
+{
+    run(alloc, link, desk)
+}
