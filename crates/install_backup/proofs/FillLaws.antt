@@ -50,11 +50,11 @@ put_new id content [] e = refl
 put_new id content (x ∷ xs) e = grind (arith, put_new id content xs)
 
 -- as it is once it was put
-abbrev made : Record → Record
+abbrev pub made : Record → Record
 made item = new_record item.id item.content
 
 -- each has an id that none of those before it has, and is within its bounds
-abbrev AreNew : List Record → List Record → Type 0
+abbrev pub AreNew : List Record → List Record → Type 0
 AreNew stored [] = Unit {0}
 AreNew stored (x ∷ xs) = ((x.id == 0) ≡ false) × (list_any (has_id x.id) stored ≡ false) × AreNew (stored ++ made x ∷ []) xs
 
@@ -124,7 +124,7 @@ resource_written : (kind : List ℕ) (id : ℕ) (bytes : List ℕ) (database : D
     ≡ Ok (with_resources (resources.put_resource kind id bytes database.resources) database, reply.WriteResource)
 resource_written kind id bytes database holds room = rw (holds, room) refl
 
-put_longer : (test : Resource → Bool) (change : Resource → Resource) (new : Resource) (xs : List Resource)
+pub put_longer : (test : Resource → Bool) (change : Resource → Resource) (new : Resource) (xs : List Resource)
     → length (put_entry test change new xs) ≤ length xs + 1
 unfolding put_entry
 put_longer test change new [] = omega arith
@@ -136,7 +136,7 @@ within false n few = grind (arith, nat_tests)
 
 module _ (device : Device) (rise : NamesRise device.databases) where
   -- a record more
-  put_goes : (database : DatabaseValue) (item : Record) → Writable device rise database → on_records database ≡ true → (item.id == 0) ≡ false
+  pub put_goes : (database : DatabaseValue) (item : Record) → Writable device rise database → on_records database ≡ true → (item.id == 0) ≡ false
       → IsBoundedRecord item → list_any (has_id item.id) database.records ≡ false → length database.records < 65535
       → Goes (acts.put_record 1 item ∷ []) (filled device database) (filled device (with_records (database.records ++ made item ∷ []) database))
   unfolding IsPossible tried
@@ -172,7 +172,7 @@ module _ (device : Device) (rise : NamesRise device.databases) where
             ∙ ap (λ (items : List Record). filled device (with_records items database)) (append_assoc database.records (made item ∷ []) (map made items));
       }
 
-  reset_goes : (database : DatabaseValue) → Writable device rise database → on_records database ≡ true
+  pub reset_goes : (database : DatabaseValue) → Writable device rise database → on_records database ≡ true
       → Goes (resetting 1 ∷ []) (filled device database) (filled device (with_records (reset_flags database.records) database))
   unfolding IsPossible tried
   reset_goes database may holds =
@@ -180,7 +180,7 @@ module _ (device : Device) (rise : NamesRise device.databases) where
       (wrote device rise (resetting 1) writing.ResetFlags database (with_records (reset_flags database.records) database) reply.ResetSyncFlags refl
       (writable_base device rise database may) (rw holds refl) refl)
 
-  resource_goes : (database : DatabaseValue) (resource : Resource) → Writable device rise database → on_resources database ≡ true
+  pub resource_goes : (database : DatabaseValue) (resource : Resource) → Writable device rise database → on_resources database ≡ true
       → length database.resources < 65535
       → Goes (acts.put_resource 1 resource ∷ []) (filled device database)
       (filled device (with_resources (resources.put_resource resource.kind.0 resource.id resource.bytes database.resources) database))

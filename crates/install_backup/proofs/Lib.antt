@@ -2,6 +2,7 @@ pub mod ArriveLaws
 pub mod AskWords
 pub mod BackLaws
 pub mod BackedUpLaws
+pub mod BegunLaws
 pub mod BehindLaws
 pub mod ClosedLaws
 pub mod CopyLaws
@@ -17,13 +18,13 @@ pub mod ManyLaws
 pub mod MetLaws
 pub mod OpenReadLaws
 pub mod OthersLaws
-pub mod PlainLaws
 pub mod ReadWhole
 pub mod RecordLaws
 pub mod ResourceLaws
 pub mod RoomLaws
 pub mod StayLaws
 pub mod TurnLaws
+pub mod UnmarkedLaws
 pub mod WentLaws
 pub mod WholeLaws
 pub mod WrittenLaws

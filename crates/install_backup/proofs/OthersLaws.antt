@@ -217,7 +217,7 @@ module _ (mine : List ℕ → Bool) where
 
   -- ---- acts that were done whole
 
-  acts_one : (one : Act) (old new : Device) (reply : List ℕ) → IsMine one → DeviceStep old (text one) reply new → (acted one old).1 ≡ new
+  pub acts_one : (one : Act) (old new : Device) (reply : List ℕ) → IsMine one → DeviceStep old (text one) reply new → (acted one old).1 ≡ new
   unfolding text acted
   acts_one one old new reply is step =
       ap (λ (r : Tried). (outcome old (function_number one.asks) r).1) (tried_fixed one.given step.free old one.asks is.1)

@@ -21,9 +21,10 @@ use Rattle.session_parts.proofs.RestLaws.{greeting_same}
 use Rattle.session_parts.proofs.StretchLaws.{where_kept}
 use Rattle.install_backup.specs.Installed.{with_installed}
 use Rattle.install_backup.specs.InstallActs.{install_acts, install_one, is_installable}
-use Rattle.install_backup.specs.InstallEnds.{first_full}
-use Rattle.install_backup.specs.InstallFronts.{StandsInTurn}
+use Rattle.install_backup.specs.InstallEnds.{all_installed, first_full}
+use Rattle.install_backup.specs.InstallFronts.{FirstIsUnderway, IsUnderway, StandsInTurn}
 use Rattle.install_backup.specs.Rooms.{has_room}
+use Rattle.install_backup.proofs.BegunLaws.{Along, along_within, install_along}
 use Rattle.install_backup.proofs.ClosedLaws.{says_one}
 use Rattle.install_backup.proofs.EndLaws.{installs-are}
 use Rattle.install_backup.proofs.EvolveLaws.{with_one}
@@ -31,6 +32,10 @@ use Rattle.install_backup.proofs.GoneLaws.{with_databases}
 use Rattle.install_backup.proofs.OthersLaws.{Behind, IsMine, OpenMine, Within, keeps-front, none_open_mine, run_cut}
 use Rattle.install_backup.proofs.StayLaws.{one_mine}
 use Rattle.install_backup.proofs.WholeLaws.{install_goes, installed_rests}
+
+-- the database of this name is underway, from how it was on the one device
+abbrev Underway : Device → DatabaseValue → Device → Type 0
+Underway device database now = IsUnderway database (database_of database.head.name device.databases) (database_of database.head.name now.databases)
 
 -- ---- one was done
 
@@ -70,6 +75,20 @@ says_mine mine database bounded is = by (is_installable database)
     by true = one_mine mine database bounded is
     by false = tt
 
+-- where one is passed over, its database is as it was
+says_along : (device : Device) (rests : IsAtRest device) (database : DatabaseValue) → IsBoundedDatabase database → (databases : List DatabaseValue)
+    → first_full (database ∷ databases) device.databases ≡ None → Along (Underway device database) (says_one database) device
+says_along device rests database bounded databases full = by (is_installable database) refl full
+  where
+    by : (b : Bool) → is_installable database ≡ b
+        → cond b (cond (has_room database.head.name device.databases) (first_full databases (with_installed database device.databases)) (Some database.head.name))
+        (first_full databases device.databases) ≡ None → Along (Underway device database) (where_kept b (install_one database 1 [])) device
+    by true is full =
+        let room = room_of (has_room database.head.name device.databases) database.head.name
+        (first_full databases (with_installed database device.databases)) full in
+        install_along device rests database bounded room.0 (not-true (is_read_only database.head.attributes) is)
+    by false is full = inl refl
+
 in_turn : (databases : List DatabaseValue) (device new : Device) (count : ℕ) → IsAtRest device → AllByRecursion IsBoundedDatabase databases
     → first_full databases device.databases ≡ None → Within (λ name. false) count (flat_map says_one databases ++ ending ∷ []) device new
     → StandsInTurn databases device new
@@ -77,6 +96,7 @@ in_turn [] device new count rests bounded full ran = record {
   before = [];
   later = [];
   parts = refl;
+  first = tt;
   others = λ name first. (keeps-front (λ name. false) count (ending ∷ []) device new ran.0 ((end_fits, refl, tt), tt)
       (at_rest (λ name. false) device rests) ran.1).others name refl;
 }
@@ -100,6 +120,8 @@ in_turn (database ∷ databases) device new count rests bounded full ran =
       before = [];
       later = database ∷ databases;
       parts = refl;
+      first = along_within (λ name. bytes_eq database.head.name name) (Underway device database) count (says_one database) device new own
+          (says_along device rests database bounded.0 databases full) within;
       others = λ name first. (keeps-front (λ name. bytes_eq database.head.name name) count (says_one database) device new within.0 own
           (at_rest (λ name. bytes_eq database.head.name name) device rests) within.1).others name first;
     }
@@ -110,18 +132,29 @@ in_turn (database ∷ databases) device new count rests bounded full ran =
           before = database ∷ more.before;
           later = more.later;
           parts = ap (λ (ds : List DatabaseValue). database ∷ ds) more.parts;
+          first = more.first;
           others = more.others;
         }
 
 -- ---- a front
 
--- other databases and no other user
+first_same : (databases : List DatabaseValue) (device reached : Device)
+    → ((name : List ℕ) → database_of name reached.databases ≡ database_of name device.databases)
+    → FirstIsUnderway databases device.databases reached.databases
+first_same [] device reached same = tt
+first_same (database ∷ databases) device reached same = inl (same database.head.name)
+
+first_by : (later before reached after : List DatabaseValue) → after ≡ reached → FirstIsUnderway later before reached → FirstIsUnderway later before after
+first_by later before reached after same first = subst (FirstIsUnderway later before) (sym same) first
+
+-- the same databases
 stands_by : (databases : List DatabaseValue) (device reached after : Device) → after.databases ≡ reached.databases → StandsInTurn databases device reached
     → StandsInTurn databases device after
 stands_by databases device reached after same stands = record {
   before = stands.before;
   later = stands.later;
   parts = stands.parts;
+  first = first_by stands.later (all_installed stands.before device.databases) reached.databases after.databases same stands.first;
   others = λ name first. ap (database_of name) same ∙ stands.others name first;
 }
 
@@ -145,6 +178,8 @@ fronts_stand device after databases writes given rests bounded full front =
       before = [];
       later = databases;
       parts = refl;
+      first = first_same databases device front.reached (λ name. (keeps-front (λ name. false) front.count greeting device front.reached within.0 frame
+          (at_rest (λ name. false) device rests) within.1).others name refl);
       others = λ name first. (keeps-front (λ name. false) front.count greeting device front.reached within.0 frame
           (at_rest (λ name. false) device rests) within.1).others name refl;
     }

@@ -37,7 +37,7 @@ goes_to goes is = record { order = goes.order; after = goes.after ∙ is }
 -- ---- filled
 
 -- with its blocks alone
-abbrev blocked : DatabaseValue → DatabaseValue
+abbrev pub blocked : DatabaseValue → DatabaseValue
 blocked database = record {
   head = installed_head database.head;
   app = installed_block database.app;
@@ -48,7 +48,7 @@ blocked database = record {
 
 module _ (device : Device) (rise : NamesRise device.databases) (database : DatabaseValue) (bounded : IsBoundedDatabase database)
     (may : is_read_only database.head.attributes ≡ false) where
-  may_write : is_read_only (installed_head database.head).attributes ≡ false
+  pub may_write : is_read_only (installed_head database.head).attributes ≡ false
   may_write = read_only-installed database.head ∙ may
 
   entries_go : Goes (entry_acts 1 database) (filled device (blocked database)) (filled device (installed database))
@@ -85,7 +85,7 @@ module _ (device : Device) (rise : NamesRise device.databases) (database : Datab
             resources = sym (resources-none database.resources (bounded.whole.no_resources is)) k;
           }))
 
-  fill_goes : Goes (fill_acts database 1 []) (filled device (empty_database (installed_head database.head))) (filled device (installed database))
+  pub fill_goes : Goes (fill_acts database 1 []) (filled device (empty_database (installed_head database.head))) (filled device (installed database))
   unfolding fill_acts
   fill_goes =
       let first = empty_database (installed_head database.head) in
@@ -103,10 +103,10 @@ below_of false n is none = grind (arith, nat_tests)
 
 module _ (device : Device) (rests : IsAtRest device) (database : DatabaseValue) (bounded : IsBoundedDatabase database)
     (room : has_room database.head.name device.databases ≡ true) where
-  abbrev left : List DatabaseValue
+  abbrev pub left : List DatabaseValue
   left = without_named database.head.name device.databases
 
-  gone : database_of database.head.name left ≡ None
+  pub gone : database_of database.head.name left ≡ None
   gone =
       database_of-without_named database.head.name database.head.name device.databases rests.proper.sound.names
       ∙ ap (λ b. cond b None (database_of database.head.name device.databases)) (bytes_eq-own database.head.name)
@@ -122,7 +122,7 @@ module _ (device : Device) (rests : IsAtRest device) (database : DatabaseValue) 
         room = below_of (is_some (database_of database.head.name left)) (length left) still (ap (λ (o : Option DatabaseValue). is_some o) gone);
       }
 
-  make_goes : Goes (making (installed_head database.head) ∷ []) (with_databases left device) (filled device (empty_database (installed_head database.head)))
+  pub make_goes : Goes (making (installed_head database.head) ∷ []) (with_databases left device) (filled device (empty_database (installed_head database.head)))
   unfolding IsPossible
   make_goes =
       goes_one can_make
@@ -136,13 +136,13 @@ module _ (device : Device) (rests : IsAtRest device) (database : DatabaseValue) 
         handles = with_handle 1 (Some (just_opened database.head.name 0xC0)) no_handles;
       }))
 
-  delete_goes : Goes (deleting database.head.name ∷ []) device (with_databases left device)
+  pub delete_goes : Goes (deleting database.head.name ∷ []) device (with_databases left device)
   unfolding IsPossible
   delete_goes =
       let can = can_delete device database.head.name bounded.head.name rests.closed in
       goes_one can (deleted device database.head.name can)
 
-  close_goes : (closed : DatabaseValue) → Goes (closing 1 ∷ []) (filled device closed) (with_databases (with_put closed device.databases) device)
+  pub close_goes : (closed : DatabaseValue) → Goes (closing 1 ∷ []) (filled device closed) (with_databases (with_put closed device.databases) device)
   unfolding IsPossible
   close_goes closed =
       goes_one refl (closes_does (with_databases (with_put closed device.databases) device) closed.head.name 0xC0 0 rests.closed)

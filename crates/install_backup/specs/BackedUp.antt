@@ -14,7 +14,7 @@ abbrev pub backed_up : DatabaseValue → DatabaseValue
 backed_up database = record database { head = listed database.head }
 
 -- no dates, no changes and no seed, and not marked as open
-pub record IsPlainHead (head : DbHead) : Type 0 where
+pub record IsUnmarkedHead (head : DbHead) : Type 0 where
   pub created : head.created ≡ 0
   pub modified : head.modified ≡ 0
   pub backup : head.backup ≡ 0
@@ -22,11 +22,11 @@ pub record IsPlainHead (head : DbHead) : Type 0 where
   pub seed : head.seed ≡ 0
   pub closed : has_bit 0x8000 head.attributes ≡ false
 
--- A file's database of which an install leaves nothing out: a plain head, no block that is there
--- without a byte, records that are live and
+-- A file's database of which an install leaves nothing out: an unmarked head, no block that is
+-- there without a byte, records that are live and
 -- unchanged, each idle and under an id of its own, and no two resources of one type and id.
-pub record IsPlain (database : DatabaseValue) : Type 0 where
-  pub head : IsPlainHead database.head
+pub record IsUnmarked (database : DatabaseValue) : Type 0 where
+  pub head : IsUnmarkedHead database.head
   pub app : ¬ (database.app ≡ Some [])
   pub sort : ¬ (database.sort ≡ Some [])
   pub live : AllByRecursion (λ (item : Record). item.deleted ≡ false) database.records

@@ -80,7 +80,8 @@ IsKept (Err cause) before after (Err why) = (after ≡ before) × (why ≡ stop.
 pub record KeepsOne {L F : Type 0} (talk : L → Option Talk) (since : L → L → Type 0)
     (fault : L → Option LinkFault) (downs : L → ℕ)
     (contents : F → Option FileMap) (moments : F → Moments) (head : DbHead)
-    (old new : SessionValue L) (folder after : F) (answer : Result Moved Stop) : Type 0 where
+    (old new : SessionValue L) (folder after : F)
+    (answer : Result Moved Stop) : Type 0 where
   pub read : Result DatabaseValue SessionFault
   pub spans : Spans talk since fault downs (backups_under (talk old.link) head)
       (SaysCopied (talk old.link) head) old new read
@@ -108,7 +109,8 @@ IsBackupCause fault new other = ⊥
 pub record KeepsSome {L F : Type 0} (talk : L → Option Talk) (since : L → L → Type 0)
     (fault : L → Option LinkFault) (downs : L → ℕ)
     (contents : F → Option FileMap) (moments : F → Moments) (heads : List DbHead)
-    (old new : SessionValue L) (folder after : F) (answer : Result (Vec Moved) Stop) : Type 0 where
+    (old new : SessionValue L) (folder after : F)
+    (answer : Result (Vec Moved) Stop) : Type 0 where
   pub done : List DbHead
   pub rest : List DbHead
   pub parts : done ++ rest ≡ heads

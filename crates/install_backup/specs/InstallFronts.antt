@@ -1,10 +1,36 @@
 -- Where a handheld stands in the midst of an install.
-use Rattle.std.specs.Prelude.{◌≡◌, ℕ, false, List, [], ◌∷◌, ◌++◌}
+use Rattle.std.specs.Prelude.{◌≡◌, ◌⊎◌, ℕ, false, List, [], ◌∷◌, ◌++◌, Option, Some, None, take}
 use Rattle.std.specs.Str.{bytes_eq}
 use Rattle.pdb_values.specs.Databases.{DatabaseValue}
 use Rattle.pdb_values.specs.NamedDatabases.{database_of}
 use Rattle.palm_device.specs.Devices.{Device}
+use Rattle.palm_device.specs.Records.{reset_flags}
 use Rattle.install_backup.specs.InstallEnds.{all_installed}
+use Rattle.install_backup.specs.Installed.{installed_block, installed_head, installed_records}
+use Rattle.install_backup.specs.Puts.{put_each}
+
+-- A database of a file as far as it was written: under its head, each block there or not yet, and
+-- the first of its entries, of which records
+-- may still count as changed.
+pub record IsBegun (database made : DatabaseValue) : Type 0 where
+  pub head : made.head ≡ installed_head database.head
+  pub app : (made.app ≡ None) ⊎ (made.app ≡ installed_block database.app)
+  pub sort : (made.sort ≡ None) ⊎ (made.sort ≡ installed_block database.sort)
+  pub records : (count : ℕ)
+      × (reset_flags made.records ≡ take count (installed_records database.records))
+  pub resources : (count : ℕ) × (made.resources ≡ put_each (take count database.resources) [])
+
+-- the handheld's database of its name is as it was, or gone, or begun anew
+abbrev pub IsUnderway : DatabaseValue → Option DatabaseValue → Option DatabaseValue → Type 0
+IsUnderway database before now =
+    (now ≡ before)
+    ⊎ ((now ≡ None) ⊎ ((made : DatabaseValue) × (now ≡ Some made) × IsBegun database made))
+
+-- so of the first of these, if there is one
+abbrev pub FirstIsUnderway : List DatabaseValue → List DatabaseValue → List DatabaseValue → Type 0
+FirstIsUnderway [] before now = Unit {0}
+FirstIsUnderway (database ∷ databases) before now =
+    IsUnderway database (database_of database.head.name before) (database_of database.head.name now)
 
 -- the first of these has another name, if there is one
 abbrev pub IsNotFirst : List ℕ → List DatabaseValue → Type 0
@@ -17,5 +43,6 @@ pub record StandsInTurn (databases : List DatabaseValue) (device after : Device)
   pub before : List DatabaseValue
   pub later : List DatabaseValue
   pub parts : before ++ later ≡ databases
+  pub first : FirstIsUnderway later (all_installed before device.databases) after.databases
   pub others : (name : List ℕ) → IsNotFirst name later
       → database_of name after.databases ≡ database_of name (all_installed before device.databases)

@@ -20,7 +20,7 @@ use pdb_values::{Database, DbHead};
 use session_parts::Stop;
 use std::alloc::{AllocError, Global};
 
-// Makes the canonical bytes of a database those of its file.
+// Makes the canonical bytes of a database those of its file, whole or not at all at each moment.
 fn keep<D: Folder>(alloc: Global, folder: &mut D, database: &Database) -> Result<(), Stop>
     ensures kept { OnOk result (D.contents folder.new
         ≡ option_map (put_all (file_of database.now ∷ [])) (D.contents folder.old)) }

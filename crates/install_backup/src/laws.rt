@@ -19,7 +19,7 @@ ghost use Rattle.desktop_session.specs.Requests.{deleting, putting_resource, wri
 ghost use Rattle.desktop_session.specs.Tellings.{device_after};
 ghost use Rattle.session_parts.specs.Fronts.{Front};
 ghost use Rattle.session_parts.specs.Rests.{IsAtRest};
-ghost use Rattle.install_backup.specs.BackedUp.{IsPlain, backed_up};
+ghost use Rattle.install_backup.specs.BackedUp.{IsUnmarked, backed_up};
 ghost use Rattle.install_backup.specs.BackupActs.{backup_of};
 ghost use Rattle.install_backup.specs.BackupEnds.{backup_front, read_of};
 ghost use Rattle.install_backup.specs.InstallActs.{install_acts, install_one, is_installable};
@@ -104,21 +104,21 @@ pub fn backups_change_nothing()
         → device_after (backup_front device ++ flat_map backup_of device.databases) device ≡ device }
 {}
 
-/// A plain database of a file comes back from a backup as it was, and so with its own canonical bytes: by what is installed of it and backed
-/// up, and over a handheld on which nothing is open, which has room for it.
+/// An unmarked database of a file comes back from a backup as it was, and so with its own canonical bytes: what is installed of it and backed up
+/// is the file's, and so is what is read of a handheld on which nothing is open, which had room for it, once it was installed.
 pub fn installs_come_back()
-    ensures database { (database : DatabaseValue) → IsBoundedDatabase database → IsPlain database
+    ensures database { (database : DatabaseValue) → IsBoundedDatabase database → IsUnmarked database
         → backed_up (installed database) ≡ database }
     ensures handheld { (device : Device) (database : DatabaseValue) → IsAtRest device
-        → IsBoundedDatabase database → IsPlain database
+        → IsBoundedDatabase database → IsUnmarked database
         → is_read_only database.head.attributes ≡ false
         → has_room database.head.name device.databases ≡ true
         → read_of (device_after (install_one database 1 []) device) (installed database)
         ≡ database }
 {}
 
-/// Wherever an install stops, the handheld, on which nothing was open, has the user that it had, and each database whose name no file has
-/// that is installed: the first so many requests lead to no other device, however each was answered.
+/// Wherever an install stops, a handheld on which nothing was open has the user that it had, and each of its databases whose name no file
+/// has that is installed is as it was, whether or not there was room.
 pub fn others_stay()
     ensures user { (device after : Device) (databases : List DatabaseValue) (writes : ℕ)
         (given : List ℕ) → device.handles ≡ no_handles
@@ -134,7 +134,8 @@ pub fn others_stay()
 {}
 
 /// Wherever an install of several stops, on a handheld on which nothing was open, and which has room for all of them: those in front of one
-/// are installed, and each database of another name is as it was then.
+/// are installed; the database of its name is as it was then, or gone, or made anew with a beginning of its blocks and entries; and each
+/// database of another name is as it was then.
 pub fn installs_come_in_turn()
     ensures { (device after : Device) (databases : List DatabaseValue) (writes : ℕ) (given : List ℕ)
         → IsAtRest device → AllByRecursion IsBoundedDatabase databases

@@ -53,7 +53,7 @@ fn backup_met<L: Link, D: Folder>(alloc: Global, met: Met<L>, folder: D) -> Move
 /// kept in its file of the folder, one after another.
 ///
 /// The link and the folder come back however it ended. A session that stops leaves the files of the databases that it read whole and
-/// closed, and no part of another.
+/// closed, and no part of another; and so does a cut at any moment of it.
 pub fn backup_session<L: Link, D: Folder>(alloc: Global, link: L, folder: D) -> MoveOutcome<L, D>
     requires { L.begun link ≡ false }
     ensures link { Leaves L.since L.fault L.downs link result.link }

@@ -1,9 +1,9 @@
--- A plain database that is installed and backed up.
-use Rattle.install_backup.proofs.PlainLaws.{back-plain, comes_back}
+-- An unmarked database that is installed and backed up.
+use Rattle.install_backup.proofs.UnmarkedLaws.{back-unmarked, comes_back}
 use Rattle.install_backup.proofs.laws.installs_come_back.Goals as goal
 
 pub returns : goal.returns
 returns c = record {
-  database = back-plain;
-  handheld = λ device database rests bounded plain may room. comes_back device database rests bounded plain may room;
+  database = back-unmarked;
+  handheld = λ device database rests bounded unmarked may room. comes_back device database rests bounded unmarked may room;
 }

@@ -1,5 +1,5 @@
--- A plain database of a file that is installed, and backed up.
-use Rattle.std.proofs.lemmas.Bool.{and_parts}
+-- An unmarked database of a file that is installed, and backed up.
+use Rattle.std.proofs.lemmas.Bool.{and_parts, not-true}
 use Rattle.std.proofs.lemmas.Bool.Decides.{nat_tests}
 use Rattle.std.proofs.lemmas.Nat.{and_mask, and_shr}
 use Rattle.std.proofs.Common.{arith, ◌≡◌, ◌∙◌, ◌<◌, ◌^◌, ◌%◌, ◌/◌, ap, refl, sym, subst, ℕ, ◌==◌, not, Bool, true, false, List, [], ◌∷◌, map}
@@ -15,7 +15,7 @@ use Rattle.palm_device.specs.Devices.{Device}
 use Rattle.handheld_files.specs.Settled.{are_ids}
 use Rattle.desktop_session.specs.Tellings.{device_after}
 use Rattle.session_parts.specs.Rests.{IsAtRest}
-use Rattle.install_backup.specs.BackedUp.{IsPlain, IsPlainHead, backed_up}
+use Rattle.install_backup.specs.BackedUp.{IsUnmarked, IsUnmarkedHead, backed_up}
 use Rattle.install_backup.specs.BackupEnds.{read_of}
 use Rattle.install_backup.specs.InstallActs.{install_one}
 use Rattle.install_backup.specs.Installed.{installed, installed_block, installed_head, untouched, with_installed}
@@ -43,59 +43,55 @@ low n small clear =
 closed_mask : (n : ℕ) → n < 2 ^ 16 → has_bit 0x8000 n ≡ false → bit_and n 0x7fff ≡ n
 closed_mask n small clear = let under = low n small clear in let rest : n % 2 ^ 15 ≡ n = omega (arith, under) in and_mask n 15 ∙ rest
 
-head-plain : (head : DbHead) → head.attributes < 2 ^ 16 → IsPlainHead head → installed_head head ≡ head
-head-plain head small plain = λ k. record head {
-  attributes = closed_mask head.attributes small plain.closed k;
-  created = sym plain.created k;
-  modified = sym plain.modified k;
-  backup = sym plain.backup k;
-  modnum = sym plain.modnum k;
-  seed = sym plain.seed k;
+head-unmarked : (head : DbHead) → head.attributes < 2 ^ 16 → IsUnmarkedHead head → installed_head head ≡ head
+head-unmarked head small unmarked = λ k. record head {
+  attributes = closed_mask head.attributes small unmarked.closed k;
+  created = sym unmarked.created k;
+  modified = sym unmarked.modified k;
+  backup = sym unmarked.backup k;
+  modnum = sym unmarked.modnum k;
+  seed = sym unmarked.seed k;
 }
 
 -- ---- blocks and records
 
-block-plain : (block : Option (List ℕ)) → (block ≡ Some [] → ⊥) → installed_block block ≡ block
-block-plain None some = refl
-block-plain (Some []) some = absurd (some refl)
-block-plain (Some (byte ∷ bytes)) some = refl
+block-unmarked : (block : Option (List ℕ)) → (block ≡ Some [] → ⊥) → installed_block block ≡ block
+block-unmarked None some = refl
+block-unmarked (Some []) some = absurd (some refl)
+block-unmarked (Some (byte ∷ bytes)) some = refl
 
 all_live : (items : List Record) → AllByRecursion (λ (item : Record). item.deleted ≡ false) items → list_all is_live items ≡ true
 all_live [] live = refl
 all_live (item ∷ items) live = rw live.0 (all_live items live.1)
 
-not_back : (b : Bool) → not b ≡ true → b ≡ false
-not_back true is = absurd cc
-not_back false is = refl
-
 all_idle : (items : List Record) → list_all (λ (item : Record). not item.busy) items ≡ true → AllByRecursion (λ (item : Record). item.busy ≡ false) items
 all_idle [] is = tt
 all_idle (item ∷ items) is =
     let both = and_parts (not item.busy) (list_all (λ (item : Record). not item.busy) items) is in
-    (not_back item.busy both.0, all_idle items both.1)
+    (not-true item.busy both.0, all_idle items both.1)
 
-pub plain_idle : (database : DatabaseValue) → IsPlain database → AllByRecursion (λ (item : Record). item.busy ≡ false) database.records
-plain_idle database plain =
+pub unmarked_idle : (database : DatabaseValue) → IsUnmarked database → AllByRecursion (λ (item : Record). item.busy ≡ false) database.records
+unmarked_idle database unmarked =
     all_idle database.records (and_parts (list_all (λ (item : Record). not item.busy) database.records)
-    (are_ids (map (λ (item : Record). item.id) database.records)) plain.settled).0
+    (are_ids (map (λ (item : Record). item.id) database.records)) unmarked.settled).0
 
-untouched-plain : (items : List Record) → AllByRecursion (λ (item : Record). item.dirty ≡ false) items
+untouched-unmarked : (items : List Record) → AllByRecursion (λ (item : Record). item.dirty ≡ false) items
     → AllByRecursion (λ (item : Record). item.busy ≡ false) items → map untouched items ≡ items
-untouched-plain [] unchanged idle = refl
-untouched-plain (item ∷ items) unchanged idle = λ k.
-    (record item { dirty = sym unchanged.0 k; busy = sym idle.0 k }) ∷ untouched-plain items unchanged.1 idle.1 k
+untouched-unmarked [] unchanged idle = refl
+untouched-unmarked (item ∷ items) unchanged idle = λ k.
+    (record item { dirty = sym unchanged.0 k; busy = sym idle.0 k }) ∷ untouched-unmarked items unchanged.1 idle.1 k
 
 -- ---- the whole
 
-pub installed-plain : (database : DatabaseValue) → IsBoundedDatabase database → IsPlain database → installed database ≡ database
+pub installed-unmarked : (database : DatabaseValue) → IsBoundedDatabase database → IsUnmarked database → installed database ≡ database
 unfolding installed
-installed-plain database bounded plain = λ k. record {
-  head = head-plain database.head bounded.head.attributes plain.head k;
-  app = block-plain database.app plain.app k;
-  sort = block-plain database.sort plain.sort k;
-  records = (installed-own database.records (all_live database.records plain.live) plain.settled
-      ∙ untouched-plain database.records plain.unchanged (plain_idle database plain)) k;
-  resources = resources-own database.resources plain.apart k;
+installed-unmarked database bounded unmarked = λ k. record {
+  head = head-unmarked database.head bounded.head.attributes unmarked.head k;
+  app = block-unmarked database.app unmarked.app k;
+  sort = block-unmarked database.sort unmarked.sort k;
+  records = (installed-own database.records (all_live database.records unmarked.live) unmarked.settled
+      ∙ untouched-unmarked database.records unmarked.unchanged (unmarked_idle database unmarked)) k;
+  resources = resources-own database.resources unmarked.apart k;
 }
 
 -- an installed one has no seed
@@ -103,18 +99,18 @@ seedless : (database : DatabaseValue) → backed_up (installed database) ≡ ins
 unfolding installed
 seedless database = refl
 
-pub back-plain : (database : DatabaseValue) → IsBoundedDatabase database → IsPlain database → backed_up (installed database) ≡ database
-back-plain database bounded plain = seedless database ∙ installed-plain database bounded plain
+pub back-unmarked : (database : DatabaseValue) → IsBoundedDatabase database → IsUnmarked database → backed_up (installed database) ≡ database
+back-unmarked database bounded unmarked = seedless database ∙ installed-unmarked database bounded unmarked
 
 -- over a handheld
-pub comes_back : (device : Device) (database : DatabaseValue) → IsAtRest device → IsBoundedDatabase database → IsPlain database
+pub comes_back : (device : Device) (database : DatabaseValue) → IsAtRest device → IsBoundedDatabase database → IsUnmarked database
     → is_read_only database.head.attributes ≡ false → has_room database.head.name device.databases ≡ true
     → read_of (device_after (install_one database 1 []) device) (installed database) ≡ database
-comes_back device database rests bounded plain may room =
+comes_back device database rests bounded unmarked may room =
     let now = with_databases (with_installed database device.databases) device in
     let idle : AllByRecursion (λ (item : Record). item.busy ≡ false) (installed database).records
-    = subst (λ (d : DatabaseValue). AllByRecursion (λ (item : Record). item.busy ≡ false) d.records) (sym (installed-plain database bounded plain))
-    (plain_idle database plain) in
+    = subst (λ (d : DatabaseValue). AllByRecursion (λ (item : Record). item.busy ≡ false) d.records) (sym (installed-unmarked database bounded unmarked))
+    (unmarked_idle database unmarked) in
     ap (λ (d : Device). read_of d (installed database)) (install_goes device rests database bounded room may).after
     ∙ copies-are now (installed_rests device rests database bounded room) (installed database) (found (installed database) device.databases) idle
-    ∙ back-plain database bounded plain
+    ∙ back-unmarked database bounded unmarked
