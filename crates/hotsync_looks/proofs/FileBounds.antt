@@ -1,13 +1,13 @@
 -- The database of a file keeps the bounds of its types.
-use Rattle.std.proofs.Common.{◌≡◌, ◌≤◌, ◌^◌, ◌<◌, ℕ, arith, rules, List, [], ◌∷◌, ◌++◌, length}
+use Rattle.std.proofs.Common.{ℕ, arith, rules, List, [], ◌∷◌, ◌++◌}
 use Rattle.std.specs.List.{AllByRecursion}
 use Rattle.pdb_values.specs.Databases.{DatabaseValue, IsDatabase}
 use Rattle.pdb_values.specs.declared.record.Record.{Record}
 use Rattle.pdb_values.specs.declared.resource.Resource.{Resource}
-use Rattle.pdb_files.specs.Blocks.{AreShort, block_list}
+use Rattle.pdb_files.specs.Blocks.{AreShort}
 use Rattle.pdb_files.specs.Entries.{record_data, resource_data}
-use Rattle.pdb_files.specs.Files.{FitsRecord, FitsResource, IsFileText, data_of}
-use Rattle.palm_device.specs.Bounds.{IsBoundedDatabase, IsBoundedHead, IsBoundedRecord, IsBoundedResource}
+use Rattle.pdb_files.specs.Files.{FitsRecord, FitsResource, IsFileText}
+use Rattle.palm_device.specs.Bounds.{IsBoundedDatabase, IsBoundedRecord, IsBoundedResource}
 
 all-back : {A : Type 0} (P : A → Type 0) (xs ys : List A) → AllByRecursion P (xs ++ ys) → AllByRecursion P ys
 all-back P [] ys all = all
