@@ -1,4 +1,5 @@
--- An iCalendar object and what its components have in common (RFC 5545, sections 3.4 and 3.6), as lists of lines.
+-- An iCalendar object and what its components have in common (RFC 5545, sections 3.4 and 3.6), as
+-- lists of lines.
 use Rattle.std.specs.Prelude.{ℕ, ◌<◌, Bool, List, [], ◌∷◌, ◌++◌, codes, slice_index, if◌then◌else◌}
 use Rattle.std.specs.Int.{bytes_high_first}
 use Rattle.hex.specs.Hex.{encode_lower}
@@ -7,7 +8,8 @@ use Rattle.calendar_export.specs.declared.component.Source.{Source}
 use Rattle.calendar_export.specs.ContentLines.{given_line}
 use Rattle.calendar_export.specs.Moments.{stamp_line}
 
--- what each component says of its record: its id, whether it is private, the label of its category (empty: none)
+-- what each component says of its record: its id, whether it is private, the label of its category
+-- (empty: none)
 pub record OriginValue : Type 0 where
   pub id : ℕ
   pub secret : Bool
@@ -58,16 +60,21 @@ mark_lines origin = given_line (codes "CATEGORIES:") origin.label ++ class_lines
 -- a record that is out of its form, with its bytes
 abbrev pub unread_lines : ℕ → List ℕ → List (List ℕ)
 unread_lines id bytes =
-    (codes "SUMMARY:(unreadable record " ++ (id_chars id ++ codes ")")) ∷ (codes "X-PALM-RECORD:" ++ encode_lower bytes) ∷ []
+    (codes "SUMMARY:(unreadable record " ++ (id_chars id ++ codes ")"))
+    ∷ (codes "X-PALM-RECORD:" ++ encode_lower bytes) ∷ []
 
 -- such a record as a journal entry
 abbrev pub journal_lines : SourceValue → OriginValue → List ℕ → List (List ℕ)
 journal_lines source origin bytes =
-    codes "BEGIN:VJOURNAL" ∷ (head_lines source origin.id ++ (unread_lines origin.id bytes ++ (mark_lines origin ++ codes "END:VJOURNAL" ∷ [])))
+    codes "BEGIN:VJOURNAL"
+    ∷ (head_lines source origin.id
+    ++ (unread_lines origin.id bytes ++ (mark_lines origin ++ codes "END:VJOURNAL" ∷ [])))
 
 -- the lines that an object begins with
 abbrev pub opening_lines : List (List ℕ)
-opening_lines = codes "BEGIN:VCALENDAR" ∷ codes "VERSION:2.0" ∷ codes "PRODID:-//hotsync//Palm calendar//EN" ∷ []
+opening_lines =
+    codes "BEGIN:VCALENDAR" ∷ codes "VERSION:2.0"
+    ∷ codes "PRODID:-//hotsync//Palm calendar//EN" ∷ []
 
 -- the line that it ends with
 abbrev pub closing_lines : List (List ℕ)

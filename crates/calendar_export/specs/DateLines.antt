@@ -38,16 +38,20 @@ is_before one other = nat_lt (60 * one.hour + one.minute) (60 * other.hour + oth
 
 -- the day on which a date ends: the next one where it ends before it begins
 abbrev pub end_day : Day → Times → Day
-end_day start times = if is_before times.end times.start then day_at (day_number start + 1) else start
+end_day start times =
+    if is_before times.end times.start then day_at (day_number start + 1) else start
 
 -- two times are the same
 abbrev pub is_same_time : Times → Bool
-is_same_time times = (times.start.hour == times.end.hour) && (times.start.minute == times.end.minute)
+is_same_time times =
+    (times.start.hour == times.end.hour) && (times.start.minute == times.end.minute)
 
 -- the end, where it isn't the start
 abbrev pub end_lines : Day → Option Times → List (List ℕ)
 end_lines start None = []
-end_lines start (Some times) = if is_same_time times then [] else (codes "DTEND:" ++ time_chars (end_day start times) times.end) ∷ []
+end_lines start (Some times) =
+    if is_same_time times then []
+    else (codes "DTEND:" ++ time_chars (end_day start times) times.end) ∷ []
 
 -- the day of the record, where it isn't that on which the date begins
 abbrev pub own_lines : Option Day → List (List ℕ)
@@ -68,7 +72,9 @@ unit_letter Days = codes "D"
 
 -- how long an alarm rings before the start
 abbrev pub trigger_line : Alarm → List ℕ
-trigger_line alarm = codes "TRIGGER:" ++ (unit_mark alarm.unit ++ (number_chars alarm.advance ++ unit_letter alarm.unit))
+trigger_line alarm =
+    codes "TRIGGER:"
+    ++ (unit_mark alarm.unit ++ (number_chars alarm.advance ++ unit_letter alarm.unit))
 
 -- the alarm, with the date's description
 abbrev pub alarm_lines : List ℕ → Option Alarm → List (List ℕ)
@@ -80,12 +86,14 @@ alarm_lines description (Some alarm) =
 -- when a date is
 abbrev pub when_lines : DateValue → List (List ℕ)
 when_lines date =
-    day_line (codes "DTSTART") date.time date.start ∷ (end_lines date.start date.time ++ (rule_lines (is_some date.time) date.rule
+    day_line (codes "DTSTART") date.time date.start
+    ∷ (end_lines date.start date.time ++ (rule_lines (is_some date.time) date.rule
     ++ (map (day_line (codes "EXDATE") date.time) date.exceptions ++ own_lines date.own)))
 
 -- what it is
 abbrev pub what_lines : DateValue → List (List ℕ)
-what_lines date = text_line (codes "SUMMARY:") date.description ∷ given_line (codes "DESCRIPTION:") date.note
+what_lines date =
+    text_line (codes "SUMMARY:") date.description ∷ given_line (codes "DESCRIPTION:") date.note
 
 -- a date as a component
 abbrev pub event_lines : SourceValue → OriginValue → DateValue → List (List ℕ)

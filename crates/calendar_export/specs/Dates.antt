@@ -15,7 +15,8 @@ use Rattle.palm_events.specs.Shown.{first_shown}
 use Rattle.calendar_export.specs.Components.{IsBytes}
 use Rattle.calendar_export.specs.Moments.{IsShort}
 
--- a date: the day on which it begins, its times, its rule and the days on which that does not hold, the day of its record where that is another one, its alarm, its texts
+-- a date: the day on which it begins, its times, its rule and the days on which that does not hold,
+-- the day of its record where that is another one, its alarm, its texts
 pub record DateValue : Type 0 where
   pub start : Day
   pub time : Option Times
@@ -37,7 +38,8 @@ exceptions_of (Some rule) days = days
 
 -- two days are the same
 abbrev pub is_same : Day → Day → Bool
-is_same one other = (one.year == other.year) && ((one.month == other.month) && (one.day == other.day))
+is_same one other =
+    (one.year == other.year) && ((one.month == other.month) && (one.day == other.day))
 
 -- the day of a record, where the date begins on another one
 abbrev pub own_of : Day → Day → Option Day

@@ -1,4 +1,5 @@
--- The records that are exported of a database (Palm File Format Specification; pilot-link's todo.h and datebook.h).
+-- The records that are exported of a database (Palm File Format Specification; pilot-link's todo.h
+-- and datebook.h).
 use Rattle.std.specs.Prelude.{◌≡◌, ℕ, ◌&&◌, Bool, true, not, List, [], codes, filter, map, Option, None, Result, Ok, Err, if◌then◌else◌}
 use Rattle.std.specs.List.{flat_map}
 use Rattle.std.specs.Result.{result_err}
@@ -29,7 +30,9 @@ creator_of Dates = codes "date"
 
 -- a database of a kind: records of type `DATA` and of its creator
 abbrev pub is_of_kind : Kind → DbHead → Bool
-is_of_kind kind head = not (holds_resources head.attributes) && (bytes_eq head.kind.0 (codes "DATA") && bytes_eq head.creator.0 (creator_of kind))
+is_of_kind kind head =
+    not (holds_resources head.attributes)
+    && (bytes_eq head.kind.0 (codes "DATA") && bytes_eq head.creator.0 (creator_of kind))
 
 -- the place where bytes are out of the form of their kind
 abbrev pub place_in : Kind → List ℕ → Option ℕ
@@ -42,7 +45,11 @@ fault_of kind item = place_in kind item.content.bytes
 
 -- what is said of a record, with the labels of an app block
 abbrev pub origin_of : Option (List ℕ) → Record → OriginValue
-origin_of app item = record { id = item.id; secret = item.content.secret; label = shown_label app item.content.category }
+origin_of app item = record {
+  id = item.id;
+  secret = item.content.secret;
+  label = shown_label app item.content.category;
+}
 
 -- the task, or else the bytes
 abbrev pub task_or : List ℕ → Result TaskValue ℕ → Content
@@ -61,11 +68,15 @@ content_in Dates bytes = date_or bytes (event_in bytes)
 
 -- a record with what it says
 abbrev pub item_of : Kind → Option (List ℕ) → Record → Item
-item_of kind app item = record { origin = origin_of app item; content = content_in kind item.content.bytes }
+item_of kind app item = record {
+  origin = origin_of app item;
+  content = content_in kind item.content.bytes;
+}
 
 -- the records that are exported, in their order
 abbrev pub exported : Kind → Privacy → DatabaseValue → List Item
-exported kind wanted database = map (item_of kind database.app) (filter (is_exported wanted) database.records)
+exported kind wanted database =
+    map (item_of kind database.app) (filter (is_exported wanted) database.records)
 
 -- when a text is made, and of what
 abbrev pub source_of : ℕ → DatabaseValue → SourceValue
@@ -73,7 +84,8 @@ source_of made database = record { made = made; stem = stem_of database.head.nam
 
 -- what a record adds to the text
 abbrev pub item_text : SourceValue → Kind → Option (List ℕ) → Privacy → Record → List ℕ
-item_text source kind app wanted item = if is_exported wanted item then lines_text (item_lines source (item_of kind app item)) else []
+item_text source kind app wanted item =
+    if is_exported wanted item then lines_text (item_lines source (item_of kind app item)) else []
 
 -- what records add to it
 abbrev pub items_text : SourceValue → Kind → Option (List ℕ) → Privacy → List Record → List ℕ

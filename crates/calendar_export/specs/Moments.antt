@@ -21,7 +21,8 @@ two_digits number = digit (number / 10) ∷ digit number ∷ []
 
 -- its last four digits
 abbrev pub four_digits : ℕ → List ℕ
-four_digits number = digit (number / 1000) ∷ digit (number / 100) ∷ digit (number / 10) ∷ digit number ∷ []
+four_digits number =
+    digit (number / 1000) ∷ digit (number / 100) ∷ digit (number / 10) ∷ digit number ∷ []
 
 -- the year, the month and the day of a day
 abbrev pub day_chars : Day → List ℕ
@@ -42,7 +43,9 @@ moment_of time = record {
 
 -- a day, a T, a time of it and a Z: a time by the universal clock
 abbrev pub stamp_chars : Moment → List ℕ
-stamp_chars time = day_chars time.day ++ (codes "T" ++ (clock_chars time.hour time.minute time.second ++ codes "Z"))
+stamp_chars time =
+    day_chars time.day
+    ++ (codes "T" ++ (clock_chars time.hour time.minute time.second ++ codes "Z"))
 
 -- the time at which the text was made, from the seconds since 1904-01-01T00:00:00
 abbrev pub stamp_line : ℕ → List ℕ

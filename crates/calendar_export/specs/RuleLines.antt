@@ -13,23 +13,28 @@ use Rattle.calendar_export.specs.Moments.{day_chars, digit, two_digits}
 -- a number below 1000 without zeros in front
 abbrev pub number_chars : ℕ → List ℕ
 number_chars number =
-    if nat_lt number 10 then digit number ∷ [] else (if nat_lt number 100 then two_digits number else digit (number / 100) ∷ two_digits number)
+    if nat_lt number 10 then digit number ∷ []
+    else (if nat_lt number 100 then two_digits number else digit (number / 100) ∷ two_digits number)
 
 -- a weekday, from 0 Sunday to 6 Saturday
 abbrev pub weekday_chars : ℕ → List ℕ
 weekday_chars weekday =
-    if weekday == 0 then codes "SU" else (if weekday == 1 then codes "MO" else (if weekday == 2 then codes "TU"
-    else (if weekday == 3 then codes "WE" else (if weekday == 4 then codes "TH" else (if weekday == 5 then codes "FR" else codes "SA")))))
+    if weekday == 0 then codes "SU"
+    else (if weekday == 1 then codes "MO" else (if weekday == 2 then codes "TU"
+    else (if weekday == 3 then codes "WE"
+    else (if weekday == 4 then codes "TH" else (if weekday == 5 then codes "FR" else codes "SA")))))
 
 -- a comma behind others
 abbrev pub comma : Bool → List ℕ
 comma some = if some then codes "," else []
 
--- the days of a week among so many weekdays from one on, with commas between them and in front where there are some before
+-- the days of a week among so many weekdays from one on, with commas between them and in front
+-- where there are some before
 unfoldable pub weekdays_from : Weekdays → ℕ → ℕ → Bool → List ℕ
 weekdays_from days zero weekday some = []
 weekdays_from days (suc more) weekday some =
-    if has_weekday days weekday then (comma some ++ weekday_chars weekday) ++ weekdays_from days more (weekday + 1) true
+    if has_weekday days weekday
+    then (comma some ++ weekday_chars weekday) ++ weekdays_from days more (weekday + 1) true
     else weekdays_from days more (weekday + 1) some
 
 -- all seven
@@ -55,9 +60,11 @@ frequency_chars Yearly = codes "YEARLY"
 -- the days in each
 abbrev pub days_chars : Frequency → List ℕ
 days_chars Daily = []
-days_chars (Weekly days first) = codes ";BYDAY=" ++ (weekdays_chars days ++ (codes ";WKST=" ++ weekday_chars first))
+days_chars (Weekly days first) =
+    codes ";BYDAY=" ++ (weekdays_chars days ++ (codes ";WKST=" ++ weekday_chars first))
 days_chars Monthly = []
-days_chars (MonthlyByDay week weekday) = codes ";BYDAY=" ++ (week_chars week ++ weekday_chars weekday)
+days_chars (MonthlyByDay week weekday) =
+    codes ";BYDAY=" ++ (week_chars week ++ weekday_chars weekday)
 days_chars Yearly = []
 
 -- the end of a day, where the date has a time
@@ -72,7 +79,8 @@ until_chars timed (Some day) = codes ";UNTIL=" ++ (day_chars day ++ day_end time
 -- a rule of a date that has a time or not
 abbrev pub rule_line : Bool → Rule → List ℕ
 rule_line timed rule =
-    codes "RRULE:FREQ=" ++ (frequency_chars rule.frequency ++ (codes ";INTERVAL=" ++ (number_chars rule.interval
+    codes "RRULE:FREQ="
+    ++ (frequency_chars rule.frequency ++ (codes ";INTERVAL=" ++ (number_chars rule.interval
     ++ (days_chars rule.frequency ++ until_chars timed rule.until))))
 
 -- the line of a rule, if there is one

@@ -41,4 +41,6 @@ task_lines task =
 -- a task as a component
 abbrev pub todo_lines : SourceValue → OriginValue → TaskValue → List (List ℕ)
 todo_lines source origin task =
-    codes "BEGIN:VTODO" ∷ (head_lines source origin.id ++ (task_lines task ++ (mark_lines origin ++ codes "END:VTODO" ∷ [])))
+    codes "BEGIN:VTODO"
+    ∷ (head_lines source origin.id
+    ++ (task_lines task ++ (mark_lines origin ++ codes "END:VTODO" ∷ [])))

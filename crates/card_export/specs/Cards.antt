@@ -2,7 +2,8 @@
 use Rattle.std.specs.Prelude.{◌≡◌, ◌<◌, ℕ, Bool, true, List, All, slice_index}
 use Rattle.content_lines.specs.Lines.{has_no_break}
 
--- a phone: what it is (0 work, 1 home, 2 fax, 3 other, 4 e-mail, 5 main, 6 pager, 7 mobile), and whether a list shows it
+-- a phone: what it is (0 work, 1 home, 2 fax, 3 other, 4 e-mail, 5 main, 6 pager, 7 mobile), and
+-- whether a list shows it
 pub record PhoneValue : Type 0 where
   pub kind : ℕ
   pub shown : Bool
@@ -38,7 +39,8 @@ pub data FormValue : Type 0 where
   Person : PersonValue → FormValue
   Unread : List ℕ → FormValue
 
--- a card: the id of its record, the file stem of its database, what it says, the label of its category, whether it is private
+-- a card: the id of its record, the file stem of its database, what it says, the label of its
+-- category, whether it is private
 pub record CardValue : Type 0 where
   pub id : ℕ
   pub stem : List ℕ

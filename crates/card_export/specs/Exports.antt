@@ -1,4 +1,5 @@
--- The cards that are exported of a database of addresses (Palm File Format Specification; pilot-link's address.h).
+-- The cards that are exported of a database of addresses (Palm File Format Specification;
+-- pilot-link's address.h).
 use Rattle.std.specs.Prelude.{◌≡◌, true, ℕ, ◌+◌, ◌<◌, ◌==◌, ◌&&◌, Bool, not, List, [], ◌∷◌, codes, filter, length, map, Option, None, Some, Result, Ok, Err, slice_index, slice_index_or, if◌then◌else◌}
 use Rattle.std.specs.List.{flat_map, range_with_len}
 use Rattle.std.specs.Result.{result_err}
@@ -23,7 +24,9 @@ use Rattle.card_export.specs.Properties.{card_lines, custom_lines, phone_line, s
 
 -- a database of addresses: records of type `DATA` and creator `addr`
 abbrev pub holds_addresses : DbHead → Bool
-holds_addresses head = not (holds_resources head.attributes) && bytes_eq head.kind.0 (codes "DATA") && bytes_eq head.creator.0 (codes "addr")
+holds_addresses head =
+    not (holds_resources head.attributes) && bytes_eq head.kind.0 (codes "DATA")
+    && bytes_eq head.creator.0 (codes "addr")
 
 -- a text, empty where it is not there
 abbrev pub text_of : Option (List ℕ) → List ℕ
@@ -52,11 +55,14 @@ phones_before count address = filter has_number (map (phone_of address) (range_w
 
 -- the line of the phone at a place, where it is there
 abbrev pub phone_lines_at : AddressValue → ℕ → List (List ℕ)
-phone_lines_at address place = if has_number (phone_of address place) then phone_line (phone_of address place) ∷ [] else []
+phone_lines_at address place =
+    if has_number (phone_of address place) then phone_line (phone_of address place) ∷ [] else []
 
 -- the name that is shown of an address
 abbrev pub shown_name_of : AddressValue → List ℕ
-shown_name_of address = shown_name (field_text address 1) (field_text address 0) (field_text address 2) (phones_before 5 address)
+shown_name_of address =
+    shown_name (field_text address 1) (field_text address 0) (field_text address 2)
+    (phones_before 5 address)
 
 -- the postal address
 abbrev pub place_of : AddressValue → PlaceValue
@@ -82,11 +88,14 @@ has_text custom = not (length custom.text == 0)
 
 -- the custom fields that are there, of the first ones
 unfoldable pub customs_before : ℕ → List ℕ → AddressValue → List CustomValue
-customs_before count block address = filter has_text (map (custom_of block address) (range_with_len 0 count))
+customs_before count block address =
+    filter has_text (map (custom_of block address) (range_with_len 0 count))
 
 -- the lines of a custom field, where it is there
 abbrev pub custom_lines_at : List ℕ → AddressValue → ℕ → List (List ℕ)
-custom_lines_at block address number = if has_text (custom_of block address number) then custom_lines (custom_of block address number) else []
+custom_lines_at block address number =
+    if has_text (custom_of block address number)
+    then custom_lines (custom_of block address number) else []
 
 -- what an address says, with the labels of an app block
 abbrev pub person_of : List ℕ → AddressValue → PersonValue
@@ -118,7 +127,9 @@ card_of stem app item = record {
 
 -- the cards that are exported, in the order of their records
 abbrev pub exported_cards : Privacy → DatabaseValue → List CardValue
-exported_cards wanted database = map (card_of (chars (stem_of database.head.name)) database.app) (filter (is_exported wanted) database.records)
+exported_cards wanted database =
+    map (card_of (chars (stem_of database.head.name)) database.app)
+    (filter (is_exported wanted) database.records)
 
 -- the place where a record is out of its form
 abbrev pub fault_of : Record → Option ℕ
@@ -152,7 +163,8 @@ IsItem app wanted item = is_exported wanted item ≡ true → IsStored app item
 
 -- what a record adds to the text
 abbrev pub item_text : List ℕ → Option (List ℕ) → Privacy → Record → List ℕ
-item_text stem app wanted item = if is_exported wanted item then lines_text (card_lines (card_of stem app item)) else []
+item_text stem app wanted item =
+    if is_exported wanted item then lines_text (card_lines (card_of stem app item)) else []
 
 -- what records add to it
 abbrev pub items_text : List ℕ → Option (List ℕ) → Privacy → List Record → List ℕ

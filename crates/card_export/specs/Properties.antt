@@ -1,4 +1,5 @@
--- The lines of a card, in characters (RFC 2426; `X-ABLABEL`, the label of a group of lines, is what address books of Apple and Google read).
+-- The lines of a card, in characters (RFC 2426; `X-ABLABEL`, the label of a group of lines, is what
+-- address books of Apple and Google read).
 use Rattle.std.specs.Prelude.{ℕ, ◌+◌, ◌==◌, ◌&&◌, Bool, List, [], ◌∷◌, ◌++◌, codes, length, map, if◌then◌else◌}
 use Rattle.std.specs.Int.{bytes_high_first}
 use Rattle.std.specs.List.{flat_map}
@@ -88,7 +89,8 @@ is_nowhere place =
 -- no post office box, no further address, and the parts
 abbrev pub place_line : PlaceValue → List ℕ
 place_line place =
-    codes "ADR:" ++ parts ([] ∷ [] ∷ place.street ∷ place.city ∷ place.state ∷ place.zip ∷ place.country ∷ [])
+    codes "ADR:"
+    ++ parts ([] ∷ [] ∷ place.street ∷ place.city ∷ place.state ∷ place.zip ∷ place.country ∷ [])
 
 -- that line, where a part is there
 abbrev pub place_lines : PlaceValue → List (List ℕ)
@@ -102,7 +104,8 @@ digit number = (49 + number) ∷ []
 
 -- the name of a custom field
 abbrev pub custom_name : ℕ → List ℕ
-custom_name number = codes "custom" ++ (digit number ++ (codes ".X-PALM-CUSTOM" ++ (digit number ++ codes ":")))
+custom_name number =
+    codes "custom" ++ (digit number ++ (codes ".X-PALM-CUSTOM" ++ (digit number ++ codes ":")))
 
 -- the name of its label, in the same group
 abbrev pub label_name : ℕ → List ℕ
@@ -110,7 +113,9 @@ label_name number = codes "custom" ++ (digit number ++ codes ".X-ABLABEL:")
 
 -- a custom field, and its label, where it has one
 abbrev pub custom_lines : CustomValue → List (List ℕ)
-custom_lines custom = property (custom_name custom.number) custom.text ∷ value_lines (label_name custom.number) custom.label
+custom_lines custom =
+    property (custom_name custom.number) custom.text
+    ∷ value_lines (label_name custom.number) custom.label
 
 -- ---- cards
 
@@ -125,13 +130,16 @@ uid_line id stem = codes "UID:" ++ (id_digits id ++ (codes "." ++ (stem ++ codes
 -- the first lines
 unfoldable pub head_lines : ℕ → List ℕ → List (List ℕ)
 head_lines id stem =
-    codes "BEGIN:VCARD" ∷ codes "VERSION:3.0" ∷ codes "PRODID:-//hotsync//Palm address book//EN" ∷ uid_line id stem ∷ []
+    codes "BEGIN:VCARD" ∷ codes "VERSION:3.0" ∷ codes "PRODID:-//hotsync//Palm address book//EN"
+    ∷ uid_line id stem ∷ []
 
 -- the lines between the names and the category
 abbrev pub field_lines : PersonValue → List (List ℕ)
 field_lines person =
-    value_lines (codes "ORG:") person.company ++ (value_lines (codes "TITLE:") person.title ++ (map phone_line person.phones
-    ++ (place_lines person.place ++ (flat_map custom_lines person.customs ++ value_lines (codes "NOTE:") person.note))))
+    value_lines (codes "ORG:") person.company
+    ++ (value_lines (codes "TITLE:") person.title ++ (map phone_line person.phones
+    ++ (place_lines person.place
+    ++ (flat_map custom_lines person.customs ++ value_lines (codes "NOTE:") person.note))))
 
 -- the lines of a person
 unfoldable pub person_lines : PersonValue → List (List ℕ)
@@ -142,7 +150,8 @@ person_lines person =
 -- a record that is out of its form, with its bytes in hexadecimal
 unfoldable pub unread_lines : ℕ → List ℕ → List (List ℕ)
 unread_lines id bytes =
-    (codes "FN:(unreadable record " ++ (id_digits id ++ codes ")")) ∷ codes "N:;;;;" ∷ (codes "X-PALM-RECORD:" ++ encode_lower bytes) ∷ []
+    (codes "FN:(unreadable record " ++ (id_digits id ++ codes ")")) ∷ codes "N:;;;;"
+    ∷ (codes "X-PALM-RECORD:" ++ encode_lower bytes) ∷ []
 
 -- the lines of what a record says
 abbrev pub form_lines : ℕ → FormValue → List (List ℕ)
@@ -155,11 +164,14 @@ class_lines secret = if secret then codes "CLASS:PRIVATE" ∷ [] else []
 
 -- the label of the category, the mark, and the last line
 abbrev pub tail_lines : List ℕ → Bool → List (List ℕ)
-tail_lines label secret = value_lines (codes "CATEGORIES:") label ++ (class_lines secret ++ codes "END:VCARD" ∷ [])
+tail_lines label secret =
+    value_lines (codes "CATEGORIES:") label ++ (class_lines secret ++ codes "END:VCARD" ∷ [])
 
 -- the lines of a card
 unfoldable pub card_lines : CardValue → List (List ℕ)
-card_lines card = head_lines card.id card.stem ++ (form_lines card.id card.form ++ tail_lines card.label card.secret)
+card_lines card =
+    head_lines card.id card.stem
+    ++ (form_lines card.id card.form ++ tail_lines card.label card.secret)
 
 -- a card behind the other, in UTF-8
 abbrev pub cards_text : List CardValue → List ℕ

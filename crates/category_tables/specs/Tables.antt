@@ -15,7 +15,8 @@ pub record EntryValue : Type 0 where
 abbrev pub no_entry : EntryValue
 no_entry = record { label = []; id = 0 }
 
--- the 16 categories of a database by their numbers, which of them were renamed, and the last id that
+-- the 16 categories of a database by their numbers, which of them were renamed, and the last id
+-- that
 -- was given
 pub record TableValue : Type 0 where
   pub flags : ℕ

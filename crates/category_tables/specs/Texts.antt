@@ -24,7 +24,8 @@ table_in bytes = record {
   last = slice_index bytes 274;
 }
 
--- an app block begins with a table: it is long enough, each label ends in its 16 bytes, and the table
+-- an app block begins with a table: it is long enough, each label ends in its 16 bytes, and the
+-- table
 -- is one
 pub record HoldsTable (bytes : List ℕ) : Type 0 where
   pub long : 276 ≤ length bytes

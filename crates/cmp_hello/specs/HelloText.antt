@@ -1,4 +1,5 @@
--- The text of a greeting of the connection management protocol, as pilot-link's pi-cmp.h and cmp.c have it.
+-- The text of a greeting of the connection management protocol, as pilot-link's pi-cmp.h and cmp.c
+-- have it.
 use Rattle.std.specs.Prelude.{◌≡◌, ℕ, ◌^◌, ◌<◌, List, ◌∷◌, ◌++◌, length}
 use Rattle.byteorder.specs.Endian.{big_bytes}
 use Rattle.cmp_hello.specs.declared.hello.Hello.{Hello}
@@ -12,10 +13,12 @@ kind_code Wake = 1
 kind_code Init = 2
 kind_code Abort = 3
 
--- the bytes of a greeting: its kind, its flags, the two versions, two bytes that bear nothing, and the rate
+-- the bytes of a greeting: its kind, its flags, the two versions, two bytes that bear nothing, and
+-- the rate
 abbrev pub hello_bytes : Hello → List ℕ → List ℕ
 hello_bytes hello unread =
-    kind_code hello.kind ∷ hello.flags ∷ major_version ∷ hello.minor ∷ (unread ++ big_bytes 4 hello.rate)
+    kind_code hello.kind ∷ hello.flags ∷ major_version ∷ hello.minor
+    ∷ (unread ++ big_bytes 4 hello.rate)
 
 -- the bytes are a text of the greeting, whatever the two unread ones are
 pub record HelloText (hello : Hello) (bytes : List ℕ) : Type 0 where

@@ -25,6 +25,7 @@ based_of (Gone c) = gone c.now
 abbrev pub fate_of : Verdict → Fate
 fate_of v = record {
   keep = option_copied v.keep;
-  archive = option_to_list (option_copied v.archive) ++ option_to_list (option_copied v.archive_too);
+  archive =
+      option_to_list (option_copied v.archive) ++ option_to_list (option_copied v.archive_too);
   news = option_copied v.news;
 }

@@ -47,18 +47,22 @@ partner_at s i = partner (s.base i) (s.handheld i)
 abbrev pub partners : Sides → List ContentValue
 partners s = each_id (λ i. option_to_list (partner_at s i))
 
--- the new records of the desktop: the live rows without a base row in their order, then the cells' news in rising ids
+-- the new records of the desktop: the live rows without a base row in their order, then the cells'
+-- news in rising ids
 abbrev pub offers : Sides → List ContentValue
 offers s = s.loose_live ++ each_id (λ i. option_to_list (fate_at s i).news)
 
--- what stays under each id, what is archived (under id 0 where no id is known), and the contents that become new records
+-- what stays under each id, what is archived (under id 0 where no id is known), and the contents
+-- that become new records
 pub record Choice : Type 0 where
   pub keep : ℕ → Option ContentValue
   pub archive : List (ℕ × ContentValue)
   pub adds : List ContentValue
 
--- a choice by what becomes of each id, the handheld's new records, the desktop's, and the archived rows without a base row
-abbrev pub choice_of : (ℕ → Fate) → List ContentValue → List ContentValue → List ContentValue → Choice
+-- a choice by what becomes of each id, the handheld's new records, the desktop's, and the archived
+-- rows without a base row
+abbrev pub choice_of : (ℕ → Fate) → List ContentValue → List ContentValue
+    → List ContentValue → Choice
 choice_of fates mates news archived = record {
   keep = λ i. (fates i).keep;
   archive = map (λ c. (0, c)) archived ++ each_id (λ i. map (λ c. (i, c)) (fates i).archive);
@@ -92,7 +96,8 @@ loose_for Desktop xs = xs
 abbrev pub partners_for : Action → Sides → List ContentValue
 partners_for a s = each_id (λ i. option_to_list (partner_for a s i))
 
--- the desktop's contents of the records that both sides changed, each its own way: the handheld's stays under the id, and these are new
+-- the desktop's contents of the records that both sides changed, each its own way: the handheld's
+-- stays under the id, and these are new
 abbrev pub kept_twice : Action → Sides → List ContentValue
 kept_twice a s = each_id (λ i. option_to_list (fate_for a s i).news)
 
@@ -101,11 +106,16 @@ offers_for a s = loose_for a s.loose_live ++ kept_twice a s
 
 -- the choice of an action; that of Sync is that of a synchronisation
 abbrev pub choice_for : Action → Sides → Choice
-choice_for a s = choice_of (fate_for a s) (partners_for a s) (offers_for a s) (loose_for a s.loose_archived)
+choice_for a s =
+    choice_of (fate_for a s) (partners_for a s) (offers_for a s) (loose_for a s.loose_archived)
 
 -- that of the handheld: each live record is kept and each archived one archived
 abbrev pub by_handheld : Sides → Choice
-by_handheld s = record { keep = λ i. live_of (s.handheld i); archive = each_id (λ i. with_id i (archived_of (s.handheld i))); adds = [] }
+by_handheld s = record {
+  keep = λ i. live_of (s.handheld i);
+  archive = each_id (λ i. with_id i (archived_of (s.handheld i)));
+  adds = [];
+}
 
 -- the desktop's row of an id with a base row that isn't gone
 abbrev pub row_of : Based → Held → Held
@@ -113,11 +123,14 @@ row_of no_base d = nothing
 row_of (row b) d = d
 row_of (gone b) d = nothing
 
--- that of the desktop: each live row of an id with a base row is kept, each archived one archived, and rows without a base row are
+-- that of the desktop: each live row of an id with a base row is kept, each archived one archived,
+-- and rows without a base row are
 -- added or archived
 abbrev pub by_desktop : Sides → Choice
 by_desktop s = record {
   keep = λ i. live_of (row_of (s.base i) (s.desktop i));
-  archive = map (λ c. (0, c)) s.loose_archived ++ each_id (λ i. with_id i (archived_of (row_of (s.base i) (s.desktop i))));
+  archive =
+      map (λ c. (0, c)) s.loose_archived
+      ++ each_id (λ i. with_id i (archived_of (row_of (s.base i) (s.desktop i))));
   adds = s.loose_live;
 }

@@ -1,4 +1,5 @@
--- A plan in the making: its lists without the adds and without the rows that have no base row, and the new records of the
+-- A plan in the making: its lists without the adds and without the rows that have no base row, and
+-- the new records of the
 -- handheld and of the table, which decide the adds.
 use Rattle.std.specs.Prelude.{◌≡◌, ℕ, ◌++◌, Option, option_to_list, map}
 use Rattle.pdb_values.specs.Contents.{ContentValue}
@@ -20,8 +21,10 @@ pub record IsDraft (a : Action) (s : Sides) (d : Draft) : Type 0 where
   pub partners : d.partners.items ≡ partners_for a s
   pub news : d.news.items ≡ each_id (λ i. option_to_list (fate_for a s i).news)
 
--- the lists with what one id gives: by what becomes of it, what the handheld holds, and whether that is new
-pub record Grew (d e : Draft) (i : ℕ) (f : Fate) (h : Held) (mate : Option ContentValue) : Type 0 where
+-- the lists with what one id gives: by what becomes of it, what the handheld holds, and whether
+-- that is new
+pub record Grew (d e : Draft) (i : ℕ) (f : Fate) (h : Held)
+    (mate : Option ContentValue) : Type 0 where
   pub kept : e.kept.items ≡ d.kept.items ++ with_id i f.keep
   pub replace : e.replace.items ≡ d.replace.items ++ with_id i (replacement f.keep h)
   pub archive : e.archive.items ≡ d.archive.items ++ map (λ c. (i, c)) f.archive

@@ -15,7 +15,8 @@ use Rattle.conduit_rules.specs.declared.table.Archive.TheVariants.{None as Archi
 use Rattle.conduit_rules.specs.declared.table.Archive.TheVariants.{Desktop as ArchiveDesktop, Both as ArchiveBoth}
 use Rattle.conduit_rules.specs.declared.table.Outcome.{Outcome}
 
--- the content that both sides keep under the id, those that are archived, and the desktop's where it becomes a new record
+-- the content that both sides keep under the id, those that are archived, and the desktop's where
+-- it becomes a new record
 pub record Fate : Type 0 where
   pub keep : Option ContentValue
   pub archive : List ContentValue
@@ -43,7 +44,11 @@ news_content false d = None
 
 -- an outcome in contents
 abbrev pub fate_by : Outcome → ContentValue → Held → Held → Fate
-fate_by o b h d = record { keep = kept_content o.keep b h d; archive = archived_contents o.archive b h d; news = news_content o.news d }
+fate_by o b h d = record {
+  keep = kept_content o.keep b h d;
+  archive = archived_contents o.archive b h d;
+  news = news_content o.news d;
+}
 
 -- under a base row
 abbrev pub cell : ContentValue → Held → Held → Fate
@@ -67,13 +72,15 @@ fate (gone b) h d = gone_cell b h
 abbrev pub no_fate : Fate
 no_fate = record { keep = None; archive = []; news = None }
 
--- what becomes of an id where the desktop is gone by: its row counts where the base has a row that isn't gone
+-- what becomes of an id where the desktop is gone by: its row counts where the base has a row that
+-- isn't gone
 abbrev pub desktop_fate : Based → Held → Fate
 desktop_fate no_base d = no_fate
 desktop_fate (row b) d = unbased d
 desktop_fate (gone b) d = no_fate
 
--- what becomes of an id by the action: by the table, by the handheld's record alone, or by the desktop's row alone
+-- what becomes of an id by the action: by the table, by the handheld's record alone, or by the
+-- desktop's row alone
 abbrev pub fate_under : Action → Based → Held → Held → Fate
 fate_under Sync b h d = fate b h d
 fate_under Handheld b h d = unbased h

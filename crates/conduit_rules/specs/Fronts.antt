@@ -19,7 +19,8 @@ abbrev pub NoneAhead : List (ℕ × Seen) → List (ℕ × Record) → List (ℕ
 NoneAhead view rows base = (view ≡ []) × (rows ≡ []) × (base ≡ [])
 
 -- the entries of the least id in front
-pub record IsFront (f : Front) (view : List (ℕ × Seen)) (rows olds : List (ℕ × Record)) : Type 0 where
+pub record IsFront (f : Front) (view : List (ℕ × Seen))
+    (rows olds : List (ℕ × Record)) : Type 0 where
   pub seen : option_map (λ e. (e.0, e.1.now)) f.seen ≡ front_under seen_id f.id view
   pub row : option_map (λ e. (e.0, e.1.now)) f.row ≡ front_under record_id f.id rows
   pub base : option_map (λ e. (e.0, e.1.now)) f.base ≡ front_under record_id f.id olds

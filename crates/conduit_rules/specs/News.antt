@@ -9,7 +9,8 @@ use Rattle.conduit_rules.specs.States.{record_held, live_of, archived_of}
 -- the rows without a base row, in their order: all but the first row of each id that the base has
 abbrev pub loose : (ℕ → Bool) → List Record → List Record
 loose based [] = []
-loose based (r ∷ rows) = if based r.id then loose (put based r.id false) rows else r ∷ loose based rows
+loose based (r ∷ rows) =
+    if based r.id then loose (put based r.id false) rows else r ∷ loose based rows
 
 -- the contents of the live records
 abbrev pub live_contents : List Record → List ContentValue
@@ -27,10 +28,12 @@ less_one free c x = if same_content c x then free x - 1 else free x
 abbrev pub more_one : (ContentValue → ℕ) → ContentValue → ContentValue → ℕ
 more_one free c x = if same_content c x then free x + 1 else free x
 
--- the contents that find no partner, where so many partners of each content are free: the first ones take them
+-- the contents that find no partner, where so many partners of each content are free: the first
+-- ones take them
 abbrev pub unpaired : (ContentValue → ℕ) → List ContentValue → List ContentValue
 unpaired free [] = []
-unpaired free (c ∷ rest) = if free c == 0 then c ∷ unpaired free rest else unpaired (less_one free c) rest
+unpaired free (c ∷ rest) =
+    if free c == 0 then c ∷ unpaired free rest else unpaired (less_one free c) rest
 
 -- a list without the first content that is equal to this one
 abbrev pub without_first : ContentValue → List ContentValue → List ContentValue

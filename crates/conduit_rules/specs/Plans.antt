@@ -8,7 +8,8 @@ use Rattle.conduit_rules.specs.Choices.{Sides, choice_for, kept_twice}
 use Rattle.conduit_rules.specs.declared.action.Action.{Action}
 use Rattle.conduit_rules.specs.declared.planned.Plan.{Plan}
 
--- what has to be written over a record: the content that is kept, where the record isn't live with it
+-- what has to be written over a record: the content that is kept, where the record isn't live with
+-- it
 abbrev pub replacement : Option ContentValue → Held → Option ContentValue
 replacement None h = None
 replacement (Some c) nothing = Some c

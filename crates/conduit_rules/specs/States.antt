@@ -65,7 +65,8 @@ pub data Based : Type 0 where
 -- a base record with the delete bit is a gone row, where these count
 abbrev pub based_where : Bool → Option Record → Based
 based_where gone_counts None = no_base
-based_where gone_counts (Some r) = if r.deleted then (if gone_counts then gone r.content else no_base) else row r.content
+based_where gone_counts (Some r) =
+    if r.deleted then (if gone_counts then gone r.content else no_base) else row r.content
 
 -- nothing under id 0
 abbrev pub based_under : Bool → ℕ → Option Record → Based

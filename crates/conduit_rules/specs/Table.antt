@@ -1,4 +1,5 @@
--- The table of what becomes of a record that both sides had after the last synchronisation, one equation a cell.
+-- The table of what becomes of a record that both sides had after the last synchronisation, one
+-- equation a cell.
 use Rattle.std.specs.Prelude.{Bool, true, false, if◌then◌else◌}
 use Rattle.conduit_rules.specs.declared.table.Side.{Side}
 use Rattle.conduit_rules.specs.declared.table.Side.TheVariants.{Same, Changed, Deleted, ArchivedSame, ArchivedChanged, Gone}
@@ -67,7 +68,8 @@ with_archived_changed Same equal = put_away ArchiveHandheld
 with_archived_changed Changed equal = if equal then put_away ArchiveHandheld else both_kept
 with_archived_changed Deleted equal = put_away ArchiveHandheld
 with_archived_changed ArchivedSame equal = put_away ArchiveHandheld
-with_archived_changed ArchivedChanged equal = if equal then put_away ArchiveHandheld else put_away ArchiveBoth
+with_archived_changed ArchivedChanged equal =
+    if equal then put_away ArchiveHandheld else put_away ArchiveBoth
 with_archived_changed Gone equal = put_away ArchiveHandheld
 
 -- the cell of both sides' states; a handheld is never gone

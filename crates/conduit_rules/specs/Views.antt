@@ -13,7 +13,8 @@ use Rattle.conduit_rules.specs.declared.view.Seen.{Seen}
 use Rattle.conduit_rules.specs.declared.view.SeenState.{SeenState}
 use Rattle.conduit_rules.specs.declared.view.SeenState.TheVariants.{Live, Archived, Deleted, Unread}
 
--- what an entry shows by its state; an unread record has the content that the entry bears, its base row's
+-- what an entry shows by its state; an unread record has the content that the entry bears, its base
+-- row's
 abbrev pub held_as : SeenState → ContentValue → Held
 held_as Live c = live c
 held_as Archived c = archived c
@@ -49,7 +50,8 @@ unread_where (gone b) r = slow_seen r
 
 -- a record that is read only where it is dirty, has the delete bit or has no base row
 abbrev pub fast_seen : List Record → Record → Seen
-fast_seen base r = if not r.dirty && not r.deleted then unread_where (base_at base false r.id) r else slow_seen r
+fast_seen base r =
+    if not r.dirty && not r.deleted then unread_where (base_at base false r.id) r else slow_seen r
 
 -- the view of a slow reading: each record, in rising ids
 abbrev pub slow_view : List Record → List Seen
@@ -57,7 +59,8 @@ slow_view records = each_id (λ i. option_to_list (option_map slow_seen (first i
 
 -- the view of a fast reading
 abbrev pub fast_view : List Record → List Record → List Seen
-fast_view base records = each_id (λ i. option_to_list (option_map (fast_seen base) (first i records)))
+fast_view base records =
+    each_id (λ i. option_to_list (option_map (fast_seen base) (first i records)))
 
 -- a record that a fast reading passes over has the content of its base row
 abbrev pub IsHonestUnder : Based → Record → Type 0
@@ -67,4 +70,5 @@ IsHonestUnder (gone b) r = Unit {0}
 
 -- each record that is neither dirty nor deleted and whose id has a base row has that row's content
 abbrev pub IsHonest : List Record → List Record → Type 0
-IsHonest base records = (i : ℕ) (r : Record) → first i records ≡ Some r → IsHonestUnder (base_at base false i) r
+IsHonest base records =
+    (i : ℕ) (r : Record) → first i records ≡ Some r → IsHonestUnder (base_at base false i) r

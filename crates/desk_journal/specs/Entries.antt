@@ -23,7 +23,8 @@ entry_values entries = map entry_value entries
 abbrev pub is_named : List EntryValue → List ℕ → Bool
 is_named entries name = list_any (λ entry. bytes_eq entry.name name) entries
 
--- a name in UTF-8 of a file that a desktop keeps, and bytes, both so short that their lengths have room
+-- a name in UTF-8 of a file that a desktop keeps, and bytes, both so short that their lengths have
+-- room
 pub record IsEntry (entry : EntryValue) : Type 0 where
   pub short_name : length entry.name < 2 ^ 8
   pub utf8 : is_utf8 entry.name ≡ true
@@ -33,7 +34,8 @@ pub record IsEntry (entry : EntryValue) : Type 0 where
 -- each is an entry, and no name stands among those before it
 abbrev pub AreEntries : List EntryValue → List EntryValue → Type 0
 AreEntries before [] = Unit {0}
-AreEntries before (entry ∷ entries) = IsEntry entry × (is_named before entry.name ≡ false) × AreEntries (before ++ entry ∷ []) entries
+AreEntries before (entry ∷ entries) =
+    IsEntry entry × (is_named before entry.name ≡ false) × AreEntries (before ++ entry ∷ []) entries
 
 -- entries with different names, so few that their number has room
 abbrev pub IsJournal : List EntryValue → Type 0
@@ -41,7 +43,8 @@ IsJournal entries = (length entries < 2 ^ 16) × AreEntries [] entries
 
 -- the length of the name, the name, the length of the bytes, the bytes
 abbrev pub entry_text : EntryValue → List ℕ
-entry_text entry = length entry.name ∷ entry.name ++ (to_be_bytes w32 (length entry.bytes) ++ entry.bytes)
+entry_text entry =
+    length entry.name ∷ entry.name ++ (to_be_bytes w32 (length entry.bytes) ++ entry.bytes)
 
 -- the mark of a journal
 abbrev pub mark : List ℕ

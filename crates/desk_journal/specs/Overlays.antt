@@ -1,4 +1,5 @@
--- What a desktop's folder stands for: its files, and over them those of a journal that was not finished.
+-- What a desktop's folder stands for: its files, and over them those of a journal that was not
+-- finished.
 use Rattle.std.specs.Prelude.{◌≡◌, ℕ, List, [], ◌∷◌, Option, None, Some, Result, Ok, Err, is_some, if◌then◌else◌}
 use Rattle.std.specs.FinMap as finmap
 use Rattle.std.specs.Option.{option_map}
@@ -49,6 +50,7 @@ finished held = if is_some (bad_of (finmap.get held journal_file)) then held els
 abbrev pub StandsAs : Option FileMap → Option FileMap → Type 0
 StandsAs before told = option_map overlay told ≡ option_map overlay before
 
--- once its journal is finished, what is told of a folder is what these files are once theirs is; so a journal that is there is in its form, or all is as it was
+-- once its journal is finished, what is told of a folder is what these files are once theirs is; so
+-- a journal that is there is in its form, or all is as it was
 abbrev pub FinishesAs : Option FileMap → Option FileMap → Type 0
 FinishesAs before told = option_map finished told ≡ option_map finished before

@@ -17,7 +17,8 @@ use Rattle.desk_journal.specs.Entries.{EntryValue, entry_values, is_named, mark}
 
 -- so many bytes at the front, and those behind them
 unfoldable pub some_at : ℕ → List ℕ → Option (List ℕ × List ℕ)
-some_at count bytes = if nat_lt (length bytes) count then None else Some (take count bytes, drop count bytes)
+some_at count bytes =
+    if nat_lt (length bytes) count then None else Some (take count bytes, drop count bytes)
 
 -- the bytes as a name in UTF-8, of a file that a desktop keeps
 abbrev pub kept_in : List ℕ → Option (List ℕ)
@@ -26,16 +27,22 @@ kept_in bytes = if is_utf8 bytes && is_kept_file bytes then Some bytes else None
 -- such a name behind its length
 unfoldable pub name_at : List ℕ → Option (List ℕ × List ℕ)
 name_at [] = None
-name_at (count ∷ bytes) = option_and_then (λ parts. option_map (λ name. (name, parts.1)) (kept_in parts.0)) (some_at count bytes)
+name_at (count ∷ bytes) =
+    option_and_then (λ parts. option_map (λ name. (name, parts.1)) (kept_in parts.0))
+    (some_at count bytes)
 
 -- bytes behind their length
 unfoldable pub data_at : List ℕ → Option (List ℕ × List ℕ)
-data_at bytes = option_and_then (λ parts. some_at (from_be_bytes w32 parts.0) parts.1) (some_at 4 bytes)
+data_at bytes =
+    option_and_then (λ parts. some_at (from_be_bytes w32 parts.0) parts.1) (some_at 4 bytes)
 
 -- an entry whose name no earlier one bears
 unfoldable pub entry_at : List EntryValue → List ℕ → Option (EntryValue × List ℕ)
 entry_at before bytes =
-    option_and_then (λ name. option_and_then (λ held. if is_named before name.0 then None else Some (record { name = name.0; bytes = held.0 }, held.1))
+    option_and_then
+    (λ name. option_and_then
+    (λ held. if is_named before name.0 then None
+    else Some (record { name = name.0; bytes = held.0 }, held.1))
     (data_at name.1)) (name_at bytes)
 
 -- a step that finds something and then the next one, or else how many bytes are left
@@ -43,10 +50,13 @@ abbrev pub or_left : {A B : Type 0} → List ℕ → (A → Result B ℕ) → Op
 or_left bytes next None = Err (length bytes)
 or_left bytes next (Some found) = next found
 
--- so many entries behind those before, up to the end; else how many bytes are left from the first bad one on
+-- so many entries behind those before, up to the end; else how many bytes are left from the first
+-- bad one on
 unfoldable pub entries_at : ℕ → List EntryValue → List ℕ → Result (List EntryValue) ℕ
 entries_at zero before bytes = if length bytes == 0 then Ok before else Err (length bytes)
-entries_at (suc count) before bytes = or_left bytes (λ found. entries_at count (before ++ found.0 ∷ []) found.1) (entry_at before bytes)
+entries_at (suc count) before bytes =
+    or_left bytes (λ found. entries_at count (before ++ found.0 ∷ []) found.1)
+    (entry_at before bytes)
 
 -- the place of what is left
 abbrev pub placed : List ℕ → Result (List EntryValue) ℕ → Result (List EntryValue) BadJournal
@@ -56,7 +66,8 @@ placed bytes (Err left) = Err (record { place = length bytes - left })
 -- the entries of a journal, or where it is out of its form
 unfoldable pub journal_in : List ℕ → Result (List EntryValue) BadJournal
 journal_in bytes =
-    if nat_lt (length bytes) 6 || not (starts_with nat_eq bytes mark) then Err (record { place = 0 })
+    if nat_lt (length bytes) 6 || not (starts_with nat_eq bytes mark)
+    then Err (record { place = 0 })
     else placed bytes (entries_at (from_be_bytes w16 (take 2 (drop 4 bytes))) [] (drop 6 bytes))
 
 -- the answer is what a reading gives, unless memory ran out

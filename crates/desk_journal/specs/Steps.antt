@@ -31,7 +31,8 @@ with_entry entry told = option_map (λ held. finmap.insert held entry.name entry
 
 -- the journal of the entries is written
 abbrev pub with_journal : List EntryValue → Option FileMap → Option FileMap
-with_journal entries told = option_map (λ held. finmap.insert held journal_file (journal_text entries)) told
+with_journal entries told =
+    option_map (λ held. finmap.insert held journal_file (journal_text entries)) told
 
 -- the journal is removed
 abbrev pub without_journal : Option FileMap → Option FileMap
@@ -40,17 +41,21 @@ without_journal told = option_map (λ held. finmap.remove held journal_file) tol
 -- each file is replaced, in the order of the entries
 abbrev pub replacements : List EntryValue → Option FileMap → List (Option FileMap)
 replacements [] told = []
-replacements (entry ∷ entries) told = with_entry entry told ∷ replacements entries (with_entry entry told)
+replacements (entry ∷ entries) told =
+    with_entry entry told ∷ replacements entries (with_entry entry told)
 
 -- each file is replaced, and then the journal is removed
 abbrev pub journal_steps : List EntryValue → Option FileMap → List (Option FileMap)
-journal_steps entries told = replacements entries told ++ without_journal (option_map (put_all entries) told) ∷ []
+journal_steps entries told =
+    replacements entries told ++ without_journal (option_map (put_all entries) told) ∷ []
 
 -- the journal is written, and then carried out
 abbrev pub by_journal : List EntryValue → Option FileMap → List (Option FileMap)
-by_journal entries told = with_journal entries told ∷ journal_steps entries (with_journal entries told)
+by_journal entries told =
+    with_journal entries told ∷ journal_steps entries (with_journal entries told)
 
--- the steps of a commit that changes these files: none where there is no file; one file is replaced; more than one by way of a journal
+-- the steps of a commit that changes these files: none where there is no file; one file is
+-- replaced; more than one by way of a journal
 abbrev pub commit_steps : List EntryValue → Option FileMap → List (Option FileMap)
 commit_steps [] told = []
 commit_steps (entry ∷ []) told = with_entry entry told ∷ []
@@ -64,7 +69,8 @@ last_told told [] = told
 last_told told (next ∷ steps) = last_told next steps
 
 -- a call went through the first of these steps, each of them a moment, and stopped there
-pub record GoesThrough (steps : List (Option FileMap)) (before after : Option FileMap) (old new : Moments) : Type 0 where
+pub record GoesThrough (steps : List (Option FileMap)) (before after : Option FileMap)
+    (old new : Moments) : Type 0 where
   pub passed : List (Option FileMap)
   pub left : List (Option FileMap)
   pub are : steps ≡ passed ++ left

@@ -25,11 +25,13 @@ pub record IsOf (name : List ℕ) (database : DatabaseValue) : Type 0 where
   pub records : holds_resources database.head.attributes ≡ false
   pub named : database.head.name ≡ name
 
--- rows, base rows and archive hold records under one name, and an archive that is given has an entry
+-- rows, base rows and archive hold records under one name, and an archive that is given has an
+-- entry
 pub record IsDbChange (change : DbChange) : Type 0 where
   pub rows : holds_resources change.rows.head.attributes ≡ false
   pub base : IsOf change.rows.head.name change.base
-  pub archive : IfSome change.archive (λ archive. IsOf change.rows.head.name archive × (0 < length archive.records))
+  pub archive : IfSome change.archive
+      (λ archive. IsOf change.rows.head.name archive × (0 < length archive.records))
 
 -- at most 200 databases change, whose names rise in byte order
 pub record IsDeskChange (change : DeskChange) : Type 0 where
@@ -39,9 +41,12 @@ pub record IsDeskChange (change : DeskChange) : Type 0 where
 
 -- no other slot than that at this place has this user
 abbrev pub IsFree : List SlotValue → ℕ → ℕ → Type 0
-IsFree slots place user = (other : ℕ) → other < length slots → other ≢ place → slice_index (users_of (marks_of slots)) other ≢ user
+IsFree slots place user =
+    (other : ℕ) → other < length slots → other ≢ place
+    → slice_index (users_of (marks_of slots)) other ≢ user
 
--- the slot at this place may get these marks: they bear the desktop's number and a user that no other slot has, 0 only in slot 0
+-- the slot at this place may get these marks: they bear the desktop's number and a user that no
+-- other slot has, 0 only in slot 0
 pub record MayBear (slots : List SlotValue) (place : ℕ) (marks : Marks) : Type 0 where
   pub number : marks.pc ≡ number_of slots
   pub own : IsFree slots place marks.user
@@ -51,7 +56,10 @@ pub record MayBear (slots : List SlotValue) (place : ℕ) (marks : Marks) : Type
 
 -- the file of a database in a slot, in its canonical bytes
 abbrev pub database_entry : ℕ → Role → DatabaseValue → EntryValue
-database_entry slot role database = record { name = slot_file slot role database.head.name; bytes = canonical database }
+database_entry slot role database = record {
+  name = slot_file slot role database.head.name;
+  bytes = canonical database;
+}
 
 -- the file of an archive that is given
 abbrev pub archive_entries : ℕ → Option DatabaseValue → List EntryValue
@@ -60,7 +68,9 @@ archive_entries slot (Some archive) = database_entry slot Archive archive ∷ []
 
 -- the files of a database that changes: rows, base rows and archive
 abbrev pub db_entries : ℕ → DbChange → List EntryValue
-db_entries slot change = database_entry slot Rows change.rows ∷ database_entry slot Base change.base ∷ archive_entries slot change.archive
+db_entries slot change =
+    database_entry slot Rows change.rows ∷ database_entry slot Base change.base
+    ∷ archive_entries slot change.archive
 
 -- the information file
 abbrev pub slots_entry : List Marks → EntryValue
@@ -81,7 +91,9 @@ changed_to Archive change = change.archive
 -- what a change makes of the database of a role and a name, where it has one
 abbrev pub changed : Role → List ℕ → List DbChange → Option DatabaseValue
 changed role name [] = None
-changed role name (change ∷ changes) = if bytes_eq change.rows.head.name name then changed_to role change else changed role name changes
+changed role name (change ∷ changes) =
+    if bytes_eq change.rows.head.name name then changed_to role change
+    else changed role name changes
 
 -- an archive that is given is put among the others
 abbrev pub with_archive : Option DatabaseValue → ShelvesValue → ShelvesValue
@@ -90,7 +102,9 @@ with_archive (Some archive) shelves = with_database Archive archive shelves
 
 -- with a database that changed
 abbrev pub with_change : DbChange → ShelvesValue → ShelvesValue
-with_change change shelves = with_archive change.archive (with_database Base change.base (with_database Rows change.rows shelves))
+with_change change shelves =
+    with_archive change.archive
+    (with_database Base change.base (with_database Rows change.rows shelves))
 
 -- with all of them, the last one first
 abbrev pub with_changes : List DbChange → ShelvesValue → ShelvesValue
@@ -101,19 +115,26 @@ with_changes (change ∷ changes) shelves = with_change change (with_changes cha
 
 -- a slot that changed
 abbrev pub changed_slot : DeskChange → SlotValue → SlotValue
-changed_slot change slot = record { marks = change.marks; shelves = with_changes change.databases.items slot.shelves }
+changed_slot change slot = record {
+  marks = change.marks;
+  shelves = with_changes change.databases.items slot.shelves;
+}
 
--- the slots of a desktop whose slot at this place changed, all others as they were; behind the last one it is new
+-- the slots of a desktop whose slot at this place changed, all others as they were; behind the last
+-- one it is new
 abbrev pub with_commit : DeskChange → ℕ → List SlotValue → List SlotValue
-with_commit change place slots = slice_set (with_place slots place) place (changed_slot change (slot_at slots place))
+with_commit change place slots =
+    slice_set (with_place slots place) place (changed_slot change (slot_at slots place))
 
 -- the files that this writes
 abbrev pub change_entries : DeskChange → ℕ → List SlotValue → List EntryValue
-change_entries change place slots = slot_entries place change.databases.items (marks_of (with_commit change place slots))
+change_entries change place slots =
+    slot_entries place change.databases.items (marks_of (with_commit change place slots))
 
 -- the steps in which a folder gets the files that this changes
 abbrev pub steps_of : DeskChange → ℕ → List SlotValue → FileMap → List (Option FileMap)
-steps_of change place slots held = commit_steps (changed_in held (change_entries change place slots)) (Some held)
+steps_of change place slots held =
+    commit_steps (changed_in held (change_entries change place slots)) (Some held)
 
 -- ---- what was written
 

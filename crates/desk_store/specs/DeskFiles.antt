@@ -1,4 +1,5 @@
--- What each file of a desktop holds, by its name, its bytes and how many slots the desktop has, or its first failing test.
+-- What each file of a desktop holds, by its name, its bytes and how many slots the desktop has, or
+-- its first failing test.
 use Rattle.std.specs.Prelude.{◌≡◌, ⊤, ◌&&◌, ◌||◌, ◌++◌, ℕ, zero, suc, Bool, not, bytes_eq, codes, List, if◌then◌else◌, Option, None, Some, Result, Ok, Err}
 use Rattle.std.specs.Prelude.{option_and_then}
 use Rattle.std.specs.Option.{option_or}
@@ -47,12 +48,16 @@ slot_file slot role name = slot_prefix slot ++ role_file role name
 
 -- the database has records, and the file bears the name that it asks for in this slot
 abbrev pub is_own_file : ℕ → Role → List ℕ → DatabaseValue → Bool
-is_own_file slot role name database = not (holds_resources database.head.attributes) && bytes_eq name (slot_file slot role database.head.name)
+is_own_file slot role name database =
+    not (holds_resources database.head.attributes)
+    && bytes_eq name (slot_file slot role database.head.name)
 
 -- the first of so many slots in which the file is the database's own
 abbrev pub own_slot : ℕ → Role → List ℕ → DatabaseValue → Option ℕ
 own_slot zero role name database = None
-own_slot (suc slots) role name database = option_or (own_slot slots role name database) (if is_own_file slots role name database then Some slots else None)
+own_slot (suc slots) role name database =
+    option_or (own_slot slots role name database)
+    (if is_own_file slots role name database then Some slots else None)
 
 -- a bad file, unless it is the database's own in a slot
 abbrev pub if_slot : Role → DatabaseValue → Option ℕ → Result DeskFile BadDeskFile
@@ -60,7 +65,8 @@ if_slot role database None = Err (record { kind = kinds.FileName; place = 0 })
 if_slot role database (Some slot) = Ok (files.Database slot role database)
 
 -- the same, unless a rule of the format is broken
-abbrev pub if_own : Role → DatabaseValue → Option ℕ → Option (BadKind × ℕ) → Result DeskFile BadDeskFile
+abbrev pub if_own : Role → DatabaseValue → Option ℕ → Option (BadKind × ℕ)
+    → Result DeskFile BadDeskFile
 if_own role database slot (Some rule) = Err (record { kind = rule.0; place = rule.1 })
 if_own role database slot None = if_slot role database slot
 
@@ -87,10 +93,13 @@ other_in name bytes =
 
 -- what a file holds, by what its database is to a desktop with so many slots
 abbrev pub by_role : ℕ → Option Role → List ℕ → List ℕ → Result DeskFile BadDeskFile
-by_role slots (Some role) name bytes = if_own role (database_in bytes) (own_slot slots role name (database_in bytes)) (broken_rule bytes)
+by_role slots (Some role) name bytes =
+    if_own role (database_in bytes) (own_slot slots role name (database_in bytes))
+    (broken_rule bytes)
 by_role slots None name bytes = other_in name bytes
 
--- what the file of this name and these bytes holds on a desktop with so many slots, or its first failing test
+-- what the file of this name and these bytes holds on a desktop with so many slots, or its first
+-- failing test
 unfoldable pub file_in : ℕ → List ℕ → List ℕ → Result DeskFile BadDeskFile
 file_in slots name bytes = by_role slots (role_of name) name bytes
 

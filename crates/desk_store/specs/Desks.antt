@@ -20,11 +20,13 @@ use Rattle.desk_store.specs.declared.fault.DeskOpenFault.TheVariants.{DeskFault,
 pub record IsDeskOf (held : FileMap) (slots : List SlotValue) : Type 0 where
   pub no_journal : HasNoJournal held
   pub marked : marks_of slots ≡ slots_in held
-  pub shelved : (slot : ℕ) (role : Role) (name : List ℕ) → slot < length slots → database_of name (shelf_at slots slot role)
+  pub shelved : (slot : ℕ) (role : Role) (name : List ℕ) → slot < length slots
+      → database_of name (shelf_at slots slot role)
       ≡ database_at held (length slots) slot role name
   pub good : (name : List ℕ) → bad_at held (length slots) name ≡ None
 
--- the slots of a desktop are in their form, each with its databases in byte order of their names, and are those of its folder, where that tells what it holds
+-- the slots of a desktop are in their form, each with its databases in byte order of their names,
+-- and are those of its folder, where that tells what it holds
 pub record IsDesk (told : Option FileMap) (slots : List SlotValue) : Type 0 where
   pub formed : AreSlots (marks_of slots)
   pub ordered : AreInOrder slots
@@ -72,7 +74,9 @@ abbrev pub Shows : FileMap → DeskOpenFault → Type 0
 Shows held DeskFault = ⊤
 Shows held TooMany = 200 < rows_count (finmap.keys held)
 Shows held (BadFile name kind place) =
-    (rows_count (finmap.keys held) ≤ 200) × (first_bad_in held ≡ Some (string_bytes {Z = Global} name, record { kind = kind; place = place }))
+    (rows_count (finmap.keys held) ≤ 200)
+    × (first_bad_in held
+    ≡ Some (string_bytes {Z = Global} name, record { kind = kind; place = place }))
 Shows held NoMemory = ⊤
 
 -- a refusal that judges the files

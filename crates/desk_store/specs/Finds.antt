@@ -21,7 +21,10 @@ use Rattle.pdb_values.specs.NamedDatabases.{database_of}
 -- a database takes the place of the one of its role and name in a slot, or else its own
 abbrev pub with_database_at : ℕ → Role → DatabaseValue → List SlotValue → List SlotValue
 with_database_at slot role database slots = slice_set slots slot
-    (record (slot_at slots slot) { shelves = with_database role database (slot_at slots slot).shelves })
+    (record (slot_at slots slot) {
+      shelves = with_database role database
+          (slot_at slots slot).shelves;
+    })
 
 -- with what a file holds
 abbrev pub with_file : DeskFile → List SlotValue → List SlotValue
@@ -46,7 +49,9 @@ AddsAny (Some said) old new = Adds said old new
 -- the first bad one of these files, with its name, on a desktop with so many slots
 abbrev pub first_bad : FileMap → ℕ → List (List ℕ) → Option (List ℕ × BadDeskFile)
 first_bad held slots [] = None
-first_bad held slots (name ∷ names) = option_or (option_map (λ bad. (name, bad)) (bad_at held slots name)) (first_bad held slots names)
+first_bad held slots (name ∷ names) =
+    option_or (option_map (λ bad. (name, bad)) (bad_at held slots name))
+    (first_bad held slots names)
 
 -- the first bad file of a folder in byte order of names
 abbrev pub first_bad_in : FileMap → Option (List ℕ × BadDeskFile)
@@ -61,28 +66,32 @@ pub record FindsAll (held : FileMap) (names : List (List ℕ)) (slots : List Slo
   pub marked : marks_of slots ≡ slots_in held
   pub good : first_bad held (length slots) names ≡ None
   pub shelved : (slot : ℕ) (role : Role) (name : List ℕ) → slot < length slots
-      → database_of name (shelf_at slots slot role) ≡ (if is_among names (slot_file slot role name) then database_at held
+      → database_of name (shelf_at slots slot role)
+      ≡ (if is_among names (slot_file slot role name) then database_at held
       (length slots) slot role name else None)
 
 -- this file is why the folder is refused
 abbrev pub Refuses : List ℕ → Option BadDeskFile → DeskOpenFault → Type 0
 Refuses name bad DeskFault = ⊥
 Refuses name bad TooMany = ⊥
-Refuses name bad (BadFile file kind place) = (string_bytes {Z = Global} file ≡ name) × (bad ≡ Some (record { kind = kind; place = place }))
+Refuses name bad (BadFile file kind place) =
+    (string_bytes {Z = Global} file ≡ name) × (bad ≡ Some (record { kind = kind; place = place }))
 Refuses name bad NoMemory = ⊤
 
 -- the same, unless the folder failed
 abbrev pub RefusesAt : List ℕ → Option BadDeskFile → DeskOpenFault → Type 0
 RefusesAt name bad DeskFault = ⊤
 RefusesAt name bad TooMany = ⊥
-RefusesAt name bad (BadFile file kind place) = (string_bytes {Z = Global} file ≡ name) × (bad ≡ Some (record { kind = kind; place = place }))
+RefusesAt name bad (BadFile file kind place) =
+    (string_bytes {Z = Global} file ≡ name) × (bad ≡ Some (record { kind = kind; place = place }))
 RefusesAt name bad NoMemory = ⊤
 
 -- the first bad one of the files is why the folder is refused, unless the folder failed
 abbrev pub RefusesAmong : Option (List ℕ × BadDeskFile) → DeskOpenFault → Type 0
 RefusesAmong bad DeskFault = ⊤
 RefusesAmong bad TooMany = ⊥
-RefusesAmong bad (BadFile file kind place) = bad ≡ Some (string_bytes {Z = Global} file, record { kind = kind; place = place })
+RefusesAmong bad (BadFile file kind place) =
+    bad ≡ Some (string_bytes {Z = Global} file, record { kind = kind; place = place })
 RefusesAmong bad NoMemory = ⊤
 
 -- how many of these files hold rows

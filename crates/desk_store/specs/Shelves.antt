@@ -1,4 +1,5 @@
--- What a desktop's folder holds: its slots, and the database in each file; and the databases of a slot in byte order of their names.
+-- What a desktop's folder holds: its slots, and the database in each file; and the databases of a
+-- slot in byte order of their names.
 use Rattle.std.specs.Prelude.{ℕ, nat_lt, List, [], ◌∷◌, ◌++◌, length, map, slice_index_or, if◌then◌else◌, Option, None, Some, option_and_then, Result, Ok, Err}
 use Rattle.std.specs.FinMap as finmap
 use Rattle.std.specs.List.{AllByRecursion}
@@ -20,7 +21,8 @@ use Rattle.pdb_values.specs.NamedDatabases.{NamesRise, with_put}
 
 -- ---- files
 
--- the slots of a desktop that no session has touched: one, without a user; the desktop's number is 1
+-- the slots of a desktop that no session has touched: one, without a user; the desktop's number is
+-- 1
 abbrev pub first_slots : List Marks
 first_slots = record { pc = 1; user = 0; last = 0; name = [] } ∷ []
 
@@ -55,7 +57,8 @@ bad_at held slots name = option_and_then if_bad (file_at held slots name)
 
 -- the rows, base rows or archive of the database of this name in a slot
 abbrev pub database_at : FileMap → ℕ → ℕ → Role → List ℕ → Option DatabaseValue
-database_at held slots slot role name = option_and_then (λ bytes. if_database (file_in slots (slot_file slot role name) bytes))
+database_at held slots slot role name =
+    option_and_then (λ bytes. if_database (file_in slots (slot_file slot role name) bytes))
     (finmap.get held (slot_file slot role name))
 
 -- ---- databases
@@ -82,7 +85,8 @@ pub record AreOrdered (shelves : ShelvesValue) : Type 0 where
 abbrev pub with_database : Role → DatabaseValue → ShelvesValue → ShelvesValue
 with_database Rows database shelves = record shelves { rows = with_put database shelves.rows }
 with_database Base database shelves = record shelves { bases = with_put database shelves.bases }
-with_database Archive database shelves = record shelves { archives = with_put database shelves.archives }
+with_database Archive database shelves =
+    record shelves { archives = with_put database shelves.archives }
 
 -- ---- slots
 
@@ -93,7 +97,10 @@ pub record SlotValue : Type 0 where
 
 -- a slot without a database
 abbrev pub empty_slot : Marks → SlotValue
-empty_slot marks = record { marks = marks; shelves = record { rows = []; bases = []; archives = [] } }
+empty_slot marks = record {
+  marks = marks;
+  shelves = record { rows = []; bases = []; archives = [] };
+}
 
 -- a slot of a desktop with this number, without a user and without a database
 abbrev pub new_slot : ℕ → SlotValue
@@ -121,4 +128,5 @@ AreInOrder slots = AllByRecursion (λ slot. AreOrdered slot.shelves) slots
 
 -- the slot at a place is there: behind the last one a new one comes
 abbrev pub with_place : List SlotValue → ℕ → List SlotValue
-with_place slots place = if nat_lt place (length slots) then slots else slots ++ new_slot (number_of slots) ∷ []
+with_place slots place =
+    if nat_lt place (length slots) then slots else slots ++ new_slot (number_of slots) ∷ []

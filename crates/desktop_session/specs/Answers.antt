@@ -13,12 +13,14 @@ use Rattle.desktop_session.specs.Faults.{fault_of}
 use Rattle.desktop_session.specs.Lent.{LentResource, LentValue}
 
 -- the fault of the link, or what was said
-abbrev pub answer_by : {A : Type 0} → Option LinkFault → Result A SessionFault → Result A SessionFault
+abbrev pub answer_by : {A : Type 0} → Option LinkFault → Result A SessionFault
+    → Result A SessionFault
 answer_by None said = said
 answer_by (Some fault) said = Err (fault_of fault)
 
 -- what a reply says, or its error, or the first rule that its bytes break
-abbrev pub said_in : {A : Type 0} → (ReplyValue → A) → Result ReplyValue ReplyFault → Result A SessionFault
+abbrev pub said_in : {A : Type 0} → (ReplyValue → A) → Result ReplyValue ReplyFault
+    → Result A SessionFault
 said_in take (Err broken) = Err (session.BadReply broken)
 said_in take (Ok (reply.Refused number code)) = Err (session.Refused (record { 0 = code }))
 said_in take (Ok value) = Ok (take value)
@@ -40,8 +42,10 @@ or_false (Ok done) = Ok true
 or_false (Err (session.Refused code)) = if code.0 == 5 then Ok false else Err (session.Refused code)
 or_false (Err fault) = Err fault
 
--- a copy of what was found, by its bytes; where there is none nothing is copied, and only a copy wants memory
-abbrev pub IsCopy : {X : Type 0} → (X → List ℕ) → Result (Option X) SessionFault → Result (Option (List ℕ)) SessionFault → Type 0
+-- a copy of what was found, by its bytes; where there is none nothing is copied, and only a copy
+-- wants memory
+abbrev pub IsCopy : {X : Type 0} → (X → List ℕ) → Result (Option X) SessionFault
+    → Result (Option (List ℕ)) SessionFault → Type 0
 IsCopy bytes (Ok copy) said = said ≡ Ok (option_map bytes copy)
 IsCopy bytes (Err fault) (Ok (Some found)) = fault ≡ session.NoMemory
 IsCopy bytes (Err fault) said = said ≡ Err fault
@@ -84,18 +88,43 @@ block_of other = []
 
 -- a record
 abbrev pub record_of : ReplyValue → LentValue
-record_of (reply.ReadRecord id index size attributes category bytes) = record { id = id; attributes = attributes; category = category; bytes = bytes }
+record_of (reply.ReadRecord id index size attributes category bytes) = record {
+  id = id;
+  attributes = attributes;
+  category = category;
+  bytes = bytes;
+}
 record_of (reply.ReadNextModifiedRec id index size attributes category bytes) =
     record { id = id; attributes = attributes; category = category; bytes = bytes }
 record_of other = record { id = 0; attributes = 0; category = 0; bytes = [] }
 
 -- a resource
 abbrev pub resource_of : ReplyValue → LentResource
-resource_of (reply.ReadResource kind id index size bytes) = record { kind = kind; id = id; bytes = bytes }
+resource_of (reply.ReadResource kind id index size bytes) = record {
+  kind = kind;
+  id = id;
+  bytes = bytes;
+}
 resource_of other = record { kind = []; id = 0; bytes = [] }
 
 -- what a handheld knows of its user
 abbrev pub user_of : ReplyValue → UserInfo
 user_of (reply.ReadUserInfo user viewer pc good last name password) =
-    record { user = user; viewer = viewer; pc = pc; good = good; last = last; name = name; password = password }
-user_of other = record { user = 0; viewer = 0; pc = 0; good = 0; last = 0; name = []; password = [] }
+    record {
+      user = user;
+      viewer = viewer;
+      pc = pc;
+      good = good;
+      last = last;
+      name = name;
+      password = password;
+    }
+user_of other = record {
+  user = 0;
+  viewer = 0;
+  pc = 0;
+  good = 0;
+  last = 0;
+  name = [];
+  password = [];
+}

@@ -18,7 +18,8 @@ link_begun (Ok linked) = linked.link
 link_begun (Err halted) = halted.link
 
 -- the user of a session that began, or why it stopped
-abbrev pub user_begun : {L : Type 0} → Result (SessionValue L) (Halted L) → Result UserInfo SessionFault
+abbrev pub user_begun : {L : Type 0} → Result (SessionValue L) (Halted L)
+    → Result UserInfo SessionFault
 user_begun (Ok linked) = Ok linked.user
 user_begun (Err halted) = Err halted.cause
 
@@ -32,8 +33,10 @@ abbrev pub end_of : {L : Type 0} → Result (Ended L) (Halted L) → Result (Uni
 end_of (Ok ended) = Ok tt
 end_of (Err halted) = Err halted.cause
 
--- An ending answered the fault of the link, or what the reply says, which is the device's to EndOfSync where the link has no fault.
-pub record Finished (talk : Option Talk) (fault : Option LinkFault) (answer : Result (Unit {0}) SessionFault) : Type 0 where
+-- An ending answered the fault of the link, or what the reply says, which is the device's to
+-- EndOfSync where the link has no fault.
+pub record Finished (talk : Option Talk) (fault : Option LinkFault)
+    (answer : Result (Unit {0}) SessionFault) : Type 0 where
   pub reply : List ℕ
   pub is : answer ≡ answer_by fault (said_in no_more (reply_at 0x2F reply))
   pub told : fault ≡ None → IfSome talk (λ talk. reply ≡ (acted ending talk.device).0)

@@ -18,7 +18,12 @@ pub record LentValue : Type 0 where
 
 -- what a lent record says
 abbrev pub lent_value : RecordLent → LentValue
-lent_value lent = record { id = lent.id; attributes = lent.attributes; category = lent.category; bytes = lent.bytes.now }
+lent_value lent = record {
+  id = lent.id;
+  attributes = lent.attributes;
+  category = lent.category;
+  bytes = lent.bytes.now;
+}
 
 -- a resource's type, id and bytes
 pub record LentResource : Type 0 where
@@ -32,7 +37,12 @@ lent_resource lent = record { kind = lent.kind.0; id = lent.id; bytes = lent.byt
 
 -- a record of the device as it is lent: its attributes as they are on the wire
 abbrev pub record_lent : Record → LentValue
-record_lent item = record { id = item.id; attributes = wire_attributes item; category = item.content.category; bytes = item.content.bytes }
+record_lent item = record {
+  id = item.id;
+  attributes = wire_attributes item;
+  category = item.content.category;
+  bytes = item.content.bytes;
+}
 
 -- a resource of the device as it is lent
 abbrev pub resource_lent : Resource → LentResource
@@ -40,4 +50,6 @@ resource_lent resource = record { kind = resource.kind.0; id = resource.id; byte
 
 -- attribute 0x80: the user deleted it; 0x08: and wants it kept in an archive
 abbrev pub lent_kind : ℕ → Kind
-lent_kind attributes = if has_bit 0x80 attributes then (if has_bit 0x08 attributes then Archived else Deleted) else Live
+lent_kind attributes =
+    if has_bit 0x80 attributes then (if has_bit 0x08 attributes then Archived else Deleted)
+    else Live

@@ -1,4 +1,5 @@
--- Lists that come in several replies: the databases of a handheld, and the ids of a database's records.
+-- Lists that come in several replies: the databases of a handheld, and the ids of a database's
+-- records.
 use Rattle.std.specs.Prelude.{◌≡◌, ◌≤◌, ◌<◌, ◌==◌, ℕ, zero, suc, ◌+◌, ◌-◌, ◌*◌, ◌/◌, ◌⊎◌, Bool, true, false, List, [], ◌∷◌, ◌++◌, map, Option, None, Some, IfOk}
 use Rattle.std.specs.Prelude.{IfSome, OnOk, Result, Ok, Err}
 use Rattle.pdb_values.specs.Heads.{has_bit}
@@ -66,7 +67,9 @@ ids_in (Err fault) = []
 -- the ids in the replies to so many requests
 unfoldable pub ids_listed : Device → ℕ → ℕ → List ℕ
 ids_listed device handle zero = []
-ids_listed device handle (suc parts) = ids_listed device handle parts ++ ids_in (reply_at 0x31 (acted (listing_ids handle (8000 * parts)) device).0)
+ids_listed device handle (suc parts) =
+    ids_listed device handle parts
+    ++ ids_in (reply_at 0x31 (acted (listing_ids handle (8000 * parts)) device).0)
 
 -- ---- causes
 
@@ -91,9 +94,13 @@ pub record HasReplied (most : ℕ) (asks : ℕ → Act) (device : Device) (bytes
   pub below : place < most
   pub is : bytes ≡ (acted (asks place) device).0
 
--- a refusal is by the device's reply to one of so many requests, where the link tells its device and has no fault
-abbrev pub IsByReplyTo : {L : Type 0} → (L → Option Talk) → (L → Option LinkFault) → ℕ → (ℕ → Act) → SessionValue L → SessionValue L → Type 0
-IsByReplyTo talk fault most asks old new = fault new.link ≡ None → IfSome (talk old.link) (λ talk. HasReplied most asks talk.device new.reply)
+-- a refusal is by the device's reply to one of so many requests, where the link tells its device
+-- and has no fault
+abbrev pub IsByReplyTo : {L : Type 0} → (L → Option Talk) → (L → Option LinkFault) → ℕ → (ℕ → Act)
+    → SessionValue L → SessionValue L → Type 0
+IsByReplyTo talk fault most asks old new =
+    fault new.link ≡ None
+    → IfSome (talk old.link) (λ talk. HasReplied most asks talk.device new.reply)
 
 -- the refusal of a list of the databases is not by error 5, which says that none is left
 abbrev pub IsNotMissing : SessionFault → Type 0
@@ -102,15 +109,22 @@ IsNotMissing other = Unit {0}
 
 -- ---- what a list of the databases did
 
--- Requests went out in order, each but the first where the reply before it said that more follow, and at most 65,536. Where it was
--- done, each was answered, the heads are those in the replies, and the last one said that no more follow, unless it was the 65,536th.
-pub record Lists {L : Type 0} (talk : L → Option Talk) (since : L → L → Type 0) (fault : L → Option LinkFault) (downs : L → ℕ) (old new : L)
+-- Requests went out in order, each but the first where the reply before it said that more follow,
+-- and at most 65,536. Where it was
+-- done, each was answered, the heads are those in the replies, and the last one said that no more
+-- follow, unless it was the 65,536th.
+pub record Lists {L : Type 0} (talk : L → Option Talk) (since : L → L → Type 0)
+    (fault : L → Option LinkFault) (downs : L → ℕ) (old new : L)
     (answer : Result (List DbHead) SessionFault) : Type 0 where
   pub count : ℕ
   pub some : 0 < count
   pub few : count ≤ 65536
   pub stops : Stops talk since fault downs (map text (listings count)) old new
-  pub more : IfSome (talk old) (λ talk. (k : ℕ) → k + 1 < count → has_more (list_reply talk.device k) ≡ true)
+  pub more : IfSome (talk old)
+      (λ talk. (k : ℕ) → k + 1 < count → has_more (list_reply talk.device k) ≡ true)
   pub does : OnOk answer (Does talk (listings count) old new)
-  pub heads : IfOk answer (λ heads. IfSome (talk old) (λ talk. heads ≡ heads_listed talk.device count))
-  pub last : OnOk answer (IfSome (talk old) (λ talk. (count ≡ 65536) ⊎ (has_more (list_reply talk.device (count - 1)) ≡ false)))
+  pub heads : IfOk answer
+      (λ heads. IfSome (talk old) (λ talk. heads ≡ heads_listed talk.device count))
+  pub last : OnOk answer
+      (IfSome (talk old)
+      (λ talk. (count ≡ 65536) ⊎ (has_more (list_reply talk.device (count - 1)) ≡ false)))

@@ -7,9 +7,11 @@ use Rattle.dlp_commands.specs.Reached.{with_next}
 use Rattle.palm_device.specs.Devices.{Device}
 use Rattle.palm_device.specs.Handles.{just_opened, opened_at}
 
--- the handle stands for the database of this name, opened in this mode, whatever its record index is
+-- the handle stands for the database of this name, opened in this mode, whatever its record index
+-- is
 abbrev pub IsOpenAs : ℕ → List ℕ → ℕ → Device → Type 0
-IsOpenAs handle name mode device = option_map (with_next 0) (opened_at handle device.handles) ≡ Some (just_opened name mode)
+IsOpenAs handle name mode device =
+    option_map (with_next 0) (opened_at handle device.handles) ≡ Some (just_opened name mode)
 
 -- a request that neither opens nor closes
 abbrev pub LeavesOpen : Form → Type 0

@@ -31,7 +31,8 @@ pub record CanOpen (device : Device) (card mode : ℕ) (name : List ℕ) : Type 
   pub first : card ≡ 0
   pub named : IsName name
   pub none_open : device.handles ≡ no_handles
-  pub there : IsSomeAnd (database_of name device.databases) (λ database. (has_bit 0x40 mode && is_read_only database.head.attributes) ≡ false)
+  pub there : IsSomeAnd (database_of name device.databases)
+      (λ database. (has_bit 0x40 mode && is_read_only database.head.attributes) ≡ false)
 
 -- nothing is open, and there is none of this name, but room for it
 pub record CanMake (device : Device) (card : ℕ) (name : List ℕ) : Type 0 where
@@ -78,7 +79,8 @@ pub record HasResourceAt (index : ℕ) (base : Base) : Type 0 where
   pub resources : on_resources base.database ≡ true
   pub there : index < length base.database.resources
 
--- a record of this id and category may be written, and where it would be a new one, there is room for it
+-- a record of this id and category may be written, and where it would be a new one, there is room
+-- for it
 pub record TakesRecord (id category : ℕ) (base : Base) : Type 0 where
   pub takes : TakesRecords base
   pub bounded : id ≤ 16777215
@@ -91,30 +93,41 @@ pub record TakesResource (kind : List ℕ) (id : ℕ) (base : Base) : Type 0 whe
   pub resources : on_resources base.database ≡ true
   pub room : has_room kind id base.database.resources ≡ true
 
--- A request of a session may be asked of this device: what it names is as it has to be. Whole blocks, records and resources are
--- read, the databases are listed one by one, one record is taken away. A session has no call for the other functions.
+-- A request of a session may be asked of this device: what it names is as it has to be. Whole
+-- blocks, records and resources are
+-- read, the databases are listed one by one, one record is taken away. A session has no call for
+-- the other functions.
 abbrev pub CanAsk : Device → (f : Form) → Fields (kinds_of f) → Type 0
 CanAsk device form.ReadUserInfo none = Unit {0}
-CanAsk device form.WriteUserInfo (user, (viewer, (pc, (date, (bits, (name_len, (name, end))))))) = CanMark date name_len name
+CanAsk device form.WriteUserInfo (user, (viewer, (pc, (date, (bits, (name_len, (name, end))))))) =
+    CanMark date name_len name
 CanAsk device form.ReadDbList (flags, (card, more)) = (card ≡ 0) × (has_bit 0x80 flags ≡ true)
 CanAsk device form.OpenDb (card, (mode, (name, end))) = CanOpen device card mode name
-CanAsk device form.CreateDb (creator, (kind, (card, (pad, (flags, (version, (name, end))))))) = CanMake device card name
+CanAsk device form.CreateDb (creator, (kind, (card, (pad, (flags, (version, (name, end))))))) =
+    CanMake device card name
 CanAsk device form.CloseDb (handle, end) = IsSome (opened_at handle device.handles)
 CanAsk device form.DeleteDb (card, (pad, (name, end))) = CanDelete device card name
-CanAsk device form.ReadAppBlock (handle, (pad, (offset, more))) = (offset ≡ 0) × IsSome (base_at device handle)
-CanAsk device form.ReadSortBlock (handle, (pad, (offset, more))) = (offset ≡ 0) × IsSome (base_at device handle)
-CanAsk device form.WriteAppBlock (handle, more) = IsSomeAnd (base_at device handle) (λ base. is_writable base ≡ true)
-CanAsk device form.WriteSortBlock (handle, more) = IsSomeAnd (base_at device handle) (λ base. is_writable base ≡ true)
+CanAsk device form.ReadAppBlock (handle, (pad, (offset, more))) =
+    (offset ≡ 0) × IsSome (base_at device handle)
+CanAsk device form.ReadSortBlock (handle, (pad, (offset, more))) =
+    (offset ≡ 0) × IsSome (base_at device handle)
+CanAsk device form.WriteAppBlock (handle, more) =
+    IsSomeAnd (base_at device handle) (λ base. is_writable base ≡ true)
+CanAsk device form.WriteSortBlock (handle, more) =
+    IsSomeAnd (base_at device handle) (λ base. is_writable base ≡ true)
 CanAsk device form.ReadNextModifiedRec (handle, end) = IsSomeAnd (base_at device handle) HasRecords
-CanAsk device form.ReadRecordById (handle, (pad, (id, (offset, more)))) = (offset ≡ 0) × IsSomeAnd (base_at device handle) HasRecords
+CanAsk device form.ReadRecordById (handle, (pad, (id, (offset, more)))) =
+    (offset ≡ 0) × IsSomeAnd (base_at device handle) HasRecords
 CanAsk device form.ReadRecordByIndex (handle, (pad, (index, (offset, more)))) =
     (offset ≡ 0) × IsSomeAnd (base_at device handle) (HasRecordAt index)
 CanAsk device form.WriteRecord (handle, (flags, (id, (attributes, (category, more))))) =
     IsSomeAnd (base_at device handle) (TakesRecord id category)
-CanAsk device form.DeleteRecord (handle, (flags, more)) = (flags ≡ 0) × IsSomeAnd (base_at device handle) TakesRecords
+CanAsk device form.DeleteRecord (handle, (flags, more)) =
+    (flags ≡ 0) × IsSomeAnd (base_at device handle) TakesRecords
 CanAsk device form.ReadResourceByIndex (handle, (pad, (index, (offset, more)))) =
     (offset ≡ 0) × IsSomeAnd (base_at device handle) (HasResourceAt index)
-CanAsk device form.WriteResource (handle, (pad, (kind, (id, more)))) = IsSomeAnd (base_at device handle) (TakesResource kind id)
+CanAsk device form.WriteResource (handle, (pad, (kind, (id, more)))) =
+    IsSomeAnd (base_at device handle) (TakesResource kind id)
 CanAsk device form.CleanUpDatabase (handle, end) = IsSomeAnd (base_at device handle) TakesRecords
 CanAsk device form.ResetSyncFlags (handle, end) = IsSomeAnd (base_at device handle) TakesRecords
 CanAsk device form.ReadOpenDbInfo (handle, end) = IsSome (base_at device handle)
@@ -153,7 +166,8 @@ IsAnswered f other = Unit {0}
 -- each act at its turn
 abbrev pub AreAnswered : List Act → Device → Type 0
 AreAnswered [] device = Unit {0}
-AreAnswered (act ∷ acts) device = IsAnswered act.asks.form (told act device) × AreAnswered acts (acted act device).1
+AreAnswered (act ∷ acts) device =
+    IsAnswered act.asks.form (told act device) × AreAnswered acts (acted act device).1
 
 -- an answer that is neither an error of the handheld's nor bytes that are no reply
 abbrev pub IsUnrefused : {A : Type 0} → Result A SessionFault → Type 0

@@ -12,11 +12,16 @@ use Rattle.desktop_session.specs.Stops.{Asked}
 
 -- a new record of id 0 got an id that no record of the database under the handle has
 abbrev pub IsGiven : ℕ → ℕ → ℕ → Option Talk → Type 0
-IsGiven given handle id talk = IfSome talk (λ talk. IfSome (base_at talk.device handle) (λ base. id ≡ 0 → IsFree given base.database.records))
+IsGiven given handle id talk =
+    IfSome talk
+    (λ talk. IfSome (base_at talk.device handle)
+    (λ base. id ≡ 0 → IsFree given base.database.records))
 
 -- the session asked for it; the answer's id is the one that was given
-pub record Puts {L : Type 0} (talk : L → Option Talk) (since : L → L → Type 0) (fault : L → Option LinkFault) (downs : L → ℕ) (handle id : ℕ)
-    (content : ContentValue) (old new : SessionValue L) (answer : Result ℕ SessionFault) : Type 0 where
+pub record Puts {L : Type 0} (talk : L → Option Talk) (since : L → L → Type 0)
+    (fault : L → Option LinkFault) (downs : L → ℕ) (handle id : ℕ)
+    (content : ContentValue) (old new : SessionValue L)
+    (answer : Result ℕ SessionFault) : Type 0 where
   pub given : ℕ
   pub asked : Asked talk since fault downs (putting given handle id content) old new
   pub free : fault new.link ≡ None → IsGiven given handle id (talk old.link)

@@ -1,4 +1,5 @@
--- The requests of a session, in its own words (pilot-link, `pi-dlp.h`). Reading takes everything: offset 0 and length 65,535.
+-- The requests of a session, in its own words (pilot-link, `pi-dlp.h`). Reading takes everything:
+-- offset 0 and length 65,535.
 use Rattle.std.specs.Prelude.{ℕ, Bool, List, [], ◌∷◌, Option, None, Some, replicate, if◌then◌else◌}
 use Rattle.pdb_values.specs.Contents.{ContentValue}
 use Rattle.pdb_values.specs.PalmDates.{wire_date}
@@ -27,7 +28,8 @@ some_name (byte ∷ bytes) = Some (byte ∷ bytes)
 abbrev pub marked_name : ℕ → List ℕ → Option (List ℕ)
 marked_name bits name = if has_bit 0x10 bits then some_name name else None
 
--- user (bit 0x80), viewer (0x08), PC (0x40), date (0x20) and name (0x10) of a mark, each where its bit is set and else zeros
+-- user (bit 0x80), viewer (0x08), PC (0x40), date (0x20) and name (0x10) of a mark, each where its
+-- bit is set and else zeros
 abbrev pub marking : UserInfo → ℕ → Act
 marking mark bits = act (record {
   form = form.WriteUserInfo;
@@ -82,27 +84,46 @@ closing handle = act (record { form = form.CloseDb; fields = (handle, tt) })
 abbrev pub counting : ℕ → Act
 counting handle = act (record { form = form.ReadOpenDbInfo; fields = (handle, tt) })
 
+-- the ids of at most 8,000 records from an index on
 abbrev pub listing_ids : ℕ → ℕ → Act
-listing_ids handle start = act (record { form = form.ReadRecordIdList; fields = (handle, (0, (start, (8000, tt)))) })
+listing_ids handle start = act (record {
+  form = form.ReadRecordIdList;
+  fields = (handle, (0, (start, (8000, tt))));
+})
 
 -- the record at an index, of an id, and the next changed one; the resource at an index; both blocks
 abbrev pub reading_at : ℕ → ℕ → Act
-reading_at handle index = act (record { form = form.ReadRecordByIndex; fields = (handle, (tt, (index, (0, (65535, tt))))) })
+reading_at handle index = act (record {
+  form = form.ReadRecordByIndex;
+  fields = (handle, (tt, (index, (0, (65535, tt)))));
+})
 
 abbrev pub reading_of : ℕ → ℕ → Act
-reading_of handle id = act (record { form = form.ReadRecordById; fields = (handle, (tt, (id, (0, (65535, tt))))) })
+reading_of handle id = act (record {
+  form = form.ReadRecordById;
+  fields = (handle, (tt, (id, (0, (65535, tt)))));
+})
 
 abbrev pub reading_next : ℕ → Act
 reading_next handle = act (record { form = form.ReadNextModifiedRec; fields = (handle, tt) })
 
 abbrev pub reading_resource : ℕ → ℕ → Act
-reading_resource handle index = act (record { form = form.ReadResourceByIndex; fields = (handle, (tt, (index, (0, (65535, tt))))) })
+reading_resource handle index = act (record {
+  form = form.ReadResourceByIndex;
+  fields = (handle, (tt, (index, (0, (65535, tt)))));
+})
 
 abbrev pub reading_app : ℕ → Act
-reading_app handle = act (record { form = form.ReadAppBlock; fields = (handle, (tt, (0, (65535, tt)))) })
+reading_app handle = act (record {
+  form = form.ReadAppBlock;
+  fields = (handle, (tt, (0, (65535, tt))));
+})
 
 abbrev pub reading_sort : ℕ → Act
-reading_sort handle = act (record { form = form.ReadSortBlock; fields = (handle, (tt, (0, (65535, tt)))) })
+reading_sort handle = act (record {
+  form = form.ReadSortBlock;
+  fields = (handle, (tt, (0, (65535, tt))));
+})
 
 -- the attributes that are written of a record
 abbrev pub secret_bit : Bool → ℕ
@@ -130,10 +151,15 @@ resetting handle = act (record { form = form.ResetSyncFlags; fields = (handle, t
 
 -- the blocks get these bytes; the resource of a type and id does
 abbrev pub writing_app : ℕ → List ℕ → Act
-writing_app handle bytes = act (record { form = form.WriteAppBlock; fields = (handle, (tt, (bytes, tt))) })
+writing_app handle bytes =
+    act (record { form = form.WriteAppBlock; fields = (handle, (tt, (bytes, tt))) })
 
 abbrev pub writing_sort : ℕ → List ℕ → Act
-writing_sort handle bytes = act (record { form = form.WriteSortBlock; fields = (handle, (tt, (bytes, tt))) })
+writing_sort handle bytes =
+    act (record { form = form.WriteSortBlock; fields = (handle, (tt, (bytes, tt))) })
 
 abbrev pub putting_resource : ℕ → List ℕ → ℕ → List ℕ → Act
-putting_resource handle kind id bytes = act (record { form = form.WriteResource; fields = (handle, (tt, (kind, (id, (bytes, tt))))) })
+putting_resource handle kind id bytes = act (record {
+  form = form.WriteResource;
+  fields = (handle, (tt, (kind, (id, (bytes, tt)))));
+})

@@ -8,7 +8,8 @@ use Rattle.desktop_session.specs.Acts.{Act, acted, text}
 abbrev pub said_one : Act → Talk → Talk
 said_one act talk = record {
   device = (acted act talk.device).1;
-  exchanges = talk.exchanges ++ record { request = text act; reply = (acted act talk.device).0 } ∷ [];
+  exchanges =
+      talk.exchanges ++ record { request = text act; reply = (acted act talk.device).0 } ∷ [];
   left = None;
 }
 

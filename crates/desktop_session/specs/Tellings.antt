@@ -41,7 +41,9 @@ AreSayable (act ∷ acts) device = IsSayable act device × AreSayable acts (acte
 -- the exchanges of acts
 abbrev pub exchanges : List Act → Device → List Exchange
 exchanges [] device = []
-exchanges (act ∷ acts) device = record { request = text act; reply = (acted act device).0 } ∷ exchanges acts (acted act device).1
+exchanges (act ∷ acts) device =
+    record { request = text act; reply = (acted act device).0 }
+    ∷ exchanges acts (acted act device).1
 
 -- the device after acts
 abbrev pub device_after : List Act → Device → Device

@@ -28,22 +28,28 @@ pub record IsReady {F : Type 0} (value : TalkValue F) : Type 0 where
   pub going : value.hand.over ≡ None
 
 -- requests were performed, and the folder went with the device
-pub record PerformsAny {F : Type 0} (contents : F → Option FileMap) (moments : F → Moments) (paths : F → Option (List (List ℕ))) (faults : F → ℕ)
+pub record PerformsAny {F : Type 0} (contents : F → Option FileMap) (moments : F → Moments)
+    (paths : F → Option (List (List ℕ))) (faults : F → ℕ)
     (old new : TalkValue F) : Type 0 where
   pub exchanges : List Exchange
-  pub performed_is : new.hand.performed ≡ old.hand.performed ++ map (λ (exchange : Exchange). exchange.request) exchanges
-  pub replies_are : new.hand.replies ≡ old.hand.replies ++ map (λ (exchange : Exchange). exchange.reply) exchanges
-  pub since : ServedSince contents moments paths faults (talk_server old) (talk_server new) exchanges
+  pub performed_is : new.hand.performed
+      ≡ old.hand.performed ++ map (λ (exchange : Exchange). exchange.request) exchanges
+  pub replies_are : new.hand.replies
+      ≡ old.hand.replies ++ map (λ (exchange : Exchange). exchange.reply) exchanges
+  pub since : ServedSince contents moments paths faults (talk_server old)
+      (talk_server new) exchanges
 
 -- ---- packets
 
 -- the hand took these packets, and the sink the bytes of what was said
-pub record HasTalked (old new : Hand) (told later : Option (List ℕ)) (packets : List PacketValue) : Type 0 where
+pub record HasTalked (old new : Hand) (told later : Option (List ℕ))
+    (packets : List PacketValue) : Type 0 where
   pub said : List OutgoingFragment
   pub talks : Talks old packets said new
   pub wrote : later ≡ option_map (λ taken. taken ++ said_text said) told
 
--- what the sink took where a run ends so: all that was said, or where the sink failed or memory was wanting a first part of it
+-- what the sink took where a run ends so: all that was said, or where the sink failed or memory was
+-- wanting a first part of it
 abbrev pub Wrote : DeviceEnd → Option (List ℕ) → Option (List ℕ) → List ℕ → Type 0
 Wrote SinkWrite told later text = AppendsPrefix told later text
 Wrote NoMemory told later text = AppendsPrefix told later text
@@ -68,8 +74,10 @@ IsWithin StreamEnded = ⊥
 IsWithin TooLong = ⊥
 IsWithin end = ⊤
 
--- the run ended so while it took these packets: the first of them were taken, and where one behind these was begun, no request was performed by it
-pub record Stops (end : DeviceEnd) (old new : Hand) (told later : Option (List ℕ)) (packets : List PacketValue) : Type 0 where
+-- the run ended so while it took these packets: the first of them were taken, and where one behind
+-- these was begun, no request was performed by it
+pub record Stops (end : DeviceEnd) (old new : Hand) (told later : Option (List ℕ))
+    (packets : List PacketValue) : Type 0 where
   pub taken : List PacketValue
   pub first : BeginsWith packets taken
   pub said : List OutgoingFragment
@@ -82,13 +90,15 @@ pub record Stops (end : DeviceEnd) (old new : Hand) (told later : Option (List �
 -- ---- bytes
 
 -- of bytes a reader handed out packets and holds these, and the packets were taken
-pub record Hears (bytes held : List ℕ) (old new : Hand) (told later : Option (List ℕ)) : Type 0 where
+pub record Hears (bytes held : List ℕ) (old new : Hand)
+    (told later : Option (List ℕ)) : Type 0 where
   pub packets : List PacketValue
   pub continues : Continues bytes packets held
   pub talked : HasTalked old new told later packets
 
 -- the run ended so while packets were taken that begin those of these bytes, whatever follows them
-pub record Breaks (end : DeviceEnd) (bytes : List ℕ) (old new : Hand) (told later : Option (List ℕ)) : Type 0 where
+pub record Breaks (end : DeviceEnd) (bytes : List ℕ) (old new : Hand)
+    (told later : Option (List ℕ)) : Type 0 where
   pub packets : List PacketValue
   pub front : (more : List ℕ) → BeginsWith (scan (bytes ++ more)) packets
   pub stops : Stops end old new told later packets

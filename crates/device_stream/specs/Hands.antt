@@ -1,4 +1,5 @@
--- The handheld's end of a talk: what it says to a packet and to silence, and what it is then (pilot-link's cmp.c, padp.c and dlp.c).
+-- The handheld's end of a talk: what it says to a packet and to silence, and what it is then
+-- (pilot-link's cmp.c, padp.c and dlp.c).
 use Rattle.std.specs.Prelude.{◌≡◌, ℕ, ◌+◌, Bool, true, false, ◌&&◌, nat_eq, is_none, List, [], ◌∷◌, ◌++◌, length, slice_index, Option, Some, None, if◌then◌else◌}
 use Rattle.std.specs.Option.{unwrap_or}
 use Rattle.std.specs.Str.{bytes_eq}
@@ -21,7 +22,8 @@ use Rattle.slp_frames.specs.PacketText.{PacketValue}
 use Rattle.device_stream.specs.declared.talk_end.TalkEnd.{TalkEnd}
 use Rattle.device_stream.specs.declared.talk_end.TalkEnd.TheVariants.{Ended, Aborted, BadHello}
 
--- the device, the end that takes and sends, what was performed and replied, whether it was greeted, and whether the talk is over
+-- the device, the end that takes and sends, what was performed and replied, whether it was greeted,
+-- and whether the talk is over
 pub record Hand : Type 0 where
   pub device : Device
   pub end : EndValue
@@ -59,12 +61,15 @@ message_of end = unwrap_or (whole_of end.receiver.pieces) []
 
 -- a greeting of the desktop that begins the talk
 abbrev pub is_init : List ℕ → Bool
-is_init message = is_none (hello_fault message) && nat_eq (slice_index message kind_place) (kind_code Init)
+is_init message =
+    is_none (hello_fault message) && nat_eq (slice_index message kind_place) (kind_code Init)
 
 -- behind an init the first request is awaited; any other first message ends the talk
 abbrev pub greeted_by : Hand → List ℕ → Hand
 greeted_by hand message =
-    if is_init message then record hand { end = end_expects hand.end (session_id 1); greeted = true } else record hand { over = Some BadHello }
+    if is_init message
+    then record hand { end = end_expects hand.end (session_id 1); greeted = true }
+    else record hand { over = Some BadHello }
 
 -- the reply to EndOfSync
 abbrev pub is_farewell : List ℕ → Bool
@@ -92,17 +97,20 @@ with_reply hand request done = (
   },
 )
 
--- the first message greets it, and each later one is a request, which is served; `free` is the id that a new record gets
+-- the first message greets it, and each later one is a request, which is served; `free` is the id
+-- that a new record gets
 abbrev pub message_heard : Hand → ℕ → List OutgoingFragment × Hand
 message_heard hand free =
-    if hand.greeted then with_reply hand (message_of hand.end) (served hand.device free (message_of hand.end))
+    if hand.greeted
+    then with_reply hand (message_of hand.end) (served hand.device free (message_of hand.end))
     else ([], greeted_by hand (message_of hand.end))
 
 -- ---- a packet, and silence
 
 -- the talk is over where the message that was delivered is the reply to EndOfSync
 abbrev pub with_delivery : Hand → Hand
-with_delivery hand = if is_farewell hand.end.message then record hand { over = Some Ended } else hand
+with_delivery hand =
+    if is_farewell hand.end.message then record hand { over = Some Ended } else hand
 
 -- what it does where its end heard this
 abbrev pub heard_by : Hand → ℕ → Heard → List OutgoingFragment × Hand
@@ -129,4 +137,5 @@ waited_by hand = ((end_waits hand.end).0, with_end hand (end_waits hand.end).1)
 -- a request that is whole with this packet may give a new record this id
 abbrev pub MayServe : Hand → PacketValue → ℕ → Type 0
 MayServe hand packet free =
-    hand.greeted ≡ true → (end_takes hand.end packet).heard ≡ heard.Message → MayGive hand.device (message_of (end_takes hand.end packet).end) free
+    hand.greeted ≡ true → (end_takes hand.end packet).heard ≡ heard.Message
+    → MayGive hand.device (message_of (end_takes hand.end packet).end) free

@@ -25,8 +25,10 @@ pub record DidOne (old new : Hand) : Type 0 where
 abbrev pub DidOnce : Hand → Hand → Type 0
 DidOnce old new = DidNothing old new ⊎ DidOne old new
 
--- data to which this was said, if anything was, comes once more: it is acknowledged, and nothing else
+-- data to which this was said, if anything was, comes once more: it is acknowledged, and nothing
+-- else
 abbrev pub DoesNothingAgain : PacketValue → List OutgoingFragment → Hand → Type 0
 DoesNothingAgain packet said new =
-    (id : ℕ) (fragment : FragmentValue) (free : ℕ) → arrival_of packet ≡ Data id fragment → ¬ (said ≡ [])
+    (id : ℕ) (fragment : FragmentValue) (free : ℕ) → arrival_of packet ≡ Data id fragment
+    → ¬ (said ≡ [])
     → taken_by new free packet ≡ (acknowledgement (key_of id fragment) ∷ [], new)

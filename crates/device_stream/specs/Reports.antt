@@ -9,11 +9,17 @@ pub record ReportValue : Type 0 where
   pub replies : List (List ℕ)
 
 abbrev pub report_value : DeviceReport → ReportValue
-report_value report = record { performed = texts report.performed.items; replies = texts report.replies.items }
+report_value report = record {
+  performed = texts report.performed.items;
+  replies = texts report.replies.items;
+}
 
 -- one request more, with its reply
 abbrev pub with_exchange : ReportValue → List ℕ → List ℕ → ReportValue
-with_exchange report request reply = record { performed = report.performed ++ request ∷ []; replies = report.replies ++ reply ∷ [] }
+with_exchange report request reply = record {
+  performed = report.performed ++ request ∷ [];
+  replies = report.replies ++ reply ∷ [];
+}
 
 -- there is memory for one more
 pub record HasRoom (report : DeviceReport) : Type 0 where

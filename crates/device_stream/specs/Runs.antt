@@ -23,23 +23,30 @@ use Rattle.device_stream.specs.Talks.{Talks}
 abbrev pub stream_limit : ℕ
 stream_limit = 67108865
 
--- the bytes that were read, the packets of them that were taken, what was said to these, and the hand then
+-- the bytes that were read, the packets of them that were taken, what was said to these, and the
+-- hand then
 pub record Course : Type 0 where
   pub bytes : List ℕ
   pub packets : List PacketValue
   pub said : List OutgoingFragment
   pub hand : Hand
 
--- Where nothing but the stream ended it, all packets of what was read were taken. The source told its end behind these bytes, or there were too many.
+-- Where nothing but the stream ended it, all packets of what was read were taken. The source told
+-- its end behind these bytes, or there were too many.
 abbrev pub HasHeardAll : DeviceEnd → Option (List ℕ) → Course → Type 0
 HasHeardAll SourceRead left course = course.packets ≡ scan course.bytes
-HasHeardAll StreamEnded left course = (course.packets ≡ scan course.bytes) × IfSome left (λ left. left ≡ course.bytes)
-HasHeardAll TooLong left course = (course.packets ≡ scan course.bytes) × (length course.bytes ≡ stream_limit)
+HasHeardAll StreamEnded left course =
+    (course.packets ≡ scan course.bytes) × IfSome left (λ left. left ≡ course.bytes)
+HasHeardAll TooLong left course =
+    (course.packets ≡ scan course.bytes) × (length course.bytes ≡ stream_limit)
 HasHeardAll end left course = Unit {0}
 
--- A talk of this hand over a source that had the first bytes left and has the second ones, where it tells them: the first packets of what was read were
--- taken, and the sink took the bytes `before` and what was said to these packets. Where one packet more was begun, no request was performed by it.
-pub record Listens (left after : Option (List ℕ)) (old new : Hand) (told later : Option (List ℕ)) (before : List ℕ) (end : DeviceEnd) : Type 0 where
+-- A talk of this hand over a source that had the first bytes left and has the second ones, where it
+-- tells them: the first packets of what was read were
+-- taken, and the sink took the bytes `before` and what was said to these packets. Where one packet
+-- more was begun, no request was performed by it.
+pub record Listens (left after : Option (List ℕ)) (old new : Hand) (told later : Option (List ℕ))
+    (before : List ℕ) (end : DeviceEnd) : Type 0 where
   pub course : Course
   pub read : left ≡ option_map (λ rest. course.bytes ++ rest) after
   pub first : BeginsWith (scan course.bytes) course.packets
@@ -49,9 +56,11 @@ pub record Listens (left after : Option (List ℕ)) (old new : Hand) (told later
   pub over : IsOver end course.hand.over
   pub heard : HasHeardAll end left course
 
--- A run of a handheld with this device over such a source: the first packets of what was read were taken, and the sink took the wake and what was said to
+-- A run of a handheld with this device over such a source: the first packets of what was read were
+-- taken, and the sink took the wake and what was said to
 -- these packets.
-pub record IsDeviceRun (device : Device) (left after told later : Option (List ℕ)) (end : DeviceEnd) (course : Course) : Type 0 where
+pub record IsDeviceRun (device : Device) (left after told later : Option (List ℕ))
+    (end : DeviceEnd) (course : Course) : Type 0 where
   pub read : left ≡ option_map (λ rest. course.bytes ++ rest) after
   pub first : BeginsWith (scan course.bytes) course.packets
   pub talks : Talks (woken device) course.packets course.said course.hand
@@ -65,8 +74,10 @@ pub record IsReportOf (hand : Hand) (report : DeviceReport) : Type 0 where
   pub replies_are : texts report.replies.items ≡ hand.replies
 
 -- a folder went with the device of a hand, request by request
-abbrev pub KeptFor : {F : Type 0} → (F → Option FileMap) → (F → Moments) → (F → Option (List (List ℕ))) → (F → ℕ) → ServerValue F → F → Hand → Type 0
+abbrev pub KeptFor : {F : Type 0} → (F → Option FileMap) → (F → Moments)
+    → (F → Option (List (List ℕ))) → (F → ℕ) → ServerValue F → F → Hand → Type 0
 KeptFor contents moments paths faults server folder hand =
     (sound : Bool)
-    × ServedSince contents moments paths faults server (record { folder = folder; device = hand.device; sound = sound })
+    × ServedSince contents moments paths faults server
+    (record { folder = folder; device = hand.device; sound = sound })
     (exchanged hand.performed hand.replies)

@@ -27,14 +27,19 @@ pub record Serves (old : Hand) (before text : List ℕ) (new : Hand) : Type 0 wh
   pub free : ℕ
   pub may : MayGive old.device (message_of old.end) free
   pub said : List OutgoingFragment
-  pub is : with_reply old (message_of old.end) (served old.device free (message_of old.end)) ≡ (said, new)
+  pub is : with_reply old (message_of old.end) (served old.device free (message_of old.end))
+      ≡ (said, new)
   pub text_is : text ≡ before ++ said_text said
 
 -- at most one request was performed, and the folder went with the device
-pub record Performs {F : Type 0} (contents : F → Option FileMap) (moments : F → Moments) (paths : F → Option (List (List ℕ))) (faults : F → ℕ)
+pub record Performs {F : Type 0} (contents : F → Option FileMap) (moments : F → Moments)
+    (paths : F → Option (List (List ℕ))) (faults : F → ℕ)
     (old new : TalkValue F) : Type 0 where
   pub exchanges : List Exchange
   pub few : length exchanges ≤ 1
-  pub performed_is : new.hand.performed ≡ old.hand.performed ++ map (λ (exchange : Exchange). exchange.request) exchanges
-  pub replies_are : new.hand.replies ≡ old.hand.replies ++ map (λ (exchange : Exchange). exchange.reply) exchanges
-  pub since : ServedSince contents moments paths faults (talk_server old) (talk_server new) exchanges
+  pub performed_is : new.hand.performed
+      ≡ old.hand.performed ++ map (λ (exchange : Exchange). exchange.request) exchanges
+  pub replies_are : new.hand.replies
+      ≡ old.hand.replies ++ map (λ (exchange : Exchange). exchange.reply) exchanges
+  pub since : ServedSince contents moments paths faults (talk_server old)
+      (talk_server new) exchanges

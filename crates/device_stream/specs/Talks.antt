@@ -5,8 +5,10 @@ use Rattle.padp_end.specs.Outgoings.{OutgoingFragment}
 use Rattle.slp_frames.specs.PacketText.{PacketValue}
 use Rattle.device_stream.specs.Hands.{Hand, MayServe, taken_by}
 
--- it takes a packet, says this, and is this then: a new record gets any free id, all else is determined. A talk that is over takes nothing.
-pub record Takes (old : Hand) (packet : PacketValue) (said : List OutgoingFragment) (new : Hand) : Type 0 where
+-- it takes a packet, says this, and is this then: a new record gets any free id, all else is
+-- determined. A talk that is over takes nothing.
+pub record Takes (old : Hand) (packet : PacketValue) (said : List OutgoingFragment)
+    (new : Hand) : Type 0 where
   pub going : old.over ≡ None
   pub free : ℕ
   pub may : MayServe old packet free
@@ -16,7 +18,8 @@ pub record Takes (old : Hand) (packet : PacketValue) (said : List OutgoingFragme
 abbrev pub Talks : Hand → List PacketValue → List OutgoingFragment → Hand → Type 0
 Talks old [] said new = (said ≡ []) × (new ≡ old)
 Talks old (packet ∷ packets) said new =
-    (first : List OutgoingFragment) × (later : List OutgoingFragment) × (between : Hand) × (said ≡ first ++ later) × Takes old packet first between
+    (first : List OutgoingFragment) × (later : List OutgoingFragment) × (between : Hand)
+    × (said ≡ first ++ later) × Takes old packet first between
     × Talks between packets later new
 
 -- a talk of the program: the folder, the hand, and whether the folder stands for the hand's device

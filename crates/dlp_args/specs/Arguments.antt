@@ -36,7 +36,9 @@ pub record ArgText (form : Form) (argument : Argument) (text : List ℕ) : Type 
 -- the bytes are texts of these arguments, one after the other and up to the end
 abbrev pub ArgTexts : List Argument → List ℕ → Type 0
 ArgTexts [] bytes = bytes ≡ []
-ArgTexts (argument ∷ arguments) bytes = (form : Form) × (text : List ℕ) × (rest : List ℕ) × ArgText form argument text × (bytes ≡ text ++ rest)
+ArgTexts (argument ∷ arguments) bytes =
+    (form : Form) × (text : List ℕ) × (rest : List ℕ) × ArgText form argument text
+    × (bytes ≡ text ++ rest)
     × ArgTexts arguments rest
 
 -- an argument of this size is written tiny below 255 bytes, and else short with the second byte 0
@@ -45,7 +47,9 @@ written_form size = if nat_lt size 255 then Tiny else Short 0
 
 -- the text that is written of an argument
 abbrev pub arg_text : Argument → List ℕ
-arg_text argument = header (written_form (length argument.bytes)) argument.id (length argument.bytes) ++ argument.bytes
+arg_text argument =
+    header (written_form (length argument.bytes)) argument.id (length argument.bytes)
+    ++ argument.bytes
 
 -- the texts that are written of arguments, one after the other
 abbrev pub arg_texts : List Argument → List ℕ

@@ -1,4 +1,5 @@
--- The cell at the front of bytes and the bytes behind it, or None where there is no such cell (pilot-link, `dlp.c`).
+-- The cell at the front of bytes and the bytes behind it, or None where there is no such cell
+-- (pilot-link, `dlp.c`).
 use Rattle.std.specs.Prelude.{ℕ, ◌+◌, List, [], ◌∷◌, length, take, drop, Option, Some, None, option_and_then, nat_lt, ◌==◌, if◌then◌else◌}
 use Rattle.std.specs.Option.{option_map}
 use Rattle.std.specs.List.{position}
@@ -16,7 +17,9 @@ at_most_65500 bytes = if nat_lt 65500 (length bytes) then None else Some bytes
 
 -- a big-endian number
 unfoldable pub number_at : Width → List ℕ → Option (ℕ × List ℕ)
-number_at w bytes = if nat_lt (length bytes) (byte_len w) then None else Some (from_be_bytes w (take (byte_len w) bytes), drop (byte_len w) bytes)
+number_at w bytes =
+    if nat_lt (length bytes) (byte_len w) then None
+    else Some (from_be_bytes w (take (byte_len w) bytes), drop (byte_len w) bytes)
 
 -- so many bytes
 unfoldable pub some_at : ℕ → List ℕ → Option (List ℕ × List ℕ)
@@ -24,16 +27,20 @@ some_at n bytes = if nat_lt (length bytes) n then None else Some (take n bytes, 
 
 -- the text before the first zero, which is the last byte
 unfoldable pub text_in : List ℕ → Option (List ℕ)
-text_in bytes = position (λ byte. byte == 0) bytes >>= λ end. if end + 1 == length bytes then Some (take end bytes) else None
+text_in bytes =
+    position (λ byte. byte == 0) bytes >>= λ end. if end + 1 == length bytes
+    then Some (take end bytes) else None
 
 -- such a text of at most so many bytes
 unfoldable pub short_text_in : ℕ → List ℕ → Option (List ℕ)
-short_text_in limit bytes = text_in bytes >>= λ text. if nat_lt limit (length text) then None else Some text
+short_text_in limit bytes =
+    text_in bytes >>= λ text. if nat_lt limit (length text) then None else Some text
 
 -- such a text, or no byte
 unfoldable pub maybe_text_in : ℕ → List ℕ → Option (Option (List ℕ))
 maybe_text_in limit [] = Some None
-maybe_text_in limit (byte ∷ bytes) = option_map (λ text. Some text) (short_text_in limit (byte ∷ bytes))
+maybe_text_in limit (byte ∷ bytes) =
+    option_map (λ text. Some text) (short_text_in limit (byte ∷ bytes))
 
 -- a number of two bytes, and then exactly so many bytes
 unfoldable pub counted_in : List ℕ → Option (List ℕ)

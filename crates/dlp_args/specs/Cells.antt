@@ -1,10 +1,13 @@
--- Cells, the parts of an argument's data, and their texts (pilot-link, `dlp.c`: big-endian numbers, and texts with a zero).
+-- Cells, the parts of an argument's data, and their texts (pilot-link, `dlp.c`: big-endian numbers,
+-- and texts with a zero).
 use Rattle.std.specs.Prelude.{◌≡◌, ℕ, ◌<◌, ◌≤◌, ◌^◌, List, [], ◌∷◌, ◌++◌, length, Option, Some, None, IfSome, ◌==◌}
 use Rattle.std.specs.List.{position_or_len}
 use Rattle.std.specs.Int.{w16, w32, to_be_bytes}
 
--- A number of one, two or four bytes; a byte that isn't looked at; so many bytes. And what stands up to the end: a text
--- with one zero, at its end; such a text of at most so many bytes, or nothing; at most 65,500 bytes; their number and then at most 65,500 bytes;
+-- A number of one, two or four bytes; a byte that isn't looked at; so many bytes. And what stands
+-- up to the end: a text
+-- with one zero, at its end; such a text of at most so many bytes, or nothing; at most 65,500
+-- bytes; their number and then at most 65,500 bytes;
 -- any bytes; the lengths of two runs of bytes and then both.
 pub data Kind : Type 0 where
   Byte : Kind
@@ -60,9 +63,12 @@ IsCell (Run n) run bytes rest = (bytes ≡ run) × (length run ≡ n)
 IsCell Text text bytes rest = IsTextCell text bytes × (rest ≡ [])
 IsCell (MaybeText limit) text bytes rest = IsMaybeTextCell limit text bytes × (rest ≡ [])
 IsCell Rest some bytes rest = (bytes ≡ some) × (length some ≤ 65500) × (rest ≡ [])
-IsCell Counted some bytes rest = (bytes ≡ to_be_bytes w16 (length some) ++ some) × (length some ≤ 65500) × (rest ≡ [])
+IsCell Counted some bytes rest =
+    (bytes ≡ to_be_bytes w16 (length some) ++ some) × (length some ≤ 65500) × (rest ≡ [])
 IsCell Whole some bytes rest = (bytes ≡ some) × (rest ≡ [])
-IsCell Names names bytes rest = (bytes ≡ length names.0 ∷ length names.1 ∷ names.0 ++ names.1) × (length names.0 < 256) × (length names.1 < 256) × (rest ≡ [])
+IsCell Names names bytes rest =
+    (bytes ≡ length names.0 ∷ length names.1 ∷ names.0 ++ names.1) × (length names.0 < 256)
+    × (length names.1 < 256) × (rest ≡ [])
 
 -- the text that is written of a cell; a byte that isn't looked at is written 0
 abbrev pub cell_text : (k : Kind) → Cell k → List ℕ

@@ -11,12 +11,15 @@ Fields (k ∷ ks) = Cell k × Fields ks
 -- the bytes are texts of the cells, one after the other and up to the end
 abbrev pub AreFields : (ks : List Kind) → Fields ks → List ℕ → Type 0
 AreFields [] fields bytes = bytes ≡ []
-AreFields (k ∷ ks) fields bytes = (text rest : List ℕ) × (bytes ≡ text ++ rest) × IsCell k fields.0 text rest × AreFields ks fields.1 rest
+AreFields (k ∷ ks) fields bytes =
+    (text rest : List ℕ) × (bytes ≡ text ++ rest) × IsCell k fields.0 text rest
+    × AreFields ks fields.1 rest
 
 -- the cells of all of the bytes, from left to right, or None where they are not those of the layout
 abbrev pub fields_in : (ks : List Kind) → List ℕ → Option (Fields ks)
 fields_in [] bytes = if length bytes == 0 then Some tt else None
-fields_in (k ∷ ks) bytes = cell_at k bytes >>= λ first. fields_in ks first.1 >>= λ others. Some (first.0, others)
+fields_in (k ∷ ks) bytes =
+    cell_at k bytes >>= λ first. fields_in ks first.1 >>= λ others. Some (first.0, others)
 
 -- the text that is written
 abbrev pub fields_text : (ks : List Kind) → Fields ks → List ℕ

@@ -7,7 +7,8 @@ pub record IsMessage (bytes : Vec ℕ Global) : Type 0 where
   pub bound : vec_len bytes ≤ 65535
   pub room : 65535 ≤ vec_capacity bytes
 
--- a kept message is its bytes and its room, the number of bytes that it can be filled with and take no memory
+-- a kept message is its bytes and its room, the number of bytes that it can be filled with and take
+-- no memory
 pub record MessageTextValue : Type 0 where
   pub bytes : List ℕ
   pub room : ℕ

@@ -24,5 +24,7 @@ answered number (Ok value) = reply_text value
 answered number (Err code) = reply_text (Refused number code)
 
 -- the answer's reply and the new device are what the table says of the old one
-abbrev pub Does : {A : Type 0} → ℕ → (A → ReplyValue) → Device → Device → Result A Refusal → Tried → Type 0
-Does number reply old new result tried = outcome old number tried ≡ (answer_text number reply result, new)
+abbrev pub Does : {A : Type 0} → ℕ → (A → ReplyValue) → Device → Device → Result A Refusal
+    → Tried → Type 0
+Does number reply old new result tried =
+    outcome old number tried ≡ (answer_text number reply result, new)

@@ -13,7 +13,8 @@ use Rattle.dlp_replies.specs.ReplyValues.{ReplyValue}
 use Rattle.dlp_replies.specs.ReplyReading.{reply_at}
 use Rattle.dlp_commands.specs.DeviceSteps.{first_byte}
 
--- WriteUserInfo, CreateDB, DeleteDB, the writing of blocks, WriteRecord, DeleteRecord, WriteResource, DeleteResource,
+-- WriteUserInfo, CreateDB, DeleteDB, the writing of blocks, WriteRecord, DeleteRecord,
+-- WriteResource, DeleteResource,
 -- CleanUpDatabase, ResetSyncFlags, MoveCategory
 abbrev pub changing : List ℕ
 changing = 0x11 ∷ 0x18 ∷ 0x1A ∷ 0x1C ∷ 0x1E ∷ 0x21 ∷ 0x22 ∷ 0x24 ∷ 0x25 ∷ 0x26 ∷ 0x27 ∷ 0x2C ∷ []

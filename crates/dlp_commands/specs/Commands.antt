@@ -1,4 +1,5 @@
--- What a request asks a handheld to do, in the terms of a program: what it reads, what it writes, and the rest of the table.
+-- What a request asks a handheld to do, in the terms of a program: what it reads, what it writes,
+-- and the rest of the table.
 use Rattle.std.specs.Prelude.{◌≡◌, ℕ, List, IfSome}
 use Rattle.std.specs.Option.{option_map}
 use Rattle.palm_device.specs.Devices.{Device}
@@ -46,7 +47,9 @@ quiet_tried device quiet.EndOfSync = users.end_of_sync device
 
 -- what WriteUserInfo does
 abbrev pub marks_tried : Device → UserMarks → Tried
-marks_tried device marks = users.write_user_info device marks.user marks.viewer marks.pc marks.date marks.bits marks.name_len
+marks_tried device marks =
+    users.write_user_info device
+    marks.user marks.viewer marks.pc marks.date marks.bits marks.name_len
     (option_map (λ name. name.now) marks.name)
 
 -- the function's byte of what may change a database or the user
@@ -62,7 +65,8 @@ change_tried free device (change.WriteUser marks) = marks_tried device marks
 change_tried free device (change.Create creator kind card flags version name) =
     databases.create_db device creator.0 kind.0 card flags version name.now
 change_tried free device (change.Delete card name) = databases.delete_db device card name.now
-change_tried free device (change.Write handle writing) = writes free device handle (writing_value writing)
+change_tried free device (change.Write handle writing) =
+    writes free device handle (writing_value writing)
 
 -- what is written is at most 65,500 bytes
 abbrev pub IsShortChange : Change → Type 0
@@ -82,7 +86,8 @@ abbrev pub MayGiveBy : Device → ℕ → Change → Type 0
 MayGiveBy device free (change.WriteUser marks) = Unit {0}
 MayGiveBy device free (change.Create creator kind card flags version name) = Unit {0}
 MayGiveBy device free (change.Delete card name) = Unit {0}
-MayGiveBy device free (change.Write handle writing) = MayGiveFor device free handle (writing_value writing)
+MayGiveBy device free (change.Write handle writing) =
+    MayGiveFor device free handle (writing_value writing)
 
 -- the function's byte of a command
 abbrev pub command_number : Command → ℕ
@@ -104,7 +109,8 @@ abbrev pub MayGiveIn : Device → ℕ → Command → Type 0
 MayGiveIn device free (command.Quiet asked) = Unit {0}
 MayGiveIn device free (command.Change asked) = MayGiveBy device free asked
 
--- a command was done, or refused: its reply, and the device after, where a new record got some free id
+-- a command was done, or refused: its reply, and the device after, where a new record got some free
+-- id
 pub record Acts (old : Device) (asked : Command) (reply : List ℕ) (new : Device) : Type 0 where
   pub free : ℕ
   pub may : MayGiveIn old free asked

@@ -1,4 +1,5 @@
--- The functions on databases and handles: the table, with the errors in its order (pilot-link, `pi-dlp.h`).
+-- The functions on databases and handles: the table, with the errors in its order (pilot-link,
+-- `pi-dlp.h`).
 use Rattle.std.specs.Prelude.{ℕ, ◌+◌, List, [], ◌∷◌, length, Some, None, Result, Ok, is_none, slice_get, nat_lt, ◌==◌, ◌&&◌, not, if◌then◌else◌}
 use Rattle.pdb_values.specs.NamedDatabases.{database_of, with_new, without_named}
 use Rattle.pdb_values.specs.Names.{name_fault}
@@ -27,15 +28,21 @@ more_flag index count = if nat_lt (index + 1) count then 0x80 else 0
 abbrev pub listed : DbHead → DbHead
 listed head = record head { seed = 0 }
 
--- ReadDBList: flag 0x80 isn't set or no database has this index: not found. Replies the one of this index
+-- ReadDBList: flag 0x80 isn't set or no database has this index: not found. Replies the one of this
+-- index
 unfoldable pub read_db_list : Device → ℕ → ℕ → ℕ → Tried
 read_db_list device flags card start = do
   right ← on_card card
   asked ← check not_found (has_bit 0x80 flags)
   database ← need not_found (slice_get device.databases start)
-  Ok (device, reply.ReadDbList start (more_flag start (length device.databases)) ((start, listed database.head) ∷ []))
+  Ok (
+    device,
+    reply.ReadDbList start (more_flag start (length device.databases))
+        ((start, listed database.head) ∷ []),
+  )
 
--- OpenDB: no such database: not found; it is open: already open; eight are open: too many open; for writing and read-only:
+-- OpenDB: no such database: not found; it is open: already open; eight are open: too many open; for
+-- writing and read-only:
 -- read-only. Opens it under the least free handle
 unfoldable pub open_db : Device → ℕ → ℕ → List ℕ → Tried
 open_db device card mode name = do
@@ -44,9 +51,14 @@ open_db device card mode name = do
   closed ← check already_open (not (is_open name device.handles))
   handle ← need too_many_open (free_handle device.handles)
   allowed ← check read_only (not (has_bit 0x40 mode && is_read_only database.head.attributes))
-  Ok (with_handles device (with_handle handle (Some (just_opened name mode)) device.handles), reply.OpenDb handle)
+  Ok (
+    with_handles device
+        (with_handle handle (Some (just_opened name mode)) device.handles),
+    reply.OpenDb handle,
+  )
 
--- CreateDB: there is one: exists; eight are open: too many open; 200 databases: limit. Makes an empty one in its place by name,
+-- CreateDB: there is one: exists; eight are open: too many open; 200 databases: limit. Makes an
+-- empty one in its place by name,
 -- and opens it with mode 0xC0
 unfoldable pub create_db : Device → List ℕ → List ℕ → ℕ → ℕ → ℕ → List ℕ → Tried
 create_db device creator kind card flags version name = do
@@ -56,7 +68,8 @@ create_db device creator kind card flags version name = do
   room ← check limit (nat_lt (length device.databases) most_databases)
   Ok (
     record device {
-      databases = with_new (empty_database (new_head name kind creator flags version)) device.databases;
+      databases = with_new
+          (empty_database (new_head name kind creator flags version)) device.databases;
       handles = with_handle handle (Some (just_opened name 0xC0)) device.handles;
     },
     reply.CreateDb handle,

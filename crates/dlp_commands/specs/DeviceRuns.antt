@@ -11,13 +11,16 @@ pub record Exchange : Type 0 where
 -- the device goes from the one state to the other by these exchanges, in order
 abbrev pub Ran : Device → List Exchange → Device → Type 0
 Ran old [] new = new ≡ old
-Ran old (exchange ∷ exchanges) new = (between : Device) × DeviceStep old exchange.request exchange.reply between × Ran between exchanges new
+Ran old (exchange ∷ exchanges) new =
+    (between : Device) × DeviceStep old exchange.request exchange.reply between
+    × Ran between exchanges new
 
 -- each request with the reply at its place
 abbrev pub exchanged : List (List ℕ) → List (List ℕ) → List Exchange
 exchanged [] replies = []
 exchanged (request ∷ requests) [] = []
-exchanged (request ∷ requests) (reply ∷ replies) = record { request = request; reply = reply } ∷ exchanged requests replies
+exchanged (request ∷ requests) (reply ∷ replies) =
+    record { request = request; reply = reply } ∷ exchanged requests replies
 
 -- as many replies as requests, and the device goes from the one state to the other by them
 pub record DeviceRun (old : Device) (requests replies : List (List ℕ)) (new : Device) : Type 0 where

@@ -1,5 +1,7 @@
--- The functions with a handle: the table, with the errors in its order (pilot-link, `pi-dlp.h`). First the handle is open; then, for
--- functions that write, its mode is for writing and its database isn't read-only; then come the tests of the database.
+-- The functions with a handle: the table, with the errors in its order (pilot-link, `pi-dlp.h`).
+-- First the handle is open; then, for
+-- functions that write, its mode is for writing and its database isn't read-only; then come the
+-- tests of the database.
 use Rattle.std.specs.Prelude.{ℕ, ◌+◌, Result, Ok}
 use Rattle.std.specs.Option.{option_map}
 use Rattle.dlp_replies.specs.ReplyValues as reply
@@ -24,7 +26,8 @@ reads device handle asked = do
   reply ← read_in asked base.database
   Ok (device, reply)
 
--- a function that writes gives the database that its handle leads to another value, and a reply; `free` is the id that a new record gets
+-- a function that writes gives the database that its handle leads to another value, and a reply;
+-- `free` is the id that a new record gets
 abbrev pub writes : ℕ → Device → ℕ → WritingValue → Tried
 writes free device handle asked = do
   base ← need none_open (base_at device handle)
@@ -39,7 +42,9 @@ with_next next opened = record opened { next = next }
 -- another record index under a handle
 abbrev pub with_index : Device → ℕ → ℕ → Device
 with_index device handle next =
-    with_handles device (with_handle handle (option_map (with_next next) (opened_at handle device.handles)) device.handles)
+    with_handles device
+    (with_handle handle
+    (option_map (with_next next) (opened_at handle device.handles)) device.handles)
 
 -- the first changed record from the handle's record index on, with its place
 abbrev pub next_of : Device → ℕ → Result (ℕ × ReplyValue) ℕ
@@ -49,7 +54,8 @@ next_of device handle = do
 
 -- ReadNextModifiedRec replies it, whole, and sets the record index behind it
 unfoldable pub read_next_modified_rec : Device → ℕ → Tried
-read_next_modified_rec device handle = next_of device handle >>= λ found. Ok (with_index device handle (found.0 + 1), found.1)
+read_next_modified_rec device handle =
+    next_of device handle >>= λ found. Ok (with_index device handle (found.0 + 1), found.1)
 
 -- ResetRecordIndex: the handle's record index is 0
 unfoldable pub reset_record_index : Device → ℕ → Tried

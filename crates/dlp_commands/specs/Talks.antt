@@ -1,4 +1,5 @@
--- What a link tells: the device behind it, the exchanges that were answered, and the request that was not.
+-- What a link tells: the device behind it, the exchanges that were answered, and the request that
+-- was not.
 use Rattle.std.specs.Prelude.{◌≡◌, ◌⊎◌, ℕ, List, [], ◌∷◌, ◌++◌, map, Option, Some, None}
 use Rattle.std.specs.Option.{option_to_list}
 use Rattle.std.specs.List.{flat_map}
@@ -7,7 +8,8 @@ use Rattle.dlp_commands.specs.DeviceSteps.{DeviceStep}
 use Rattle.dlp_commands.specs.DeviceRuns.{Exchange}
 use Rattle.dlp_commands.specs.Changes.{given_in}
 
--- the device now, the exchanges that were answered, the oldest first, and the request that got no answer
+-- the device now, the exchanges that were answered, the oldest first, and the request that got no
+-- answer
 pub record Talk : Type 0 where
   pub device : Device
   pub exchanges : List Exchange
@@ -27,14 +29,20 @@ issued talk = asked talk ++ option_to_list talk.left
 
 -- the ids that new records were given, in order
 abbrev pub given : Talk → List ℕ
-given talk = flat_map (λ (exchange : Exchange). given_in exchange.request exchange.reply) talk.exchanges
+given talk =
+    flat_map (λ (exchange : Exchange). given_in exchange.request exchange.reply) talk.exchanges
 
--- the device took one step by the request, this was its reply, and no earlier request was left without one
+-- the device took one step by the request, this was its reply, and no earlier request was left
+-- without one
 pub record WasAnswered (old : Talk) (request reply : List ℕ) (new : Option Talk) : Type 0 where
   pub device : Device
   pub step : DeviceStep old.device request reply device
   pub none_left : old.left ≡ None
-  pub is : new ≡ Some (record { device = device; exchanges = old.exchanges ++ record { request = request; reply = reply } ∷ []; left = None })
+  pub is : new ≡ Some (record {
+    device = device;
+    exchanges = old.exchanges ++ record { request = request; reply = reply } ∷ [];
+    left = None;
+  })
 
 -- the same where the talk is told; where it isn't, it stays so
 abbrev pub Answered : Option Talk → List ℕ → List ℕ → Option Talk → Type 0

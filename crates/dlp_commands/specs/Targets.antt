@@ -14,9 +14,11 @@ abbrev pub writable_name : Option Base → Option (List ℕ)
 writable_name None = None
 writable_name (Some base) = if is_writable base then Some base.opened.name else None
 
--- a request that writes may change the database of its handle, where that is open for writing; CreateDB makes one and DeleteDB removes one
+-- a request that writes may change the database of its handle, where that is open for writing;
+-- CreateDB makes one and DeleteDB removes one
 abbrev pub target_by : Device → (f : Form) → Fields (kinds_of f) → Option (List ℕ)
-target_by old form.CreateDb (creator, (kind, (card, (pad, (flags, (version, (name, end))))))) = Some name
+target_by old form.CreateDb (creator, (kind, (card, (pad, (flags, (version, (name, end))))))) =
+    Some name
 target_by old form.DeleteDb (card, (pad, (name, end))) = Some name
 target_by old form.WriteAppBlock (handle, more) = writable_name (base_at old handle)
 target_by old form.WriteSortBlock (handle, more) = writable_name (base_at old handle)

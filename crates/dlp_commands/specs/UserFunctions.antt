@@ -1,4 +1,5 @@
--- The functions on the user and on the whole session: the table, with the errors in its order (pilot-link, `pi-dlp.h`).
+-- The functions on the user and on the whole session: the table, with the errors in its order
+-- (pilot-link, `pi-dlp.h`).
 use Rattle.std.specs.Prelude.{ℕ, ◌+◌, List, [], length, Option, Some, None, Result, Ok, ◌==◌, if◌then◌else◌}
 use Rattle.pdb_values.specs.PalmDates.{read_wire}
 use Rattle.pdb_values.specs.Users.{user_name_of}
@@ -13,7 +14,8 @@ use Rattle.dlp_commands.specs.Reached.{Tried}
 
 -- the reply with what a device knows of its user
 abbrev pub user_reply : UserInfo → ReplyValue
-user_reply user = reply.ReadUserInfo user.user user.viewer user.pc user.good user.last user.name user.password
+user_reply user =
+    reply.ReadUserInfo user.user user.viewer user.pc user.good user.last user.name user.password
 
 -- ReadUserInfo replies what the device knows
 abbrev pub read_user_info : Device → Tried
@@ -45,7 +47,8 @@ with_marks bits user viewer pc date name old =
       name = chosen 0x10 bits name old.name;
     }
 
--- what the device knows then: a bad date, a name length other than the name's, or a name that is no user's: parameter
+-- what the device knows then: a bad date, a name length other than the name's, or a name that is no
+-- user's: parameter
 abbrev pub marked : ℕ → ℕ → ℕ → List ℕ → ℕ → ℕ → Option (List ℕ) → UserInfo → Result UserInfo ℕ
 marked user viewer pc date bits name_len name old = do
   seconds ← need parameter (read_wire date)
@@ -55,7 +58,8 @@ marked user viewer pc date bits name_len name old = do
 
 -- WriteUserInfo sets what the bits say
 unfoldable pub write_user_info : Device → ℕ → ℕ → ℕ → List ℕ → ℕ → ℕ → Option (List ℕ) → Tried
-write_user_info device user viewer pc date bits name_len name = marked user viewer pc date bits name_len name device.user
+write_user_info device user viewer pc date bits name_len name =
+    marked user viewer pc date bits name_len name device.user
     >>= λ known. Ok (record device { user = known }, reply.WriteUserInfo)
 
 -- AddSyncLogEntry keeps nothing

@@ -1,4 +1,5 @@
--- The functions that write into the database of a handle: the table, with the errors in its order (pilot-link, `pi-dlp.h`), and
+-- The functions that write into the database of a handle: the table, with the errors in its order
+-- (pilot-link, `pi-dlp.h`), and
 -- the edits that do it.
 use Rattle.std.specs.Prelude.{◌≡◌, ◌≤◌, ℕ, ◌%◌, Bool, false, List, [], length, Result, Ok, Err, ◌&&◌, ◌||◌, not, nat_le, nat_lt, ◌==◌, if◌then◌else◌}
 use Rattle.pdb_values.specs.Databases.{DatabaseValue}
@@ -40,7 +41,8 @@ pub data WritingValue : Type 0 where
 abbrev pub writing_value : Writing → WritingValue
 writing_value (writing.AppBlock bytes) = AppBlock bytes.now
 writing_value (writing.SortBlock bytes) = SortBlock bytes.now
-writing_value (writing.Record id attributes category bytes) = WriteRecord id attributes category bytes.now
+writing_value (writing.Record id attributes category bytes) =
+    WriteRecord id attributes category bytes.now
 writing_value (writing.DeleteRecord flags id) = DeleteRecord flags id
 writing_value writing.CleanUp = CleanUp
 writing_value writing.ResetFlags = ResetFlags
@@ -95,11 +97,14 @@ may_write id category items = do
   check limit (not (is_new id items) || nat_lt (length items) 65535)
 
 -- the record of this id, or a new last one, gets this content, live and dirty
-abbrev pub written_record : ℕ → ℕ → Bool → ℕ → List ℕ → DatabaseValue → Result (DatabaseValue × ReplyValue) ℕ
+abbrev pub written_record : ℕ → ℕ → Bool → ℕ → List ℕ → DatabaseValue
+    → Result (DatabaseValue × ReplyValue) ℕ
 written_record free id secret category bytes database = do
   allowed ← may_write id category database.records
   Ok (
-    with_records (records.put_record (given_id free id) (record { category = category; secret = secret; bytes = bytes }) database.records)
+    with_records
+        (records.put_record (given_id free id)
+        (record { category = category; secret = secret; bytes = bytes }) database.records)
         database,
     reply.WriteRecord (given_id free id),
   )
@@ -114,10 +119,12 @@ abbrev pub without_record : ℕ → DatabaseValue → Result DatabaseValue ℕ
 without_record id database = need not_found (place_of_id id database.records)
     >>= λ place. Ok (with_records (records.without_record id database.records) database)
 
--- flag 0x80: all records are gone; flag 0x40: those of the category that is the id's low byte; else the record
+-- flag 0x80: all records are gone; flag 0x40: those of the category that is the id's low byte; else
+-- the record
 abbrev pub without_records : ℕ → ℕ → DatabaseValue → Result DatabaseValue ℕ
 without_records flags id database =
-    if has_bit 0x80 flags then Ok (with_records [] database) else if has_bit 0x40 flags then without_category (id % 256) database else without_record
+    if has_bit 0x80 flags then Ok (with_records [] database) else if has_bit 0x40 flags
+    then without_category (id % 256) database else without_record
     id database
 
 -- every record of a category gets another and becomes dirty; a category above 15: parameter
@@ -125,34 +132,48 @@ abbrev pub with_moved : ℕ → ℕ → DatabaseValue → Result DatabaseValue �
 with_moved from to database = check parameter (nat_le from 15 && nat_le to 15)
     >>= λ sorted. Ok (with_records (records.move_category from to database.records) database)
 
--- a new one and 65,535 resources: limit. The first resource of this type and id, or a new last one, gets these bytes
+-- a new one and 65,535 resources: limit. The first resource of this type and id, or a new last one,
+-- gets these bytes
 abbrev pub with_resource : List ℕ → ℕ → List ℕ → DatabaseValue → Result DatabaseValue ℕ
 with_resource kind id bytes database = check limit (has_room kind id database.resources)
-    >>= λ room. Ok (with_resources (resources.put_resource kind id bytes database.resources) database)
+    >>= λ room. Ok
+    (with_resources (resources.put_resource kind id bytes database.resources) database)
 
 -- flag 0x80: all resources are gone; else the first of this type and id; none: not found
 abbrev pub without_resources : ℕ → List ℕ → ℕ → DatabaseValue → Result DatabaseValue ℕ
 without_resources flags kind id database =
-    if has_bit 0x80 flags then Ok (with_resources [] database) else (need not_found (place_of_resource kind id database.resources)
-    >>= λ place. Ok (with_resources (resources.without_resource kind id database.resources) database))
+    if has_bit 0x80 flags then Ok (with_resources [] database)
+    else (need not_found (place_of_resource kind id database.resources)
+    >>= λ place. Ok
+    (with_resources (resources.without_resource kind id database.resources) database))
 
--- The database after and the reply, or the error, where the database holds it; `free` is the id that a new record of id 0 gets.
--- No bytes remove a block; of a written record's attributes only 0x10 is looked at; cleaning up takes every record with the delete
+-- The database after and the reply, or the error, where the database holds it; `free` is the id
+-- that a new record of id 0 gets.
+-- No bytes remove a block; of a written record's attributes only 0x10 is looked at; cleaning up
+-- takes every record with the delete
 -- bit, and resetting flags clears every dirty bit.
 abbrev pub written : ℕ → WritingValue → DatabaseValue → Result (DatabaseValue × ReplyValue) ℕ
 written free (AppBlock bytes) database = Ok (with_app bytes database, reply.WriteAppBlock)
 written free (SortBlock bytes) database = Ok (with_sort bytes database, reply.WriteSortBlock)
-written free (WriteRecord id attributes category bytes) database = written_record free id (has_bit 0x10 attributes) category bytes database
-written free (DeleteRecord flags id) database = without_records flags id database >>= λ left. Ok (left, reply.DeleteRecord)
-written free CleanUp database = Ok (with_records (records.cleaned_up database.records) database, reply.CleanUpDatabase)
-written free ResetFlags database = Ok (with_records (records.reset_flags database.records) database, reply.ResetSyncFlags)
-written free (MoveCategory from to) database = with_moved from to database >>= λ moved. Ok (moved, reply.MoveCategory)
-written free (WriteResource kind id bytes) database = with_resource kind id bytes database >>= λ put. Ok (put, reply.WriteResource)
-written free (DeleteResource flags kind id) database = without_resources flags kind id database >>= λ left. Ok (left, reply.DeleteResource)
+written free (WriteRecord id attributes category bytes) database =
+    written_record free id (has_bit 0x10 attributes) category bytes database
+written free (DeleteRecord flags id) database =
+    without_records flags id database >>= λ left. Ok (left, reply.DeleteRecord)
+written free CleanUp database =
+    Ok (with_records (records.cleaned_up database.records) database, reply.CleanUpDatabase)
+written free ResetFlags database =
+    Ok (with_records (records.reset_flags database.records) database, reply.ResetSyncFlags)
+written free (MoveCategory from to) database =
+    with_moved from to database >>= λ moved. Ok (moved, reply.MoveCategory)
+written free (WriteResource kind id bytes) database =
+    with_resource kind id bytes database >>= λ put. Ok (put, reply.WriteResource)
+written free (DeleteResource flags kind id) database =
+    without_resources flags kind id database >>= λ left. Ok (left, reply.DeleteResource)
 
 -- the same of any database: one that doesn't hold it: not supported
 abbrev pub written_in : ℕ → WritingValue → DatabaseValue → Result (DatabaseValue × ReplyValue) ℕ
-written_in free asked database = check not_supported (fits (written_on asked) database) >>= λ suited. written free asked database
+written_in free asked database =
+    check not_supported (fits (written_on asked) database) >>= λ suited. written free asked database
 
 -- ---- edits
 
@@ -168,14 +189,19 @@ write_reply given (MoveCategory from to) = reply.MoveCategory
 write_reply given (WriteResource kind id bytes) = reply.WriteResource
 write_reply given (DeleteResource flags kind id) = reply.DeleteResource
 
--- an edit does what a writing asks of a database that holds what is written, or the refusal is the table's
+-- an edit does what a writing asks of a database that holds what is written, or the refusal is the
+-- table's
 abbrev pub PlansHeld : WritingValue → DatabaseValue → Result Edit Refusal → Type 0
 PlansHeld asked database (Ok edit) = (free : ℕ)
-    → written free asked database ≡ Ok (edited free edit database, write_reply (edit_given free edit) asked)
-PlansHeld asked database (Err refusal) = (free : ℕ) → written free asked database ≡ Err (code_of refusal)
+    → written free asked database
+    ≡ Ok (edited free edit database, write_reply (edit_given free edit) asked)
+PlansHeld asked database (Err refusal) =
+    (free : ℕ) → written free asked database ≡ Err (code_of refusal)
 
 -- the same of any database
 abbrev pub Plans : WritingValue → DatabaseValue → Result Edit Refusal → Type 0
 Plans asked database (Ok edit) = (free : ℕ)
-    → written_in free asked database ≡ Ok (edited free edit database, write_reply (edit_given free edit) asked)
-Plans asked database (Err refusal) = (free : ℕ) → written_in free asked database ≡ Err (code_of refusal)
+    → written_in free asked database
+    ≡ Ok (edited free edit database, write_reply (edit_given free edit) asked)
+Plans asked database (Err refusal) =
+    (free : ℕ) → written_in free asked database ≡ Err (code_of refusal)

@@ -5,7 +5,8 @@ use Rattle.dlp_args.specs.Fields.{Fields}
 use Rattle.dlp_args.specs.CellReading.{short_text_in}
 use Rattle.dlp_replies.specs.Layouts.{user_info, record_reply, id_alone}
 
--- tests of values in their order: each with the place of the value's first byte in the argument, and whether it is one
+-- tests of values in their order: each with the place of the value's first byte in the argument,
+-- and whether it is one
 abbrev pub Checks : Type 0
 Checks = List (ℕ × Bool)
 
@@ -47,7 +48,8 @@ user_checks v = (12, is_date v.1.1.1.0) ∷ (20, is_date v.1.1.1.1.0) ∷ []
 
 -- the id, the category, and at most 65,500 bytes
 abbrev pub record_checks : Fields record_reply → Checks
-record_checks v = (0, is_id v.0) ∷ (9, is_category v.1.1.1.1.0) ∷ (10, nat_le (length v.1.1.1.1.1.0) 65500) ∷ []
+record_checks v =
+    (0, is_id v.0) ∷ (9, is_category v.1.1.1.1.0) ∷ (10, nat_le (length v.1.1.1.1.1.0) 65500) ∷ []
 
 abbrev pub id_checks : Fields id_alone → Checks
 id_checks v = (0, is_id v.0) ∷ []

@@ -1,4 +1,5 @@
--- Entries of a list of databases, and the texts that are written of them (pilot-link, `dlp.c`: dlp_ReadDBList).
+-- Entries of a list of databases, and the texts that are written of them (pilot-link, `dlp.c`:
+-- dlp_ReadDBList).
 use Rattle.std.specs.Prelude.{◌≡◌, ◌<◌, ◌^◌, ℕ, ◌+◌, List, [], ◌∷◌, ◌++◌, length}
 use Rattle.std.specs.List.{flat_map}
 use Rattle.std.specs.Int.{w16, w32, to_be_bytes}
@@ -8,7 +9,8 @@ use Rattle.pdb_values.specs.PalmDates.{wire_date}
 use Rattle.dlp_args.specs.Cells.{Kind, Byte, Half, Word, Pad, Run, Text}
 use Rattle.dlp_args.specs.Fields.{Fields, fields_text}
 
--- the size of the whole entry, a byte that isn't looked at, attributes, type, creator, version and modification number of
+-- the size of the whole entry, a byte that isn't looked at, attributes, type, creator, version and
+-- modification number of
 -- a database, its three dates, its index, and its name with a zero
 abbrev pub entry : List Kind
 entry = Byte ∷ Pad ∷ Half ∷ Run 4 ∷ Run 4 ∷ Half ∷ Word ∷ Run 8 ∷ Run 8 ∷ Run 8 ∷ Half ∷ Text ∷ []
@@ -44,10 +46,14 @@ entry_text item = fields_text entry (row_of item)
 -- what it has before the dates, and from them on
 abbrev pub entry_front : DbHead → List ℕ
 entry_front head = (45 + length head.name) ∷ 0 ∷ to_be_bytes w16 head.attributes
-    ++ (head.kind.0 ++ (head.creator.0 ++ (to_be_bytes w16 head.version ++ to_be_bytes w32 head.modnum)))
+    ++ (head.kind.0
+    ++ (head.creator.0 ++ (to_be_bytes w16 head.version ++ to_be_bytes w32 head.modnum)))
 
 abbrev pub entry_back : ℕ → DbHead → List ℕ
-entry_back index head = wire_date head.created ++ (wire_date head.modified ++ (wire_date head.backup ++ (to_be_bytes w16 index ++ (head.name ++ 0 ∷ []))))
+entry_back index head =
+    wire_date head.created
+    ++ (wire_date head.modified
+    ++ (wire_date head.backup ++ (to_be_bytes w16 index ++ (head.name ++ 0 ∷ []))))
 
 -- the texts that are written of entries, one after the other
 abbrev pub entries_text : List (ℕ × DbHead) → List ℕ

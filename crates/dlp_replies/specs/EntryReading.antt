@@ -10,7 +10,8 @@ use Rattle.dlp_replies.specs.Checks.{Checks, is_date, date_or_zero}
 use Rattle.dlp_replies.specs.EntryLists.{entry, Row}
 use Rattle.dlp_replies.specs.Layouts.{db_list}
 
--- an entry at the front and the bytes behind it: as many bytes as its first one says, which are its cells
+-- an entry at the front and the bytes behind it: as many bytes as its first one says, which are its
+-- cells
 unfoldable pub entry_at : List ℕ → Option (Row × List ℕ)
 entry_at bytes = do
   size ← number_at w8 bytes
@@ -34,10 +35,13 @@ rows_or_none (Some rows) = rows
 abbrev pub rows_of : Fields db_list → Option (List Row)
 rows_of v = rows_in v.1.1.0 v.1.1.1.0
 
--- the bytes are texts of the entries, one after the other and up to the end; each has the size that it says
+-- the bytes are texts of the entries, one after the other and up to the end; each has the size that
+-- it says
 abbrev pub AreRows : List Row → List ℕ → Type 0
 AreRows [] bytes = bytes ≡ []
-AreRows (row ∷ rows) bytes = (text rest : List ℕ) × (bytes ≡ text ++ rest) × AreFields entry row text × (row.0 ≡ length text) × AreRows rows rest
+AreRows (row ∷ rows) bytes =
+    (text rest : List ℕ) × (bytes ≡ text ++ rest) × AreFields entry row text
+    × (row.0 ≡ length text) × AreRows rows rest
 
 -- the name in the cells of an entry
 abbrev pub row_name : Row → List ℕ
@@ -46,7 +50,8 @@ row_name row = row.1.1.1.1.1.1.1.1.1.1.1.0
 -- the three dates and the name of an entry at a place
 unfoldable pub row_checks : ℕ → Row → Checks
 row_checks at row =
-    (at + 18, is_date row.1.1.1.1.1.1.1.0) ∷ (at + 26, is_date row.1.1.1.1.1.1.1.1.0) ∷ (at + 34, is_date row.1.1.1.1.1.1.1.1.1.0) ∷ (
+    (at + 18, is_date row.1.1.1.1.1.1.1.0) ∷ (at + 26, is_date row.1.1.1.1.1.1.1.1.0)
+    ∷ (at + 34, is_date row.1.1.1.1.1.1.1.1.1.0) ∷ (
       at + 44,
       is_none (name_fault (row_name row)),
     ) ∷ []

@@ -1,4 +1,5 @@
--- The texts that are written of replies (pilot-link, `dlp.c`: function, number of arguments, error, arguments).
+-- The texts that are written of replies (pilot-link, `dlp.c`: function, number of arguments, error,
+-- arguments).
 use Rattle.std.specs.Prelude.{◌<◌, ◌≤◌, ◌^◌, ℕ, ◌+◌, List, [], ◌∷◌, ◌++◌, length}
 use Rattle.std.specs.List.{AllByRecursion}
 use Rattle.std.specs.Int.{w16, to_be_bytes}
@@ -15,7 +16,8 @@ use Rattle.dlp_replies.specs.ReplyValues.{ReadRecord, WriteRecord, ReadResource,
 use Rattle.dlp_replies.specs.ReplyValues.{WriteAppBlock, WriteSortBlock, DeleteRecord, WriteResource, DeleteResource, CleanUpDatabase, ResetSyncFlags}
 use Rattle.dlp_replies.specs.ReplyValues.{ResetRecordIndex, AddSyncLogEntry, MoveCategory, OpenConduit, EndOfSync}
 
--- an error of a function; a function's reply without an argument; and one with an argument of this layout
+-- an error of a function; a function's reply without an argument; and one with an argument of this
+-- layout
 pub data Frame : Type 0 where
   Refusal : (number : ℕ) → (code : ℕ) → Frame
   Alone : (number : ℕ) → Frame
@@ -64,7 +66,8 @@ frame EndOfSync = Alone 0x2F
 abbrev pub frame_text : Frame → List ℕ
 frame_text (Refusal number code) = reply_byte number ∷ 0 ∷ to_be_bytes w16 code
 frame_text (Alone number) = (number + 0x80) ∷ 0 ∷ 0 ∷ 0 ∷ []
-frame_text (With number kinds fields) = (number + 0x80) ∷ 1 ∷ 0 ∷ 0 ∷ arg_text (record { id = 0x20; bytes = fields_text kinds fields })
+frame_text (With number kinds fields) =
+    (number + 0x80) ∷ 1 ∷ 0 ∷ 0 ∷ arg_text (record { id = 0x20; bytes = fields_text kinds fields })
 
 -- the byte of the function that is answered
 abbrev pub function_byte : Frame → ℕ
@@ -84,11 +87,14 @@ FrameFits (With number kinds fields) = FieldsFit kinds fields
 
 -- the bounds of values
 abbrev pub ValuesFit : ReplyValue → Type 0
-ValuesFit (ReadUserInfo user viewer pc good last name password) = (good < 2 ^ 32) × (last < 2 ^ 32) × (length name ≤ 40) × HasNoZero name
+ValuesFit (ReadUserInfo user viewer pc good last name password) =
+    (good < 2 ^ 32) × (last < 2 ^ 32) × (length name ≤ 40) × HasNoZero name
     × (length password ≤ 40)
 ValuesFit (ReadDbList last flags entries) = AllByRecursion IsEntry entries
-ValuesFit (ReadNextModifiedRec id index size attributes category bytes) = IsId id × (category ≤ 15) × (length bytes ≤ 65500)
-ValuesFit (ReadRecord id index size attributes category bytes) = IsId id × (category ≤ 15) × (length bytes ≤ 65500)
+ValuesFit (ReadNextModifiedRec id index size attributes category bytes) =
+    IsId id × (category ≤ 15) × (length bytes ≤ 65500)
+ValuesFit (ReadRecord id index size attributes category bytes) =
+    IsId id × (category ≤ 15) × (length bytes ≤ 65500)
 ValuesFit (WriteRecord id) = IsId id
 ValuesFit (ReadRecordIdList ids) = AllByRecursion IsId ids
 ValuesFit value = Unit {0}

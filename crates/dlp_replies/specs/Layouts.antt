@@ -2,7 +2,8 @@
 use Rattle.std.specs.Prelude.{List, [], ◌∷◌}
 use Rattle.dlp_args.specs.Cells.{Kind, Byte, Half, Word, Run, Rest, Counted, Whole, Names}
 
--- user, viewer and PC; the dates of the last good and the last session; name and password behind their lengths
+-- user, viewer and PC; the dates of the last good and the last session; name and password behind
+-- their lengths
 abbrev pub user_info : List Kind
 user_info = Word ∷ Word ∷ Word ∷ Run 8 ∷ Run 8 ∷ Names ∷ []
 

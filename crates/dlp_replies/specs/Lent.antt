@@ -14,10 +14,13 @@ use Rattle.dlp_replies.specs.Writables.{HasNoSeed}
 
 -- an entry at the front whose values are some, and the bytes behind it
 unfoldable pub item_at : List ℕ → Option ((ℕ × DbHead) × List ℕ)
-item_at bytes = entry_at bytes >>= λ found. if is_none (first_bad (row_checks 0 found.0)) then Some (item_of found.0, found.1) else None
+item_at bytes =
+    entry_at bytes >>= λ found. if is_none (first_bad (row_checks 0 found.0))
+    then Some (item_of found.0, found.1) else None
 
 -- an entry that was found and those behind it, or none
-abbrev pub first_or_none : Option ((ℕ × DbHead) × List ℕ) → (List ℕ → List (ℕ × DbHead)) → List (ℕ × DbHead)
+abbrev pub first_or_none : Option ((ℕ × DbHead) × List ℕ) → (List ℕ → List (ℕ × DbHead))
+    → List (ℕ × DbHead)
 first_or_none None others = []
 first_or_none (Some found) others = found.0 ∷ others found.1
 

@@ -18,17 +18,23 @@ unfoldable pub reply_byte : ℕ → ℕ
 reply_byte number = if nat_lt number 0x80 then number + 0x80 else number
 
 -- what the cells of an argument's content hold, where its lengths are those of the layout
-abbrev pub measured_in : (kinds : List Kind) → (Fields kinds → Bool) → List ℕ → Option (Fields kinds)
-measured_in kinds sizes content = option_and_then (λ v. if sizes v then Some v else None) (fields_in kinds content)
+abbrev pub measured_in : (kinds : List Kind) → (Fields kinds → Bool) → List ℕ
+    → Option (Fields kinds)
+measured_in kinds sizes content =
+    option_and_then (λ v. if sizes v then Some v else None) (fields_in kinds content)
 
 -- the same where its values are some; the content begins at this place
-unfoldable pub valid_in : (kinds : List Kind) → (Fields kinds → Bool) → (Fields kinds → Checks) → ℕ → List ℕ → Result (Fields kinds) ReplyFault
-valid_in kinds sizes checks place content = or_size (measured_in kinds sizes content) >>= λ v. or_value place (first_bad (checks v)) v
+unfoldable pub valid_in : (kinds : List Kind) → (Fields kinds → Bool) → (Fields kinds → Checks) → ℕ
+    → List ℕ → Result (Fields kinds) ReplyFault
+valid_in kinds sizes checks place content =
+    or_size (measured_in kinds sizes content) >>= λ v. or_value place (first_bad (checks v)) v
 
 -- what they say
-abbrev pub made_in : (kinds : List Kind) → (Fields kinds → Bool) → (Fields kinds → Checks) → (Fields kinds → ReplyValue) → ℕ → List ℕ
+abbrev pub made_in : (kinds : List Kind) → (Fields kinds → Bool) → (Fields kinds → Checks)
+    → (Fields kinds → ReplyValue) → ℕ → List ℕ
     → Result ReplyValue ReplyFault
-made_in kinds sizes checks make place content = valid_in kinds sizes checks place content >>= λ v. Ok (make v)
+made_in kinds sizes checks make place content =
+    valid_in kinds sizes checks place content >>= λ v. Ok (make v)
 
 -- what the one argument has, which bears the id 0x20
 abbrev pub only_content : List Argument → Option (List ℕ)
@@ -48,17 +54,22 @@ without value arguments = no_arguments arguments >>= λ none. Ok value
 unfoldable pub reply_by : Shape → ℕ → List Argument → Result ReplyValue ReplyFault
 reply_by Unknown end arguments = Err fault.Argument
 reply_by (Bare value) end arguments = without value arguments
-reply_by (One kinds sizes checks make) end arguments = or_argument (only_content arguments) >>= λ content. made_in kinds sizes checks make
+reply_by (One kinds sizes checks make) end arguments =
+    or_argument (only_content arguments) >>= λ content. made_in kinds sizes checks make
     (end - length content) content
 
 -- a reply with this error, where 0 is none
 abbrev pub answer_of : ℕ → ℕ → ℕ → List Argument → Result ReplyValue ReplyFault
-answer_of number code end arguments = if code == 0 then reply_by (shape_of (function_of number)) end arguments else without (Refused number code) arguments
+answer_of number code end arguments =
+    if code == 0 then reply_by (shape_of (function_of number)) end arguments
+    else without (Refused number code) arguments
 
 -- the function with 0x80 set, the number of arguments, the error, and the arguments
 unfoldable pub reply_at : ℕ → List ℕ → Result ReplyValue ReplyFault
 reply_at number (first ∷ count ∷ high ∷ low ∷ bytes) =
-    if first == reply_byte number then of_arguments (arguments_at count 4 bytes) >>= answer_of number (from_be_bytes w16 (high ∷ low ∷ []))
+    if first == reply_byte number
+    then of_arguments (arguments_at count 4 bytes) >>= answer_of number
+    (from_be_bytes w16 (high ∷ low ∷ []))
     (length (first ∷ count ∷ high ∷ low ∷ bytes)) else Err (fault.Function first)
 reply_at number [] = Err (fault.Wrapper 0)
 reply_at number (a ∷ []) = Err (fault.Wrapper 0)

@@ -6,7 +6,9 @@ use Rattle.dlp_replies.specs.Frames.{name_text}
 
 -- the numbers and the dates
 abbrev pub user_front : ℕ → ℕ → ℕ → ℕ → ℕ → List ℕ
-user_front user viewer pc good last = to_be_bytes w32 user ++ (to_be_bytes w32 viewer ++ (to_be_bytes w32 pc ++ (wire_date good ++ wire_date last)))
+user_front user viewer pc good last =
+    to_be_bytes w32 user
+    ++ (to_be_bytes w32 viewer ++ (to_be_bytes w32 pc ++ (wire_date good ++ wire_date last)))
 
 -- the name and the password behind their lengths
 abbrev pub user_back : List ℕ → List ℕ → List ℕ

@@ -14,16 +14,20 @@ use Rattle.dlp_replies.specs.ReplyValues.{ResetRecordIndex, AddSyncLogEntry, Mov
 -- a lent reply is what it says, with the bytes that it lends
 abbrev pub reply_value : Reply → ReplyValue
 reply_value (lent.Refused function code) = Refused function code.0
-reply_value (lent.ReadUserInfo user viewer pc good last name password) = ReadUserInfo user viewer pc good last name.now password.now
+reply_value (lent.ReadUserInfo user viewer pc good last name password) =
+    ReadUserInfo user viewer pc good last name.now password.now
 reply_value (lent.ReadDbList last flags entries) = ReadDbList last flags entries
 reply_value (lent.OpenDb handle) = OpenDb handle
 reply_value (lent.CreateDb handle) = CreateDb handle
 reply_value (lent.ReadAppBlock bytes) = ReadAppBlock bytes.now
 reply_value (lent.ReadSortBlock bytes) = ReadSortBlock bytes.now
-reply_value (lent.ReadNextModifiedRec id index size attributes category bytes) = ReadNextModifiedRec id index size attributes category bytes.now
-reply_value (lent.ReadRecord id index size attributes category bytes) = ReadRecord id index size attributes category bytes.now
+reply_value (lent.ReadNextModifiedRec id index size attributes category bytes) =
+    ReadNextModifiedRec id index size attributes category bytes.now
+reply_value (lent.ReadRecord id index size attributes category bytes) =
+    ReadRecord id index size attributes category bytes.now
 reply_value (lent.WriteRecord id) = WriteRecord id
-reply_value (lent.ReadResource kind id index size bytes) = ReadResource kind.0 id index size bytes.now
+reply_value (lent.ReadResource kind id index size bytes) =
+    ReadResource kind.0 id index size bytes.now
 reply_value (lent.ReadOpenDbInfo count) = ReadOpenDbInfo count
 reply_value (lent.ReadRecordIdList ids) = ReadRecordIdList ids
 reply_value lent.WriteUserInfo = WriteUserInfo

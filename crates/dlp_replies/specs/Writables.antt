@@ -1,4 +1,5 @@
--- What the fields of a reply keep beside the bounds of their types, so that it can be written (pilot-link, `dlp.c`).
+-- What the fields of a reply keep beside the bounds of their types, so that it can be written
+-- (pilot-link, `dlp.c`).
 use Rattle.std.specs.Prelude.{◌≡◌, ◌<◌, ◌≤◌, ℕ, length}
 use Rattle.std.specs.List.{AllByRecursion}
 use Rattle.pdb_values.specs.declared.head.DbHead.{DbHead}
@@ -11,12 +12,15 @@ use Rattle.dlp_replies.specs.ReplyValues.{ReadResource}
 abbrev pub HasNoSeed : ℕ × DbHead → Type 0
 HasNoSeed item = item.1.seed ≡ 0
 
--- the code is not 0; names of at most 40 bytes, without a zero, and passwords of as many; at most 255 entries, without
+-- the code is not 0; names of at most 40 bytes, without a zero, and passwords of as many; at most
+-- 255 entries, without
 -- seeds; blocks, records and resources of at most 65,500 bytes
 abbrev pub KeepsBounds : ReplyValue → Type 0
 KeepsBounds (Refused number code) = 0 < code
-KeepsBounds (ReadUserInfo user viewer pc good last name password) = (length name ≤ 40) × HasNoZero name × (length password ≤ 40)
-KeepsBounds (ReadDbList last flags entries) = (length entries ≤ 255) × AllByRecursion HasNoSeed entries
+KeepsBounds (ReadUserInfo user viewer pc good last name password) =
+    (length name ≤ 40) × HasNoZero name × (length password ≤ 40)
+KeepsBounds (ReadDbList last flags entries) =
+    (length entries ≤ 255) × AllByRecursion HasNoSeed entries
 KeepsBounds (ReadAppBlock bytes) = length bytes ≤ 65500
 KeepsBounds (ReadSortBlock bytes) = length bytes ≤ 65500
 KeepsBounds (ReadNextModifiedRec id index size attributes category bytes) = length bytes ≤ 65500

@@ -1,4 +1,5 @@
--- The forms of requests: a function, the id of its argument, and what the argument is made of (pilot-link, `dlp.c`, `pi-dlp.h`).
+-- The forms of requests: a function, the id of its argument, and what the argument is made of
+-- (pilot-link, `dlp.c`, `pi-dlp.h`).
 use Rattle.std.specs.Prelude.{ℕ, List, [], ◌∷◌, Option, Some, None}
 use Rattle.dlp_args.specs.Cells.{Kind, Byte, Half, Word, Pad, Run, Text, MaybeText, Rest, Counted}
 

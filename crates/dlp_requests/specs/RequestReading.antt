@@ -16,19 +16,22 @@ use Rattle.dlp_requests.specs.RequestValues.{RequestValue}
 
 -- the request of a form whose argument has these bytes
 abbrev pub request_in : Form → List ℕ → Option RequestValue
-request_in form bytes = option_map (λ fields. record { form = form; fields = fields }) (fields_in (kinds_of form) bytes)
+request_in form bytes =
+    option_map (λ fields. record { form = form; fields = fields }) (fields_in (kinds_of form) bytes)
 
 -- what the one argument has, which bears this id; no bytes where there is to be none
 abbrev pub argument_bytes : Option ℕ → List Argument → Result (List ℕ) RequestFault
 argument_bytes None [] = Ok []
 argument_bytes None (argument ∷ arguments) = Err fault.Argument
 argument_bytes (Some id) [] = Err fault.Argument
-argument_bytes (Some id) (argument ∷ []) = if argument.id == id then Ok argument.bytes else Err fault.Argument
+argument_bytes (Some id) (argument ∷ []) =
+    if argument.id == id then Ok argument.bytes else Err fault.Argument
 argument_bytes (Some id) (argument ∷ second ∷ more) = Err fault.Argument
 
 -- the request of a form by its arguments
 abbrev pub request_by : Form → List Argument → Result RequestValue RequestFault
-request_by form arguments = argument_bytes (argument_of form) arguments >>= λ bytes. or_size (request_in form bytes)
+request_by form arguments =
+    argument_bytes (argument_of form) arguments >>= λ bytes. or_size (request_in form bytes)
 
 -- the id of the first argument
 abbrev pub first_id : List Argument → Option ℕ
@@ -38,7 +41,8 @@ first_id (argument ∷ arguments) = Some argument.id
 -- of two forms the one whose argument is 0x21, or the other one, by the id of the first argument
 abbrev pub by_id_21 : Form → Form → Option ℕ → List Argument → Result RequestValue RequestFault
 by_id_21 this other None arguments = request_by other arguments
-by_id_21 this other (Some id) arguments = if id == 0x21 then request_by this arguments else request_by other arguments
+by_id_21 this other (Some id) arguments =
+    if id == 0x21 then request_by this arguments else request_by other arguments
 
 -- the request of a function by its arguments
 unfoldable pub request_of : Function → List Argument → Result RequestValue RequestFault
@@ -54,10 +58,12 @@ request_of function.WriteAppBlock arguments = request_by form.WriteAppBlock argu
 request_of function.ReadSortBlock arguments = request_by form.ReadSortBlock arguments
 request_of function.WriteSortBlock arguments = request_by form.WriteSortBlock arguments
 request_of function.ReadNextModifiedRec arguments = request_by form.ReadNextModifiedRec arguments
-request_of function.ReadRecord arguments = by_id_21 form.ReadRecordByIndex form.ReadRecordById (first_id arguments) arguments
+request_of function.ReadRecord arguments =
+    by_id_21 form.ReadRecordByIndex form.ReadRecordById (first_id arguments) arguments
 request_of function.WriteRecord arguments = request_by form.WriteRecord arguments
 request_of function.DeleteRecord arguments = request_by form.DeleteRecord arguments
-request_of function.ReadResource arguments = by_id_21 form.ReadResourceByType form.ReadResourceByIndex (first_id arguments) arguments
+request_of function.ReadResource arguments =
+    by_id_21 form.ReadResourceByType form.ReadResourceByIndex (first_id arguments) arguments
 request_of function.WriteResource arguments = request_by form.WriteResource arguments
 request_of function.DeleteResource arguments = request_by form.DeleteResource arguments
 request_of function.CleanUpDatabase arguments = request_by form.CleanUpDatabase arguments
@@ -70,7 +76,8 @@ request_of function.EndOfSync arguments = request_by form.EndOfSync arguments
 request_of function.ResetRecordIndex arguments = request_by form.ResetRecordIndex arguments
 request_of function.ReadRecordIdList arguments = request_by form.ReadRecordIdList arguments
 
--- the request of a function whose one argument, 0x20, has these bytes; the other functions have none
+-- the request of a function whose one argument, 0x20, has these bytes; the other functions have
+-- none
 unfoldable pub request_with : Function → List ℕ → Option RequestValue
 request_with function.WriteUserInfo bytes = request_in form.WriteUserInfo bytes
 request_with function.ReadDbList bytes = request_in form.ReadDbList bytes
@@ -109,4 +116,6 @@ known number (Some found) = Ok found
 unfoldable pub request_at : List ℕ → Result RequestValue RequestFault
 request_at [] = Err (fault.Wrapper 0)
 request_at (number ∷ []) = known number (function_of number) >>= λ found. Err (fault.Wrapper 0)
-request_at (number ∷ count ∷ bytes) = known number (function_of number) >>= λ found. of_arguments (arguments_at count 2 bytes) >>= request_of found
+request_at (number ∷ count ∷ bytes) =
+    known number (function_of number) >>= λ found. of_arguments
+    (arguments_at count 2 bytes) >>= request_of found

@@ -1,4 +1,5 @@
--- Request texts: how each request stands on the wire (pilot-link, `dlp.c`: function, number of arguments, arguments).
+-- Request texts: how each request stands on the wire (pilot-link, `dlp.c`: function, number of
+-- arguments, arguments).
 use Rattle.std.specs.Prelude.{◌≡◌, ◌≤◌, ℕ, List, [], ◌∷◌, length, Option, Some, None}
 use Rattle.dlp_args.specs.Arguments.{ArgText, arg_text}
 use Rattle.dlp_args.specs.Arguments as argument
@@ -7,12 +8,16 @@ use Rattle.dlp_args.specs.Fields.{Fields, AreFields, fields_text, FieldsFit}
 use Rattle.dlp_requests.specs.Forms.{number_of, argument_of, kinds_of}
 use Rattle.dlp_requests.specs.RequestValues.{RequestValue}
 
--- the bytes are 0 where there is no argument, or 1 and one of the texts of the argument of this id with this content
+-- the bytes are 0 where there is no argument, or 1 and one of the texts of the argument of this id
+-- with this content
 abbrev pub HasArgument : Option ℕ → List ℕ → List ℕ → Type 0
 HasArgument None content bytes = (content ≡ []) × (bytes ≡ 0 ∷ [])
-HasArgument (Some id) content bytes = (form : argument.Form) × (text : List ℕ) × ArgText form (record { id = id; bytes = content }) text × (bytes ≡ 1 ∷ text)
+HasArgument (Some id) content bytes =
+    (form : argument.Form) × (text : List ℕ)
+    × ArgText form (record { id = id; bytes = content }) text × (bytes ≡ 1 ∷ text)
 
--- the bytes are a text of the request: the function, the number of arguments, and the argument with its cells
+-- the bytes are a text of the request: the function, the number of arguments, and the argument with
+-- its cells
 pub record RequestText (value : RequestValue) (bytes : List ℕ) : Type 0 where
   pub content : List ℕ
   pub rest : List ℕ
@@ -27,7 +32,9 @@ argument_text (Some id) content = 1 ∷ arg_text (record { id = id; bytes = cont
 
 -- the text that is written of a request
 unfoldable pub request_text : RequestValue → List ℕ
-request_text value = number_of value.form ∷ argument_text (argument_of value.form) (fields_text (kinds_of value.form) value.fields)
+request_text value =
+    number_of value.form
+    ∷ argument_text (argument_of value.form) (fields_text (kinds_of value.form) value.fields)
 
 -- a text, or bytes of no set length, are at most 65,500
 abbrev pub IsShortCell : (k : Kind) → Cell k → Type 0

@@ -1,4 +1,5 @@
--- A fast reading of an open database: the number of its entries, the ids of its records, each changed record, and by its id each
+-- A fast reading of an open database: the number of its entries, the ids of its records, each
+-- changed record, and by its id each
 -- other record that the base has no row of.
 use Rattle.std.specs.Prelude.{ℕ, zero, suc, Bool, true, false, List, [], ◌∷◌, ◌++◌, length, map, Option, None, Some, filter, replicate, if◌then◌else◌}
 use Rattle.pdb_values.specs.declared.record.Record.{Record}
@@ -34,7 +35,9 @@ where_lent (entry ∷ entries) rest = rest
 unfoldable pub changed_reads : ℕ → ℕ → Device → List Act
 changed_reads handle zero device = []
 changed_reads handle (suc most) device =
-    reading_next handle ∷ where_lent (next_seen handle device) (changed_reads handle most (acted (reading_next handle) device).1)
+    reading_next handle
+    ∷ where_lent (next_seen handle device)
+    (changed_reads handle most (acted (reading_next handle) device).1)
 
 -- the same where a device is told
 abbrev pub changed_reads_of : ℕ → ℕ → Option Talk → List Act
@@ -45,18 +48,22 @@ changed_reads_of handle most (Some talk) = changed_reads handle most talk.device
 unfoldable pub changed_seen : ℕ → ℕ → Device → List Seen
 changed_seen handle zero device = []
 changed_seen handle (suc most) device =
-    next_seen handle device ++ where_lent (next_seen handle device) (changed_seen handle most (acted (reading_next handle) device).1)
+    next_seen handle device
+    ++ where_lent (next_seen handle device)
+    (changed_seen handle most (acted (reading_next handle) device).1)
 
 -- ---- the other records
 
 -- the entry of the record that is lent for an id
 abbrev pub seen_of_id : ℕ → Device → ℕ → List Seen
 seen_of_id handle device id =
-    map (λ (entry : Seen). record entry { id = id }) (seen_in (reply_at 0x20 (acted (reading_of handle id) device).0))
+    map (λ (entry : Seen). record entry { id = id })
+    (seen_in (reply_at 0x20 (acted (reading_of handle id) device).0))
 
 -- a record with a base row is unread, with the content of the row; any other one is read by its id
 abbrev pub other_seen : ℕ → Device → ℕ → Based → List Seen
-other_seen handle device id (row content) = record { id = id; state = Unread; content = content } ∷ []
+other_seen handle device id (row content) =
+    record { id = id; state = Unread; content = content } ∷ []
 other_seen handle device id no_base = seen_of_id handle device id
 other_seen handle device id (gone content) = seen_of_id handle device id
 
@@ -65,7 +72,8 @@ other_reads handle id (row content) = []
 other_reads handle id no_base = reading_of handle id ∷ []
 other_reads handle id (gone content) = reading_of handle id ∷ []
 
--- what is said or shown of an id: of a changed record, of another one, and of an id that no record has
+-- what is said or shown of an id: of a changed record, of another one, and of an id that no record
+-- has
 abbrev pub by_reading : {A : Type 0} → (Seen → List A) → List A → Option Seen → Bool → List A
 by_reading changed other (Some entry) listed = changed entry
 by_reading changed other None true = other
@@ -73,11 +81,13 @@ by_reading changed other None false = []
 
 abbrev pub reads_at : List Record → ℕ → List ℕ → List Seen → ℕ → List Act
 reads_at base handle ids changed id =
-    by_reading (λ entry. []) (other_reads handle id (base_at base false id)) (first_seen id changed) (is_among id ids)
+    by_reading (λ entry. []) (other_reads handle id (base_at base false id))
+    (first_seen id changed) (is_among id ids)
 
 abbrev pub shown_at : List Record → ℕ → Device → List ℕ → List Seen → ℕ → List Seen
 shown_at base handle device ids changed id =
-    by_reading (λ entry. entry ∷ []) (other_seen handle device id (base_at base false id)) (first_seen id changed) (is_among id ids)
+    by_reading (λ entry. entry ∷ []) (other_seen handle device id (base_at base false id))
+    (first_seen id changed) (is_among id ids)
 
 -- ---- all of it
 
@@ -103,12 +113,14 @@ listing_acts handle talk = counting handle ∷ id_listings handle (id_parts (ent
 unfoldable pub fast_reads : List Record → ℕ → Device → List Act
 fast_reads base handle device =
     (counting handle ∷ id_listings handle (id_parts (entries_told device handle)))
-    ++ (changed_acts handle device ++ each_id (reads_at base handle (ids_told handle device) (changed_told handle device)))
+    ++ (changed_acts handle device
+    ++ each_id (reads_at base handle (ids_told handle device) (changed_told handle device)))
 
 -- what it shows
 unfoldable pub fast_shown : List Record → ℕ → Device → List Seen
 fast_shown base handle device =
-    each_id (shown_at base handle (device_after (changed_acts handle device) device) (ids_told handle device) (changed_told handle device))
+    each_id (shown_at base handle (device_after (changed_acts handle device) device)
+    (ids_told handle device) (changed_told handle device))
 
 -- what is said where a device is told
 abbrev pub fast_reads_of : List Record → ℕ → Option Talk → List Act
@@ -120,10 +132,13 @@ fast_reads_of base handle (Some talk) = fast_reads base handle talk.device
 -- a record that did not change and has no base row is read by its id
 abbrev pub asks_of : List Record → ℕ → Option Record → List Act
 asks_of base handle None = []
-asks_of base handle (Some item) = if is_changed item then [] else other_reads handle item.id (base_at base false item.id)
+asks_of base handle (Some item) =
+    if is_changed item then [] else other_reads handle item.id (base_at base false item.id)
 
--- one request more for a changed record than there are, and one for each record that did not change and has no base row
+-- one request more for a changed record than there are, and one for each record that did not change
+-- and has no base row
 abbrev pub fast_asks : List Record → ℕ → List Record → List Act
 fast_asks base handle records =
     (counting handle ∷ id_listings handle (id_parts (length records)))
-    ++ (replicate (suc (length (filter is_changed records))) (reading_next handle) ++ each_id (λ i. asks_of base handle (first i records)))
+    ++ (replicate (suc (length (filter is_changed records))) (reading_next handle)
+    ++ each_id (λ i. asks_of base handle (first i records)))

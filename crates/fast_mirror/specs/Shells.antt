@@ -1,4 +1,5 @@
--- Entries that wait for their content: one for each id behind those that were read, so that the first of an id is what was read.
+-- Entries that wait for their content: one for each id behind those that were read, so that the
+-- first of an id is what was read.
 use Rattle.std.specs.Prelude.{◌≡◌, ℕ, Bool, true, false, List, [], ◌∷◌, ◌++◌, Option, IfSome, option_to_list, if◌then◌else◌}
 use Rattle.std.specs.List.{AllByRecursion, flat_map}
 use Rattle.pdb_values.specs.declared.record.Record.{Record}
@@ -12,7 +13,11 @@ use Rattle.fast_mirror.specs.FastReads.{other_reads, other_seen}
 
 -- an entry of this id without a content
 abbrev pub shell : ℕ → Seen
-shell id = record { id = id; state = Unread; content = record { category = 0; secret = false; bytes = [] } }
+shell id = record {
+  id = id;
+  state = Unread;
+  content = record { category = 0; secret = false; bytes = [] };
+}
 
 -- it waits for its content
 abbrev pub waits : SeenState → Bool
@@ -30,11 +35,13 @@ AreRead entries = AllByRecursion IsRead entries
 
 -- what is said or shown of an entry
 abbrev pub filled_reads : List Record → ℕ → Seen → List Act
-filled_reads base handle entry = if waits entry.state then other_reads handle entry.id (base_at base false entry.id) else []
+filled_reads base handle entry =
+    if waits entry.state then other_reads handle entry.id (base_at base false entry.id) else []
 
 abbrev pub filled_seen : List Record → ℕ → Device → Seen → List Seen
 filled_seen base handle device entry =
-    if waits entry.state then other_seen handle device entry.id (base_at base false entry.id) else entry ∷ []
+    if waits entry.state then other_seen handle device entry.id (base_at base false entry.id)
+    else entry ∷ []
 
 -- ---- what is shown has the ids of the entries
 

@@ -6,8 +6,10 @@ use Rattle.file_text.specs.Fields.{line_feed, number_text}
 
 -- what the entries are, and the end of the line
 abbrev pub entries_word : Bool → List ℕ
-entries_word of_resources = (if of_resources then codes " resources" else codes " records") ++ line_feed
+entries_word of_resources =
+    (if of_resources then codes " resources" else codes " records") ++ line_feed
 
 -- `ok N records` or `ok N resources`
 abbrev pub check_text : DatabaseValue → List ℕ
-check_text database = number_text (codes "ok ") (entry_count database) ++ entries_word (has_resources database)
+check_text database =
+    number_text (codes "ok ") (entry_count database) ++ entries_word (has_resources database)

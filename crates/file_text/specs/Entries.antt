@@ -1,4 +1,5 @@
--- The lines of a database's entries (Palm File Format Specification, record entries and resource entries).
+-- The lines of a database's entries (Palm File Format Specification, record entries and resource
+-- entries).
 use Rattle.std.specs.Prelude.{ℕ, ◌+◌, List, [], ◌∷◌, ◌++◌, codes, length, if◌then◌else◌}
 use Rattle.pdb_values.specs.declared.record.Record.{Record}
 use Rattle.pdb_values.specs.declared.resource.Resource.{Resource}
@@ -10,13 +11,15 @@ use Rattle.file_text.specs.Fields.{bytes_of, hex_text, line_feed, number_text}
 -- `K id HHHHHH attr HH size N`
 unfoldable pub record_line : ℕ → Record → List ℕ
 record_line place item =
-    number_text [] place ++ hex_text (codes " id ") (bytes_of 3 item.id) ++ hex_text (codes " attr ") (attributes_of item ∷ [])
+    number_text [] place ++ hex_text (codes " id ") (bytes_of 3 item.id)
+    ++ hex_text (codes " attr ") (attributes_of item ∷ [])
     ++ number_text (codes " size ") (length item.content.bytes) ++ line_feed
 
 -- `K type HHHHHHHH id N size N`
 unfoldable pub resource_line : ℕ → Resource → List ℕ
 resource_line place resource =
-    number_text [] place ++ hex_text (codes " type ") resource.kind.0 ++ number_text (codes " id ") resource.id
+    number_text [] place ++ hex_text (codes " type ") resource.kind.0
+    ++ number_text (codes " id ") resource.id
     ++ number_text (codes " size ") (length resource.bytes) ++ line_feed
 
 -- a line for each entry, from this place on
@@ -34,4 +37,6 @@ resource_lines resources = lines_from resource_line 0 resources
 
 -- a line for each entry
 abbrev pub entry_lines : DatabaseValue → List ℕ
-entry_lines database = if has_resources database then resource_lines database.resources else record_lines database.records
+entry_lines database =
+    if has_resources database then resource_lines database.resources
+    else record_lines database.records

@@ -6,4 +6,5 @@ use Rattle.file_text.specs.Heads.{blocks_line, head_lines}
 
 -- the lines of its head, of its blocks and of its entries
 abbrev pub show_text : DatabaseValue → List ℕ
-show_text database = head_lines database.head ++ blocks_line database.app database.sort ++ entry_lines database
+show_text database =
+    head_lines database.head ++ blocks_line database.app database.sort ++ entry_lines database

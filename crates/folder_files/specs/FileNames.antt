@@ -28,9 +28,11 @@ archive_file name = stem_of name ++ codes ".arc"
 
 -- the file of a database, by what it holds
 abbrev pub database_file : DbHead → List ℕ
-database_file head = if holds_resources head.attributes then resources_file head.name else rows_file head.name
+database_file head =
+    if holds_resources head.attributes then resources_file head.name else rows_file head.name
 
--- what stands in front of the name of a file of a desktop's slot: nothing for slot 0, else `s`, the number of the slot and a dot
+-- what stands in front of the name of a file of a desktop's slot: nothing for slot 0, else `s`, the
+-- number of the slot and a dot
 abbrev pub slot_prefix : ℕ → List ℕ
 slot_prefix zero = []
 slot_prefix (suc number) = codes "s" ++ (decimal (suc number) ++ codes ".")
@@ -49,8 +51,13 @@ journal_file = codes "hotsync.journal"
 
 -- a handheld reads databases and its information file
 abbrev pub is_handheld_file : List ℕ → Bool
-is_handheld_file name = has_ending (codes ".pdb") name || (has_ending (codes ".prc") name || bytes_eq name device_info_file)
+is_handheld_file name =
+    has_ending (codes ".pdb") name
+    || (has_ending (codes ".prc") name || bytes_eq name device_info_file)
 
 -- a desktop keeps rows, bases, archives and its information file
 abbrev pub is_kept_file : List ℕ → Bool
-is_kept_file name = has_ending (codes ".pdb") name || (has_ending (codes ".base") name || (has_ending (codes ".arc") name || bytes_eq name desktop_info_file))
+is_kept_file name =
+    has_ending (codes ".pdb") name
+    || (has_ending (codes ".base") name
+    || (has_ending (codes ".arc") name || bytes_eq name desktop_info_file))

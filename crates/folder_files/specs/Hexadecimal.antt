@@ -7,7 +7,9 @@ use Rattle.pdb_values.specs.PalmDates.{read_wire}
 
 -- exactly so many bytes, where the text is their lower-case hexadecimal
 unfoldable pub bytes_in : ℕ → List ℕ → Option (List ℕ)
-bytes_in count text = option_and_then (λ bytes. if bytes_eq (encode_lower bytes) text then Some bytes else None) (result_ok (decode_sized text count))
+bytes_in count text =
+    option_and_then (λ bytes. if bytes_eq (encode_lower bytes) text then Some bytes else None)
+    (result_ok (decode_sized text count))
 
 -- bytes as the text of them, or `-` for none
 abbrev pub bytes_text : List ℕ → List ℕ

@@ -31,7 +31,15 @@ device_values info = (tt, (info.user, (info.viewer, (info.pc, (info.good, (info.
 -- the user of whom they say this
 abbrev pub device_of : Values device_forms → UserInfo
 device_of v =
-    record { user = v.1.0; viewer = v.1.1.0; pc = v.1.1.1.0; good = v.1.1.1.1.0; last = v.1.1.1.1.1.0; name = v.1.1.1.1.1.1.0; password = v.1.1.1.1.1.1.1.0 }
+    record {
+      user = v.1.0;
+      viewer = v.1.1.0;
+      pc = v.1.1.1.0;
+      good = v.1.1.1.1.0;
+      last = v.1.1.1.1.1.0;
+      name = v.1.1.1.1.1.1.0;
+      password = v.1.1.1.1.1.1.1.0;
+    }
 
 -- the lines of a desktop's file of version 1, which has one user
 abbrev pub one_user_forms : List Form
@@ -114,7 +122,8 @@ pub record IsOneUserFile (slots : List Marks) (bytes : List ℕ) : Type 0 where
 -- the bytes are a file of a desktop with these slots, of either version
 pub record IsDesktopFile (slots : List Marks) (bytes : List ℕ) : Type 0 where
   pub formed : AreSlots slots
-  pub lines : IsOneUserFile slots bytes ⊎ AreLines (desktop_forms slots) (desktop_values slots) bytes
+  pub lines : IsOneUserFile slots bytes
+      ⊎ AreLines (desktop_forms slots) (desktop_values slots) bytes
 
 -- the file that is written of a user
 abbrev pub device_text : UserInfo → List ℕ
@@ -139,18 +148,24 @@ marks_of pc said = record { pc = pc; user = said.0; last = said.1; name = said.2
 
 -- a slot more, where it may have its user; else the bytes from its line on are left unread
 abbrev pub if_follows : List Marks → Marks → List ℕ → Result (List Marks) Unread
-if_follows before marks bytes = if may_follow before marks.user then Ok (before ++ marks ∷ []) else Err (record { 0 = length bytes })
+if_follows before marks bytes =
+    if may_follow before marks.user then Ok (before ++ marks ∷ [])
+    else Err (record { 0 = length bytes })
 
--- so many slots behind those before, and nothing behind them; else the bytes from the first bad line on are left unread
+-- so many slots behind those before, and nothing behind them; else the bytes from the first bad
+-- line on are left unread
 unfoldable pub slots_at : ℕ → ℕ → List Marks → List ℕ → Result (List Marks) Unread
-slots_at pc zero before bytes = if length bytes == 0 then Ok before else Err (record { 0 = length bytes })
+slots_at pc zero before bytes =
+    if length bytes == 0 then Ok before else Err (record { 0 = length bytes })
 slots_at pc (suc count) before bytes =
-    line_at (slot_form (length before)) bytes >>= λ found. if_follows before (marks_of pc found.0) bytes >>= λ slots. slots_at pc count slots found.1
+    line_at (slot_form (length before)) bytes >>= λ found. if_follows before
+    (marks_of pc found.0) bytes >>= λ slots. slots_at pc count slots found.1
 
 -- the slots of a file of version 2
 unfoldable pub many_slots_at : List ℕ → Result (List Marks) Unread
 many_slots_at bytes =
-    line_at title_form bytes >>= λ title. line_at pc_form title.1 >>= λ pc. line_at count_form pc.1 >>= λ count. slots_at pc.0 count.0 [] count.1
+    line_at title_form bytes >>= λ title. line_at pc_form title.1 >>= λ pc.
+    line_at count_form pc.1 >>= λ count. slots_at pc.0 count.0 [] count.1
 
 -- the slot of a file of version 1
 unfoldable pub one_slot_at : List ℕ → Result (List Marks) Unread
@@ -162,4 +177,6 @@ is_one_user bytes = starts_with nat_eq bytes (codes "hotsync-desktop 1")
 
 -- the slots of a desktop's file, or where its first bad line begins
 unfoldable pub desktop_in : List ℕ → Result (List Marks) BadLine
-desktop_in bytes = made (λ slots. slots) bytes (if is_one_user bytes then one_slot_at bytes else many_slots_at bytes)
+desktop_in bytes =
+    made (λ slots. slots) bytes
+    (if is_one_user bytes then one_slot_at bytes else many_slots_at bytes)

@@ -7,7 +7,8 @@ use Rattle.pdb_values.specs.PalmDates.{wire_date}
 use Rattle.pdb_values.specs.Users.{password_of, user_name_of}
 use Rattle.folder_files.specs.Hexadecimal.{IsWireDate, bytes_text}
 
--- What stands behind a key: nothing; a number of 32 bits; one above 0; a date; the name of a user; a password; how many slots a desktop has; what it
+-- What stands behind a key: nothing; a number of 32 bits; one above 0; a date; the name of a user;
+-- a password; how many slots a desktop has; what it
 -- knows of the user of one.
 pub data Kind : Type 0 where
   Title : Kind
@@ -47,18 +48,23 @@ SaysName name text = (text ≡ bytes_text name) × IsBytes name × (user_name_of
 
 -- what a desktop knows of the user of a slot, by the texts of a number, a date and a name
 abbrev pub slot_text : List ℕ → List ℕ → List ℕ → List ℕ
-slot_text user last name = codes "user " ++ (user ++ (codes " last " ++ (last ++ (codes " name " ++ name))))
+slot_text user last name =
+    codes "user " ++ (user ++ (codes " last " ++ (last ++ (codes " name " ++ name))))
 
 -- the text says this
 abbrev pub Says : (kind : Kind) → Value kind → List ℕ → Type 0
 Says Title value text = text ≡ []
 Says Number number text = SaysNumber number text
-Says Positive number text = (text ≡ encode_lower (to_be_bytes w32 number)) × (number < 2 ^ 32) × (0 < number)
+Says Positive number text =
+    (text ≡ encode_lower (to_be_bytes w32 number)) × (number < 2 ^ 32) × (0 < number)
 Says Date seconds text = SaysDate seconds text
 Says Name name text = SaysName name text
-Says Password password text = (text ≡ bytes_text password) × IsBytes password × (password_of password ≡ Some password)
+Says Password password text =
+    (text ≡ bytes_text password) × IsBytes password × (password_of password ≡ Some password)
 Says Count number text = (text ≡ decimal number) × (1 ≤ number) × (number ≤ 16)
-Says Slot value text = (user last name : List ℕ) × (text ≡ slot_text user last name) × SaysNumber value.0 user × SaysDate value.1 last × SaysName value.2 name
+Says Slot value text =
+    (user last name : List ℕ) × (text ≡ slot_text user last name) × SaysNumber value.0 user
+    × SaysDate value.1 last × SaysName value.2 name
 
 -- the text that is written; of the two texts of a date of 0 seconds it is that of zeros
 abbrev pub text_of : (kind : Kind) → Value kind → List ℕ
@@ -69,7 +75,9 @@ text_of Date seconds = encode_lower (wire_date seconds)
 text_of Name name = bytes_text name
 text_of Password password = bytes_text password
 text_of Count number = decimal number
-text_of Slot value = slot_text (encode_lower (to_be_bytes w32 value.0)) (encode_lower (wire_date value.1)) (bytes_text value.2)
+text_of Slot value =
+    slot_text (encode_lower (to_be_bytes w32 value.0)) (encode_lower (wire_date value.1))
+    (bytes_text value.2)
 
 -- what lines of these forms say
 abbrev pub Values : List Form → Type 0
@@ -80,9 +88,11 @@ Values (form ∷ forms) = Value form.kind × Values forms
 abbrev pub AreLines : (forms : List Form) → Values forms → List ℕ → Type 0
 AreLines [] values bytes = bytes ≡ []
 AreLines (form ∷ forms) values bytes =
-    (text rest : List ℕ) × (bytes ≡ form.key ++ (text ++ 10 ∷ rest)) × Says form.kind values.0 text × AreLines forms values.1 rest
+    (text rest : List ℕ) × (bytes ≡ form.key ++ (text ++ 10 ∷ rest)) × Says form.kind values.0 text
+    × AreLines forms values.1 rest
 
 -- the lines that are written
 abbrev pub lines_text : (forms : List Form) → Values forms → List ℕ
 lines_text [] values = []
-lines_text (form ∷ forms) values = form.key ++ (text_of form.kind values.0 ++ 10 ∷ lines_text forms values.1)
+lines_text (form ∷ forms) values =
+    form.key ++ (text_of form.kind values.0 ++ 10 ∷ lines_text forms values.1)

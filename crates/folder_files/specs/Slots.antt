@@ -14,7 +14,9 @@ users_of slots = map (λ marks. marks.user) slots
 
 -- no two users are equal, and only that of slot 0 may be 0, which means that it has none yet
 abbrev pub AreUsers : List ℕ → Type 0
-AreUsers users = (i j : ℕ) → i < j → j < length users → (slice_index users j ≢ 0) × (slice_index users i ≢ slice_index users j)
+AreUsers users =
+    (i j : ℕ) → i < j → j < length users
+    → (slice_index users j ≢ 0) × (slice_index users i ≢ slice_index users j)
 
 -- 1 to 16 slots of one desktop, whose number isn't 0, with users that differ
 pub record AreSlots (slots : List Marks) : Type 0 where

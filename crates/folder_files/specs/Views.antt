@@ -14,7 +14,8 @@ abbrev pub Finds : {A B E : Type 0} → (A → B) → Result A E → Result B E 
 Finds view (Ok found) said = said ≡ Ok (view found)
 Finds view (Err fault) said = said ≡ Err fault
 
--- the slots of a desktop, or where the first bad line begins, are those that a definition says, unless memory ran out
+-- the slots of a desktop, or where the first bad line begins, are those that a definition says,
+-- unless memory ran out
 abbrev pub Reads : Result (Vec Marks) InfoFault → Result (List Marks) BadLine → Type 0
 Reads (Ok slots) said = said ≡ Ok slots.items
 Reads (Err (Bad bad)) said = said ≡ Err bad

@@ -18,25 +18,32 @@ use Rattle.repeat_laws.specs.Renaming.{AreUnknown}
 use Rattle.repeat_laws.specs.Repeats.{EndAlike, GotIds, NoneUnderGone, ended}
 use Rattle.front_laws.specs.Sound.{IsSoundMeeting}
 
--- the desktop's slot is as it was, or merged: the first while no more writes were made than stand before the commit, the second from there on
+-- the desktop's slot is as it was, or merged: the first while no more writes were made than stand
+-- before the commit, the second from there on
 abbrev pub HasSlot : Meeting → Meeting → ℕ → List ℕ → Type 0
 HasSlot meeting next writes given =
     ((slot_of next ≡ slot_of meeting) × (writes ≤ writes_before_commit meeting))
     ⊎ ((slot_of next ≡ merged_slot meeting given) × (writes_before_commit meeting ≤ writes))
 
--- the next meeting finds the handheld at a front of the one that stopped, and asks the same but for the date; the desktop has a number
+-- the next meeting finds the handheld at a front of the one that stopped, and asks the same but for
+-- the date; the desktop has a number
 pub record RunsAgain (meeting next : Meeting) (writes : ℕ) (given : List ℕ) : Type 0 where
   pub front : MeetingFront meeting writes given next.device
   pub slot : HasSlot meeting next writes given
   pub asks : AsksTheSame meeting next
   pub number : 0 < (slot_of meeting).marks.pc
 
--- Of a database: the first session read all of it, or what it passed over was honest; no id that one of the sessions gave was that of a base
--- row, gone or not, that it had then; and where both sides agreed, no record had the id of a gone row.
+-- Of a database: the first session read all of it, or what it passed over was honest; no id that
+-- one of the sessions gave was that of a base
+-- row, gone or not, that it had then; and where both sides agreed, no record had the id of a gone
+-- row.
 pub record IsFresh (meeting next : Meeting) (given later : List ℕ) (name : List ℕ) : Type 0 where
-  pub honest : is_fast meeting (task_of meeting name) ≡ true → IsHonest (base_rows (task_of meeting name)) (records_of (task_of meeting name).handheld)
-  pub fresh : NoBase (base_at (found_of meeting name).base true) (ids_at meeting given name ++ ids_at next later name)
-  pub gone : NoneUnderGone (found_of meeting name).gone_counts (found_of meeting name).base (found_of meeting name).records
+  pub honest : is_fast meeting (task_of meeting name) ≡ true
+      → IsHonest (base_rows (task_of meeting name)) (records_of (task_of meeting name).handheld)
+  pub fresh : NoBase (base_at (found_of meeting name).base true)
+      (ids_at meeting given name ++ ids_at next later name)
+  pub gone : NoneUnderGone (found_of meeting name).gone_counts (found_of meeting name).base
+      (found_of meeting name).records
 
 -- ---- any number of them
 
@@ -49,7 +56,9 @@ pub record Later : Type 0 where
 -- each is run again by the one behind it
 abbrev pub AllRunAgain : Meeting → List Later → Type 0
 AllRunAgain meeting [] = Unit {0}
-AllRunAgain meeting (e ∷ es) = IsSoundMeeting meeting × (first_over meeting ≡ None) × RunsAgain meeting e.next e.writes e.given × AllRunAgain e.next es
+AllRunAgain meeting (e ∷ es) =
+    IsSoundMeeting meeting × (first_over meeting ≡ None)
+    × RunsAgain meeting e.next e.writes e.given × AllRunAgain e.next es
 
 -- the last of them
 abbrev pub last_run : Meeting → List Later → Meeting
@@ -59,41 +68,53 @@ last_run meeting (e ∷ es) = last_run e.next es
 -- no id that one of them gave was that of such a base row
 abbrev pub AreFresh : (ℕ → Based) → Meeting → List Later → List ℕ → List ℕ → Type 0
 AreFresh base meeting [] later name = NoBase base (ids_at meeting later name)
-AreFresh base meeting (e ∷ es) later name = NoBase base (ids_at meeting e.given name) × AreFresh base e.next es later name
+AreFresh base meeting (e ∷ es) later name =
+    NoBase base (ids_at meeting e.given name) × AreFresh base e.next es later name
 
 -- of a database what is asked for one of them, where the last gave these ids
-pub record IsFreshBehind (meeting : Meeting) (es : List Later) (later : List ℕ) (name : List ℕ) : Type 0 where
-  pub honest : is_fast meeting (task_of meeting name) ≡ true → IsHonest (base_rows (task_of meeting name)) (records_of (task_of meeting name).handheld)
+pub record IsFreshBehind (meeting : Meeting) (es : List Later) (later : List ℕ)
+    (name : List ℕ) : Type 0 where
+  pub honest : is_fast meeting (task_of meeting name) ≡ true
+      → IsHonest (base_rows (task_of meeting name)) (records_of (task_of meeting name).handheld)
   pub fresh : AreFresh (base_at (found_of meeting name).base true) meeting es later name
-  pub gone : NoneUnderGone (found_of meeting name).gone_counts (found_of meeting name).base (found_of meeting name).records
+  pub gone : NoneUnderGone (found_of meeting name).gone_counts (found_of meeting name).base
+      (found_of meeting name).records
 
 -- ---- under which ids they end
 
 -- the ids that the sessions gave to a database, in order
 abbrev pub ids_of_all : Meeting → List Later → List ℕ → List ℕ → List ℕ
 ids_of_all meeting [] later name = ids_at meeting later name
-ids_of_all meeting (e ∷ es) later name = ids_at meeting e.given name ++ ids_of_all e.next es later name
+ids_of_all meeting (e ∷ es) later name =
+    ids_at meeting e.given name ++ ids_of_all e.next es later name
 
--- The last session leaves of a database the merge of what the first one found, but for gone rows of the base, under ids of which each was free at
--- its turn and nothing had one. They are all that were given, in order, unless it goes by the desktop, where those given before the commit are
+-- The last session leaves of a database the merge of what the first one found, but for gone rows of
+-- the base, under ids of which each was free at
+-- its turn and nothing had one. They are all that were given, in order, unless it goes by the
+-- desktop, where those given before the commit are
 -- purged again.
 pub record EndsAtMerge (meeting : Meeting) (es : List Later) (later name : List ℕ) : Type 0 where
   pub ids : List ℕ
   pub all : (action_at meeting name ≡ Desktop → ⊥) → ids ≡ ids_of_all meeting es later name
   pub got : GotIds (action_at meeting name) (found_of meeting name) ids
   pub unknown : AreUnknown (found_of meeting name) ids
-  pub ends : EndAlike (holding_after (last_run meeting es) later name) (ended (action_at meeting name) (found_of meeting name) ids)
+  pub ends : EndAlike (holding_after (last_run meeting es) later name)
+      (ended (action_at meeting name) (found_of meeting name) ids)
 
 -- ---- what they skip
 
 -- both sides hold under a name what a meeting found there
-pub record HoldsTheSame (meeting : Meeting) (device : Device) (slot : SlotValue) (name : List ℕ) : Type 0 where
+pub record HoldsTheSame (meeting : Meeting) (device : Device) (slot : SlotValue)
+    (name : List ℕ) : Type 0 where
   pub handheld : database_of name device.databases ≡ (task_of meeting name).handheld
   pub rows : database_of name slot.shelves.rows ≡ (task_of meeting name).rows
   pub base : database_of name slot.shelves.bases ≡ (task_of meeting name).base
   pub archive : database_of name slot.shelves.archives ≡ (task_of meeting name).archive
 
--- each of the sessions behind a first one skips the database of a name, and finds it as the first did
+-- each of the sessions behind a first one skips the database of a name, and finds it as the first
+-- did
 abbrev pub AllSkip : Meeting → List Later → List ℕ → Type 0
 AllSkip meeting [] name = Unit {0}
-AllSkip meeting (e ∷ es) name = (IsActive e.next name → ⊥) × HoldsTheSame meeting e.next.device (slot_of e.next) name × AllSkip meeting es name
+AllSkip meeting (e ∷ es) name =
+    (IsActive e.next name → ⊥) × HoldsTheSame meeting e.next.device (slot_of e.next) name
+    × AllSkip meeting es name

@@ -8,7 +8,8 @@ use Rattle.dlp_commands.specs.DeviceRuns.{Exchange}
 use Rattle.dlp_commands.specs.DeviceSteps.{function_number}
 use Rattle.desktop_session.specs.Orders.{IsAnswered}
 
--- both can be read, and the reply is no error, or error 5 where the request's call has an answer of its own for it
+-- both can be read, and the reply is no error, or error 5 where the request's call has an answer of
+-- its own for it
 pub record IsAnsweredExchange (exchange : Exchange) : Type 0 where
   pub asked : RequestValue
   pub request : request_at exchange.request ≡ Ok asked

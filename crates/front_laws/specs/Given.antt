@@ -8,7 +8,9 @@ use Rattle.desktop_session.specs.Acts.{Act, acted}
 -- each act gives a new record an id that no record of its database has then
 abbrev pub GetFreeIds : List Act → Device → Type 0
 GetFreeIds [] device = Unit {0}
-GetFreeIds (act ∷ acts) device = FormMayGive device act.given act.asks.form act.asks.fields × GetFreeIds acts (acted act device).1
+GetFreeIds (act ∷ acts) device =
+    FormMayGive device act.given act.asks.form act.asks.fields
+    × GetFreeIds acts (acted act device).1
 
 -- the id that an act gives, if it asks for one
 abbrev pub id_in : Act → List ℕ

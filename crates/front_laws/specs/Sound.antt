@@ -7,7 +7,8 @@ use Rattle.desktop_session.specs.Tellings.{IsProper}
 use Rattle.desk_store.specs.Shelves.{SlotValue}
 use Rattle.session_plan.specs.Tasks.{Meeting, slot_of}
 
--- rows and base rows within the bounds of databases, numbers of 32 bits, and a user's name of at most 40 bytes, none of them zero
+-- rows and base rows within the bounds of databases, numbers of 32 bits, and a user's name of at
+-- most 40 bytes, none of them zero
 pub record IsSoundSlot (slot : SlotValue) : Type 0 where
   pub rows : AllByRecursion IsBoundedDatabase slot.shelves.rows
   pub bases : AllByRecursion IsBoundedDatabase slot.shelves.bases
@@ -16,7 +17,8 @@ pub record IsSoundSlot (slot : SlotValue) : Type 0 where
   pub number : slot.marks.user < 2 ^ 32
   pub pc : slot.marks.pc < 2 ^ 32
 
--- a handheld with nothing open and a desktop's picked slot, whose values keep the bounds of their types, and a date of 32 bits
+-- a handheld with nothing open and a desktop's picked slot, whose values keep the bounds of their
+-- types, and a date of 32 bits
 pub record IsSoundMeeting (meeting : Meeting) : Type 0 where
   pub device : IsProper meeting.device
   pub closed : meeting.device.handles ≡ no_handles

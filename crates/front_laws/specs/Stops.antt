@@ -15,12 +15,14 @@ use Rattle.repeat_laws.specs.Repeats.{GotAllIds, GotIds, chosen, clearing_done, 
 
 -- so many of the replacements and adds of the database of a name, where its adds got these ids
 abbrev pub news_at : Meeting → List ℕ → List ℕ → ℕ → List Write
-news_at meeting name ids count = news_done (action_at meeting name) (found_of meeting name) ids count
+news_at meeting name ids count =
+    news_done (action_at meeting name) (found_of meeting name) ids count
 
 -- all of them, and so many of its purges, the clean up and the reset
 abbrev pub cleared_at : Meeting → List ℕ → List ℕ → ℕ → List Write
 cleared_at meeting name ids count =
-    giving (chosen (action_at meeting name) (found_of meeting name)) (shown (found_of meeting name)) ids
+    giving (chosen (action_at meeting name) (found_of meeting name))
+    (shown (found_of meeting name)) ids
     ++ clearing_done (action_at meeting name) (found_of meeting name) count
 
 -- a database with these writes carried out: the one that the handheld had, or the one that was made
@@ -36,32 +38,46 @@ StandsWith task writes now = ((now ≡ task.handheld) × (writes ≡ [])) ⊎ Is
 -- the user is that of a session under way, or nothing was written yet
 abbrev pub HasBegun : Meeting → Device → Type 0
 HasBegun meeting device =
-    (device.user ≡ begun_user meeting.device.user) ⊎ ((device.user ≡ meeting.device.user) × (device.databases ≡ meeting.device.databases))
+    (device.user ≡ begun_user meeting.device.user)
+    ⊎ ((device.user ≡ meeting.device.user) × (device.databases ≡ meeting.device.databases))
 
--- Up to the desktop's commit: each database has so many of its replacements and adds, under the ids that are dealt out to it, of which no
+-- Up to the desktop's commit: each database has so many of its replacements and adds, under the ids
+-- that are dealt out to it, of which no
 -- record had any at its turn, and none is left. What the session skips or hasn't is as before.
 pub record StandsAmongNews (meeting : Meeting) (given : List ℕ) (device : Device) : Type 0 where
   pub count : List ℕ → ℕ
   pub each : (name : List ℕ)
-      → StandsWith (task_of meeting name) (news_at meeting name (ids_at meeting given name) (count name)) (database_of name device.databases)
-  pub all : (name : List ℕ) → given_by (news_at meeting name (ids_at meeting given name) (count name)) ≡ ids_at meeting given name
-  pub free : (name : List ℕ) → GotIds (action_at meeting name) (found_of meeting name) (ids_at meeting given name)
+      → StandsWith (task_of meeting name)
+      (news_at meeting name (ids_at meeting given name) (count name))
+      (database_of name device.databases)
+  pub all : (name : List ℕ)
+      → given_by (news_at meeting name (ids_at meeting given name) (count name))
+      ≡ ids_at meeting given name
+  pub free : (name : List ℕ)
+      → GotIds (action_at meeting name) (found_of meeting name) (ids_at meeting given name)
   pub dealt : flat_map (λ (task : Task). ids_at meeting given task.name) (active meeting) ≡ given
-  pub others : (name : List ℕ) → (IsActive meeting name → ⊥) → database_of name device.databases ≡ database_of name meeting.device.databases
+  pub others : (name : List ℕ) → (IsActive meeting name → ⊥)
+      → database_of name device.databases ≡ database_of name meeting.device.databases
   pub begun : HasBegun meeting device
 
 -- the user is that of a session under way, or the handheld is the merged one
 abbrev pub HasEnded : Meeting → List ℕ → Device → Type 0
 HasEnded meeting given device =
     (device.user ≡ begun_user meeting.device.user)
-    ⊎ ((device.user ≡ (merged_device meeting given).user) × (device.databases ≡ (merged_device meeting given).databases))
+    ⊎ ((device.user ≡ (merged_device meeting given).user)
+    × (device.databases ≡ (merged_device meeting given).databases))
 
--- Behind the commit: each database has all of these, with the ids that are dealt out to it, and so many of its purges, the clean up and
+-- Behind the commit: each database has all of these, with the ids that are dealt out to it, and so
+-- many of its purges, the clean up and
 -- the reset.
 pub record StandsBehindCommit (meeting : Meeting) (given : List ℕ) (device : Device) : Type 0 where
   pub count : List ℕ → ℕ
   pub each : (name : List ℕ) → IsActive meeting name
-      → IsWritten (task_of meeting name) (cleared_at meeting name (ids_at meeting given name) (count name)) (database_of name device.databases)
-  pub free : (name : List ℕ) → IsActive meeting name → GotAllIds (action_at meeting name) (found_of meeting name) (ids_at meeting given name)
-  pub others : (name : List ℕ) → (IsActive meeting name → ⊥) → database_of name device.databases ≡ database_of name meeting.device.databases
+      → IsWritten (task_of meeting name)
+      (cleared_at meeting name (ids_at meeting given name) (count name))
+      (database_of name device.databases)
+  pub free : (name : List ℕ) → IsActive meeting name
+      → GotAllIds (action_at meeting name) (found_of meeting name) (ids_at meeting given name)
+  pub others : (name : List ℕ) → (IsActive meeting name → ⊥)
+      → database_of name device.databases ≡ database_of name meeting.device.databases
   pub ended : HasEnded meeting given device

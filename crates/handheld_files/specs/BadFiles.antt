@@ -26,7 +26,8 @@ pub record HasOtherName (name bytes : List ℕ) (kind : BadKind) (place : ℕ) :
   pub is : (kind ≡ FileName) × (place ≡ 0)
 
 -- it is the file of a database whose name an earlier one has
-pub record IsTwice (earlier : List DatabaseValue) (name bytes : List ℕ) (kind : BadKind) (place : ℕ) : Type 0 where
+pub record IsTwice (earlier : List DatabaseValue) (name bytes : List ℕ) (kind : BadKind)
+    (place : ℕ) : Type 0 where
   pub stored : DatabaseValue
   pub file : IsFileOf stored name bytes
   pub before : IsSome (database_of stored.head.name earlier)
@@ -37,11 +38,14 @@ pub record HasBadLine (bytes : List ℕ) (kind : BadKind) (place : ℕ) : Type 0
   pub first : device_in bytes ≡ Err (record { place = place })
   pub is : kind ≡ Info
 
--- the first failing test of a file of a database by itself: one of its bytes, or else that of its name
+-- the first failing test of a file of a database by itself: one of its bytes, or else that of its
+-- name
 abbrev pub StoredFails : List ℕ → List ℕ → BadKind → ℕ → Type 0
 StoredFails name bytes kind place = BreaksRule bytes kind place ⊎ HasOtherName name bytes kind place
 
 -- the first failing test of a file that a handheld reads, behind files of these databases
 abbrev pub FirstFails : List DatabaseValue → List ℕ → List ℕ → BadKind → ℕ → Type 0
-FirstFails earlier name bytes kind place = MatchBool (is_database_file name) (StoredFails name bytes kind place ⊎ IsTwice earlier name bytes kind place)
+FirstFails earlier name bytes kind place =
+    MatchBool (is_database_file name)
+    (StoredFails name bytes kind place ⊎ IsTwice earlier name bytes kind place)
     (HasBadLine bytes kind place)

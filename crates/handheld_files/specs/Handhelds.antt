@@ -44,10 +44,14 @@ abbrev pub IsUserOf : Option (List ℕ) → UserInfo → Type 0
 IsUserOf None user = user ≡ no_user
 IsUserOf (Some bytes) user = IsDeviceFile user bytes
 
--- The files stand for these databases, in byte order of their names, and for this user: each database has its file as opening
+-- The files stand for these databases, in byte order of their names, and for this user: each
+-- database has its file as opening
 -- made it, and each file of a database has its database.
-pub record StandFor (files : Files) (databases : List DatabaseValue) (user : UserInfo) : Type 0 where
+pub record StandFor (files : Files) (databases : List DatabaseValue)
+    (user : UserInfo) : Type 0 where
   pub order : NamesRise databases
-  pub each_file : (name bytes : List ℕ) → is_database_file name ≡ true → files name ≡ Some bytes → IsHeld databases name bytes
-  pub each_database : (name : List ℕ) (database : DatabaseValue) → database_of name databases ≡ Some database → HasFile files database
+  pub each_file : (name bytes : List ℕ) → is_database_file name ≡ true → files name ≡ Some bytes
+      → IsHeld databases name bytes
+  pub each_database : (name : List ℕ) (database : DatabaseValue)
+      → database_of name databases ≡ Some database → HasFile files database
   pub owner : IsUserOf (files device_info_file) user

@@ -19,7 +19,8 @@ use Rattle.handheld_files.specs.Settled.{are_settled}
 use Rattle.handheld_files.specs.declared.fault.OpenFault.{OpenFault}
 use Rattle.handheld_files.specs.declared.fault.OpenFault.TheVariants.{Keeper, TooMany, BadFile, NoMemory}
 
--- a folder that failed is what its opening tells; only a file that is read can be missing, and that refuses nothing
+-- a folder that failed is what its opening tells; only a file that is read can be missing, and that
+-- refuses nothing
 abbrev pub open_fault : FolderFault → OpenFault
 open_fault folder.Failed = Keeper
 open_fault folder.Missing = NoMemory
@@ -33,8 +34,10 @@ among names held name = if list_any (bytes_eq name) names then finmap.get held n
 abbrev pub database_count : FileMap → ℕ
 database_count held = count_by is_database_file (finmap.keys held)
 
--- The first bad file of these names: those before it stand for databases and a user, and it fails a test.
-pub record IsFirstBad (names : List (List ℕ)) (held : FileMap) (name : List ℕ) (kind : BadKind) (place : ℕ) : Type 0 where
+-- The first bad file of these names: those before it stand for databases and a user, and it fails a
+-- test.
+pub record IsFirstBad (names : List (List ℕ)) (held : FileMap) (name : List ℕ) (kind : BadKind)
+    (place : ℕ) : Type 0 where
   pub before : List (List ℕ)
   pub after : List (List ℕ)
   pub order : names ≡ before ++ name ∷ after
@@ -50,11 +53,14 @@ pub record IsFirstBad (names : List (List ℕ)) (held : FileMap) (name : List �
 abbrev pub Shows : OpenFault → FileMap → Type 0
 Shows Keeper held = ⊤
 Shows TooMany held = most_databases < database_count held
-Shows (BadFile name kind place) held = (database_count held ≤ most_databases) × IsFirstBad (finmap.keys held) held (string_bytes {Z = Global} name) kind place
+Shows (BadFile name kind place) held =
+    (database_count held ≤ most_databases)
+    × IsFirstBad (finmap.keys held) held (string_bytes {Z = Global} name) kind place
 Shows NoMemory held = ⊤
 
 -- what a folder holds that was opened
-pub record HoldsAll (held : FileMap) (databases : List DatabaseValue) (user : UserInfo) : Type 0 where
+pub record HoldsAll (held : FileMap) (databases : List DatabaseValue)
+    (user : UserInfo) : Type 0 where
   pub few : database_count held ≤ most_databases
   pub stands : StandFor (finmap.get held) databases user
 

@@ -14,7 +14,8 @@ use Rattle.handheld_files.specs.declared.fault.OpenFault.TheVariants.{Keeper, To
 
 -- the file is none that a handheld reads, or is not there
 abbrev pub IsPassedOver : Option FileMap → List ℕ → Type 0
-IsPassedOver told name = (is_handheld_file name ≡ false) ⊎ IfSome told (λ held. finmap.get held name ≡ None)
+IsPassedOver told name =
+    (is_handheld_file name ≡ false) ⊎ IfSome told (λ held. finmap.get held name ≡ None)
 
 -- a file that a handheld reads has these bytes
 pub record IsRead (told : Option FileMap) (name bytes : List ℕ) : Type 0 where
@@ -22,12 +23,14 @@ pub record IsRead (told : Option FileMap) (name bytes : List ℕ) : Type 0 where
   pub there : IfSome told (λ held. finmap.get held name ≡ Some bytes)
 
 -- nothing changed
-pub record Stays (old : List DatabaseValue) (user : UserInfo) (new : List DatabaseValue) (user' : UserInfo) : Type 0 where
+pub record Stays (old : List DatabaseValue) (user : UserInfo) (new : List DatabaseValue)
+    (user' : UserInfo) : Type 0 where
   pub databases : new ≡ old
   pub owner : user' ≡ user
 
 -- a file was passed over, or what it stands for was added
-abbrev pub ReadsOn : Option FileMap → List ℕ → List DatabaseValue → UserInfo → List DatabaseValue → UserInfo → Type 0
+abbrev pub ReadsOn : Option FileMap → List ℕ → List DatabaseValue → UserInfo → List DatabaseValue
+    → UserInfo → Type 0
 ReadsOn told name old user new user' = (IsPassedOver told name × Stays old user new user')
     ⊎ ((bytes : List ℕ) × IsRead told name bytes × AddsFile old user name bytes new user')
 
@@ -40,7 +43,8 @@ RefusesFile told name earlier (BadFile file kind place) = (string_bytes {Z = Glo
 RefusesFile told name earlier NoMemory = ⊤
 
 -- what reading one file did
-abbrev pub ReadsFile : Option FileMap → List ℕ → List DatabaseValue → UserInfo → List DatabaseValue → UserInfo → Result (Unit {0}) OpenFault → Type 0
+abbrev pub ReadsFile : Option FileMap → List ℕ → List DatabaseValue → UserInfo → List DatabaseValue
+    → UserInfo → Result (Unit {0}) OpenFault → Type 0
 ReadsFile told name old user new user' (Ok done) = ReadsOn told name old user new user'
 ReadsFile told name old user new user' (Err fault) = RefusesFile told name old fault
 
@@ -48,5 +52,6 @@ ReadsFile told name old user new user' (Err fault) = RefusesFile told name old f
 abbrev pub RefusesOne : List (List ℕ) → OpenFault → FileMap → Type 0
 RefusesOne names Keeper held = ⊤
 RefusesOne names TooMany held = ⊥
-RefusesOne names (BadFile file kind place) held = IsFirstBad names held (string_bytes {Z = Global} file) kind place
+RefusesOne names (BadFile file kind place) held =
+    IsFirstBad names held (string_bytes {Z = Global} file) kind place
 RefusesOne names NoMemory held = ⊤

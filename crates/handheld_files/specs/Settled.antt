@@ -1,4 +1,5 @@
--- What becomes of a database where a handheld's store is opened (Palm File Format Specification, attributes and ids of record entries).
+-- What becomes of a database where a handheld's store is opened (Palm File Format Specification,
+-- attributes and ids of record entries).
 use Rattle.std.specs.Prelude.{ℕ, Bool, true, false, not, ◌&&◌, ◌==◌, List, [], ◌∷◌, map}
 use Rattle.std.specs.List.{list_all}
 use Rattle.pdb_values.specs.Databases.{DatabaseValue}
@@ -23,6 +24,8 @@ abbrev pub are_ids : List ℕ → Bool
 are_ids [] = true
 are_ids (id ∷ ids) = not (id == 0) && (not (is_among id ids) && are_ids ids)
 
--- Records that opening a store once more would leave as they are: ids that differ, none of them 0, and no busy bit.
+-- Records that opening a store once more would leave as they are: ids that differ, none of them 0,
+-- and no busy bit.
 abbrev pub are_settled : List Record → Bool
-are_settled records = list_all (λ item. not item.busy) records && are_ids (map (λ item. item.id) records)
+are_settled records =
+    list_all (λ item. not item.busy) records && are_ids (map (λ item. item.id) records)

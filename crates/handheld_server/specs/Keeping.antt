@@ -17,33 +17,48 @@ use Rattle.handheld_store.specs.Stores.{StoreValue}
 use Rattle.handheld_server.specs.declared.fault.ServeFault.{ServeFault}
 use Rattle.handheld_server.specs.declared.fault.ServeFault.TheVariants.{Keeper}
 
--- The folder stands for the databases and the user afterwards where it did before, and the store is sound. After a fault the
--- databases and the user are as before, and the whole store is, or it is not sound. The folder changed once at most.
-pub record Keeps {F A : Type 0} (contents : F → Option FileMap) (moments : F → Moments) (paths : F → Option (List (List ℕ))) (faults : F → ℕ)
+-- The folder stands for the databases and the user afterwards where it did before, and the store is
+-- sound. After a fault the
+-- databases and the user are as before, and the whole store is, or it is not sound. The folder
+-- changed once at most.
+pub record Keeps {F A : Type 0} (contents : F → Option FileMap) (moments : F → Moments)
+    (paths : F → Option (List (List ℕ))) (faults : F → ℕ)
     (old new : StoreValue F) (answer : Result A ServeFault) : Type 0 where
-  pub stands : Stands (contents old.folder) old.databases old.user → OnOk answer (Stands (contents new.folder) new.databases new.user)
+  pub stands : Stands (contents old.folder) old.databases old.user
+      → OnOk answer (Stands (contents new.folder) new.databases new.user)
   pub sound : OnOk answer (new.sound ≡ true)
   pub stays : OnErr answer (new.sound ≡ true → new ≡ old)
   pub held : OnErr answer (new ≡ record old { folder = new.folder; sound = new.sound })
-  pub change : OneChange contents moments paths faults old.folder new.folder answer (IsErrOf answer Keeper)
+  pub change : OneChange contents moments paths faults old.folder new.folder answer
+      (IsErrOf answer Keeper)
 
 -- the information file says the user, and neither another file nor a database changed
-pub record TouchesUser {F : Type 0} (contents : F → Option FileMap) (old new : StoreValue F) : Type 0 where
-  pub file : contents new.folder ≡ option_map (λ (held : FileMap). finmap.insert held device_info_file (device_text new.user)) (contents old.folder)
+pub record TouchesUser {F : Type 0} (contents : F → Option FileMap)
+    (old new : StoreValue F) : Type 0 where
+  pub file : contents new.folder
+      ≡ option_map (λ (held : FileMap). finmap.insert held device_info_file (device_text new.user))
+      (contents old.folder)
   pub databases : new.databases ≡ old.databases
 
--- One database changed at most, and its file went with it: where it has the same value all files are as before, byte for byte.
+-- One database changed at most, and its file went with it: where it has the same value all files
+-- are as before, byte for byte.
 -- Neither another file nor another database changed, nor the user.
-pub record TouchesOne {F : Type 0} (contents : F → Option FileMap) (old new : StoreValue F) : Type 0 where
+pub record TouchesOne {F : Type 0} (contents : F → Option FileMap)
+    (old new : StoreValue F) : Type 0 where
   pub name : List ℕ
   pub file : FollowsName contents name old new
-  pub others : (other : List ℕ) → bytes_eq name other ≡ false → database_of other new.databases ≡ database_of other old.databases
+  pub others : (other : List ℕ) → bytes_eq name other ≡ false
+      → database_of other new.databases ≡ database_of other old.databases
   pub user : new.user ≡ old.user
 
--- the information file where the user was written, whether that is another one or not, and else the file of one database
-abbrev pub Touches : {F : Type 0} → (F → Option FileMap) → Bool → StoreValue F → StoreValue F → Type 0
-Touches contents written old new = MatchBool written (TouchesUser contents old new) (TouchesOne contents old new)
+-- the information file where the user was written, whether that is another one or not, and else the
+-- file of one database
+abbrev pub Touches : {F : Type 0} → (F → Option FileMap) → Bool → StoreValue F
+    → StoreValue F → Type 0
+Touches contents written old new =
+    MatchBool written (TouchesUser contents old new) (TouchesOne contents old new)
 
 -- a request is WriteUserInfo, and its reply says that it was done
 abbrev pub wrote_user : List ℕ → List ℕ → Bool
-wrote_user request answer = (first_byte request == 0x11) && bytes_eq answer (reply_text reply.WriteUserInfo)
+wrote_user request answer =
+    (first_byte request == 0x11) && bytes_eq answer (reply_text reply.WriteUserInfo)

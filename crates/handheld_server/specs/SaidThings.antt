@@ -1,4 +1,5 @@
--- What a link to a server tells: its device, the exchanges that were answered, and the request that was left.
+-- What a link to a server tells: its device, the exchanges that were answered, and the request that
+-- was left.
 use Rattle.std.specs.Prelude.{ℕ, Bool, None, Some, ◌||◌, ◌&&◌, is_none, is_some, List, map, Option}
 use Rattle.std.specs.Option.{option_map}
 use Rattle.dlp_args.specs.Messages.{MessageTextValue}

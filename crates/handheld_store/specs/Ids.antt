@@ -13,5 +13,6 @@ IsTakenOrFree id records = place_of_id id records ≡ None → IsFree id records
 
 -- an edit that is given this id writes a record that is there, or one under a free id
 abbrev pub GivesGoodId : ℕ → Edit → DatabaseValue → Type 0
-GivesGoodId free (edit.Record id category secret bytes) database = IsTakenOrFree (given_id free id) database.records
+GivesGoodId free (edit.Record id category secret bytes) database =
+    IsTakenOrFree (given_id free id) database.records
 GivesGoodId free other database = Unit {0}

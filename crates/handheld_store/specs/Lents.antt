@@ -16,7 +16,10 @@ with_database database lent = record lent { database = database }
 
 -- a record in another category is dirty
 abbrev pub moved_to : ℕ → Record → Record
-moved_to category item = record item { dirty = true; content = record item.content { category = category } }
+moved_to category item = record item {
+  dirty = true;
+  content = record item.content { category = category };
+}
 
 -- a record counts as changed or not
 abbrev pub flagged : Bool → Record → Record
@@ -24,4 +27,6 @@ flagged dirty item = record item { dirty = dirty }
 
 -- a change of the selected record; all else stays
 abbrev pub with_selected : (Record → Record) → LentValue → LentValue
-with_selected change lent = with_database (with_records (change_at change lent.place lent.database.records) lent.database) lent
+with_selected change lent =
+    with_database
+    (with_records (change_at change lent.place lent.database.records) lent.database) lent

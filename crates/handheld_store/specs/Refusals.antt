@@ -12,11 +12,13 @@ use Rattle.handheld_store.specs.declared.fault.StoreFault.TheVariants.{NotFound,
 -- why a database is not lent: none has the name, or it may only be read
 abbrev pub open_fault : Bool → Option DatabaseValue → Option StoreFault
 open_fault writes None = Some NotFound
-open_fault writes (Some database) = if writes && is_read_only database.head.attributes then Some ReadOnly else None
+open_fault writes (Some database) =
+    if writes && is_read_only database.head.attributes then Some ReadOnly else None
 
 -- why a database is not made: one has the name, or there are as many as there can be
 abbrev pub create_fault : List ℕ → List DatabaseValue → Option StoreFault
-create_fault name databases = if is_some (database_of name databases) then Some Exists else if nat_le most_databases
+create_fault name databases =
+    if is_some (database_of name databases) then Some Exists else if nat_le most_databases
     (length databases) then Some Limit else None
 
 -- why a database is not taken away: none has the name
@@ -43,7 +45,8 @@ stops (Err Limit) = false
 stops (Err KeeperFault) = true
 stops (Err NoMemory) = true
 
--- what a folder's fault makes of a call: a removal that finds no file is done, so nothing else can be missing
+-- what a folder's fault makes of a call: a removal that finds no file is done, so nothing else can
+-- be missing
 abbrev pub store_fault : FolderFault → StoreFault
 store_fault folder.Failed = KeeperFault
 store_fault folder.Missing = NoMemory

@@ -17,12 +17,14 @@ pub record BreaksRule (bytes : List ℕ) (kind : BadKind) (place : ℕ) : Type 0
 
 -- the status of a bad file, unless memory ran out
 abbrev pub IsBadStatus : FileSide → List ℕ → BadKind → ℕ → Status → Type 0
-IsBadStatus side name kind place (BadFile on file found at) = (on ≡ side) × (string_bytes {Z = Global} file ≡ name) × (found ≡ kind) × (at ≡ place)
+IsBadStatus side name kind place (BadFile on file found at) =
+    (on ≡ side) × (string_bytes {Z = Global} file ≡ name) × (found ≡ kind) × (at ≡ place)
 IsBadStatus side name kind place NoMemory = ⊤
 IsBadStatus side name kind place _ = ⊥
 
 -- the status that stands for a refusal of the file, unless memory ran out
 abbrev pub StandsFor : FileSide → List ℕ → FileFault → Status → Type 0
-StandsFor side name rule (BadFile on file kind place) = (on ≡ side) × (string_bytes {Z = Global} file ≡ name) × (bad_file rule ≡ Some (kind, place))
+StandsFor side name rule (BadFile on file kind place) =
+    (on ≡ side) × (string_bytes {Z = Global} file ≡ name) × (bad_file rule ≡ Some (kind, place))
 StandsFor side name rule NoMemory = ⊤
 StandsFor side name rule _ = ⊥

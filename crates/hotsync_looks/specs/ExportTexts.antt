@@ -32,7 +32,8 @@ privacy_of export = if export.without_private then WithoutPrivate else All
 abbrev pub broken_of : Export → BrokenRecords
 broken_of export = if export.keep_broken then Kept else Refused
 
--- why a database has no text in a form: it holds nothing of the form, or its first record that is out of its own form
+-- why a database has no text in a form: it holds nothing of the form, or its first record that is
+-- out of its own form
 pub data NoText : Type 0 where
   Absent : NoText
   OutOfForm : ℕ → ℕ → NoText
@@ -51,7 +52,8 @@ if_held false text = Err Absent
 -- its memos
 abbrev pub memos_export : Export → DatabaseValue → Result (List ℕ) NoText
 memos_export export database =
-    if_held (holds_memos database.head) (Ok (memos_text (exported_memos (privacy_of export) database)))
+    if_held (holds_memos database.head)
+    (Ok (memos_text (exported_memos (privacy_of export) database)))
 
 -- its addresses, as cards
 abbrev pub cards_export : Export → DatabaseValue → Result (List ℕ) NoText
@@ -77,13 +79,15 @@ table_export export database =
 abbrev pub kind_export : Kind → ℕ → Export → DatabaseValue → Result (List ℕ) NoText
 kind_export kind made export database =
     if_held (is_of_kind kind database.head)
-    (unless_bad (broken_of export) (first_bad (fault_of kind) (privacy_of export) 0 database.records)
+    (unless_bad (broken_of export)
+    (first_bad (fault_of kind) (privacy_of export) 0 database.records)
     (calendar_text (source_of made database) (exported kind (privacy_of export) database)))
 
 -- its tasks, if it holds any, else its dates
 abbrev pub calendar_export : ℕ → Export → DatabaseValue → Result (List ℕ) NoText
 calendar_export made export database =
-    if is_of_kind Tasks database.head then kind_export Tasks made export database else kind_export Dates made export database
+    if is_of_kind Tasks database.head then kind_export Tasks made export database
+    else kind_export Dates made export database
 
 -- a database in the form of an export
 abbrev pub form_export : Export → ExportForm → DatabaseValue → Result (List ℕ) NoText

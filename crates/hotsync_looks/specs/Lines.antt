@@ -53,7 +53,8 @@ side_word Source = codes "source"
 -- `bad file SIDE NAME KIND PLACE`, with the name as it is printed
 unfoldable pub bad_file_line : FileSide → List ℕ → BadKind → ℕ → List ℕ
 bad_file_line side name kind place =
-    codes "bad file " ++ side_word side ++ codes " " ++ printed_name name ++ codes " " ++ word_of kind ++ (codes " " ++ (decimal place ++ line_feed))
+    codes "bad file " ++ side_word side ++ codes " " ++ printed_name name ++ codes " "
+    ++ word_of kind ++ (codes " " ++ (decimal place ++ line_feed))
 
 -- the word of an end of the line
 abbrev pub end_word : End → List ℕ
@@ -79,7 +80,8 @@ word_line words word = words ++ word ++ line_feed
 
 -- `other user HANDHELD DESKTOP`
 unfoldable pub users_line : ℕ → ℕ → List ℕ
-users_line handheld desktop = codes "other user " ++ user_text handheld ++ codes " " ++ user_text desktop ++ line_feed
+users_line handheld desktop =
+    codes "other user " ++ user_text handheld ++ codes " " ++ user_text desktop ++ line_feed
 
 -- the word of a form
 abbrev pub form_word : ExportForm → List ℕ
@@ -90,11 +92,13 @@ form_word (Calendar made) = codes "ics"
 
 -- `cannot export STEM as FORM`
 unfoldable pub export_line : List ℕ → ExportForm → List ℕ
-export_line name form = codes "cannot export " ++ stem_of name ++ codes " as " ++ form_word form ++ line_feed
+export_line name form =
+    codes "cannot export " ++ stem_of name ++ codes " as " ++ form_word form ++ line_feed
 
 -- `bad record K PLACE`
 unfoldable pub record_line : ℕ → ℕ → List ℕ
-record_line index place = codes "bad record " ++ (decimal index ++ (codes " " ++ (decimal place ++ line_feed)))
+record_line index place =
+    codes "bad record " ++ (decimal index ++ (codes " " ++ (decimal place ++ line_feed)))
 
 -- what a text has too many of
 abbrev pub surplus_word : Surplus → List ℕ
@@ -117,7 +121,8 @@ refusal_line Done = ended_line
 refusal_line Usage = usage_line
 refusal_line (BadScript line) = number_line (codes "bad script line ") line
 refusal_line TooLong = codes "source too long" ++ line_feed
-refusal_line (BadFile side name kind place) = bad_file_line side (string_bytes {Z = Global} name) kind place
+refusal_line (BadFile side name kind place) =
+    bad_file_line side (string_bytes {Z = Global} name) kind place
 refusal_line (CannotExport name form) = export_line name form
 refusal_line (BadRecord index place) = record_line index place
 refusal_line (BadText line) = number_line (codes "bad text line ") line
@@ -164,8 +169,10 @@ skip_word skip.Missing = codes "missing"
 unfoldable pub counts_text : Counts → List ℕ
 counts_text counts =
     mode_word counts.fast
-    ++ count_text (codes " read ") counts.read ++ count_text (codes " replaced ") counts.replaced ++ count_text (codes " added ") counts.added
-    ++ count_text (codes " purged ") counts.purged ++ count_text (codes " archived ") counts.archived ++ count_text (codes " rows ") counts.rows
+    ++ count_text (codes " read ") counts.read ++ count_text (codes " replaced ") counts.replaced
+    ++ count_text (codes " added ") counts.added
+    ++ count_text (codes " purged ") counts.purged
+    ++ count_text (codes " archived ") counts.archived ++ count_text (codes " rows ") counts.rows
 
 -- this, or ` skipped REASON`, or ` installed entries N`
 abbrev pub did_text : Did → List ℕ

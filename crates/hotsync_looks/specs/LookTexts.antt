@@ -67,7 +67,8 @@ pub record IsUnfit (look : Look) (name bytes : List ℕ) : Type 0 where
   pub name_is : database.head.name ≡ name
   pub no_text : look_text look database ≡ Err Absent
 
--- the bytes are the file of a database whose first record that is out of its form is this one, at this place in it
+-- the bytes are the file of a database whose first record that is out of its form is this one, at
+-- this place in it
 pub record HasBadRecord (look : Look) (index place : ℕ) (bytes : List ℕ) : Type 0 where
   pub database : DatabaseValue
   pub file : IsFileText database bytes
@@ -77,7 +78,8 @@ pub record HasBadRecord (look : Look) (index place : ℕ) (bytes : List ℕ) : T
 abbrev pub NoTextSays : Look → DatabaseValue → Status → Type 0
 NoTextSays look database (CannotExport name form) =
     HasForm form look × (database.head.name ≡ name) × (look_text look database ≡ Err Absent)
-NoTextSays look database (BadRecord index place) = look_text look database ≡ Err (OutOfForm index place)
+NoTextSays look database (BadRecord index place) =
+    look_text look database ≡ Err (OutOfForm index place)
 NoTextSays look database NoMemory = ⊤
 NoTextSays look database _ = ⊥
 
@@ -99,9 +101,12 @@ pub record IsImported (bytes file : List ℕ) : Type 0 where
 
 -- `proper requests N replies M`
 unfoldable pub proper_line : ℕ → ℕ → List ℕ
-proper_line requests replies = codes "proper requests " ++ (decimal requests ++ (codes " replies " ++ (decimal replies ++ line_feed)))
+proper_line requests replies =
+    codes "proper requests "
+    ++ (decimal requests ++ (codes " replies " ++ (decimal replies ++ line_feed)))
 
--- the bytes are the text of a proper trace, and this line has the numbers of its whole requests and replies
+-- the bytes are the text of a proper trace, and this line has the numbers of its whole requests and
+-- replies
 pub record IsProperText (bytes text : List ℕ) : Type 0 where
   pub frames : List FrameValue
   pub reading : IsTraceReading bytes (Ok frames)
@@ -133,8 +138,10 @@ IsTextOf (Import form) bytes text = IsImported bytes text
 IsTextOf Verify bytes text = IsProperText bytes text
 IsTextOf Picture bytes text = IsPageText bytes text
 
--- why a look prints nothing of the bytes of a file: they break a rule of the format of a database, are a database that holds nothing of
--- the kind, or one with a record that is out of its form, are no text of memos, have a line that is none of a trace, or are a trace that
+-- why a look prints nothing of the bytes of a file: they break a rule of the format of a database,
+-- are a database that holds nothing of
+-- the kind, or one with a record that is out of its form, are no text of memos, have a line that is
+-- none of a trace, or are a trace that
 -- breaks a rule
 pub data Cause : Type 0 where
   Broken : BadKind → ℕ → Cause
@@ -195,20 +202,29 @@ Says look file _ _ = ⊥
 
 -- a status of bytes of which a look prints nothing: it says why, or memory ran out
 abbrev pub Refuses : Look → List ℕ → List ℕ → Status → Type 0
-Refuses look file bytes status = ((cause : Cause) × IsCauseOf look bytes cause × Says look file cause status) ⊎ (status ≡ NoMemory)
+Refuses look file bytes status =
+    ((cause : Cause) × IsCauseOf look bytes cause × Says look file cause status)
+    ⊎ (status ≡ NoMemory)
 
 -- the same where the bytes are looked at as a database
 abbrev pub RefusesDatabase : Look → List ℕ → List ℕ → Status → Type 0
-RefusesDatabase look file bytes status = ((cause : Cause) × IsDatabaseCause look bytes cause × Says look file cause status) ⊎ (status ≡ NoMemory)
+RefusesDatabase look file bytes status =
+    ((cause : Cause) × IsDatabaseCause look bytes cause × Says look file cause status)
+    ⊎ (status ≡ NoMemory)
 
 -- the same where they are read as a text of memos
 abbrev pub RefusesImport : List ℕ → Status → Type 0
-RefusesImport bytes status = ((fault : ImportFault) × (import_in bytes ≡ Err fault) × SaysMisfit fault status) ⊎ (status ≡ NoMemory)
+RefusesImport bytes status =
+    ((fault : ImportFault) × (import_in bytes ≡ Err fault) × SaysMisfit fault status)
+    ⊎ (status ≡ NoMemory)
 
 -- the same where they are read as a trace
 abbrev pub RefusesReading : List ℕ → Status → Type 0
-RefusesReading bytes status = ((line : ℕ) × IsBadLine bytes line × (status ≡ BadTrace line)) ⊎ (status ≡ NoMemory)
+RefusesReading bytes status =
+    ((line : ℕ) × IsBadLine bytes line × (status ≡ BadTrace line)) ⊎ (status ≡ NoMemory)
 
 -- the same where the trace is judged
 abbrev pub RefusesTrace : List ℕ → Status → Type 0
-RefusesTrace bytes status = ((rule : Rule) × BreaksFirst rule bytes × (status ≡ NotProper rule)) ⊎ RefusesReading bytes status
+RefusesTrace bytes status =
+    ((rule : Rule) × BreaksFirst rule bytes × (status ≡ NotProper rule))
+    ⊎ RefusesReading bytes status

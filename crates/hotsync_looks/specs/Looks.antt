@@ -1,4 +1,5 @@
--- What holds of a look at a file: the source and standard output before it, and both of them after it.
+-- What holds of a look at a file: the source and standard output before it, and both of them after
+-- it.
 use Rattle.std.specs.Prelude.{◌≡◌, ◌⊎◌, ⊤, ◌<◌, ◌≤◌, ℕ, List, length, Option, Some, IfSome}
 use Rattle.hs_folders.specs.Causes.{Rose}
 use Rattle.run_words.specs.declared.look.Look.{Look}
@@ -60,7 +61,8 @@ IsSourceRefusal NoMemory = ⊤
 IsSourceRefusal _ = ⊥
 
 -- What is known of it. A clause on the source's bytes speaks where the source tells them.
-pub record IsLook (look : Look) (file : List ℕ) (source source_after : SourceTold) (out out_after : SinkTold) (status : Status) : Type 0 where
+pub record IsLook (look : Look) (file : List ℕ) (source source_after : SourceTold)
+    (out out_after : SinkTold) (status : Status) : Type 0 where
   -- Each status shows its cause: in the source's bytes, or in a count that rose.
   pub ended : IsLookRefusal status ⊎ (status ≡ Done) ⊎ (status ≡ OutWrite)
   pub shown : IfSome source.left (SourceShows look file status)
@@ -70,10 +72,14 @@ pub record IsLook (look : Look) (file : List ℕ) (source source_after : SourceT
   pub source_opened : status ≡ Done → Opens file source.paths source_after.paths
   -- Standard output took the text, or the line of a refusal.
   pub printed : IsPrinted (IsTextIn look source.left) out out_after status
-  -- Where no object fails, the bytes decide: of them a look prints something, or they are refused, unless memory runs out.
+  -- Where no object fails, the bytes decide: of them a look prints something, or they are refused,
+  -- unless memory runs out.
   pub complete : (bytes : List ℕ) → source.left ≡ Some bytes → IsReadable look bytes
-      → ¬ Rose source.faults source_after.faults → ¬ Rose out.faults out_after.faults → (status ≡ Done) ⊎ (status ≡ NoMemory)
-  pub refused : (bytes : List ℕ) (cause : Cause) → source.left ≡ Some bytes → length bytes ≤ source_limit → IsCauseOf look bytes cause
+      → ¬ Rose source.faults source_after.faults → ¬ Rose out.faults out_after.faults
+      → (status ≡ Done) ⊎ (status ≡ NoMemory)
+  pub refused : (bytes : List ℕ) (cause : Cause) → source.left ≡ Some bytes
+      → length bytes ≤ source_limit → IsCauseOf look bytes cause
       → ¬ Rose source.faults source_after.faults → Says look file cause status ⊎ (status ≡ NoMemory)
-  pub too_long : (bytes : List ℕ) → source.left ≡ Some bytes → source_limit < length bytes → ¬ Rose source.faults source_after.faults
+  pub too_long : (bytes : List ℕ) → source.left ≡ Some bytes → source_limit < length bytes
+      → ¬ Rose source.faults source_after.faults
       → (status ≡ TooLong) ⊎ (status ≡ NoMemory)

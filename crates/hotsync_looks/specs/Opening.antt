@@ -16,5 +16,6 @@ OpensGiven None old now = now ≡ old
 OpensGiven (Some path) old now = Opens path old now
 
 -- it was opened at the path that is given, or not at all
-abbrev pub OpensGivenAtMost : Option (List ℕ) → Option (List (List ℕ)) → Option (List (List ℕ)) → Type 0
+abbrev pub OpensGivenAtMost : Option (List ℕ) → Option (List (List ℕ))
+    → Option (List (List ℕ)) → Type 0
 OpensGivenAtMost path old now = (now ≡ old) ⊎ OpensGiven path old now

@@ -51,15 +51,20 @@ IsRefusal OutWrite = ⊥
 IsRefusal NoMemory = ⊥
 IsRefusal _ = ⊤
 
--- the status once its lines were to be printed: it stands, unless memory ran out or what was done could not be said
+-- the status once its lines were to be printed: it stands, unless memory ran out or what was done
+-- could not be said
 abbrev pub IsPrintedStatus : Status → Status → Type 0
-IsPrintedStatus status printed = (printed ≡ status) ⊎ (printed ≡ NoMemory) ⊎ ((status ≡ Done) × (printed ≡ OutWrite))
+IsPrintedStatus status printed =
+    (printed ≡ status) ⊎ (printed ≡ NoMemory) ⊎ ((status ≡ Done) × (printed ≡ OutWrite))
 
--- Standard output took exactly the lines of the status, or a first part of them where it failed. It was not opened.
-pub record IsPrinted (IsText : List ℕ → Type 0) (out out_after : SinkTold) (status : Status) : Type 0 where
+-- Standard output took exactly the lines of the status, or a first part of them where it failed. It
+-- was not opened.
+pub record IsPrinted (IsText : List ℕ → Type 0) (out out_after : SinkTold)
+    (status : Status) : Type 0 where
   pub done : status ≡ Done → TookText IsText out.taken out_after.taken
   pub in_part : status ≡ OutWrite → TookPart IsText out.taken out_after.taken
-  pub refusal : IsRefusal status → TookLines (refusal_line status) (Rose out.faults out_after.faults) out.taken out_after.taken
+  pub refusal : IsRefusal status
+      → TookLines (refusal_line status) (Rose out.faults out_after.faults) out.taken out_after.taken
   pub no_memory : status ≡ NoMemory → TookSomeLines IsText out.taken out_after.taken
   pub failed : status ≡ OutWrite → Rose out.faults out_after.faults
   pub path : out_after.paths ≡ out.paths

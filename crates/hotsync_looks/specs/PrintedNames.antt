@@ -14,10 +14,12 @@ is_escaped byte = not (is_printable byte) || (byte == 37)
 -- these begin with the two digits of an escape
 abbrev pub begins_escape : List ℕ → Bool
 begins_escape (high ∷ low ∷ rest) =
-    nat_lt (digit_number high) 16 && nat_lt (digit_number low) 16 && is_escaped (digit_number high * 16 + digit_number low)
+    nat_lt (digit_number high) 16 && nat_lt (digit_number low) 16
+    && is_escaped (digit_number high * 16 + digit_number low)
 begins_escape _ = false
 
--- in front of these a byte stands for itself: it is printable, and no `%` that would begin an escape
+-- in front of these a byte stands for itself: it is printable, and no `%` that would begin an
+-- escape
 abbrev pub stands_alone : ℕ → List ℕ → Bool
 stands_alone byte rest = is_printable byte && not ((byte == 37) && begins_escape rest)
 

@@ -8,7 +8,8 @@ use Rattle.hotsync_looks.specs.Told.{SinkTold}
 use Rattle.hotsync_looks.specs.declared.status.Status.{Status}
 use Rattle.hotsync_looks.specs.declared.status.Status.TheVariants.{Done, OutWrite, NoMemory}
 
--- What is known of it: a line for each packet, and their number, unless standard output fails or memory runs out.
+-- What is known of it: a line for each packet, and their number, unless standard output fails or
+-- memory runs out.
 pub record IsScanned (bytes : List ℕ) (out out_after : SinkTold) (status : Status) : Type 0 where
   pub ended : (status ≡ Done) ⊎ (status ≡ OutWrite) ⊎ (status ≡ NoMemory)
   pub printed : IsPrinted (ShowsPackets (scan bytes)) out out_after status

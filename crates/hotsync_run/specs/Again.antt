@@ -35,7 +35,8 @@ pub record AreOfOneKind (meeting other : Meeting) : Type 0 where
 abbrev pub DidRun : RunCall → Type 0
 DidRun call = AreTold call.before × IsAnsweredRun call
 
--- nothing is edited between two calls, and the words ask the same, but for date, script, trace and whether a user may be added
+-- nothing is edited between two calls, and the words ask the same, but for date, script, trace and
+-- whether a user may be added
 pub record IsRepeat (call next : RunCall) : Type 0 where
   pub actions : next.run.actions ≡ call.run.actions
   pub slow : next.run.slow ≡ call.run.slow
@@ -61,38 +62,54 @@ abbrev pub last_call : RunCall → List RunCall → RunCall
 last_call call [] = call
 last_call call (next ∷ later) = last_call next later
 
--- the sessions of the calls behind a first one met these, each after the writes of the one before it and the ids that its new records got
+-- the sessions of the calls behind a first one met these, each after the writes of the one before
+-- it and the ids that its new records got
 abbrev pub AllMeet : RunCall → List RunCall → List Later → Type 0
 AllMeet call [] [] = Unit {0}
 AllMeet call [] (e ∷ es) = ⊥
 AllMeet call (next ∷ later) [] = ⊥
 AllMeet call (next ∷ later) (e ∷ es) =
-    Meets next.run next.before e.next × (e.writes ≡ call.report.writes) × (e.given ≡ (log_in call.report).given) × AllMeet next later es
+    Meets next.run next.before e.next × (e.writes ≡ call.report.writes)
+    × (e.given ≡ (log_in call.report).given) × AllMeet next later es
 
 -- ---- what they leave
 
--- ids that one whole session could have given to the new records of a database: each was free at its turn, and nothing had one
+-- ids that one whole session could have given to the new records of a database: each was free at
+-- its turn, and nothing had one
 pub record CanGive (meeting : Meeting) (name ids : List ℕ) : Type 0 where
   pub got : GotAllIds (action_at meeting name) (found_of meeting name) ids
   pub unknown : AreUnknown (found_of meeting name) ids
 
--- The last of the sessions behind a first one, where it gave these ids, takes up all that came before. The folders stand for its merge. It skips
--- no database that the first one didn't, and each of these ends as one whole session of the first meeting would have ended it, whichever ids that
--- would have given, and some it could have: at the merge of what the first one found, under the ids that all of them gave. What the first one
+-- The last of the sessions behind a first one, where it gave these ids, takes up all that came
+-- before. The folders stand for its merge. It skips
+-- no database that the first one didn't, and each of these ends as one whole session of the first
+-- meeting would have ended it, whichever ids that
+-- would have given, and some it could have: at the merge of what the first one found, under the ids
+-- that all of them gave. What the first one
 -- skipped all of them skip, and both sides hold of it what the first one found.
-pub record TakesUp (meeting : Meeting) (others : List Later) (given : List ℕ) (after : CallTold) : Type 0 where
-  pub handheld : Stands after.palm.contents (merged_device (last_run meeting others) given).databases (merged_device (last_run meeting others) given).user
+pub record TakesUp (meeting : Meeting) (others : List Later) (given : List ℕ)
+    (after : CallTold) : Type 0 where
+  pub handheld : Stands after.palm.contents
+      (merged_device (last_run meeting others) given).databases
+      (merged_device (last_run meeting others) given).user
   pub desktop : IsDesk after.desk.contents (merged_slots (last_run meeting others) given)
-  pub slot : slot_at (merged_slots (last_run meeting others) given) meeting.picked ≡ merged_slot (last_run meeting others) given
+  pub slot : slot_at (merged_slots (last_run meeting others) given) meeting.picked
+      ≡ merged_slot (last_run meeting others) given
   pub kept : (name : List ℕ) → IsActive meeting name → IsActive (last_run meeting others) name
-  pub each : (name new : List ℕ) → IsActive meeting name → IsFreshBehind meeting others given name → CanGive meeting name (ids_at meeting new name)
-      → SameEnds (found_of meeting name) (holding_after (last_run meeting others) given name) (holding_after meeting new name)
-  pub merged : (name : List ℕ) → IsActive meeting name → IsFreshBehind meeting others given name → EndsAtMerge meeting others given name
-  pub can : (new : List ℕ) × ((name : List ℕ) → IsActive meeting name → CanGive meeting name (ids_at meeting new name))
+  pub each : (name new : List ℕ) → IsActive meeting name → IsFreshBehind meeting others given name
+      → CanGive meeting name (ids_at meeting new name)
+      → SameEnds (found_of meeting name) (holding_after (last_run meeting others) given name)
+      (holding_after meeting new name)
+  pub merged : (name : List ℕ) → IsActive meeting name → IsFreshBehind meeting others given name
+      → EndsAtMerge meeting others given name
+  pub can : (new : List ℕ)
+      × ((name : List ℕ) → IsActive meeting name → CanGive meeting name (ids_at meeting new name))
   pub skipped : (name : List ℕ) → (IsActive meeting name → ⊥) → AllSkip meeting others name
-      × HoldsTheSame meeting (merged_device (last_run meeting others) given) (merged_slot (last_run meeting others) given) name
+      × HoldsTheSame meeting (merged_device (last_run meeting others) given)
+      (merged_slot (last_run meeting others) given) name
 
--- Calls of which some began a session: the first of these met the sides that the folders of the first call held, each other one those that its
+-- Calls of which some began a session: the first of these met the sides that the folders of the
+-- first call held, each other one those that its
 -- own held, and the last one took up all that came before.
 pub record EndsAsOne (call : RunCall) (later : List RunCall) : Type 0 where
   pub first : RunCall
@@ -102,4 +119,5 @@ pub record EndsAsOne (call : RunCall) (later : List RunCall) : Type 0 where
   pub meets : Meets first.run call.before meeting
   pub others : List Later
   pub meet : AllMeet first rest others
-  pub takes_up : TakesUp meeting others (log_in (last_call call later).report).given (last_call call later).after
+  pub takes_up : TakesUp meeting others (log_in (last_call call later).report).given
+      (last_call call later).after

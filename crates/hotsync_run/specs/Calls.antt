@@ -30,13 +30,19 @@ pub record IsNothing (out out_after : SinkTold) (status : Status) : Type 0 where
 
 -- What is known of a call: words out of the form give the usage line. Only a run sends anything, a
 -- session between made folders, and an install.
-abbrev pub IsCall : Option Task → CallTold → CallTold → SinkTold → SinkTold → Status → Report → Type 0
+abbrev pub IsCall : Option Task → CallTold → CallTold → SinkTold → SinkTold → Status
+    → Report → Type 0
 IsCall None before after out out_after status report = IsNothing out out_after status
-IsCall (Some (Sync run)) before after out out_after status report = IsRun run before after out out_after status report
-IsCall (Some (LookAt look file)) before after out out_after status report = IsLook look file before.source after.source out out_after status
-IsCall (Some (Scan bytes)) before after out out_after status report = IsScanned bytes out out_after status
-IsCall (Some (Make seed count)) before after out out_after status report = IsMake seed count out out_after status report
-IsCall (Some (Install words)) before after out out_after status report = IsInstall words before after out out_after status report
+IsCall (Some (Sync run)) before after out out_after status report =
+    IsRun run before after out out_after status report
+IsCall (Some (LookAt look file)) before after out out_after status report =
+    IsLook look file before.source after.source out out_after status
+IsCall (Some (Scan bytes)) before after out out_after status report =
+    IsScanned bytes out out_after status
+IsCall (Some (Make seed count)) before after out out_after status report =
+    IsMake seed count out out_after status report
+IsCall (Some (Install words)) before after out out_after status report =
+    IsInstall words before after out out_after status report
 
 -- a call: what its words ask for, its objects before and after it, and what it answered
 pub record Call : Type 0 where
@@ -75,7 +81,8 @@ HasSession _ = ⊥
 abbrev pub no_paths : Paths
 no_paths = record { handheld = None; desktop = None; source = None; trace = None }
 
--- the paths that words give to each object: those of a run and of an install, and the file of a look
+-- the paths that words give to each object: those of a run and of an install, and the file of a
+-- look
 abbrev pub paths_of : Option Task → Paths
 paths_of (Some (Sync run)) = run_paths run
 paths_of (Some (Install words)) = install_paths words

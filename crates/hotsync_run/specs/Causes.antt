@@ -24,7 +24,8 @@ down_status (Some (down.Undetected number)) = Undetected number
 down_status (Some down.Keeper) = HandheldFolder
 down_status None = NoMemory
 
--- of one that stopped for what a call of it answered; no handheld of ours refuses what a session asks
+-- of one that stopped for what a call of it answered; no handheld of ours refuses what a session
+-- asks
 abbrev pub fault_status : Option Down → SessionFault → Status
 fault_status cause session.Down = down_status cause
 fault_status cause (session.OtherUser handheld desktop) = OtherUser handheld desktop
@@ -111,9 +112,11 @@ IsUnsaid TraceWrite = ⊥
 IsUnsaid OutWrite = ⊥
 IsUnsaid other = ⊤
 
--- the status once the trace was to be written: it stands, unless memory ran out or a session that ended could not be told
+-- the status once the trace was to be written: it stands, unless memory ran out or a session that
+-- ended could not be told
 abbrev pub IsTracedStatus : Status → Status → Type 0
-IsTracedStatus status traced = (traced ≡ status) ⊎ (traced ≡ NoMemory) ⊎ ((status ≡ Done) × (traced ≡ TraceWrite))
+IsTracedStatus status traced =
+    (traced ≡ status) ⊎ (traced ≡ NoMemory) ⊎ ((status ≡ Done) × (traced ≡ TraceWrite))
 
 -- by how far a session came: nothing was sent, or it began
 abbrev pub ByEnd : SessionEnd → Type 0 → Type 0 → Type 0

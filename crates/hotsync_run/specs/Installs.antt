@@ -36,7 +36,8 @@ pub record HasFile (left : Option (List ℕ)) : Type 0 where
   pub database : DatabaseValue
   pub file : IfSome left (λ bytes. IsInstallFile bytes database)
 
--- The file is judged first, then the handheld's folder, and last the trace is opened, each where all
+-- The file is judged first, then the handheld's folder, and last the trace is opened, each where
+-- all
 -- that comes before it is good.
 abbrev pub InstallRefuses : Between → CallTold → Status → Type 0
 InstallRefuses words before refusal =

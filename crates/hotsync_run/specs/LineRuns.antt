@@ -51,24 +51,34 @@ abbrev pub IsCounted : End → Option TallyValue → List Frame → Type 0
 IsCounted X None frames = ⊥
 IsCounted X (Some tally) frames = CountsOf X tally frames
 
--- The frames are a proper trace by the script of all that was said, and tell each end all messages of the other one, or all but the last.
--- Each performed request is one that was issued, once and in order, or all but the last are performed; each is one step of the handheld,
--- with its reply, and all replies but the last at most were taken. The folder stands for the handheld after the last step, and at each
--- moment it stood for the handheld after some of them; its files went with the steps, each of which touched one file at most. Where all that was issued was answered, the frames end with the desktop's acknowledgement of the
+-- The frames are a proper trace by the script of all that was said, and tell each end all messages
+-- of the other one, or all but the last.
+-- Each performed request is one that was issued, once and in order, or all but the last are
+-- performed; each is one step of the handheld,
+-- with its reply, and all replies but the last at most were taken. The folder stands for the
+-- handheld after the last step, and at each
+-- moment it stood for the handheld after some of them; its files went with the steps, each of which
+-- touched one file at most. Where all that was issued was answered, the frames end with the
+-- desktop's acknowledgement of the
 -- last reply.
-pub record LineRan (rules : List RuleValue) (device : Device) (before after : FolderTold) (report : Report) : Type 0 where
+pub record LineRan (rules : List RuleValue) (device : Device) (before after : FolderTold)
+    (report : Report) : Type 0 where
   pub proper : IsProper (fate_by rules) (said_in (log_in report)) (frames_in report)
   pub told : TellBoth (said_in (log_in report)) (frames_in report)
   pub answered : ℕ
   pub log : IsLog (log_in report) answered
-  pub acked : 0 < answered → length (log_in report).issued ≡ answered → EndsAcknowledged (log_in report) (frames_in report)
+  pub acked : 0 < answered → length (log_in report).issued ≡ answered
+      → EndsAcknowledged (log_in report) (frames_in report)
   pub last : Device
   pub ran : DeviceRun device (log_in report).performed (log_in report).replies last
   pub stands : Stands after.contents last.databases last.user
   pub files : FilesRan before.contents device (exchanges_in report) after.contents last
   pub others : OthersStay before.contents after.contents
-  pub moments : EachMomentSince (StoodAfterSome device (exchanges_in report)) before.moments after.moments
-  pub given : (log_in report).given ≡ flat_map (λ (exchange : Exchange). given_in exchange.request exchange.reply) (exchanges_in report)
+  pub moments : EachMomentSince
+      (StoodAfterSome device (exchanges_in report)) before.moments after.moments
+  pub given : (log_in report).given
+      ≡ flat_map (λ (exchange : Exchange). given_in exchange.request exchange.reply)
+      (exchanges_in report)
   pub writes : report.writes ≡ write_count (log_in report).performed
   pub to_handheld : IsCounted Desktop report.to_handheld report.frames.items
   pub to_desktop : IsCounted Handheld report.to_desktop report.frames.items
@@ -80,10 +90,12 @@ pub record TellsWorld {F : Type 0} (world : WorldValue F) (report : Report) : Ty
   pub log : IsLog world.log world.answered
   pub proper : IsProper (fate_by world.script) (said_in world.log) (frames_in report)
   pub told : TellBoth (said_in world.log) (frames_in report)
-  pub done : world.begun ≡ true → TellDone world.log world.answered world.fault world.cause (frames_in report)
+  pub done : world.begun ≡ true
+      → TellDone world.log world.answered world.fault world.cause (frames_in report)
   pub silent : world.begun ≡ false → world.log.issued ≡ []
   pub left_off : LeavesOff world.log world.answered world.fault world.cause
-  pub acked : 0 < world.answered → length world.log.issued ≡ world.answered → EndsAcknowledged world.log (frames_in report)
+  pub acked : 0 < world.answered → length world.log.issued ≡ world.answered
+      → EndsAcknowledged world.log (frames_in report)
   pub writes : report.writes ≡ write_count (log_in report).performed
   pub to_handheld : IsCounted Desktop report.to_handheld report.frames.items
   pub to_desktop : IsCounted Handheld report.to_desktop report.frames.items

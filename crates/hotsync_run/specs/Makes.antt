@@ -33,9 +33,19 @@ use Rattle.hotsync_looks.specs.declared.status.Status.TheVariants.{Done, OutWrit
 
 -- the words of the session: a run under the date 2001-09-09T01:46:40, without an option
 abbrev pub made_run : Run
-made_run = record { handheld = []; desktop = []; date = 3082844800; script = None; trace = None; actions = None; slow = false; add_user = false }
+made_run = record {
+  handheld = [];
+  desktop = [];
+  date = 3082844800;
+  script = None;
+  trace = None;
+  actions = None;
+  slow = false;
+  add_user = false;
+}
 
--- so many lines: the first loses the frame of this number, and each later one the frame twenty behind
+-- so many lines: the first loses the frame of this number, and each later one the frame twenty
+-- behind
 unfoldable pub losses : ℕ → ℕ → List RuleValue
 losses number zero = []
 losses number (suc count) = record { number = number; fate = Lost } ∷ losses (number + 20) count
@@ -84,7 +94,8 @@ pub record MadeNothing (status : Status) (report : Report) : Type 0 where
   pub memory : status ≡ NoMemory
   pub report_is : IsNotStarted report
 
--- Both sides as the made files tell them, and all that is known of the session between them. One that ended tells of one database, by the kinds.
+-- Both sides as the made files tell them, and all that is known of the session between them. One
+-- that ended tells of one database, by the kinds.
 pub record MadeRan (items : List Item) (status : Status) (report : Report) : Type 0 where
   pub device : Device
   pub handheld : HoldsAll (handheld_files items) device.databases device.user
@@ -97,10 +108,13 @@ pub record MadeRan (items : List Item) (status : Status) (report : Report) : Typ
 
 -- what is known of it before its lines are printed
 abbrev pub HasMade : List Item → Status → Report → Type 0
-HasMade items status report = ByEnd report.end (MadeNothing status report) (MadeRan items status report)
+HasMade items status report =
+    ByEnd report.end (MadeNothing status report) (MadeRan items status report)
 
--- What is known of it: this, that only memory or standard output can fail it, and that standard output took exactly the lines of its status.
-pub record IsMake (seed count : ℕ) (out out_after : SinkTold) (status : Status) (report : Report) : Type 0 where
+-- What is known of it: this, that only memory or standard output can fail it, and that standard
+-- output took exactly the lines of its status.
+pub record IsMake (seed count : ℕ) (out out_after : SinkTold) (status : Status)
+    (report : Report) : Type 0 where
   pub ran : HasMade (made seed count) status report
   pub ends : (status ≡ Done) ⊎ (status ≡ NoMemory) ⊎ (status ≡ OutWrite)
   pub printed : IsPrinted (λ text. text ≡ done_lines report.databases.items) out out_after status

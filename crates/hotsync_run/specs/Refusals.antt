@@ -28,9 +28,11 @@ is_desktop files = finmap.contains_key files desktop_info_file
 abbrev pub is_handheld : FileMap → Bool
 is_handheld files = finmap.contains_key files device_info_file
 
--- a refusal of the handheld's folder that no file of it shows: it failed, it is in use, or memory ran out
+-- a refusal of the handheld's folder that no file of it shows: it failed, it is in use, or memory
+-- ran out
 abbrev pub IsHandheldFailure : Status → Type 0
-IsHandheldFailure refusal = (refusal ≡ HandheldFolder) ⊎ (refusal ≡ InUse end.Handheld) ⊎ (refusal ≡ NoMemory)
+IsHandheldFailure refusal =
+    (refusal ≡ HandheldFolder) ⊎ (refusal ≡ InUse end.Handheld) ⊎ (refusal ≡ NoMemory)
 
 -- the handheld's folder is a desktop's, whatever else is in it
 pub record IsWrongHandheld (held : Option FileMap) (refusal : Status) : Type 0 where
@@ -58,7 +60,8 @@ pub record HasHandheld (held : Option FileMap) : Type 0 where
 
 -- a refusal of the desktop's folder that no file of it shows
 abbrev pub IsDesktopFailure : Status → Type 0
-IsDesktopFailure refusal = (refusal ≡ DesktopFolder) ⊎ (refusal ≡ InUse end.Desktop) ⊎ (refusal ≡ NoMemory)
+IsDesktopFailure refusal =
+    (refusal ≡ DesktopFolder) ⊎ (refusal ≡ InUse end.Desktop) ⊎ (refusal ≡ NoMemory)
 
 -- the desktop's folder is a handheld's, as it is found, before a journal in it is finished
 pub record IsWrongDesktop (kept : Option FileMap) (refusal : Status) : Type 0 where
@@ -92,7 +95,8 @@ pub record TraceRefuses (path : Option (List ℕ)) (refusal : Status) : Type 0 w
   pub named : path ≡ Some name
   pub is : IsTraceRefusal refusal
 
--- The script is judged first, then the handheld's folder, then the desktop's, and last the trace is opened. Each is judged where all
+-- The script is judged first, then the handheld's folder, then the desktop's, and last the trace is
+-- opened. Each is judged where all
 -- that comes before it is good.
 abbrev pub IsRefused : Run → CallTold → Status → Type 0
 IsRefused run before refusal =

@@ -25,8 +25,11 @@ pub record HasScript (path left : Option (List ℕ)) : Type 0 where
 -- what bytes show of the cause of each refusal to read a script
 abbrev pub ScriptShows : Status → List ℕ → Type 0
 ScriptShows SourceRead bytes = ⊤
-ScriptShows TooLong bytes = (source_limit < length bytes) ⊎ ((length bytes ≤ source_limit) × IsReading bytes (Err fault.TooLong))
-ScriptShows (BadScript line) bytes = (length bytes ≤ source_limit) × IsReading bytes (Err (fault.BadLine line))
+ScriptShows TooLong bytes =
+    (source_limit < length bytes)
+    ⊎ ((length bytes ≤ source_limit) × IsReading bytes (Err fault.TooLong))
+ScriptShows (BadScript line) bytes =
+    (length bytes ≤ source_limit) × IsReading bytes (Err (fault.BadLine line))
 ScriptShows NoMemory bytes = ⊤
 ScriptShows _ bytes = ⊥
 

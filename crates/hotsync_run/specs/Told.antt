@@ -30,8 +30,14 @@ abbrev pub sides_of : CallTold → SidesTold
 sides_of told = record { palm = told.palm; desk = told.desk }
 
 -- what these tell of a folder, by the members of its trait
-abbrev pub folder_told : {F : Type 0} → (F → Option FileMap) → (F → Moments) → (F → Option (List (List ℕ))) → (F → ℕ) → F → FolderTold
-folder_told contents moments paths faults folder = record { contents = contents folder; moments = moments folder; paths = paths folder; faults = faults folder }
+abbrev pub folder_told : {F : Type 0} → (F → Option FileMap) → (F → Moments)
+    → (F → Option (List (List ℕ))) → (F → ℕ) → F → FolderTold
+folder_told contents moments paths faults folder = record {
+  contents = contents folder;
+  moments = moments folder;
+  paths = paths folder;
+  faults = faults folder;
+}
 
 -- what both folders tell, by the members of their traits
 abbrev pub sides_told : {H D : Type 0} → FolderMembers H → FolderMembers D → H → D → SidesTold

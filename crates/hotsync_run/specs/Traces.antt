@@ -11,7 +11,8 @@ use Rattle.hotsync_run.specs.declared.report.Report.{Report}
 use Rattle.hotsync_looks.specs.declared.status.Status.{Status}
 use Rattle.hotsync_looks.specs.declared.status.Status.TheVariants.{Done, TraceWrite, NoMemory}
 
--- What a trace took: the text, wherever the run is told as done, and else unless the trace failed or
+-- What a trace took: the text, wherever the run is told as done, and else unless the trace failed
+-- or
 -- memory ran out; or else a first part of it. Where none is named it took nothing of it.
 pub record IsTraced (path : Option (List ℕ)) (text : List ℕ) (before after : SinkTold)
     (status : Status) : Type 0 where
@@ -38,7 +39,8 @@ pub record TracesText (text : List ℕ) (before after : SinkTold) (status traced
       → after.taken ≡ option_map (λ taken. taken ++ text) before.taken
 
 -- likewise where a path is named
-pub record TracesFrames (path : Option (List ℕ)) (text : List ℕ) (before after : SinkTold) (status traced : Status) : Type 0 where
+pub record TracesFrames (path : Option (List ℕ)) (text : List ℕ) (before after : SinkTold)
+    (status traced : Status) : Type 0 where
   pub stands : StandsTraced before after status traced
   pub traced_is : IsTraced path text before after traced
 

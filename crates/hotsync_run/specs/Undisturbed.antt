@@ -1,4 +1,5 @@
--- A run that nothing disturbs: it is done whole, unless memory runs out or the line makes a packet of what it damages.
+-- A run that nothing disturbs: it is done whole, unless memory runs out or the line makes a packet
+-- of what it damages.
 use Rattle.std.specs.Prelude.{◌≡◌, ◌≢◌, ◌⊎◌, ◌≤◌, ℕ, false, List, length, Option, None, Some, IsSome}
 use Rattle.std.specs.FinMap as finmap
 use Rattle.hs_folders.specs.Causes.{Rose}
@@ -39,15 +40,18 @@ pub record IsGoodScript (path left : Option (List ℕ)) : Type 0 where
   pub rules : List RuleValue
   pub scripted : IsScripted path left rules
 
--- the handheld's folder tells its files: none is a desktop's information file, there are not too many of databases, and none is bad
+-- the handheld's folder tells its files: none is a desktop's information file, there are not too
+-- many of databases, and none is bad
 pub record IsGoodHandheld (told : Option FileMap) : Type 0 where
   pub held : FileMap
   pub is : told ≡ Some held
   pub side : is_desktop held ≡ false
   pub few : database_count held ≤ most_databases
-  pub good : (name : List ℕ) (kind : BadKind) (place : ℕ) → ¬ (IsFirstBad (finmap.keys held) held name kind place)
+  pub good : (name : List ℕ) (kind : BadKind) (place : ℕ)
+      → ¬ (IsFirstBad (finmap.keys held) held name kind place)
 
--- the desktop's folder does: none is a handheld's information file, and all are good once a journal that was left is finished
+-- the desktop's folder does: none is a handheld's information file, and all are good once a journal
+-- that was left is finished
 pub record IsGoodDesktop (told : Option FileMap) : Type 0 where
   pub held : FileMap
   pub is : told ≡ Some held
@@ -62,12 +66,14 @@ pub record NoneFailed (before after : CallTold) (out out_after : SinkTold) : Typ
   pub tracing : ¬ (Rose before.trace.faults after.trace.faults)
   pub printing : ¬ (Rose out.faults out_after.faults)
 
--- a script under which the line is fair up to the last of so many frames, and is neither unplugged nor aborted
+-- a script under which the line is fair up to the last of so many frames, and is neither unplugged
+-- nor aborted
 pub record IsKindScript (rules : List RuleValue) (frames : ℕ) : Type 0 where
   pub fair : IsFairUpTo frames (fate_by rules)
   pub goes_on : (number : ℕ) → is_stop (fate_by rules number) ≡ false
 
--- the desktop has a slot for the handheld's user, or may add one, no limit would be passed, and no new handheld would cost it live rows
+-- the desktop has a slot for the handheld's user, or may add one, no limit would be passed, and no
+-- new handheld would cost it live rows
 pub record MayMeet (meeting : Meeting) : Type 0 where
   pub known : slot_in meeting ≢ Refused
   pub room : slot_in meeting ≢ Full
@@ -80,14 +86,17 @@ pub record AreGood (told : CallTold) : Type 0 where
   pub desktop : IsGoodDesktop told.desk.contents
 
 -- A good script, no object that failed, a kind line, and two sides that may meet.
-pub record IsCalm (run : Run) (before after : CallTold) (out out_after : SinkTold) (report : Report) : Type 0 where
+pub record IsCalm (run : Run) (before after : CallTold) (out out_after : SinkTold)
+    (report : Report) : Type 0 where
   pub script : IsGoodScript run.script before.source.left
   pub none_failed : NoneFailed before after out out_after
-  pub line : (rules : List RuleValue) → IsScripted run.script before.source.left rules → IsKindScript rules (length (frames_in report))
+  pub line : (rules : List RuleValue) → IsScripted run.script before.source.left rules
+      → IsKindScript rules (length (frames_in report))
   pub sides : (meeting : Meeting) → Meets run before meeting → MayMeet meeting
 
 -- Good files on both sides, and nothing else that disturbs it.
-pub record IsUndisturbed (run : Run) (before after : CallTold) (out out_after : SinkTold) (report : Report) : Type 0 where
+pub record IsUndisturbed (run : Run) (before after : CallTold) (out out_after : SinkTold)
+    (report : Report) : Type 0 where
   pub folders : AreGood before
   pub calm : IsCalm run before after out out_after report
 

@@ -5,7 +5,8 @@ use Rattle.std.specs.Prelude.{◌≡◌, ℕ, ◌+◌, ◌-◌, ◌^◌, ◌≤�
 abbrev pub Rose : ℕ → ℕ → Type 0
 Rose before now = min (before + 1) (2 ^ 64 - 1) ≤ now
 
--- The count did not fall in a call. It rose where a fault was answered, and is the same where none was.
+-- The count did not fall in a call. It rose where a fault was answered, and is the same where none
+-- was.
 pub record HasCause (before now : ℕ) (Faulted : Type 0) : Type 0 where
   pub later : before ≤ now
   pub rose : Faulted → Rose before now

@@ -19,4 +19,5 @@ told_before (Kept past) = Some (map (λ tree. Some (file_map tree)) past.items)
 
 -- All moments: those before each change, and then the present one.
 abbrev pub moments_of : Changes → FileTree → Moments
-moments_of changes files = option_map (λ told. told ++ Some (file_map files) ∷ []) (told_before changes)
+moments_of changes files =
+    option_map (λ told. told ++ Some (file_map files) ∷ []) (told_before changes)

@@ -1,4 +1,5 @@
--- What a folder holds: a finite map from names to bytes. A name is its bytes, and names are in byte order.
+-- What a folder holds: a finite map from names to bytes. A name is its bytes, and names are in byte
+-- order.
 use Rattle.std.specs.Prelude.{ℕ, List}
 use Rattle.std.specs.Ordering.{nat_cmp}
 use Rattle.std.specs.Cmp.Lexicographic.{slice_cmp}

@@ -1,4 +1,5 @@
--- Names of files right in a folder of the file system (POSIX, pathname resolution), and those that a session reads.
+-- Names of files right in a folder of the file system (POSIX, pathname resolution), and those that
+-- a session reads.
 use Rattle.std.specs.Prelude.{◌≢◌, ℕ, List, [], Contains, codes, Bool, ◌||◌, nat_eq}
 use Rattle.std.specs.List.{ends_with}
 

@@ -17,8 +17,12 @@ came_by cursor past n = is_taken cursor n (at n past)
 -- the data frames of X that come, the newest first
 abbrev pub data_taken : End → List Sent → List Numbered
 data_taken X [] = []
-data_taken X (frame ∷ past) = if data_comes X frame then record { number = length past + 1; key = frame.key } ∷ data_taken X past else data_taken X past
+data_taken X (frame ∷ past) =
+    if data_comes X frame
+    then record { number = length past + 1; key = frame.key } ∷ data_taken X past
+    else data_taken X past
 
 -- what the acknowledgements by Y are for, where this was taken of X
 abbrev pub AcksMatch : End → End → (End → ℕ) → List Sent → Type 0
-AcksMatch X Y cursor past = AcksAreFor Y (came_by cursor past) past (data_taken X (at (cursor X) past))
+AcksMatch X Y cursor past =
+    AcksAreFor Y (came_by cursor past) past (data_taken X (at (cursor X) past))

@@ -1,4 +1,5 @@
--- What holds of both ends and of the frames between them after every step, whatever the script says.
+-- What holds of both ends and of the frames between them after every step, whatever the script
+-- says.
 use Rattle.std.specs.Prelude.{◌≡◌, ◌⊎◌, ℕ, ◌+◌, ◌≤◌, ◌<◌, Bool, true, false, List, [], ◌∷◌, length, if◌then◌else◌, Some}
 use Rattle.padp_link.specs.declared.piece.Key.{Key}
 use Rattle.padp_link.specs.FragmentText.{FragmentValue}
@@ -18,8 +19,10 @@ abbrev pub Follows : List Key → List Key → Bool → Type 0
 Follows said acked false = said ≡ acked
 Follows said acked true = (key : Key) × (said ≡ key ∷ acked)
 
--- In this past of the frames of X, where the other end took `a` fragments and said `s`: no fragment of X is older than the last that was taken, no
--- acknowledgement by X is older than the one before the last that the other said, and it isn't that one behind a fragment that wasn't taken.
+-- In this past of the frames of X, where the other end took `a` fragments and said `s`: no fragment
+-- of X is older than the last that was taken, no
+-- acknowledgement by X is older than the one before the last that the other said, and it isn't that
+-- one behind a fragment that wasn't taken.
 pub record Fits (X : End) (a s : ℕ) (past : List Sent) : Type 0 where
   pub taken : a ≤ length (said X past)
   pub known : s ≤ length (acked X past) + 1
@@ -54,7 +57,9 @@ part_now side = fragment_of side.message (piece_of side.id (length side.message)
 
 -- each data frame of its newest fragment bears this part
 abbrev pub AllBear : End → List Sent → List ℕ → Type 0
-AllBear X past bytes = (n : ℕ) (frame : Sent) (older : List Sent) → n ≤ length past → at n past ≡ frame ∷ older → IsDataOf X frame
+AllBear X past bytes =
+    (n : ℕ) (frame : Sent) (older : List Sent) → n ≤ length past → at n past ≡ frame ∷ older
+    → IsDataOf X frame
     → length (said X (frame ∷ older)) ≡ length (said X past) → frame.bytes ≡ bytes
 
 -- an end that sends
@@ -73,9 +78,11 @@ pub record Awaits (id count : ℕ) (message : List ℕ) (receiver : ReceiverValu
   pub pieces : receiver.pieces ≡ taken_pieces (length message) count message
 
 -- the other end, Y, that receives
-pub record Hears (Y : End) (past : List Sent) (fresh : Bool) (side : Side) (receiver : ReceiverValue) : Type 0 where
+pub record Hears (Y : End) (past : List Sent) (fresh : Bool) (side : Side)
+    (receiver : ReceiverValue) : Type 0 where
   pub last_is : receiver.last ≡ first (acked Y past)
-  pub receives : taken_count fresh side < piece_count (length side.message) → Awaits side.id (taken_count fresh side) side.message receiver
+  pub receives : taken_count fresh side < piece_count (length side.message)
+      → Awaits side.id (taken_count fresh side) side.message receiver
 
 -- x waits on a first piece that wasn't taken, and y on the last piece of the message before it
 pub record Answering (fresh : Bool) (x y : Side) : Type 0 where
@@ -83,10 +90,12 @@ pub record Answering (fresh : Bool) (x y : Side) : Type 0 where
   pub begins : x.acknowledged ≡ 0
   pub ends : y.acknowledged + 1 ≡ piece_count (length y.message)
 
--- Both ends: the frames so far, up to which frame those of each end were taken off the line, what both send and receive, and whether their newest
+-- Both ends: the frames so far, up to which frame those of each end were taken off the line, what
+-- both send and receive, and whether their newest
 -- fragment wasn't
 -- taken yet.
-pub record Core (X Y : End) (past : List Sent) (cx cy : ℕ) (x y : Side) (rx ry : ReceiverValue) (fx fy : Bool) : Type 0 where
+pub record Core (X Y : End) (past : List Sent) (cx cy : ℕ) (x y : Side) (rx ry : ReceiverValue)
+    (fx fy : Bool) : Type 0 where
   pub there : Counts X Y past fx cx
   pub back : Counts Y X past fy cy
   pub x_speaks : Speaks X past fx x
@@ -98,7 +107,19 @@ pub record Core (X Y : End) (past : List Sent) (cx cy : ℕ) (x y : Side) (rx ry
 
 -- the frames that are pushed
 abbrev pub data_frame : End → Key → List ℕ → Course → Sent
-data_frame X key bytes course = record { from = X; is_data = true; key = key; bytes = bytes; course = course }
+data_frame X key bytes course = record {
+  from = X;
+  is_data = true;
+  key = key;
+  bytes = bytes;
+  course = course;
+}
 
 abbrev pub ack_frame : End → Key → Course → Sent
-ack_frame X key course = record { from = X; is_data = false; key = key; bytes = []; course = course }
+ack_frame X key course = record {
+  from = X;
+  is_data = false;
+  key = key;
+  bytes = [];
+  course = course;
+}

@@ -1,4 +1,5 @@
--- What is on the line between the frames that were taken off it and the newest: data, acknowledgements, and what is held.
+-- What is on the line between the frames that were taken off it and the newest: data,
+-- acknowledgements, and what is held.
 use Rattle.std.specs.Prelude.{◌≡◌, ◌⊎◌, ℕ, ◌+◌, ◌≤◌, ◌<◌, true, List, ◌∷◌, length}
 use Rattle.trace_text.specs.Past.{Sent, said, acked, at, IsDataOf, IsAckOf, is_data_of}
 use Rattle.trace_text.specs.declared.frame.End.{End}
@@ -28,10 +29,12 @@ pub record AckPends (X Y : End) (past : List Sent) (cy : ℕ) : Type 0 where
   pub comes_here : comes frame.course ≡ true
   pub newest_is : length (acked Y (at n past)) ≡ length (said X past)
 
--- X waits since the last tick, and a fault stands behind its newest data, or this or its acknowledgement is on the line
+-- X waits since the last tick, and a fault stands behind its newest data, or this or its
+-- acknowledgement is on the line
 pub record Progress (X Y : End) (past : List Sent) (cx cy released : ℕ) : Type 0 where
   pub since : released < newest (is_data_of X) past
-  pub cause : (newest (is_data_of X) past ≤ newest faulted past) ⊎ DataPends X past cx ⊎ AckPends X Y past cy
+  pub cause : (newest (is_data_of X) past ≤ newest faulted past) ⊎ DataPends X past cx
+      ⊎ AckPends X Y past cy
 
 -- nothing of X can be delivered: all was taken off, or the next frame is late and held
 pub record IsHeld (X : End) (past : List Sent) (c released : ℕ) : Type 0 where

@@ -18,14 +18,20 @@ use Rattle.line_laws.specs.Talking.{Talking}
 -- its frames are a proper trace
 abbrev pub HasProperTrace : Type 0
 HasProperTrace =
-    (script : ℕ → FateValue) (talk : Talk) (cursor : End → ℕ) (frames : List FrameValue) (past : List Sent) (released : ℕ) (h d : Side) (rh rd : ReceiverValue)
+    (script : ℕ → FateValue) (talk : Talk) (cursor : End → ℕ) (frames : List FrameValue)
+    (past : List Sent) (released : ℕ) (h d : Side) (rh rd : ReceiverValue)
     (fh fd : Bool) (th td : ℕ)
-    → Line Handheld Desktop past (cursor Handheld) (cursor Desktop) released h d rh rd fh fd th td → Talking Handheld Desktop talk cursor past h d fh fd
+    → Line Handheld Desktop past (cursor Handheld) (cursor Desktop) released h d rh rd fh fd th td
+    → Talking Handheld Desktop talk cursor past h d fh fd
     → Framed script cursor frames past → IsProper script talk frames
 
--- where an end waits with its last try and nothing can be delivered, ten faults stand among the last 53 frames
+-- where an end waits with its last try and nothing can be delivered, ten faults stand among the
+-- last 53 frames
 abbrev pub HasTenFaults : Type 0
 HasTenFaults =
-    (X Y : End) (past : List Sent) (cx cy released : ℕ) (x y : Side) (rx ry : ReceiverValue) (fx fy : Bool) (ty : ℕ)
-    → Line X Y past cx cy released x y rx ry fx fy 10 ty → Waiting x → Blocked X past cx released → Blocked Y past cy released
-    → (first : ℕ) × (0 < first) × (length past < first + 53) × (10 + count faulted (at (first - 1) past) ≤ count faulted past)
+    (X Y : End) (past : List Sent) (cx cy released : ℕ) (x y : Side) (rx ry : ReceiverValue)
+    (fx fy : Bool) (ty : ℕ)
+    → Line X Y past cx cy released x y rx ry fx fy 10 ty → Waiting x → Blocked X past cx released
+    → Blocked Y past cy released
+    → (first : ℕ) × (0 < first) × (length past < first + 53)
+    × (10 + count faulted (at (first - 1) past) ≤ count faulted past)

@@ -1,4 +1,5 @@
--- Rules (c) to (g) of a proper trace, over the frames so far and the two cursors: frame n of an end came exactly where n is at most its cursor and its
+-- Rules (c) to (g) of a proper trace, over the frames so far and the two cursors: frame n of an end
+-- came exactly where n is at most its cursor and its
 -- course comes.
 use Rattle.std.specs.Prelude.{◌≡◌, ℕ, ◌≤◌, ◌<◌, true, false, List, [], ◌∷◌, length}
 use Rattle.trace_text.specs.Faults.{IsHeldIn, RepeatsHaveFaults}
@@ -11,11 +12,13 @@ pub record Reached (X Y : End) (past : List Sent) (cy : ℕ) : Type 0 where
   pub by : Acknowledged X Y past cy
   pub free : IsHeldIn Y (by.n) past → ⊥
 
--- (e), (f): each new fragment of X, but its first one, stands behind a frame that reached X and acknowledged the fragment before it
+-- (e), (f): each new fragment of X, but its first one, stands behind a frame that reached X and
+-- acknowledged the fragment before it
 abbrev pub BeginsReached : End → End → ℕ → List Sent → Type 0
 BeginsReached X Y cy [] = Unit {0}
 BeginsReached X Y cy (frame ∷ past) =
-    (is_data_of X frame ≡ true → is_repeat X frame past ≡ false → 0 < length (said X past) → Reached X Y past cy) × BeginsReached X Y cy past
+    (is_data_of X frame ≡ true → is_repeat X frame past ≡ false → 0 < length (said X past)
+    → Reached X Y past cy) × BeginsReached X Y cy past
 
 -- what was taken isn't held
 abbrev pub NoneHeld : End → List Sent → ℕ → Type 0

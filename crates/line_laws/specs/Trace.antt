@@ -1,4 +1,5 @@
--- What the rules of a proper trace need: repeats, held frames, and what came against what was acknowledged.
+-- What the rules of a proper trace need: repeats, held frames, and what came against what was
+-- acknowledged.
 use Rattle.std.specs.Prelude.{◌≡◌, ◌⊎◌, ℕ, ◌+◌, ◌≤◌, ◌<◌, Bool, true, false, ◌&&◌, not, List, [], ◌∷◌, length, Some}
 use Rattle.padp_link.specs.declared.piece.Key.{Key}
 use Rattle.trace_text.specs.Faults.{comes, late_of, data_comes, newest, RepeatsHaveFaults, last_repeat, newest_repeat}
@@ -22,19 +23,23 @@ came_keys X (frame ∷ past) = cons_if (data_comes X frame) frame.key (came_keys
 
 abbrev pub ack_keys : End → List Sent → List Key
 ack_keys Y [] = []
-ack_keys Y (frame ∷ past) = cons_if (is_end Y frame.from && not frame.is_data) frame.key (ack_keys Y past)
+ack_keys Y (frame ∷ past) =
+    cons_if (is_end Y frame.from && not frame.is_data) frame.key (ack_keys Y past)
 
 -- each data frame that was taken was acknowledged, in order
 abbrev pub AcksFollow : End → End → List Sent → ℕ → Type 0
 AcksFollow X Y past cx = ack_keys Y past ≡ came_keys X (at cx past)
 
--- No acknowledgement of the newest fragment of X was taken: none of its key that stands behind the fragment's first frame.
+-- No acknowledgement of the newest fragment of X was taken: none of its key that stands behind the
+-- fragment's first frame.
 abbrev pub NoAck : End → End → List Sent → ℕ → Key → Type 0
 NoAck X Y past cy key =
-    (n : ℕ) (frame : Sent) (older : List Sent) → n ≤ cy → at n past ≡ frame ∷ older → IsAckOf Y frame → comes frame.course ≡ true → length (said X (at n past))
+    (n : ℕ) (frame : Sent) (older : List Sent) → n ≤ cy → at n past ≡ frame ∷ older
+    → IsAckOf Y frame → comes frame.course ≡ true → length (said X (at n past))
     ≡ length (said X past) → frame.key ≡ key → ⊥
 
--- The newest fragment of X was acknowledged, by a frame of Y that was taken: an acknowledgement of its key behind its first frame, or data of Y
+-- The newest fragment of X was acknowledged, by a frame of Y that was taken: an acknowledgement of
+-- its key behind its first frame, or data of Y
 -- that acknowledges all that X said.
 pub record Acknowledged (X Y : End) (past : List Sent) (cy : ℕ) : Type 0 where
   pub n : ℕ
@@ -44,12 +49,14 @@ pub record Acknowledged (X Y : End) (past : List Sent) (cy : ℕ) : Type 0 where
   pub before : n ≤ cy
   pub here : at n past ≡ frame ∷ older
   pub came : comes frame.course ≡ true
-  pub cause : (IsAckOf Y frame × (length (said X (at n past)) ≡ length (said X past)) × (first (said X past) ≡ Some frame.key))
+  pub cause : (IsAckOf Y frame × (length (said X (at n past)) ≡ length (said X past))
+      × (first (said X past) ≡ Some frame.key))
       ⊎ (IsDataOf Y frame × (length (acked Y (at n past)) ≡ length (said X past)))
 
 -- at no time had Y acknowledged more than X had said
 abbrev pub AcksBehind : End → End → List Sent → Type 0
-AcksBehind X Y past = (n : ℕ) → n ≤ length past → length (acked Y (at n past)) ≤ length (said X (at n past))
+AcksBehind X Y past =
+    (n : ℕ) → n ≤ length past → length (acked Y (at n past)) ≤ length (said X (at n past))
 
 -- all that is known of the trace beside the two ends and their time
 pub record Traced (X Y : End) (past : List Sent) (cx cy released : ℕ) : Type 0 where

@@ -15,7 +15,9 @@ if_changing place bytes = if slice_index bytes 0 == 0 then None else Some (Hit p
 
 abbrev pub hit_in : List ℕ → Option FateValue
 hit_in words =
-    option_and_then (λ parts. option_and_then (λ place. option_and_then (if_changing place) (bytes_in 8 parts.1)) (short_in parts.0)) (split_at_space words)
+    option_and_then
+    (λ parts. option_and_then (λ place. option_and_then (if_changing place) (bytes_in 8 parts.1))
+    (short_in parts.0)) (split_at_space words)
 
 abbrev pub noise_in : List ℕ → Option FateValue
 noise_in word = option_map (λ bytes. Noise bytes) (bytes_in 1040 word)
@@ -41,6 +43,8 @@ fate_in words =
 unfoldable pub line_in : ℕ → List ℕ → Option RuleValue
 line_in before line =
     option_and_then
-    (λ parts. option_and_then (λ number. option_and_then (λ fate. if nat_le number before then None else Some (record { number = number; fate = fate }))
+    (λ parts. option_and_then
+    (λ number. option_and_then
+    (λ fate. if nat_le number before then None else Some (record { number = number; fate = fate }))
     (fate_in parts.1)) (number_in parts.0))
     (split_at_space line)

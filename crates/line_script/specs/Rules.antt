@@ -13,12 +13,14 @@ pub record RuleValue : Type 0 where
 abbrev pub rule_value : Rule → RuleValue
 rule_value rule = record { number = rule.number; fate = fate_value rule.fate }
 
--- A fate that a script may give: no frame is named to leave it untouched, numbers have 16 bits, a hit has one to eight bytes of which the first changes
+-- A fate that a script may give: no frame is named to leave it untouched, numbers have 16 bits, a
+-- hit has one to eight bytes of which the first changes
 -- something, and noise has one to 1,040.
 abbrev pub IsScripted : FateValue → Type 0
 IsScripted Untouched = ⊥
 IsScripted (Cut count) = count < 2 ^ 16
-IsScripted (Hit place bytes) = (place < 2 ^ 16) × IsBytes bytes × (length bytes ≤ 8) × (0 < slice_index bytes 0)
+IsScripted (Hit place bytes) =
+    (place < 2 ^ 16) × IsBytes bytes × (length bytes ≤ 8) × (0 < slice_index bytes 0)
 IsScripted (Noise bytes) = IsBytes bytes × (0 < length bytes) × (length bytes ≤ 1040)
 IsScripted _ = Unit {0}
 

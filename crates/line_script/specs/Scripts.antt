@@ -21,22 +21,27 @@ abbrev pub AreLines : ℕ → List RuleValue → List (List ℕ) → Type 0
 AreLines before [] [] = ⊤
 AreLines before [] (line ∷ later) = ⊥
 AreLines before (rule ∷ rules) [] = ⊥
-AreLines before (rule ∷ rules) (line ∷ later) = IsLine before rule line × AreLines rule.number rules later
+AreLines before (rule ∷ rules) (line ∷ later) =
+    IsLine before rule line × AreLines rule.number rules later
 
 -- the line of this number, from 1 on, is the first that says nothing
 abbrev pub IsFirstBad : ℕ → List (List ℕ) → ℕ → Type 0
 IsFirstBad before [] number = ⊥
 IsFirstBad before (line ∷ later) zero = ⊥
 IsFirstBad before (line ∷ later) (suc zero) = (rule : RuleValue) → ¬ (IsLine before rule line)
-IsFirstBad before (line ∷ later) (suc (suc number)) = (rule : RuleValue) × IsLine before rule line × IsFirstBad rule.number later (suc number)
+IsFirstBad before (line ∷ later) (suc (suc number)) =
+    (rule : RuleValue) × IsLine before rule line × IsFirstBad rule.number later (suc number)
 
 -- how many lines a script has at most
 abbrev pub most_lines : ℕ
 most_lines = 100000
 
--- what a text is: a script, or too long, or bad at its first bad line; of want of memory nothing is said
+-- what a text is: a script, or too long, or bad at its first bad line; of want of memory nothing is
+-- said
 abbrev pub IsReading : List ℕ → Result (List RuleValue) ScriptFault → Type 0
-IsReading bytes (Ok rules) = (length (lines_of bytes) ≤ most_lines) × AreLines 0 rules (lines_of bytes)
+IsReading bytes (Ok rules) =
+    (length (lines_of bytes) ≤ most_lines) × AreLines 0 rules (lines_of bytes)
 IsReading bytes (Err TooLong) = most_lines < length (lines_of bytes)
-IsReading bytes (Err (BadLine number)) = (length (lines_of bytes) ≤ most_lines) × IsFirstBad 0 (lines_of bytes) number
+IsReading bytes (Err (BadLine number)) =
+    (length (lines_of bytes) ≤ most_lines) × IsFirstBad 0 (lines_of bytes) number
 IsReading bytes (Err NoMemory) = ⊤

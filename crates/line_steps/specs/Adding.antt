@@ -20,7 +20,8 @@ AddsOne given old new = (new ≡ old) ⊎ Added given old new
 
 -- two, one or none
 abbrev pub AddsTwo : FateValue → FateValue → List Frame → List Frame → Type 0
-AddsTwo given other old new = AddsOne given old new ⊎ (mid : List Frame) × Added given old mid × Added other mid new
+AddsTwo given other old new =
+    AddsOne given old new ⊎ (mid : List Frame) × Added given old mid × Added other mid new
 
 -- the first frame more, before any others, is of this end
 pub record StartsWith (X : End) (old new : List Frame) : Type 0 where
@@ -36,4 +37,6 @@ IsFirst X old new = (new ≡ old) ⊎ StartsWith X old new
 -- each frame has its number, from this one on, and the fate that the script gives it
 abbrev pub AllBy : List RuleValue → ℕ → List Frame → Type 0
 AllBy script number [] = ⊤
-AllBy script number (frame ∷ later) = (frame.number ≡ number) × (fate_value frame.fate ≡ fate_by script number) × AllBy script (number + 1) later
+AllBy script number (frame ∷ later) =
+    (frame.number ≡ number) × (fate_value frame.fate ≡ fate_by script number)
+    × AllBy script (number + 1) later

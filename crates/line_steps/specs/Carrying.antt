@@ -26,20 +26,24 @@ pub record SameMessage (old new : Half) : Type 0 where
   pub message_is : new.message ≡ old.message
   pub id_is : new.sender.id ≡ old.sender.id
 
--- y has the message of x, which it may answer, and sent the acknowledgement of its last piece last; x waits for that
+-- y has the message of x, which it may answer, and sent the acknowledgement of its last piece last;
+-- x waits for that
 pub record Carried (wire : Wire) (x y : Half) : Type 0 where
   pub turn : Turn wire y x
   pub waits : Waits x.sender
   pub message : whole_of y.receiver.pieces ≡ Some x.message.items
-  pub acked : EndsAcknowledging y.end (last_key x.sender.id x.message.items) (map frame_value wire.frames.items)
+  pub acked : EndsAcknowledging y.end (last_key x.sender.id x.message.items)
+      (map frame_value wire.frames.items)
 
 -- the message is over, or on its way still
 abbrev pub Reaches : Bool → Wire → Half → Half → Type 0
 Reaches true wire x y = Carried wire x y
 Reaches false wire x y = Underway wire x y
 
--- A step while x waits leaves less to do. Where a message is on its way, it may be over; and what was all taken is so still.
-pub record StepTo (whole : Bool) (wire : Wire) (x y : Half) (new : Wire) (later_x later_y : Half) : Type 0 where
+-- A step while x waits leaves less to do. Where a message is on its way, it may be over; and what
+-- was all taken is so still.
+pub record StepTo (whole : Bool) (wire : Wire) (x y : Half) (new : Wire)
+    (later_x later_y : Half) : Type 0 where
   pub holds : Holds new later_x later_y
   pub less : work_left new later_x later_y < work_left wire x y
   pub underway : Underway wire x y → Reaches whole new later_x later_y
@@ -55,6 +59,12 @@ makes_whole heard = false
 
 -- the lower of the two heads that aren't held
 abbrev pub IsNext : Wire → Half → Half → Next → Type 0
-IsNext wire x y Own = Delivers x.end wire x.taken × (Blocked y.end (past_now wire.frames.items) y.taken wire.released ⊎ (x.taken < y.taken))
-IsNext wire x y Other = Delivers y.end wire y.taken × (Blocked x.end (past_now wire.frames.items) x.taken wire.released ⊎ (y.taken ≤ x.taken))
-IsNext wire x y Nothing = Blocked x.end (past_now wire.frames.items) x.taken wire.released × Blocked y.end (past_now wire.frames.items) y.taken wire.released
+IsNext wire x y Own =
+    Delivers x.end wire x.taken
+    × (Blocked y.end (past_now wire.frames.items) y.taken wire.released ⊎ (x.taken < y.taken))
+IsNext wire x y Other =
+    Delivers y.end wire y.taken
+    × (Blocked x.end (past_now wire.frames.items) x.taken wire.released ⊎ (y.taken ≤ x.taken))
+IsNext wire x y Nothing =
+    Blocked x.end (past_now wire.frames.items) x.taken wire.released
+    × Blocked y.end (past_now wire.frames.items) y.taken wire.released

@@ -22,13 +22,22 @@ landed frame tally =
 abbrev pub counts : End → ℕ → List Frame → TallyValue → TallyValue
 counts X zero frames tally = tally
 counts X (suc n) [] tally = tally
-counts X (suc n) (frame ∷ later) tally = counts X n later (if is_end X frame.from then landed (frame_value frame) tally else tally)
+counts X (suc n) (frame ∷ later) tally =
+    counts X n later (if is_end X frame.from then landed (frame_value frame) tally else tally)
 
 -- an end counted the frame behind so many
 abbrev pub Lands : ℕ → Wire → Half → Half → Type 0
-Lands n wire old new = (frame : Frame) → slice_get wire.frames.items n ≡ Some frame → new.reader.tally ≡ landed (frame_value frame) old.reader.tally
+Lands n wire old new =
+    (frame : Frame) → slice_get wire.frames.items n ≡ Some frame
+    → new.reader.tally ≡ landed (frame_value frame) old.reader.tally
 
 -- both readers counted all that was taken off the line for them, and nothing else
 pub record Counted (wire : Wire) (x y : Half) : Type 0 where
-  pub by_y : y.reader.tally ≡ counts x.end x.taken wire.frames.items (record { bytes = 0; packets = 0 })
-  pub by_x : x.reader.tally ≡ counts y.end y.taken wire.frames.items (record { bytes = 0; packets = 0 })
+  pub by_y : y.reader.tally ≡ counts x.end x.taken wire.frames.items (record {
+    bytes = 0;
+    packets = 0;
+  })
+  pub by_x : x.reader.tally ≡ counts y.end y.taken wire.frames.items (record {
+    bytes = 0;
+    packets = 0;
+  })

@@ -27,13 +27,16 @@ use Rattle.line_steps.specs.Telling.{cursor_of, Talks}
 
 -- ten faults stand among the last 54 frames
 abbrev pub TenFaults : List Sent → Type 0
-TenFaults past = (first_one : ℕ) × (0 < first_one) × (length past < first_one + 54) × (10 + count faulted (at (first_one - 1) past) ≤ count faulted past)
+TenFaults past =
+    (first_one : ℕ) × (0 < first_one) × (length past < first_one + 54)
+    × (10 + count faulted (at (first_one - 1) past) ≤ count faulted past)
 
 abbrev pub other_end : End → End
 other_end Handheld = Desktop
 other_end Desktop = Handheld
 
--- The last ten data frames of X bear one key, no acknowledgement of it behind the first of them was taken, and ten faults stand among the last frames.
+-- The last ten data frames of X bear one key, no acknowledgement of it behind the first of them was
+-- taken, and ten faults stand among the last frames.
 pub record IsSpent (X : End) (cursor : End → ℕ) (past : List Sent) : Type 0 where
   pub key : Key
   pub newest : first (said X past) ≡ Some key
@@ -46,7 +49,8 @@ is_aborted Unplugged = false
 is_aborted Aborted = true
 is_aborted Undetected = false
 
--- The run ends with the last of these frames for this reason, and with none before it. Where it was aborted, the abort packet stands in its place.
+-- The run ends with the last of these frames for this reason, and with none before it. Where it was
+-- aborted, the abort packet stands in its place.
 pub record EndsWith (stop : Stop) (frames : List Frame) : Type 0 where
   pub before : List Frame
   pub last : Frame
@@ -64,7 +68,8 @@ HaltsBy NoMemory cursor frames = AllGo 1 frames
 HaltsBy (Stopped stop) cursor frames = EndsWith stop frames
 HaltsBy (Down end) cursor frames = AllGo 1 frames × IsSpent end cursor (past_now frames)
 
--- both ends said and took their messages by the rules of a proper trace, and the cursors stand within it
+-- both ends said and took their messages by the rules of a proper trace, and the cursors stand
+-- within it
 pub record Spoken (X Y : End) (talk : Talk) (cursor : End → ℕ) (past : List Sent) : Type 0 where
   pub faults : RepeatsHaveFaults past
   pub x_speaks : SpeaksProperly X Y talk (came_by cursor past) past
@@ -78,14 +83,17 @@ abbrev pub Spoke : Talk → Wire → Half → Half → Type 0
 Spoke talk wire x y = Spoken x.end y.end talk (cursor_of x y) (past_now wire.frames.items)
 
 -- a run halted on the way from one state to another
-pub record Halted (halt : Halt) (wire : Wire) (x y : Half) (new : Wire) (later_x later_y : Half) : Type 0 where
+pub record Halted (halt : Halt) (wire : Wire) (x y : Half) (new : Wire)
+    (later_x later_y : Half) : Type 0 where
   pub x_end : later_x.end ≡ x.end
   pub y_end : later_y.end ≡ y.end
   pub by : HaltsBy halt (cursor_of later_x later_y) new.frames.items
   pub talks : (talk : Talk) → Talks talk wire x y → Spoke talk new later_x later_y
 
--- A waiting piece isn't sent again: it was sent ten times, or memory ran out, or the run ends with it.
+-- A waiting piece isn't sent again: it was sent ten times, or memory ran out, or the run ends with
+-- it.
 abbrev pub NotAgain : Halt → FateValue → Half → Wire → Wire → Type 0
 NotAgain (Down end) given half old new = (end ≡ half.end) × (half.sender.tries ≡ 10) × (new ≡ old)
 NotAgain halt given half old new = (half.sender.tries < 10)
-    × Halts old.frames.items half.end half.sender.id (part_now (side_of half)) given halt new.frames.items
+    × Halts old.frames.items half.end half.sender.id
+    (part_now (side_of half)) given halt new.frames.items

@@ -17,10 +17,13 @@ Silent old heard new = (heard ≡ Nothing) × (new ≡ old)
 
 -- what it hears of a fragment in a packet of this transaction
 abbrev pub Hears : ReceiverValue → ℕ → FragmentValue → Heard → ReceiverValue → Type 0
-Hears old id fragment Nothing new = ¬ (fragment.kind ≡ kind.Data) × ¬ (fragment.kind ≡ kind.Ack) × (new ≡ old)
-Hears old id fragment (Ack key) new = (fragment.kind ≡ kind.Ack) × (key ≡ key_of id fragment) × (new ≡ old)
+Hears old id fragment Nothing new =
+    ¬ (fragment.kind ≡ kind.Data) × ¬ (fragment.kind ≡ kind.Ack) × (new ≡ old)
+Hears old id fragment (Ack key) new =
+    (fragment.kind ≡ kind.Ack) × (key ≡ key_of id fragment) × (new ≡ old)
 Hears old id fragment (Data key taken) new =
-    (fragment.kind ≡ kind.Data) × (key ≡ key_of id fragment) × Answers old id fragment taken × (new ≡ after_answer old id fragment taken)
+    (fragment.kind ≡ kind.Data) × (key ≡ key_of id fragment) × Answers old id fragment taken
+    × (new ≡ after_answer old id fragment taken)
 
 -- one packet more, if there is one
 abbrev pub counted : ℕ → List PacketValue → ℕ
@@ -29,4 +32,7 @@ counted packets (packet ∷ later) = raised packets 1
 
 -- the counts of a reader behind bytes that hold at most one packet
 abbrev pub tally_after : TallyValue → List ℕ → TallyValue
-tally_after tally bytes = record { bytes = raised tally.bytes (length bytes); packets = counted tally.packets (scan bytes) }
+tally_after tally bytes = record {
+  bytes = raised tally.bytes (length bytes);
+  packets = counted tally.packets (scan bytes);
+}

@@ -1,4 +1,5 @@
--- The parts of a running line: the frames so far as a past, what an end sends, and what holds of both ends and the frames after each step.
+-- The parts of a running line: the frames so far as a past, what an end sends, and what holds of
+-- both ends and the frames after each step.
 use Rattle.std.specs.Prelude.{◌≡◌, ◌⊎◌, ℕ, ◌+◌, ◌<◌, Bool, true, false, ◌&&◌, ⊤, List, [], ◌∷◌, length, map, slice_get, Some}
 use Rattle.trace_text.specs.declared.frame.End.{End}
 use Rattle.trace_text.specs.declared.frame.Frame.{Frame}
@@ -30,7 +31,11 @@ AllGo number (frame ∷ later) = Goes number (frame_value frame) × AllGo (numbe
 
 -- the message that an end sends, and how many of its pieces are acknowledged
 abbrev pub side_of : Half → Side
-side_of half = record { id = half.sender.id; message = half.message.items; acknowledged = half.sender.acknowledged }
+side_of half = record {
+  id = half.sender.id;
+  message = half.message.items;
+  acknowledged = half.sender.acknowledged;
+}
 
 -- the sender sends the message, and the reader took a gap last
 pub record IsHalf (half : Half) : Type 0 where
@@ -51,7 +56,8 @@ pub record Holds (wire : Wire) (x y : Half) : Type 0 where
 -- the frame behind so many is of this end, and comes
 pub record ComesNext (X : End) (frames : List Frame) (n : ℕ) : Type 0 where
   pub inside : n < length frames
-  pub is : (frame : Frame) → slice_get frames n ≡ Some frame → (is_end X frame.from && arrives (fate_value frame.fate)) ≡ true
+  pub is : (frame : Frame) → slice_get frames n ≡ Some frame
+      → (is_end X frame.from && arrives (fate_value frame.fate)) ≡ true
 
 -- all frames of this end are passed, or the next one comes
 abbrev pub AtHead : End → List Frame → ℕ → Type 0

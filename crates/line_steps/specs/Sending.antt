@@ -18,7 +18,8 @@ abbrev pub StopsBy : FateValue → List ℕ → Option Stop → Type 0
 StopsBy given bytes None = ends_run given bytes ≡ false
 StopsBy given bytes (Some Unplugged) = given ≡ fate.Unplug
 StopsBy given bytes (Some Aborted) = given ≡ fate.Abort
-StopsBy given bytes (Some Undetected) = (is_stop given ≡ false) × (holds_packet (strange_bytes given bytes) ≡ true)
+StopsBy given bytes (Some Undetected) =
+    (is_stop given ≡ false) × (holds_packet (strange_bytes given bytes) ≡ true)
 
 -- what an abort packet bears
 abbrev pub abort_fragment : FragmentValue
@@ -33,8 +34,10 @@ in_place stop fragment = fragment
 abbrev pub ack_fragment : Key → FragmentValue
 ack_fragment key = record { kind = kind.Ack; flags = key.flags; size = key.size; bytes = [] }
 
--- one frame more, by this end, with this fragment in a packet of this transaction: the run ends with it for this reason, or goes on
-pub record Sends (old : List Frame) (from : End) (id : ℕ) (fragment : FragmentValue) (given : FateValue) (stop : Option Stop) (new : List Frame) : Type 0 where
+-- one frame more, by this end, with this fragment in a packet of this transaction: the run ends
+-- with it for this reason, or goes on
+pub record Sends (old : List Frame) (from : End) (id : ℕ) (fragment : FragmentValue)
+    (given : FateValue) (stop : Option Stop) (new : List Frame) : Type 0 where
   pub frame : Frame
   pub is : new ≡ old ++ frame ∷ []
   pub number_is : frame.number ≡ length old + 1
@@ -48,5 +51,6 @@ pub record Sends (old : List Frame) (from : End) (id : ℕ) (fragment : Fragment
 -- the run halts: memory ran out before the frame was sent, or the run ends with it
 abbrev pub Halts : List Frame → End → ℕ → FragmentValue → FateValue → Halt → List Frame → Type 0
 Halts old from id fragment given NoMemory new = new ≡ old
-Halts old from id fragment given (Stopped stop) new = Sends old from id fragment given (Some stop) new
+Halts old from id fragment given (Stopped stop) new =
+    Sends old from id fragment given (Some stop) new
 Halts old from id fragment given (Down end) new = ⊥

@@ -23,9 +23,11 @@ HeardOf X past cx true side = spoken X past ≡ part_of_now side ∷ heard X (at
 pub record TookMessages (X : End) (talk : Talk) (past : List Sent) (cx : ℕ) : Type 0 where
   pub rest : List Part
   pub is : reverse (heard X (at cx past)) ++ rest ≡ session_parts 0 (messages_of X talk)
-  pub most : pieces_before (messages_of X talk) (count_messages X talk - 1) ≤ length (heard X (at cx past))
+  pub most : pieces_before (messages_of X talk) (count_messages X talk - 1)
+      ≤ length (heard X (at cx past))
 
 -- messages under their ids, from the message of this number on
 abbrev pub told_from : ℕ → List (List ℕ) → List Told
 told_from number [] = []
-told_from number (message ∷ later) = record { id = session_id number; message = message } ∷ told_from (number + 1) later
+told_from number (message ∷ later) =
+    record { id = session_id number; message = message } ∷ told_from (number + 1) later

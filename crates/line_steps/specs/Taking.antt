@@ -34,4 +34,5 @@ pub record DataHeard (wire : Wire) (x y : Half) (key : Key) (taken : Taken) : Ty
   pub is : IsDataOf x.end (sent_of next.frame)
   pub key_is : (sent_of next.frame).key ≡ key
   pub answers : Answers before key.id (data_fragment key (sent_of next.frame).bytes) taken
-  pub after : y.receiver ≡ after_answer before key.id (data_fragment key (sent_of next.frame).bytes) taken
+  pub after : y.receiver
+      ≡ after_answer before key.id (data_fragment key (sent_of next.frame).bytes) taken

@@ -1,4 +1,5 @@
--- What the frames so far tell: the messages of both ends, which frames came, and the fates that a script gave them.
+-- What the frames so far tell: the messages of both ends, which frames came, and the fates that a
+-- script gave them.
 use Rattle.std.specs.Prelude.{◌≡◌, ◌⊎◌, ℕ, ◌+◌, ◌≤◌, ◌<◌, Bool, List, [], length, map}
 use Rattle.padp_link.specs.Neighbours.{session_id}
 use Rattle.padp_link.specs.Pieces.{piece_count}
@@ -34,7 +35,8 @@ abbrev pub no_talk : Talk
 no_talk = record { handheld = []; desktop = [] }
 
 -- what both ends said of the messages of the talk, what each knows was taken, and what was
-pub record Talked (X Y : End) (talk : Talk) (cursor : End → ℕ) (past : List Sent) (x y : Side) : Type 0 where
+pub record Talked (X Y : End) (talk : Talk) (cursor : End → ℕ) (past : List Sent)
+    (x y : Side) : Type 0 where
   pub fx : Bool
   pub fy : Bool
   pub there : Follows (said X past) (acked Y past) fx
@@ -44,13 +46,16 @@ pub record Talked (X Y : End) (talk : Talk) (cursor : End → ℕ) (past : List 
   pub y_heard : HeardOf Y past (cursor Y) fy y
 
 abbrev pub Talks : Talk → Wire → Half → Half → Type 0
-Talks talk wire x y = Talked x.end y.end talk (cursor_of x y) (past_now wire.frames.items) (side_of x) (side_of y)
+Talks talk wire x y =
+    Talked x.end y.end talk (cursor_of x y) (past_now wire.frames.items) (side_of x) (side_of y)
 
 -- a step says no new message
 abbrev pub KeepsTalk : Wire → Half → Half → Wire → Half → Half → Type 0
-KeepsTalk wire x y new later_x later_y = (talk : Talk) → Talks talk wire x y → Talks talk new later_x later_y
+KeepsTalk wire x y new later_x later_y =
+    (talk : Talk) → Talks talk wire x y → Talks talk new later_x later_y
 
--- each frame has its number and the fate that the script gives it, and came exactly where it arrives and was taken
+-- each frame has its number and the fate that the script gives it, and came exactly where it
+-- arrives and was taken
 pub record Recorded (script : List RuleValue) (wire : Wire) (x y : Half) : Type 0 where
   pub by : AllBy script 1 wire.frames.items
   pub came : CameByCursor 1 (cursor_of x y) (map frame_value wire.frames.items)
@@ -59,16 +64,20 @@ pub record Recorded (script : List RuleValue) (wire : Wire) (x y : Half) : Type 
 pub record KeepsAll (wire : Wire) (x y later_x later_y : Half) : Type 0 where
   pub talks : KeepsTalk wire x y wire later_x later_y
   pub took : took_count wire later_x ≡ took_count wire x
-  pub recorded : (script : List RuleValue) → Recorded script wire x y → Recorded script wire later_x later_y
+  pub recorded : (script : List RuleValue) → Recorded script wire x y
+      → Recorded script wire later_x later_y
   pub counted : Counted wire x y → Counted wire later_x later_y
 
--- What the next message of x answers: the other end's last one, or nothing, or for the first request the desktop's own greeting, where the other end waits for
+-- What the next message of x answers: the other end's last one, or nothing, or for the first
+-- request the desktop's own greeting, where the other end waits for
 -- nothing.
 abbrev pub IsInTurn : End → ℕ → ℕ → Half → Type 0
-IsInTurn Handheld handheld desktop y = ((handheld ≡ 0) × (desktop ≡ 0)) ⊎ ((0 < handheld) × (desktop ≡ handheld + 1))
+IsInTurn Handheld handheld desktop y =
+    ((handheld ≡ 0) × (desktop ≡ 0)) ⊎ ((0 < handheld) × (desktop ≡ handheld + 1))
 IsInTurn Desktop handheld desktop y =
     ((handheld ≡ 1) × (desktop ≡ 0))
-    ⊎ ((handheld ≡ 1) × (desktop ≡ 1) × (piece_count (length y.message.items) ≤ y.sender.acknowledged))
+    ⊎ ((handheld ≡ 1) × (desktop ≡ 1)
+    × (piece_count (length y.message.items) ≤ y.sender.acknowledged))
     ⊎ ((1 < desktop) × (handheld ≡ desktop))
 
 -- so its id is that of its number

@@ -24,17 +24,21 @@ pub record Settled (wire : Wire) (x y : Half) : Type 0 where
   pub line : Line x.end y.end (past_now wire.frames.items) x.taken y.taken wire.released (side_of x)
       (side_of y) x.receiver y.receiver false false x.sender.tries y.sender.tries
 
--- x may begin its next message: it waits for nothing and knows that all its own was taken, and the other end's message is whole
+-- x may begin its next message: it waits for nothing and knows that all its own was taken, and the
+-- other end's message is whole
 pub record Turn (wire : Wire) (x y : Half) : Type 0 where
   pub settled : Settled wire x y
-  pub knows : length (said x.end (past_now wire.frames.items)) ≤ length (acked y.end (at y.taken (past_now wire.frames.items)))
+  pub knows : length (said x.end (past_now wire.frames.items))
+      ≤ length (acked y.end (at y.taken (past_now wire.frames.items)))
   pub idle : piece_count (length x.message.items) ≤ x.sender.acknowledged
   pub last : piece_count (length y.message.items) ≤ y.sender.acknowledged + 1
 
--- behind data that made a message whole it is the turn of x, which took it, has the message, and sent its acknowledgement last
+-- behind data that made a message whole it is the turn of x, which took it, has the message, and
+-- sent its acknowledgement last
 abbrev pub TurnAfter : Taken → Wire → Half → Half → Type 0
 TurnAfter Whole wire x y =
-    Turn wire x y × (whole_of x.receiver.pieces ≡ Some y.message.items) × EndsAcknowledging x.end (last_key y.sender.id y.message.items)
+    Turn wire x y × (whole_of x.receiver.pieces ≡ Some y.message.items)
+    × EndsAcknowledging x.end (last_key y.sender.id y.message.items)
     (map frame_value wire.frames.items)
 TurnAfter taken wire x y = ⊤
 

@@ -6,4 +6,6 @@ use Rattle.line_steps.specs.declared.half.Wire.{Wire}
 use Rattle.line_steps.specs.Running.{past_now, side_of}
 
 abbrev pub work_left : Wire → Half → Half → ℕ
-work_left wire x y = measure x.end y.end (past_now wire.frames.items) x.taken y.taken (side_of x) (side_of y) x.sender.tries y.sender.tries
+work_left wire x y =
+    measure x.end y.end (past_now wire.frames.items) x.taken y.taken (side_of x)
+    (side_of y) x.sender.tries y.sender.tries

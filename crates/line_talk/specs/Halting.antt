@@ -13,15 +13,20 @@ use Rattle.line_steps.specs.Halting.{HaltsBy, Spoke, other_end}
 use Rattle.line_steps.specs.Telling.{IsNextTo, Talks, cursor_of}
 use Rattle.line_talk.specs.Rests.{AreEnds}
 
--- It halted before the message of x was over: then the frames tell it by the rules, though it may have stopped within it or before it. What was taken of y
+-- It halted before the message of x was over: then the frames tell it by the rules, though it may
+-- have stopped within it or before it. What was taken of y
 -- stays taken, and where an end has spent its tries the message wasn't taken whole.
-pub record HaltedOver (halt : Halt) (id : ℕ) (message : List ℕ) (wire : Wire) (x y : Half) (new : Wire) (later_x later_y : Half) : Type 0 where
+pub record HaltedOver (halt : Halt) (id : ℕ) (message : List ℕ) (wire : Wire) (x y : Half)
+    (new : Wire) (later_x later_y : Half) : Type 0 where
   pub by : HaltsBy halt (cursor_of later_x later_y) new.frames.items
-  pub talks : (talk : Talk) → IsNextTo talk x y id → Talks talk wire x y → Spoke (say x.end message talk) new later_x later_y
+  pub talks : (talk : Talk) → IsNextTo talk x y id → Talks talk wire x y
+      → Spoke (say x.end message talk) new later_x later_y
   pub other : took_count wire y ≤ took_count new later_y
-  pub short : (talk : Talk) → IsNextTo talk x y id → Talks talk wire x y → FallsShort halt (say x.end message talk) new later_x
+  pub short : (talk : Talk) → IsNextTo talk x y id → Talks talk wire x y
+      → FallsShort halt (say x.end message talk) new later_x
 
--- A line with which it is over, for this reason: its frames tell these messages by the rules, though the last ones may not have come or been sent.
+-- A line with which it is over, for this reason: its frames tell these messages by the rules,
+-- though the last ones may not have come or been sent.
 pub record LineEnds (halt : Halt) (talk : Talk) (line : Line) : Type 0 where
   pub ends : AreEnds line
   pub by : HaltsBy halt (cursor_of line.handheld line.desktop) line.wire.frames.items
@@ -32,7 +37,8 @@ abbrev pub half_of : End → Line → Half
 half_of Handheld line = line.handheld
 half_of Desktop line = line.desktop
 
--- It halted while X said the last of its messages: all messages of the other end were taken, and where an end has spent its tries this last one wasn't
+-- It halted while X said the last of its messages: all messages of the other end were taken, and
+-- where an end has spent its tries this last one wasn't
 -- taken whole.
 pub record HaltsWithin (X : End) (halt : Halt) (talk : Talk) (line : Line) : Type 0 where
   pub others : piece_total (other_end X) talk ≤ took_count line.wire (half_of (other_end X) line)

@@ -1,4 +1,5 @@
--- What the frames of a line with its two ends tell: the fates that a script gave them, which of them came, and the messages of both ends.
+-- What the frames of a line with its two ends tell: the fates that a script gave them, which of
+-- them came, and the messages of both ends.
 use Rattle.std.specs.Prelude.{◌≡◌, ℕ, ◌+◌, List, [], ◌∷◌, length, reverse}
 use Rattle.cmp_hello.specs.declared.hello.Hello.{Hello}
 use Rattle.cmp_hello.specs.declared.hello.HelloKind.TheVariants.{Wake, Init}
@@ -15,7 +16,8 @@ use Rattle.line_steps.specs.Running.{past_now}
 use Rattle.line_steps.specs.Stories.{told_from}
 use Rattle.line_steps.specs.Telling.{Recorded, Talks, cursor_of}
 
--- each frame has its number and the fate that the script gives it, and came exactly where it arrives and was taken
+-- each frame has its number and the fate that the script gives it, and came exactly where it
+-- arrives and was taken
 abbrev pub LineRecords : List RuleValue → Line → Type 0
 LineRecords script line = Recorded script line.wire line.handheld line.desktop
 
@@ -29,7 +31,10 @@ LineTells talk line = Talks talk line.wire line.handheld line.desktop
 
 -- of the messages of X the other end took these whole, and none behind them
 abbrev pub LineTold : End → List (List ℕ) → Line → Type 0
-LineTold X messages line = IsStoryOf (reverse (heard X (at (cursor_of line.handheld line.desktop X) (past_now line.wire.frames.items)))) (told_from 0 messages)
+LineTold X messages line =
+    IsStoryOf (reverse
+    (heard X (at (cursor_of line.handheld line.desktop X) (past_now line.wire.frames.items))))
+    (told_from 0 messages)
 
 -- both ends said as much: their greetings, and so many requests and replies
 pub record HasSaid (talk : Talk) (replies requests : ℕ) : Type 0 where

@@ -18,7 +18,8 @@ use Rattle.line_world.specs.declared.down.Down.TheVariants as down
 use Rattle.line_world.specs.declared.stop.Break.{Break}
 use Rattle.line_world.specs.declared.stop.Break.TheVariants.{NoMemory, Line, Keeper}
 
--- why it is over with the line itself: where memory ran out elsewhere, or the folder failed, it is at rest
+-- why it is over with the line itself: where memory ran out elsewhere, or the folder failed, it is
+-- at rest
 abbrev pub halt_of : Break → Halt
 halt_of NoMemory = halt.NoMemory
 halt_of (Line halt) = halt
@@ -54,7 +55,8 @@ IsCause None cause = cause ≡ None
 IsCause (Some link.Down) cause = IsSome cause
 IsCause (Some link.NoMemory) cause = cause ≡ None
 
--- This end has spent its tries: its last ten data frames bear one key, no acknowledgement of it behind the first of them came, and ten faults stand
+-- This end has spent its tries: its last ten data frames bear one key, no acknowledgement of it
+-- behind the first of them came, and ten faults stand
 -- among the last frames, none of which ends the run.
 pub record SpentIn (end : End) (frames : List FrameValue) : Type 0 where
   pub cursor : End → ℕ
@@ -65,15 +67,18 @@ pub record SpentIn (end : End) (frames : List FrameValue) : Type 0 where
 -- the numbers of the frames that the line did harm, in order
 abbrev pub faults_in : List FrameValue → List ℕ
 faults_in [] = []
-faults_in (frame ∷ later) = if is_fault frame.fate then frame.number ∷ faults_in later else faults_in later
+faults_in (frame ∷ later) =
+    if is_fault frame.fate then frame.number ∷ faults_in later else faults_in later
 
 -- where there are ten of them, these are the last ten
 abbrev pub AreLastTen : List ℕ → List FrameValue → Type 0
-AreLastTen numbers frames = 10 ≤ length (faults_in frames) → (before : List ℕ) × (faults_in frames ≡ before ++ numbers)
+AreLastTen numbers frames =
+    10 ≤ length (faults_in frames) → (before : List ℕ) × (faults_in frames ≡ before ++ numbers)
 
 -- what a cause names, where it names frames
 abbrev pub NamesLast : Option Down → List FrameValue → Type 0
-NamesLast (Some (down.LineDown end numbers)) frames = (length numbers ≡ 10) × AreLastTen numbers frames
+NamesLast (Some (down.LineDown end numbers)) frames =
+    (length numbers ≡ 10) × AreLastTen numbers frames
 NamesLast cause frames = ⊤
 
 -- the last ten frames that the line did harm, all among the last 64
@@ -83,20 +88,29 @@ pub record AreTenFaults (numbers : List ℕ) (frames : List FrameValue) : Type 0
   pub ten : length numbers ≡ 10
   pub near : AllByRecursion (λ number. length frames < number + 64) numbers
 
--- The frames bear a cause out: where an end has spent its tries, or the folder failed, none of them ends the run.
+-- The frames bear a cause out: where an end has spent its tries, or the folder failed, none of them
+-- ends the run.
 abbrev pub BearsOut : Option Down → List FrameValue → Type 0
 BearsOut None frames = ⊤
-BearsOut (Some (down.LineDown end numbers)) frames = SpentIn end frames × AreTenFaults numbers frames
-BearsOut (Some (down.Unplugged number)) frames = (number ≡ length frames) × EndsBy stop.Unplugged frames
-BearsOut (Some (down.Aborted number)) frames = (number ≡ length frames) × EndsBy stop.Aborted frames × EndsInAbort frames
-BearsOut (Some (down.Undetected number)) frames = (number ≡ length frames) × EndsBy stop.Undetected frames
+BearsOut (Some (down.LineDown end numbers)) frames =
+    SpentIn end frames × AreTenFaults numbers frames
+BearsOut (Some (down.Unplugged number)) frames =
+    (number ≡ length frames) × EndsBy stop.Unplugged frames
+BearsOut (Some (down.Aborted number)) frames =
+    (number ≡ length frames) × EndsBy stop.Aborted frames × EndsInAbort frames
+BearsOut (Some (down.Undetected number)) frames =
+    (number ≡ length frames) × EndsBy stop.Undetected frames
 BearsOut (Some down.Keeper) frames = AllRunOn frames
 
--- why it is over with the line, by the cause and how many frames there are; where the folder failed, or there is no cause, it is at rest
+-- why it is over with the line, by the cause and how many frames there are; where the folder
+-- failed, or there is no cause, it is at rest
 abbrev pub IsHaltOf : Option Down → ℕ → Halt → Type 0
 IsHaltOf None count ended = ended ≡ halt.NoMemory
 IsHaltOf (Some (down.LineDown end numbers)) count ended = ended ≡ halt.Down end
-IsHaltOf (Some (down.Unplugged number)) count ended = (number ≡ count) × (ended ≡ halt.Stopped stop.Unplugged)
-IsHaltOf (Some (down.Aborted number)) count ended = (number ≡ count) × (ended ≡ halt.Stopped stop.Aborted)
-IsHaltOf (Some (down.Undetected number)) count ended = (number ≡ count) × (ended ≡ halt.Stopped stop.Undetected)
+IsHaltOf (Some (down.Unplugged number)) count ended =
+    (number ≡ count) × (ended ≡ halt.Stopped stop.Unplugged)
+IsHaltOf (Some (down.Aborted number)) count ended =
+    (number ≡ count) × (ended ≡ halt.Stopped stop.Aborted)
+IsHaltOf (Some (down.Undetected number)) count ended =
+    (number ≡ count) × (ended ≡ halt.Stopped stop.Undetected)
 IsHaltOf (Some down.Keeper) count ended = ended ≡ halt.NoMemory

@@ -14,13 +14,15 @@ use Rattle.line_steps.specs.Counting.{counts}
 abbrev pub land_to_last : End → List FrameValue → ℕ
 land_to_last X [] = 0
 land_to_last X (frame ∷ later) = if nat_eq (count_came X (frame ∷ later)) 0 then 0 else
-    (if is_end X frame.from then landing frame.fate (length frame.bytes) else 0) + land_to_last X later
+    (if is_end X frame.from then landing frame.fate (length frame.bytes) else 0)
+    + land_to_last X later
 
 -- a sum, or the greatest count
 abbrev pub capped : ℕ → ℕ
 capped sum = min sum (2 ^ 64 - 1)
 
--- as many packets as frames of X came; at least the bytes that land up to the last of these, and at most those of all
+-- as many packets as frames of X came; at least the bytes that land up to the last of these, and at
+-- most those of all
 pub record AgreesWith (X : End) (frames : List FrameValue) (tally : TallyValue) : Type 0 where
   pub packets_are : tally.packets ≡ capped (count_came X frames)
   pub least : capped (land_to_last X frames) ≤ tally.bytes

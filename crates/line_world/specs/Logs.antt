@@ -1,4 +1,5 @@
--- What was said over a line: the requests that were sent, those that the handheld performed, its replies, and the ids that new records were given.
+-- What was said over a line: the requests that were sent, those that the handheld performed, its
+-- replies, and the ids that new records were given.
 use Rattle.std.specs.Prelude.{ℕ, ◌+◌, ◌≤◌, List, [], ◌∷◌, ◌++◌, map, vec_capacity, vec_len}
 use Rattle.dlp_args.specs.Messages.{MessageTextValue}
 use Rattle.dlp_commands.specs.Changes.{given_in}
@@ -16,7 +17,12 @@ abbrev pub texts : List MessageTextValue → List (List ℕ)
 texts kept = map (λ text. text.bytes) kept
 
 abbrev pub log_value : Log → LogValue
-log_value log = record { issued = texts log.issued.items; performed = texts log.performed.items; replies = texts log.replies.items; given = log.given.items }
+log_value log = record {
+  issued = texts log.issued.items;
+  performed = texts log.performed.items;
+  replies = texts log.replies.items;
+  given = log.given.items;
+}
 
 -- nothing was said
 abbrev pub no_log : LogValue
@@ -42,4 +48,7 @@ pub record HasRoom (log : Log) : Type 0 where
 
 -- the messages of both ends: the greetings, and then the replies and the requests
 abbrev pub said_in : LogValue → Talk
-said_in log = record { handheld = bytes_of wake ∷ log.replies; desktop = bytes_of init ∷ log.issued }
+said_in log = record {
+  handheld = bytes_of wake ∷ log.replies;
+  desktop = bytes_of init ∷ log.issued;
+}

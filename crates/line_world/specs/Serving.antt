@@ -19,14 +19,17 @@ break_of serve.Keeper = Keeper
 break_of serve.NoMemory = NoMemory
 
 -- it was performed once, with this reply
-pub record Performs {F : Type 0} (contents : F → Option FileMap) (moments : F → Moments) (paths : F → Option (List (List ℕ))) (faults : F → ℕ)
+pub record Performs {F : Type 0} (contents : F → Option FileMap) (moments : F → Moments)
+    (paths : F → Option (List (List ℕ))) (faults : F → ℕ)
     (old new : ServerValue F) (log later : LogValue) (request reply : List ℕ) : Type 0 where
   pub sound : new.sound ≡ true
-  pub since : ServedSince contents moments paths faults old new (record { request = request; reply = reply } ∷ [])
+  pub since : ServedSince contents moments paths faults old new
+      (record { request = request; reply = reply } ∷ [])
   pub log_is : later ≡ with_performed log request reply
 
 -- it wasn't; where the folder failed, its count rose, and the line is at rest
-pub record Refuses {F : Type 0} (contents : F → Option FileMap) (moments : F → Moments) (paths : F → Option (List (List ℕ))) (faults : F → ℕ)
+pub record Refuses {F : Type 0} (contents : F → Option FileMap) (moments : F → Moments)
+    (paths : F → Option (List (List ℕ))) (faults : F → ℕ)
     (old new : ServerValue F) (log later : LogValue) (ended : Break) : Type 0 where
   pub since : ServedSince contents moments paths faults old new []
   pub keeper : ended ≡ Keeper → Rose (faults old.folder) (faults new.folder)

@@ -32,7 +32,8 @@ use Rattle.line_talk.specs.Rests.{MayGreet, MayAsk}
 use Rattle.line_talk.specs.Telling.{LineCounts, LineRecords, LineTells, LineTold, bytes_of, init, wake}
 use Rattle.line_world.specs.Logs.{LogValue, said_in}
 
--- a world is the handheld's server, the script, what was said, how much of it was answered, the frames, whether it has begun, and why it is down
+-- a world is the handheld's server, the script, what was said, how much of it was answered, the
+-- frames, whether it has begun, and why it is down
 pub record WorldValue (F : Type 0) : Type 0 where
   pub server : ServerValue F
   pub script : List RuleValue
@@ -47,11 +48,13 @@ pub record WorldValue (F : Type 0) : Type 0 where
 abbrev pub world_talk : {F : Type 0} → WorldValue F → Talk
 world_talk world = record {
   device = world.server.device;
-  exchanges = exchanged (take world.answered world.log.issued) (take world.answered world.log.replies);
+  exchanges =
+      exchanged (take world.answered world.log.issued) (take world.answered world.log.replies);
   left = slice_get world.log.issued world.answered;
 }
 
--- the frames tell each end the messages of the other one, under the ids of their numbers: all of them, or all but the last
+-- the frames tell each end the messages of the other one, under the ids of their numbers: all of
+-- them, or all but the last
 pub record TellBoth (talk : talks.Talk) (frames : List FrameValue) : Type 0 where
   pub handheld_said : TellsOf ends.Handheld talk.handheld frames
   pub desktop_said : TellsOf ends.Desktop talk.desktop frames
@@ -65,45 +68,61 @@ pub record TellAll (talk : talks.Talk) (frames : List FrameValue) : Type 0 where
 abbrev pub StoppedUp : Option LinkFault → Option Down → Type 0
 StoppedUp fault cause = (fault ≡ None → ⊥) × (down_end cause ≡ None)
 
--- Behind the greetings the frames told the handheld the requests that it performed, or one request more, and the desktop the replies that its calls
+-- Behind the greetings the frames told the handheld the requests that it performed, or one request
+-- more, and the desktop the replies that its calls
 -- answered, or
--- one reply more: the one more only in a run that stopped before it was dealt with, and not because an end had spent its tries.
-pub record TellDone (log : LogValue) (answered : ℕ) (fault : Option LinkFault) (cause : Option Down) (frames : List FrameValue) : Type 0 where
+-- one reply more: the one more only in a run that stopped before it was dealt with, and not because
+-- an end had spent its tries.
+pub record TellDone (log : LogValue) (answered : ℕ) (fault : Option LinkFault)
+    (cause : Option Down) (frames : List FrameValue) : Type 0 where
   pub requests :
       IsStory ends.Desktop frames (told_from 0 (bytes_of init ∷ log.performed))
-      ⊎ (StoppedUp fault cause × (length log.performed < length log.issued) × IsStory ends.Desktop frames (told_from 0 (bytes_of init ∷ log.issued)))
+      ⊎ (StoppedUp fault cause × (length log.performed < length log.issued)
+      × IsStory ends.Desktop frames (told_from 0 (bytes_of init ∷ log.issued)))
   pub replies :
       IsStory ends.Handheld frames (told_from 0 (bytes_of wake ∷ take answered log.replies))
-      ⊎ (StoppedUp fault cause × (answered < length log.replies) × IsStory ends.Handheld frames (told_from 0 (bytes_of wake ∷ log.replies)))
+      ⊎ (StoppedUp fault cause × (answered < length log.replies)
+      × IsStory ends.Handheld frames (told_from 0 (bytes_of wake ∷ log.replies)))
 
 -- the frames end with the desktop's acknowledgement of the last piece of the last reply
 pub record EndsAcknowledged (log : LogValue) (frames : List FrameValue) : Type 0 where
   pub earlier : List (List ℕ)
   pub reply : List ℕ
   pub is : log.replies ≡ earlier ++ reply ∷ []
-  pub acked : EndsAcknowledging ends.Desktop (last_key (session_id (length log.replies)) reply) frames
+  pub acked : EndsAcknowledging ends.Desktop
+      (last_key (session_id (length log.replies)) reply) frames
 
--- A line that went down left the last request without an answer, where one was sent; a folder that failed left it unperformed.
-pub record LeavesOff (log : LogValue) (answered : ℕ) (fault : Option LinkFault) (cause : Option Down) : Type 0 where
+-- A line that went down left the last request without an answer, where one was sent; a folder that
+-- failed left it unperformed.
+pub record LeavesOff (log : LogValue) (answered : ℕ) (fault : Option LinkFault)
+    (cause : Option Down) : Type 0 where
   pub down : fault ≡ Some link.Down → (log.issued ≡ []) ⊎ (answered < length log.issued)
   pub keeper : cause ≡ Some Keeper → length log.performed < length log.issued
 
--- Since the first of the two more was sent, performed and replied: each request that was performed was one step of the device, in order. The script is
+-- Since the first of the two more was sent, performed and replied: each request that was performed
+-- was one step of the device, in order. The script is
 -- the same.
 -- A folder that failed meanwhile had its count rise.
-pub record WorldSince {F : Type 0} (contents : F → Option FileMap) (moments : F → Moments) (paths : F → Option (List (List ℕ))) (faults : F → ℕ)
+pub record WorldSince {F : Type 0} (contents : F → Option FileMap) (moments : F → Moments)
+    (paths : F → Option (List (List ℕ))) (faults : F → ℕ)
     (old new : WorldValue F) : Type 0 where
   pub same_script : new.script ≡ old.script
   pub requests : List (List ℕ)
   pub issued_is : new.log.issued ≡ old.log.issued ++ requests
   pub exchanges : List Exchange
-  pub performed_is : new.log.performed ≡ old.log.performed ++ map (λ (exchange : Exchange). exchange.request) exchanges
-  pub replies_are : new.log.replies ≡ old.log.replies ++ map (λ (exchange : Exchange). exchange.reply) exchanges
-  pub given_is : new.log.given ≡ old.log.given ++ flat_map (λ (exchange : Exchange). given_in exchange.request exchange.reply) exchanges
+  pub performed_is : new.log.performed
+      ≡ old.log.performed ++ map (λ (exchange : Exchange). exchange.request) exchanges
+  pub replies_are : new.log.replies
+      ≡ old.log.replies ++ map (λ (exchange : Exchange). exchange.reply) exchanges
+  pub given_is : new.log.given
+      ≡ old.log.given
+      ++ flat_map (λ (exchange : Exchange). given_in exchange.request exchange.reply) exchanges
   pub served : ServedSince contents moments paths faults old.server new.server exchanges
-  pub keeper : new.cause ≡ Some Keeper → (old.cause ≡ Some Keeper) ⊎ Rose (faults old.server.folder) (faults new.server.folder)
+  pub keeper : new.cause ≡ Some Keeper
+      → (old.cause ≡ Some Keeper) ⊎ Rose (faults old.server.folder) (faults new.server.folder)
 
--- what was said, in numbers: each performed request is a request that was sent, in order, and all but the last at most are answered
+-- what was said, in numbers: each performed request is a request that was sent, in order, and all
+-- but the last at most are answered
 pub record IsLog (log : LogValue) (answered : ℕ) : Type 0 where
   pub performed_is : log.performed ≡ take (length log.replies) log.issued
   pub replied : answered ≤ length log.replies
@@ -115,8 +134,10 @@ abbrev pub IsAtRest : Bool → Line → LogValue → ℕ → Type 0
 IsAtRest false line log answered = MayGreet line × (answered ≡ 0) × LineTells no_talk line
 IsAtRest true line log answered = MayAsk line answered × LineTells (said_in log) line
 
--- what holds while the link answers: the handheld is sound, all was answered, and the line is at rest
-pub record IsRunning (line : Line) (log : LogValue) (sound : Bool) (answered : ℕ) (begun : Bool) : Type 0 where
+-- what holds while the link answers: the handheld is sound, all was answered, and the line is at
+-- rest
+pub record IsRunning (line : Line) (log : LogValue) (sound : Bool) (answered : ℕ)
+    (begun : Bool) : Type 0 where
   pub is_sound : sound ≡ true
   pub all : length log.issued ≡ answered
   pub at_rest : IsAtRest begun line log answered
@@ -128,17 +149,21 @@ pub record IsTold (line : Line) (log : LogValue) (cause : Option Down) : Type 0 
   pub halt_is : IsHaltOf cause (length line.wire.frames.items) halt
   pub names : NamesLast cause (map frame_value line.wire.frames.items)
 
--- so both ends took the messages behind the greetings, each so far as it was dealt with, or one more where no end has spent its tries
+-- so both ends took the messages behind the greetings, each so far as it was dealt with, or one
+-- more where no end has spent its tries
 pub record IsHeard (halt : Halt) (log : LogValue) (answered : ℕ) (line : Line) : Type 0 where
   pub requests :
       LineTold ends.Desktop (bytes_of init ∷ take (length log.replies) log.issued) line
-      ⊎ ((length log.replies < length log.issued) × IsUp halt × LineTold ends.Desktop (bytes_of init ∷ log.issued) line)
+      ⊎ ((length log.replies < length log.issued) × IsUp halt
+      × LineTold ends.Desktop (bytes_of init ∷ log.issued) line)
   pub replies :
       LineTold ends.Handheld (bytes_of wake ∷ take answered log.replies) line
-      ⊎ ((answered < length log.replies) × IsUp halt × LineTold ends.Handheld (bytes_of wake ∷ log.replies) line)
+      ⊎ ((answered < length log.replies) × IsUp halt
+      × LineTold ends.Handheld (bytes_of wake ∷ log.replies) line)
 
 -- what holds of each world
-pub record IsWorld (line : Line) (script : List RuleValue) (log : LogValue) (sound : Bool) (answered : ℕ) (begun : Bool) (fault : Option LinkFault)
+pub record IsWorld (line : Line) (script : List RuleValue) (log : LogValue) (sound : Bool)
+    (answered : ℕ) (begun : Bool) (fault : Option LinkFault)
     (cause : Option Down) : Type 0 where
   pub recorded : LineRecords script line
   pub counted : LineCounts line
@@ -147,6 +172,7 @@ pub record IsWorld (line : Line) (script : List RuleValue) (log : LogValue) (sou
   pub is_log : IsLog log answered
   pub silent : begun ≡ false → log.issued ≡ []
   pub left_off : LeavesOff log answered fault cause
-  pub acked : 0 < answered → length log.issued ≡ answered → EndsAcknowledged log (map frame_value line.wire.frames.items)
+  pub acked : 0 < answered → length log.issued ≡ answered
+      → EndsAcknowledged log (map frame_value line.wire.frames.items)
   pub running : fault ≡ None → IsRunning line log sound answered begun
   pub caused : IsCause fault cause

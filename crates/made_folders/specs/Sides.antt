@@ -15,12 +15,15 @@ use Rattle.made_folders.specs.declared.item.Item.{Item}
 use Rattle.made_folders.specs.declared.side.MadeSide.{MadeSide}
 use Rattle.made_folders.specs.declared.side.MadeSide.TheVariants.{Handheld, Base, Desktop}
 
--- the letter that the text of an item of a kind begins with, where the side has it: `h` where the handheld changed or made it, `d` where
+-- the letter that the text of an item of a kind begins with, where the side has it: `h` where the
+-- handheld changed or made it, `d` where
 -- the desktop did, and else `r`
 abbrev pub letter_on : MadeSide → ℕ → Option ℕ
-letter_on Handheld kind = if (kind == 5) || (kind == 8) then Some 104 else if nat_lt kind 8 then Some 114 else None
+letter_on Handheld kind =
+    if (kind == 5) || (kind == 8) then Some 104 else if nat_lt kind 8 then Some 114 else None
 letter_on Base kind = if nat_lt kind 8 then Some 114 else None
-letter_on Desktop kind = if (kind == 6) || (kind == 9) then Some 100 else if nat_lt kind 6 then Some 114 else None
+letter_on Desktop kind =
+    if (kind == 6) || (kind == 9) then Some 100 else if nat_lt kind 6 then Some 114 else None
 
 -- the letter, the number in decimal, and the fill of `x`
 abbrev pub text_of : ℕ → Item → List ℕ
@@ -65,7 +68,13 @@ made_head = record {
 
 -- the database of a side
 abbrev pub made_database : MadeSide → List Item → DatabaseValue
-made_database side items = record { head = made_head; app = None; sort = None; records = records_on side items; resources = [] }
+made_database side items = record {
+  head = made_head;
+  app = None;
+  sort = None;
+  records = records_on side items;
+  resources = [];
+}
 
 -- a handheld that was synchronized with the desktop of number 1
 abbrev pub made_user : UserInfo
@@ -73,10 +82,16 @@ made_user = record { user = 0; viewer = 0; pc = 1; good = 0; last = 0; name = []
 
 -- the handheld's folder
 abbrev pub handheld_files : List Item → FileMap
-handheld_files items = finmap.insert (finmap.insert finmap.empty (codes "MadeDB.pdb") (canonical (made_database Handheld items))) (codes "device.inf")
+handheld_files items =
+    finmap.insert
+    (finmap.insert finmap.empty (codes "MadeDB.pdb") (canonical (made_database Handheld items)))
+    (codes "device.inf")
     (device_text made_user)
 
 -- the desktop's folder: one without an information file has number 1
 abbrev pub desktop_files : List Item → FileMap
-desktop_files items = finmap.insert (finmap.insert finmap.empty (codes "MadeDB.pdb") (canonical (made_database Desktop items))) (codes "MadeDB.base")
+desktop_files items =
+    finmap.insert
+    (finmap.insert finmap.empty (codes "MadeDB.pdb") (canonical (made_database Desktop items)))
+    (codes "MadeDB.base")
     (canonical (made_database Base items))

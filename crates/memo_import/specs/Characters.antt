@@ -1,4 +1,5 @@
--- Bytes of characters: the way back from the characters of a Palm's text (Palm OS 3.5, character set of the Latin handhelds).
+-- Bytes of characters: the way back from the characters of a Palm's text (Palm OS 3.5, character
+-- set of the Latin handhelds).
 use Rattle.std.specs.Prelude.{ℕ, zero, suc, ◌==◌, List, [], ◌∷◌, chars, Option, None, Some, if◌then◌else◌}
 use Rattle.std.specs.Str.{is_utf8}
 use Rattle.palm_text.specs.Characters.{char_of}
@@ -8,7 +9,8 @@ unfoldable pub byte_below : ℕ → ℕ → Option ℕ
 byte_below zero c = None
 byte_below (suc byte) c = if char_of byte == c then Some byte else byte_below byte c
 
--- the byte of a character, where it has one; the line feed's picture stands for it, too, and the zero byte is in no text
+-- the byte of a character, where it has one; the line feed's picture stands for it, too, and the
+-- zero byte is in no text
 unfoldable pub byte_of : ℕ → Option ℕ
 byte_of c = if c == 0x2400 then None else if c == 0x240A then Some 10 else byte_below 256 c
 

@@ -1,4 +1,5 @@
--- The memo database of memos (Palm File Format Specification; pilot-link's memo.h and pi-appinfo.h).
+-- The memo database of memos (Palm File Format Specification; pilot-link's memo.h and
+-- pi-appinfo.h).
 use Rattle.std.specs.Prelude.{ℕ, suc, ◌-◌, ◌*◌, ◌==◌, ◌||◌, false, List, [], ◌∷◌, ◌++◌, codes, length, map, nat_lt, position, Option, None, Some, Result, Ok, Err, if◌then◌else◌, replicate}
 use Rattle.std.specs.List.{flat_map}
 use Rattle.std.specs.Option.{is_some}
@@ -32,7 +33,8 @@ place_of labels label = position (λ known. bytes_eq known label) labels
 
 -- labels with one more, where it is there and none of them
 abbrev pub with_label : List (List ℕ) → List ℕ → List (List ℕ)
-with_label labels label = if length label == 0 || is_some (place_of labels label) then labels else labels ++ label ∷ []
+with_label labels label =
+    if length label == 0 || is_some (place_of labels label) then labels else labels ++ label ∷ []
 
 -- labels and those of memos, each once, in the order in which they appear
 unfoldable pub labels_from : List (List ℕ) → List MemoValue → List (List ℕ)
@@ -76,7 +78,8 @@ category_ids = 0 ∷ 1 ∷ 2 ∷ 3 ∷ 4 ∷ 5 ∷ 6 ∷ 7 ∷ 8 ∷ 9 ∷ 10 �
 
 -- the app block: 2 bytes, the labels, the ids, and 7 bytes for the application
 abbrev pub memo_block : List (List ℕ) → List ℕ
-memo_block labels = (0 ∷ 0 ∷ []) ++ (label_fields (codes "Unfiled" ∷ labels) ++ (category_ids ++ replicate 7 0))
+memo_block labels =
+    (0 ∷ 0 ∷ []) ++ (label_fields (codes "Unfiled" ∷ labels) ++ (category_ids ++ replicate 7 0))
 
 -- the database of memos with these labels
 abbrev pub memo_database : List (List ℕ) → List MemoValue → DatabaseValue

@@ -3,7 +3,8 @@ use Rattle.std.specs.Prelude.{◌≡◌, ◌≤◌, length, None}
 use Rattle.palm_records.specs.Strings.{first_zero}
 use Rattle.record_export.specs.Memos.{IsMemo, MemoValue}
 
--- an id of 24 bits, a label of at most 15 bytes and a text of at most 65,499, neither with a zero byte
+-- an id of 24 bits, a label of at most 15 bytes and a text of at most 65,499, neither with a zero
+-- byte
 pub record IsKept (memo : MemoValue) : Type 0 where
   pub proper : IsMemo memo
   pub short_label : length memo.label ≤ 15

@@ -9,4 +9,5 @@ lines_in (byte ∷ rest) = if byte == 10 then [] ∷ lines_in rest else onto_fir
 
 -- a carriage return in front of the line feed belongs to the line's end
 abbrev pub without_return : List ℕ → List ℕ
-without_return line = if slice_index line (length line - 1) == 13 then take (length line - 1) line else line
+without_return line =
+    if slice_index line (length line - 1) == 13 then take (length line - 1) line else line

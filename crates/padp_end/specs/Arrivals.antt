@@ -1,4 +1,5 @@
--- What a packet is for the end that it comes to, by its sockets, its type and its body (pilot-link's pi-slp.h and padp.c).
+-- What a packet is for the end that it comes to, by its sockets, its type and its body
+-- (pilot-link's pi-slp.h and padp.c).
 use Rattle.std.specs.Prelude.{◌≡◌, ℕ, Bool, ◌&&◌, nat_eq, is_none, if◌then◌else◌}
 use Rattle.slp_frames.specs.PacketText.{PacketValue}
 use Rattle.padp_link.specs.declared.arrival.Arrived.{Arrived}
@@ -13,7 +14,8 @@ use Rattle.padp_link.specs.Numbers.{dlp_socket, padp_type}
 use Rattle.padp_link.specs.Pieces.{key_of}
 use Rattle.trace_text.specs.Frames.{fields_of}
 
--- nothing, a sign of life, the end of the connection, the acknowledgement of the data fragment with this key, or a data fragment of a transaction
+-- nothing, a sign of life, the end of the connection, the acknowledgement of the data fragment with
+-- this key, or a data fragment of a transaction
 pub data Arrival : Type 0 where
   Drop : Arrival
   Tickle : Arrival
@@ -28,13 +30,18 @@ arrival_as kind.Ack id fragment = Ack (key_of id fragment)
 arrival_as kind.Tickle id fragment = Tickle
 arrival_as kind.Abort id fragment = Stop
 
--- it goes to the socket of the link, is of the protocol's type, and its body is the text of a fragment
+-- it goes to the socket of the link, is of the protocol's type, and its body is the text of a
+-- fragment
 abbrev pub is_bearing : PacketValue → Bool
-is_bearing packet = nat_eq packet.dest dlp_socket && nat_eq packet.kind padp_type && is_none (fragment_fault packet.body)
+is_bearing packet =
+    nat_eq packet.dest dlp_socket && nat_eq packet.kind padp_type
+    && is_none (fragment_fault packet.body)
 
 -- what a packet is
 unfoldable pub arrival_of : PacketValue → Arrival
-arrival_of packet = if is_bearing packet then arrival_as (fields_of packet.body).kind packet.id (fields_of packet.body) else Drop
+arrival_of packet =
+    if is_bearing packet
+    then arrival_as (fields_of packet.body).kind packet.id (fields_of packet.body) else Drop
 
 -- the program's answer as this
 abbrev pub arrival_value : Arrived → Arrival
@@ -46,5 +53,6 @@ arrival_value (arrived.Data id fragment) = Data id (fragment_value fragment)
 
 -- where it is data, its fragment is one of the protocol
 abbrev pub IsDataArrival : Arrived → Type 0
-IsDataArrival (arrived.Data id fragment) = IsFragment (fragment_value fragment) × (fragment.kind ≡ kind.Data)
+IsDataArrival (arrived.Data id fragment) =
+    IsFragment (fragment_value fragment) × (fragment.kind ≡ kind.Data)
 IsDataArrival _ = Unit {0}

@@ -1,4 +1,5 @@
--- An end that sends messages and takes them, and what it says to a packet, to silence, and at a message's beginning (pilot-link's padp.c).
+-- An end that sends messages and takes them, and what it says to a packet, to silence, and at a
+-- message's beginning (pilot-link's padp.c).
 use Rattle.std.specs.Prelude.{ℕ, ◌+◌, Bool, true, false, ◌&&◌, nat_eq, List, [], ◌∷◌, ◌++◌, length, Option, Some, None, is_some, if◌then◌else◌}
 use Rattle.slp_frames.specs.PacketText.{PacketValue}
 use Rattle.padp_link.specs.declared.piece.Key.{Key}
@@ -39,7 +40,12 @@ is_key (Some expected) key = same_key expected key
 
 -- the end, one piece of whose message more is acknowledged
 abbrev pub with_next : EndValue → EndValue
-with_next end = record end { sender = record end.sender { acknowledged = end.sender.acknowledged + 1; tries = 1 } }
+with_next end = record end {
+  sender = record end.sender {
+    acknowledged = end.sender.acknowledged + 1;
+    tries = 1;
+  };
+}
 
 -- its message is over where no piece waits
 abbrev pub heard_behind : Option Piece → Heard
@@ -48,18 +54,26 @@ heard_behind (Some piece) = heard.Nothing
 
 -- the piece that waits goes, or the message is over
 abbrev pub goes_on_with : EndValue → Answer
-goes_on_with end = record { said = pieces_said end.message (waiting end.sender); heard = heard_behind (waiting end.sender); end = end }
+goes_on_with end = record {
+  said = pieces_said end.message (waiting end.sender);
+  heard = heard_behind (waiting end.sender);
+  end = end;
+}
 
 -- an acknowledgement counts where it bears the key of the piece that waits
 abbrev pub ack_taken : EndValue → Key → Answer
-ack_taken end key = if is_key (waiting_key end.sender) key then goes_on_with (with_next end) else silent end heard.Nothing
+ack_taken end key =
+    if is_key (waiting_key end.sender) key then goes_on_with (with_next end)
+    else silent end heard.Nothing
 
 -- ---- data
 
--- a fragment may be taken where nothing waits, or where a last piece waits and it is a first one: it answers that piece's message
+-- a fragment may be taken where nothing waits, or where a last piece waits and it is a first one:
+-- it answers that piece's message
 abbrev pub is_ready : Option Piece → FragmentValue → Bool
 is_ready None fragment = true
-is_ready (Some piece) fragment = has_flag last_flag piece.key.flags && has_flag first_flag fragment.flags
+is_ready (Some piece) fragment =
+    has_flag last_flag piece.key.flags && has_flag first_flag fragment.flags
 
 -- a sender whose message was answered
 abbrev pub with_answer_at : SenderValue → Option Piece → SenderValue
@@ -79,19 +93,30 @@ with_part end id fragment = record {
 
 -- the message is whole with this piece, or it isn't yet
 abbrev pub heard_with : ReceiverValue → FragmentValue → Heard
-heard_with receiver fragment = if is_complete (receiver.pieces ++ fragment ∷ []) then heard.Message else heard.Nothing
+heard_with receiver fragment =
+    if is_complete (receiver.pieces ++ fragment ∷ []) then heard.Message else heard.Nothing
 
--- a fragment that is no repeat: it is taken and acknowledged where it is the next one and may be taken, and else nothing at all is said
+-- a fragment that is no repeat: it is taken and acknowledged where it is the next one and may be
+-- taken, and else nothing at all is said
 abbrev pub new_taken : EndValue → ℕ → FragmentValue → Answer
 new_taken end id fragment =
     if is_ready (waiting end.sender) fragment && is_next end.receiver id fragment
-    then record { said = acknowledgement (key_of id fragment) ∷ []; heard = heard_with end.receiver fragment; end = with_part end id fragment }
+    then record {
+      said = acknowledgement (key_of id fragment) ∷ [];
+      heard = heard_with end.receiver fragment;
+      end = with_part end id fragment;
+    }
     else silent end heard.Nothing
 
 -- a fragment with the key of the last one that was taken is acknowledged once more
 abbrev pub data_taken : EndValue → ℕ → FragmentValue → Answer
 data_taken end id fragment =
-    if is_key end.receiver.last (key_of id fragment) then record { said = acknowledgement (key_of id fragment) ∷ []; heard = heard.Nothing; end = end }
+    if is_key end.receiver.last (key_of id fragment)
+    then record {
+      said = acknowledgement (key_of id fragment) ∷ [];
+      heard = heard.Nothing;
+      end = end;
+    }
     else new_taken end id fragment
 
 -- ---- a packet, silence, a message
@@ -116,7 +141,11 @@ abbrev pub tried_again : EndValue → Option Piece → List OutgoingFragment × 
 tried_again end None = ([], end)
 tried_again end (Some piece) =
     if nat_eq end.sender.tries 10 then ([], end)
-    else (pieces_said end.message (Some piece), record end { sender = record end.sender { tries = end.sender.tries + 1 } })
+    else (
+      pieces_said end.message
+          (Some piece),
+      record end { sender = record end.sender { tries = end.sender.tries + 1 } },
+    )
 
 -- what it says to silence: the piece that waits, unless it had its ten tries
 abbrev pub end_waits : EndValue → List OutgoingFragment × EndValue
@@ -132,11 +161,21 @@ with_message end id message = record {
 
 -- what it says at a message's beginning: its first piece
 abbrev pub end_begins : EndValue → ℕ → List ℕ → List OutgoingFragment × EndValue
-end_begins end id message = (pieces_said message (waiting (with_message end id message).sender), with_message end id message)
+end_begins end id message = (
+  pieces_said message
+      (waiting (with_message end id message).sender),
+  with_message end id message,
+)
 
 -- the end that awaits a message of this transaction
 abbrev pub end_expects : EndValue → ℕ → EndValue
-end_expects end id = record end { receiver = record { awaited = Some id; pieces = []; last = end.receiver.last } }
+end_expects end id = record end {
+  receiver = record {
+    awaited = Some id;
+    pieces = [];
+    last = end.receiver.last;
+  };
+}
 
 -- the end before its first message
 abbrev pub first_end : EndValue

@@ -10,8 +10,10 @@ abbrev pub AnnouncesShort : List FragmentValue → Type 0
 AnnouncesShort [] = ⊤
 AnnouncesShort (first ∷ later) = first.size ≤ 65535
 
--- it knows the key of the last piece that its receiver took, its sender sends this message, and it takes none that is too long
-pub record HoldsMessage (receiver : ReceiverValue) (last : Option Key) (sender : SenderValue) (message : List ℕ) : Type 0 where
+-- it knows the key of the last piece that its receiver took, its sender sends this message, and it
+-- takes none that is too long
+pub record HoldsMessage (receiver : ReceiverValue) (last : Option Key) (sender : SenderValue)
+    (message : List ℕ) : Type 0 where
   pub last_is : last ≡ receiver.last
   pub length_is : sender.length ≡ length message
   pub short : AnnouncesShort receiver.pieces

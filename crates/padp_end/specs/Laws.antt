@@ -12,5 +12,7 @@ same_again answer = record { said = answer.said; heard = heard.Nothing; end = an
 
 -- where the packet bears data, and something was said to it, it is answered so once more
 abbrev pub IsRepeatOf : EndValue → PacketValue → Type 0
-IsRepeatOf end packet = (id : ℕ) (fragment : FragmentValue) → arrival_of packet ≡ Data id fragment → ¬ ((end_takes end packet).said ≡ [])
+IsRepeatOf end packet =
+    (id : ℕ) (fragment : FragmentValue) → arrival_of packet ≡ Data id fragment
+    → ¬ ((end_takes end packet).said ≡ [])
     → end_takes (end_takes end packet).end packet ≡ same_again (end_takes end packet)

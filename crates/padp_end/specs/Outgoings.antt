@@ -19,7 +19,10 @@ said_text said = flat_map (λ outgoing. padp_packet outgoing.id outgoing.fragmen
 
 -- the acknowledgement of the data fragment with this key
 abbrev pub acknowledgement : Key → OutgoingFragment
-acknowledgement key = record { id = key.id; fragment = record { kind = kind.Ack; flags = key.flags; size = key.size; bytes = [] } }
+acknowledgement key = record {
+  id = key.id;
+  fragment = record { kind = kind.Ack; flags = key.flags; size = key.size; bytes = [] };
+}
 
 -- a piece of a message
 abbrev pub piece_said : List ℕ → Piece → OutgoingFragment

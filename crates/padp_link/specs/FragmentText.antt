@@ -1,4 +1,5 @@
--- The text of a fragment of the packet assembly and disassembly protocol, as pilot-link's pi-padp.h and padp.c have it.
+-- The text of a fragment of the packet assembly and disassembly protocol, as pilot-link's pi-padp.h
+-- and padp.c have it.
 use Rattle.std.specs.Prelude.{◌≡◌, ℕ, ◌^◌, ◌%◌, ◌<◌, min, Bool, true, not, ◌&&◌, ◌||◌, List, ◌∷◌, ◌++◌, length, nat_eq, nat_le, bit_and, if◌then◌else◌}
 use Rattle.std.specs.Bool.{beq}
 use Rattle.byteorder.specs.Endian.{big_bytes}
@@ -37,20 +38,24 @@ strange_flags _ = 0x3F
 abbrev pub are_flags : PadpKind → ℕ → Bool
 are_flags kind flags = nat_eq (bit_and flags (strange_flags kind)) 0
 
--- A first fragment has the whole message, or as much of it as fits, and is the last one where that is all. Its size is the
+-- A first fragment has the whole message, or as much of it as fits, and is the last one where that
+-- is all. Its size is the
 -- length of the message.
 abbrev pub fits_first : Bool → ℕ → ℕ → Bool
 fits_first last size len = nat_eq len (min size max_data) && beq last (nat_le size max_data)
 
--- A later fragment is full unless it is the last one, which has at least one byte. Its size is its place in the message.
+-- A later fragment is full unless it is the last one, which has at least one byte. Its size is its
+-- place in the message.
 abbrev pub fits_later : Bool → ℕ → ℕ → Bool
 fits_later last size len =
-    nat_eq (size % max_data) 0 && not (nat_eq size 0) && (if last then nat_le 1 len && nat_le len max_data else nat_eq len max_data)
+    nat_eq (size % max_data) 0 && not (nat_eq size 0)
+    && (if last then nat_le 1 len && nat_le len max_data else nat_eq len max_data)
 
 -- a fragment of this kind with these flags and this size may have so many bytes of a message
 abbrev pub fits_size : PadpKind → ℕ → ℕ → ℕ → Bool
 fits_size Data flags size len =
-    if has_flag first_flag flags then fits_first (has_flag last_flag flags) size len else fits_later (has_flag last_flag flags) size len
+    if has_flag first_flag flags then fits_first (has_flag last_flag flags) size len
+    else fits_later (has_flag last_flag flags) size len
 fits_size _ flags size len = nat_eq len 0
 
 -- the fragment is one of the protocol
@@ -60,7 +65,8 @@ pub record IsFragment (fragment : FragmentValue) : Type 0 where
 
 -- the bytes of a fragment: its kind, its flags, its size and its part of a message
 abbrev pub fragment_text : FragmentValue → List ℕ
-fragment_text fragment = kind_code fragment.kind ∷ fragment.flags ∷ (big_bytes 2 fragment.size ++ fragment.bytes)
+fragment_text fragment =
+    kind_code fragment.kind ∷ fragment.flags ∷ (big_bytes 2 fragment.size ++ fragment.bytes)
 
 -- the bytes are the text of a fragment of the protocol
 pub record FragmentText (fragment : FragmentValue) (bytes : List ℕ) : Type 0 where

@@ -4,4 +4,9 @@ use Rattle.padp_link.specs.declared.fragment.Fragment.{Fragment}
 
 -- a fragment whose part of a message lies elsewhere
 abbrev pub fragment_value : Fragment → FragmentValue
-fragment_value fragment = record { kind = fragment.kind; flags = fragment.flags; size = fragment.size; bytes = fragment.bytes.now }
+fragment_value fragment = record {
+  kind = fragment.kind;
+  flags = fragment.flags;
+  size = fragment.size;
+  bytes = fragment.bytes.now;
+}

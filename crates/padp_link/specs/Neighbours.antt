@@ -31,7 +31,8 @@ HaveDifferentKeys x y = ¬ (x.key ≡ y.key)
 abbrev pub all_pieces : List Outgoing → List Piece
 all_pieces messages = flat_map (λ message. pieces message.id message.length) messages
 
--- The transaction of an end's message by its number: the greeting, number 0, has 255, and the requests or replies behind it
+-- The transaction of an end's message by its number: the greeting, number 0, has 255, and the
+-- requests or replies behind it
 -- have 1 to 254, coming round.
 abbrev pub session_id : ℕ → ℕ
 session_id zero = 0xFF
@@ -40,4 +41,5 @@ session_id (suc number) = number % 254 + 1
 -- an end's messages of these lengths, from this number on
 abbrev pub session_from : ℕ → List ℕ → List Outgoing
 session_from number [] = []
-session_from number (length ∷ later) = record { id = session_id number; length = length } ∷ session_from (number + 1) later
+session_from number (length ∷ later) =
+    record { id = session_id number; length = length } ∷ session_from (number + 1) later

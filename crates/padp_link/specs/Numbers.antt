@@ -25,7 +25,8 @@ flags_place = 1
 abbrev pub size_place : ℕ
 size_place = 2
 
--- the socket of the desktop link protocol, and the type of the packets that bear fragments (pi-slp.h)
+-- the socket of the desktop link protocol, and the type of the packets that bear fragments
+-- (pi-slp.h)
 abbrev pub dlp_socket : ℕ
 dlp_socket = 3
 

@@ -15,7 +15,8 @@ piece_count length = max (div_ceil length max_data) 1
 -- the flags of the piece of this number, from 0 on
 abbrev pub piece_flags : ℕ → ℕ → ℕ
 piece_flags length number =
-    (if nat_eq number 0 then first_flag else 0) + (if nat_eq (number + 1) (piece_count length) then last_flag else 0)
+    (if nat_eq number 0 then first_flag else 0)
+    + (if nat_eq (number + 1) (piece_count length) then last_flag else 0)
 
 -- the size that it bears: the first one that of the message, each later one its place
 abbrev pub piece_size : ℕ → ℕ → ℕ
@@ -36,7 +37,12 @@ pieces id length = map (piece_of id length) (range_with_len 0 (piece_count lengt
 -- the fragment in which a piece of this message is sent
 abbrev pub fragment_of : List ℕ → Piece → FragmentValue
 fragment_of message piece =
-    record { kind = Data; flags = piece.key.flags; size = piece.key.size; bytes = take piece.length (drop piece.place message) }
+    record {
+      kind = Data;
+      flags = piece.key.flags;
+      size = piece.key.size;
+      bytes = take piece.length (drop piece.place message);
+    }
 
 -- the fragments of a message under this id
 abbrev pub fragments : ℕ → List ℕ → List FragmentValue

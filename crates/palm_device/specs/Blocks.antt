@@ -1,4 +1,5 @@
--- What becomes of the app block and the sort block of a database (pilot-link, `pi-dlp.h`), and how many entries it has.
+-- What becomes of the app block and the sort block of a database (pilot-link, `pi-dlp.h`), and how
+-- many entries it has.
 use Rattle.std.specs.Prelude.{ℕ, List, [], ◌∷◌, length, Option, None, Some, if◌then◌else◌}
 use Rattle.pdb_values.specs.Databases.{DatabaseValue}
 use Rattle.pdb_values.specs.Heads.{holds_resources}
@@ -23,4 +24,6 @@ empty_database head = record { head = head; app = None; sort = None; records = [
 
 -- how many records or resources a database has, deleted records included
 abbrev pub entry_count : DatabaseValue → ℕ
-entry_count database = if holds_resources database.head.attributes then length database.resources else length database.records
+entry_count database =
+    if holds_resources database.head.attributes then length database.resources
+    else length database.records

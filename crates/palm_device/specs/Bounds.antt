@@ -1,4 +1,5 @@
--- What the values of a device keep as their types do: widths of numbers, names, categories, ids and lengths (Palm File Format
+-- What the values of a device keep as their types do: widths of numbers, names, categories, ids and
+-- lengths (Palm File Format
 -- Specification).
 use Rattle.std.specs.Prelude.{◌≡◌, ◌<◌, ◌≤◌, ◌^◌, ◌==◌, false, length, IfSome}
 use Rattle.std.specs.List.{AllByRecursion, list_any}
@@ -43,7 +44,8 @@ pub record IsBoundedDatabase (database : DatabaseValue) : Type 0 where
   pub records : AllByRecursion IsBoundedRecord database.records
   pub resources : AllByRecursion IsBoundedResource database.resources
 
--- numbers and dates of 32 bits, and a name and a password of at most 40 bytes, with no zero in the name
+-- numbers and dates of 32 bits, and a name and a password of at most 40 bytes, with no zero in the
+-- name
 pub record IsBoundedUser (user : UserInfo) : Type 0 where
   pub number : user.user < 2 ^ 32
   pub viewer : user.viewer < 2 ^ 32

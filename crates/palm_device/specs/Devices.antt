@@ -1,4 +1,5 @@
--- A handheld as a HotSync sees it: databases, a user, and the handles of open databases (pilot-link, `pi-dlp.h`).
+-- A handheld as a HotSync sees it: databases, a user, and the handles of open databases
+-- (pilot-link, `pi-dlp.h`).
 use Rattle.std.specs.Prelude.{List, Option}
 pub use Rattle.pdb_values.specs.Bounds.{most_databases}
 use Rattle.pdb_values.specs.Databases.{DatabaseValue}
@@ -6,7 +7,8 @@ use Rattle.pdb_values.specs.NamedDatabases.{replaced}
 use Rattle.pdb_values.specs.declared.user.UserInfo.{UserInfo}
 use Rattle.palm_device.specs.declared.opened.Opened.{Opened}
 
--- the databases in byte order of their names, what the handheld knows of its user, and what is open under the handles 1 to 8
+-- the databases in byte order of their names, what the handheld knows of its user, and what is open
+-- under the handles 1 to 8
 pub record Device : Type 0 where
   pub databases : List DatabaseValue
   pub user : UserInfo

@@ -14,15 +14,22 @@ abbrev pub edited : ℕ → Edit → DatabaseValue → DatabaseValue
 edited free (edit.AppBlock bytes) database = with_app bytes.now database
 edited free (edit.SortBlock bytes) database = with_sort bytes.now database
 edited free (edit.Record id category secret bytes) database =
-    with_records (put_record (given_id free id) (record { category = category; secret = secret; bytes = bytes.now }) database.records) database
+    with_records
+    (put_record (given_id free id)
+    (record { category = category; secret = secret; bytes = bytes.now }) database.records) database
 edited free edit.NoRecords database = with_records [] database
-edited free (edit.Keep kept) database = with_records (filter (is_kept kept) database.records) database
-edited free (edit.WithoutRecord id) database = with_records (without_record id database.records) database
+edited free (edit.Keep kept) database =
+    with_records (filter (is_kept kept) database.records) database
+edited free (edit.WithoutRecord id) database =
+    with_records (without_record id database.records) database
 edited free edit.ResetFlags database = with_records (reset_flags database.records) database
-edited free (edit.MoveCategory from to) database = with_records (move_category from to database.records) database
-edited free (edit.Resource kind id bytes) database = with_resources (put_resource kind.0 id bytes.now database.resources) database
+edited free (edit.MoveCategory from to) database =
+    with_records (move_category from to database.records) database
+edited free (edit.Resource kind id bytes) database =
+    with_resources (put_resource kind.0 id bytes.now database.resources) database
 edited free edit.NoResources database = with_resources [] database
-edited free (edit.WithoutResource kind id) database = with_resources (without_resource kind.0 id database.resources) database
+edited free (edit.WithoutResource kind id) database =
+    with_resources (without_resource kind.0 id database.resources) database
 
 -- the id of the record that an edit writes, or 0 where it writes none
 abbrev pub edit_given : ℕ → Edit → ℕ
@@ -34,13 +41,16 @@ abbrev pub gives_free : Edit → Bool
 gives_free (edit.Record id category secret bytes) = id == 0
 gives_free other = false
 
--- the edit can be done: its data is short, there is room for it, and the database holds what it changes
+-- the edit can be done: its data is short, there is room for it, and the database holds what it
+-- changes
 abbrev pub IsFor : DatabaseValue → Edit → Type 0
 IsFor database (edit.AppBlock bytes) = length bytes.now ≤ 65500
 IsFor database (edit.SortBlock bytes) = length bytes.now ≤ 65500
-IsFor database (edit.Record id category secret bytes) = (length bytes.now ≤ 65500) × (holds_resources database.head.attributes ≡ false)
+IsFor database (edit.Record id category secret bytes) =
+    (length bytes.now ≤ 65500) × (holds_resources database.head.attributes ≡ false)
     × (is_new id database.records ≡ true → length database.records < 65535)
-IsFor database (edit.Resource kind id bytes) = (length bytes.now ≤ 65500) × (holds_resources database.head.attributes ≡ true)
+IsFor database (edit.Resource kind id bytes) =
+    (length bytes.now ≤ 65500) × (holds_resources database.head.attributes ≡ true)
     × (has_room kind.0 id database.resources ≡ true)
 IsFor database other = Unit {0}
 

@@ -2,10 +2,12 @@
 use Rattle.std.specs.Prelude.{ℕ, Bool, List, [], ◌∷◌, if◌then◌else◌, Option, None, Some, slice_get, slice_set}
 use Rattle.std.specs.Option.{option_map}
 
--- the first entry that passes the test is changed; where none does, a new one stands behind the others
+-- the first entry that passes the test is changed; where none does, a new one stands behind the
+-- others
 unfoldable pub put_entry : {X : Type 0} → (X → Bool) → (X → X) → X → List X → List X
 put_entry test change new [] = new ∷ []
-put_entry test change new (x ∷ xs) = if test x then change x ∷ xs else x ∷ put_entry test change new xs
+put_entry test change new (x ∷ xs) =
+    if test x then change x ∷ xs else x ∷ put_entry test change new xs
 
 -- the first entry that passes the test is left out
 unfoldable pub without_entry : {X : Type 0} → (X → Bool) → List X → List X

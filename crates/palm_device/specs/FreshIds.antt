@@ -14,22 +14,27 @@ is_kept earlier id = not (id == 0) && not (is_among id earlier)
 -- the ids that are kept, behind the earlier ones
 unfoldable pub kept_behind : List ℕ → List ℕ → List ℕ
 kept_behind earlier [] = []
-kept_behind earlier (id ∷ ids) = if is_kept earlier id then id ∷ kept_behind (id ∷ earlier) ids else kept_behind (id ∷ earlier) ids
+kept_behind earlier (id ∷ ids) =
+    if is_kept earlier id then id ∷ kept_behind (id ∷ earlier) ids
+    else kept_behind (id ∷ earlier) ids
 
 -- the least number from `first` on that is not among the taken ones, if `more` steps lead to it
 unfoldable pub least_from : ℕ → ℕ → List ℕ → ℕ
 least_from zero first taken = first
-least_from (suc more) first taken = if is_among first taken then least_from more (suc first) taken else first
+least_from (suc more) first taken =
+    if is_among first taken then least_from more (suc first) taken else first
 
 -- the least id from 1 that is not taken
 abbrev pub least_id : List ℕ → ℕ
 least_id taken = least_from (length taken) 1 taken
 
--- each id that isn't kept, in order, gives way to the least one from 1 that is neither kept nor given before
+-- each id that isn't kept, in order, gives way to the least one from 1 that is neither kept nor
+-- given before
 unfoldable pub given_behind : List ℕ → List ℕ → List ℕ → List ℕ
 given_behind earlier taken [] = []
 given_behind earlier taken (id ∷ ids) =
-    if is_kept earlier id then id ∷ given_behind (id ∷ earlier) taken ids else least_id taken ∷ given_behind (id ∷ earlier) (least_id taken ∷ taken) ids
+    if is_kept earlier id then id ∷ given_behind (id ∷ earlier) taken ids
+    else least_id taken ∷ given_behind (id ∷ earlier) (least_id taken ∷ taken) ids
 
 -- the ids of a database after its files were read
 abbrev pub fresh_ids : List ℕ → List ℕ

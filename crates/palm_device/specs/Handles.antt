@@ -58,7 +58,9 @@ pub record Base : Type 0 where
 
 -- the base of what is open
 abbrev pub base_of : Device → Opened → Option Base
-base_of device opened = option_map (λ database. record { opened = opened; database = database }) (database_of opened.name device.databases)
+base_of device opened =
+    option_map (λ database. record { opened = opened; database = database })
+    (database_of opened.name device.databases)
 
 -- the base of a handle
 abbrev pub base_at : Device → ℕ → Option Base

@@ -36,7 +36,8 @@ is_changed item = item.deleted || item.dirty
 
 -- where the first changed record from an index on stands
 abbrev pub next_changed : ℕ → List Record → Option ℕ
-next_changed index records = option_map (λ place. index + place) (position is_changed (drop index records))
+next_changed index records =
+    option_map (λ place. index + place) (position is_changed (drop index records))
 
 -- an id asks for a new record where it is 0 or no record has it
 abbrev pub is_new : ℕ → List Record → Bool
@@ -52,11 +53,18 @@ rewritten content item = record item { deleted = false; dirty = true; content = 
 
 -- a new record, live and dirty
 abbrev pub new_record : ℕ → ContentValue → Record
-new_record id content = record { id = id; deleted = false; dirty = true; busy = false; content = content }
+new_record id content = record {
+  id = id;
+  deleted = false;
+  dirty = true;
+  busy = false;
+  content = content;
+}
 
 -- the record of an id gets this content in its place; where there is none, a new last one does
 abbrev pub put_record : ℕ → ContentValue → List Record → List Record
-put_record id content records = put_entry (has_id id) (rewritten content) (new_record id content) records
+put_record id content records =
+    put_entry (has_id id) (rewritten content) (new_record id content) records
 
 -- the record of an id is gone
 abbrev pub without_record : ℕ → List Record → List Record
@@ -80,7 +88,9 @@ reset_flags records = map clean records
 
 -- a record of the first category goes to the second and becomes dirty
 abbrev pub moved : ℕ → ℕ → Record → Record
-moved from to item = if is_in from item then record item { dirty = true; content = record item.content { category = to } } else item
+moved from to item =
+    if is_in from item
+    then record item { dirty = true; content = record item.content { category = to } } else item
 
 -- a record stays as it is where one category goes to another
 abbrev pub stays_in : ℕ → ℕ → Record → Bool

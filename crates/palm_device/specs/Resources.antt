@@ -16,7 +16,8 @@ place_of_resource kind id resources = position (is_resource kind id) resources
 
 -- a resource of this type and id is there, or one more fits
 abbrev pub has_room : List ℕ → ℕ → List Resource → Bool
-has_room kind id resources = is_some (place_of_resource kind id resources) || nat_lt (length resources) 65535
+has_room kind id resources =
+    is_some (place_of_resource kind id resources) || nat_lt (length resources) 65535
 
 -- a new resource
 abbrev pub new_resource : List ℕ → ℕ → List ℕ → Resource
@@ -24,7 +25,8 @@ new_resource kind id bytes = record { kind = record { 0 = kind }; id = id; bytes
 
 -- the first resource of a type and id gets these bytes; where there is none, a new last one does
 abbrev pub put_resource : List ℕ → ℕ → List ℕ → List Resource → List Resource
-put_resource kind id bytes resources = put_entry (is_resource kind id) (with_bytes bytes) (new_resource kind id bytes) resources
+put_resource kind id bytes resources =
+    put_entry (is_resource kind id) (with_bytes bytes) (new_resource kind id bytes) resources
 
 -- the first resource of a type and id is gone
 abbrev pub without_resource : List ℕ → ℕ → List Resource → List Resource

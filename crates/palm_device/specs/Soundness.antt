@@ -15,7 +15,8 @@ abbrev pub AreIds : List ℕ → Type 0
 AreIds [] = Unit {0}
 AreIds (id ∷ ids) = (0 < id) × (is_among id ids ≡ false) × AreIds ids
 
--- databases in byte order of their names, which differ, at most 200; within each the records have ids that differ; eight handles
+-- databases in byte order of their names, which differ, at most 200; within each the records have
+-- ids that differ; eight handles
 pub record IsDevice (device : Device) : Type 0 where
   pub names : NamesRise device.databases
   pub few : length device.databases ≤ most_databases

@@ -1,4 +1,5 @@
--- The calendar from 1904-01-01 on, which has number 0: a day by its number, the weeks and months in which it lies.
+-- The calendar from 1904-01-01 on, which has number 0: a day by its number, the weeks and months in
+-- which it lies.
 use Rattle.std.specs.Prelude.{ℕ, ◌+◌, ◌-◌, ◌*◌, ◌/◌, ◌%◌, ◌==◌, ◌&&◌, Bool, nat_le}
 use Rattle.pdb_values.specs.CivilTimes.{days_in_month, days_of, place_of}
 use Rattle.palm_records.specs.declared.day.Day.{Day}

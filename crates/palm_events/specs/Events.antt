@@ -1,4 +1,6 @@
--- Dates of the Date Book (Palm File Format Specification; pilot-link's datebook.h and datebook.c): four bytes with the times, two with the date, two that say what follows: an alarm, a repeat, exceptions, a description and a note. What follows these is not looked at.
+-- Dates of the Date Book (Palm File Format Specification; pilot-link's datebook.h and datebook.c):
+-- four bytes with the times, two with the date, two that say what follows: an alarm, a repeat,
+-- exceptions, a description and a note. What follows these is not looked at.
 use Rattle.std.specs.Prelude.{ℕ, nat_lt, List, Option, Result, Ok, Err, length, if◌then◌else◌}
 use Rattle.palm_records.specs.declared.bad_record.BadRecord.{BadRecord}
 use Rattle.palm_records.specs.declared.day.Day.{Day}
@@ -55,7 +57,8 @@ parts_in flags bytes = do
   repeat ← repeat_in flags bytes
   days ← exceptions_in flags bytes
   description ← text_in flags.description (behind_exceptions flags days) bytes
-  note ← text_in flags.note (behind_text flags.description (behind_exceptions flags days) description) bytes
+  note ← text_in flags.note
+      (behind_text flags.description (behind_exceptions flags days) description) bytes
   Ok (record {
     time = time;
     date = date;
@@ -68,7 +71,9 @@ parts_in flags bytes = do
 
 -- the date of the bytes, or the place of the first rule that they break, from the left
 abbrev pub event_in : List ℕ → Result EventValue ℕ
-event_in bytes = if nat_lt (length bytes) 8 then Err (length bytes) else parts_in (flags_of (word_at bytes 6)) bytes
+event_in bytes =
+    if nat_lt (length bytes) 8 then Err (length bytes)
+    else parts_in (flags_of (word_at bytes 6)) bytes
 
 -- the answer is what a reading gives
 abbrev pub ReadsEvent : Result Event BadRecord → Result EventValue ℕ → Type 0

@@ -29,7 +29,9 @@ is_pattern Yearly = true
 
 -- a frequency is a byte and not 0
 abbrev pub is_repeat : Repeat → Bool
-is_repeat repeat = (nat_lt 0 repeat.every && nat_lt repeat.every 256) && (is_pattern repeat.pattern && is_until repeat.until)
+is_repeat repeat =
+    (nat_lt 0 repeat.every && nat_lt repeat.every 256)
+    && (is_pattern repeat.pattern && is_until repeat.until)
 
 -- both times are those of a clock
 abbrev pub are_times : Times → Bool

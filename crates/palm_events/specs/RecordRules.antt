@@ -21,7 +21,11 @@ frequency_of Yearly = RuleYearly
 
 -- the rule of a repeat
 abbrev pub repeat_rule : Repeat → Rule
-repeat_rule repeat = record { frequency = frequency_of repeat.pattern; interval = repeat.every; until = repeat.until }
+repeat_rule repeat = record {
+  frequency = frequency_of repeat.pattern;
+  interval = repeat.every;
+  until = repeat.until;
+}
 
 -- the rule of a repeat, if some day is shown
 abbrev pub rule_if_shown : Option ℕ → Option Repeat → Option Rule
@@ -32,8 +36,11 @@ rule_if_shown (Some number) repeat = option_map repeat_rule repeat
 abbrev pub rule_of : EventValue → Option Rule
 rule_of event = rule_if_shown (first_shown event) event.repeat
 
--- with DTSTART on the first day that a record shows, its rule occurs on exactly the days that the record shows, and on DTSTART
+-- with DTSTART on the first day that a record shows, its rule occurs on exactly the days that the
+-- record shows, and on DTSTART
 abbrev pub TheRuleOccursWhereTheRecordShows : Type 0
 TheRuleOccursWhereTheRecordShows =
-    (event : EventValue) (rule : Rule) (start : ℕ) → IsEvent event → rule_of event ≡ Some rule → first_shown event ≡ Some start
-    → ((number : ℕ) → occurs rule start number ≡ shows event number) × (occurs rule start start ≡ true)
+    (event : EventValue) (rule : Rule) (start : ℕ) → IsEvent event → rule_of event ≡ Some rule
+    → first_shown event ≡ Some start
+    → ((number : ℕ) → occurs rule start number ≡ shows event number)
+    × (occurs rule start start ≡ true)

@@ -38,13 +38,19 @@ is_occurrence Last day = is_last day
 -- FREQ, with INTERVAL counted from DTSTART, and BYDAY or else what DTSTART says
 abbrev pub recurs : Frequency → ℕ → ℕ → ℕ → Bool
 recurs Daily interval start number = is_interval interval (number - start)
-recurs (Weekly days first) interval start number = has_weekday days (weekday_of number) && is_interval interval (weeks_between first start number)
-recurs Monthly interval start number = is_same_day start number && is_interval interval (months_between start number)
+recurs (Weekly days first) interval start number =
+    has_weekday days (weekday_of number) && is_interval interval (weeks_between first start number)
+recurs Monthly interval start number =
+    is_same_day start number && is_interval interval (months_between start number)
 recurs (MonthlyByDay week weekday) interval start number =
-    (weekday_of number == weekday) && (is_occurrence week (day_at number) && is_interval interval (months_between start number))
+    (weekday_of number == weekday)
+    && (is_occurrence week (day_at number) && is_interval interval (months_between start number))
 recurs Yearly interval start number =
-    is_same_day start number && (is_same_month start number && is_interval interval (years_between start number))
+    is_same_day start number
+    && (is_same_month start number && is_interval interval (years_between start number))
 
 -- a rule with DTSTART on one day occurs on another one
 abbrev pub occurs : Rule → ℕ → ℕ → Bool
-occurs rule start number = nat_le start number && (is_within rule.until number && recurs rule.frequency rule.interval start number)
+occurs rule start number =
+    nat_le start number
+    && (is_within rule.until number && recurs rule.frequency rule.interval start number)

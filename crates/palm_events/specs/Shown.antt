@@ -1,4 +1,5 @@
--- The days that a record shows (Palm's sample of the Date Book; pilot-link's datebook.h): each so many days, weeks, months or years from its own date on, up to its last date.
+-- The days that a record shows (Palm's sample of the Date Book; pilot-link's datebook.h): each so
+-- many days, weeks, months or years from its own date on, up to its last date.
 use Rattle.std.specs.Prelude.{◌≡◌, ℕ, zero, suc, ◌+◌, ◌-◌, ◌/◌, ◌%◌, ◌^◌, ◌<◌, ◌==◌, ◌&&◌, Bool, true, false, nat_le, nat_lt, Option, None, Some, option_map, if◌then◌else◌}
 use Rattle.pdb_values.specs.CivilTimes.{days_in_month}
 use Rattle.palm_records.specs.declared.day.Day.{Day}
@@ -35,12 +36,16 @@ first_weekday from_monday = if from_monday then 1 else 0
 abbrev pub has_day : Pattern → ℕ → ℕ → ℕ → Bool
 has_day Daily every start number = is_turn every (number - start)
 has_day (Weekly days from_monday) every start number =
-    has_weekday days (weekday_of number) && is_turn every (weeks_between (first_weekday from_monday) start number)
+    has_weekday days (weekday_of number)
+    && is_turn every (weeks_between (first_weekday from_monday) start number)
 has_day (MonthlyByDay week weekday) every start number =
-    (weekday_of number == weekday) && (is_week week (day_at number) && is_turn every (months_between start number))
-has_day MonthlyByDate every start number = is_same_day start number && is_turn every (months_between start number)
+    (weekday_of number == weekday)
+    && (is_week week (day_at number) && is_turn every (months_between start number))
+has_day MonthlyByDate every start number =
+    is_same_day start number && is_turn every (months_between start number)
 has_day Yearly every start number =
-    is_same_day start number && (is_same_month start number && is_turn every (years_between start number))
+    is_same_day start number
+    && (is_same_month start number && is_turn every (years_between start number))
 
 -- a number is not behind the last one
 abbrev pub is_up_to : Option ℕ → ℕ → Bool
@@ -54,11 +59,13 @@ last_number until = option_map day_number until
 -- from the day of this number on, a repeat has the day of another one
 abbrev pub repeats : Option Repeat → ℕ → ℕ → Bool
 repeats None start number = number == start
-repeats (Some repeat) start number = is_up_to (last_number repeat.until) number && has_day repeat.pattern repeat.every start number
+repeats (Some repeat) start number =
+    is_up_to (last_number repeat.until) number && has_day repeat.pattern repeat.every start number
 
 -- a record shows the day of a number
 unfoldable pub shows : EventValue → ℕ → Bool
-shows event number = nat_le (day_number event.date) number && repeats event.repeat (day_number event.date) number
+shows event number =
+    nat_le (day_number event.date) number && repeats event.repeat (day_number event.date) number
 
 -- it shows this day, and none before it
 pub record IsFirstShown (event : EventValue) (number : ℕ) : Type 0 where
@@ -68,7 +75,8 @@ pub record IsFirstShown (event : EventValue) (number : ℕ) : Type 0 where
 -- the first of so many numbers from one on that a test takes
 unfoldable pub first_from : (ℕ → Bool) → ℕ → ℕ → Option ℕ
 first_from test zero number = None
-first_from test (suc more) number = if test number then Some number else first_from test more (number + 1)
+first_from test (suc more) number =
+    if test number then Some number else first_from test more (number + 1)
 
 -- the first day that a record shows: within 8000 days from its date, if there is any
 unfoldable pub first_shown : EventValue → Option ℕ

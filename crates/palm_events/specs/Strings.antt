@@ -6,7 +6,8 @@ use Rattle.palm_events.specs.Steps.{or_place}
 -- the string at a place, or nothing; the fault is where a string begins that no zero byte ends
 abbrev pub text_in : Bool → ℕ → List ℕ → Result (List ℕ) ℕ
 text_in there place bytes =
-    if there then or_place place (option_map (λ found. until_zero (drop place bytes)) (first_zero (drop place bytes))) else Ok []
+    if there then or_place place
+    (option_map (λ found. until_zero (drop place bytes)) (first_zero (drop place bytes))) else Ok []
 
 -- the place behind it
 abbrev pub behind_text : Bool → ℕ → List ℕ → ℕ

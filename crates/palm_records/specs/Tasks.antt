@@ -1,4 +1,6 @@
--- Tasks (Palm File Format Specification; pilot-link's todo.h): two bytes with the day on which a task is due, or 0xFFFF; a byte whose top bit says that it is done, over the priority, 1 to 5; a description and a note, each ended by a zero byte. What follows is not looked at.
+-- Tasks (Palm File Format Specification; pilot-link's todo.h): two bytes with the day on which a
+-- task is due, or 0xFFFF; a byte whose top bit says that it is done, over the priority, 1 to 5; a
+-- description and a note, each ended by a zero byte. What follows is not looked at.
 use Rattle.std.specs.Prelude.{◌≡◌, Result, Ok, Err, ℕ, suc, ◌+◌, ◌%◌, ◌==◌, ◌&&◌, Bool, true, false, List, Option, None, Some, drop, length, nat_le, nat_lt, option_map, slice_index, if◌then◌else◌}
 use Rattle.byteorder.specs.Endian.{big_number}
 use Rattle.palm_records.specs.declared.day.Day.{Day}
@@ -64,7 +66,8 @@ task_of bytes = record {
   note = until_zero (behind_string (drop 3 bytes));
 }
 
--- where the second of two strings begins, the first of which begins at this place, if that one is ended
+-- where the second of two strings begins, the first of which begins at this place, if that one is
+-- ended
 abbrev pub second_fault : ℕ → Option ℕ → Option ℕ
 second_fault place (Some found) = None
 second_fault place None = Some place
@@ -77,12 +80,14 @@ strings_fault place bytes = at_first (first_zero bytes)
     at_first None = Some place
     at_first (Some found) = second_fault (place + suc found) (first_zero (behind_string bytes))
 
--- the place of the first rule that the bytes break: they hold the head, the day is one, the priority is one of five, both strings are ended
+-- the place of the first rule that the bytes break: they hold the head, the day is one, the
+-- priority is one of five, both strings are ended
 abbrev pub task_fault : List ℕ → Option ℕ
 task_fault bytes =
     if nat_lt (length bytes) 3 then Some (length bytes)
     else (if is_due (due_word bytes) then
-    (if is_priority (priority_of (slice_index bytes 2)) then strings_fault 3 (drop 3 bytes) else Some 2)
+    (if is_priority (priority_of (slice_index bytes 2)) then strings_fault 3 (drop 3 bytes)
+    else Some 2)
     else Some 0)
 
 -- the place that a fault names

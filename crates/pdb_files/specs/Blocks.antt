@@ -1,4 +1,5 @@
--- The blocks of a file, one behind the other (Palm File Format Specification). Each is known by where it begins, and
+-- The blocks of a file, one behind the other (Palm File Format Specification). Each is known by
+-- where it begins, and
 -- reaches to the next one or to the end of the file.
 use Rattle.std.specs.Prelude.{ℕ, ◌+◌, ◌-◌, ◌||◌, ◌≤◌, nat_lt, Bool, zero, suc, List, [], ◌∷◌, ◌++◌, length, drop, map, slice_range, Option, Some, None}
 use Rattle.std.specs.List.{AllByRecursion, zip, position_from}
@@ -46,14 +47,18 @@ spans begins end = zip begins (ends begins end)
 abbrev pub blocks_in : List ℕ → List ℕ → List (List ℕ)
 blocks_in begins bytes = map (λ span. slice_range bytes span.0 span.1) (spans begins (length bytes))
 
--- A block begins before the end of the entries, before the block in front of it, or after the end of the file. The
--- pair is where the block in front of it begins (for the first one the end of the entries), and where it does.
+-- A block begins before the end of the entries, before the block in front of it, or after the end
+-- of the file. The
+-- pair is where the block in front of it begins (for the first one the end of the entries), and
+-- where it does.
 abbrev pub is_misplaced : ℕ → ℕ → (ℕ × ℕ) → Bool
-is_misplaced entries_end end pair = nat_lt pair.1 entries_end || nat_lt pair.1 pair.0 || nat_lt end pair.1
+is_misplaced entries_end end pair =
+    nat_lt pair.1 entries_end || nat_lt pair.1 pair.0 || nat_lt end pair.1
 
 -- the least block that is out of its place
 abbrev pub first_misplaced : ℕ → ℕ → List ℕ → Option ℕ
-first_misplaced entries_end end begins = position_from (is_misplaced entries_end end) 0 (zip (entries_end ∷ begins) begins)
+first_misplaced entries_end end begins =
+    position_from (is_misplaced entries_end end) 0 (zip (entries_end ∷ begins) begins)
 
 -- more than 65,500 bytes
 abbrev pub is_oversized : (ℕ × ℕ) → Bool
@@ -66,7 +71,8 @@ first_oversized end begins = position_from is_oversized 0 (spans begins end)
 -- each block begins at or behind the place in front of it, and none after the end
 abbrev pub AreInOrder : ℕ → ℕ → List ℕ → Type 0
 AreInOrder before end [] = Unit {0}
-AreInOrder before end (begin ∷ begins) = (before ≤ begin) × (begin ≤ end) × AreInOrder begin end begins
+AreInOrder before end (begin ∷ begins) =
+    (before ≤ begin) × (begin ≤ end) × AreInOrder begin end begins
 
 -- no block is too large
 abbrev pub AreShort : List (List ℕ) → Type 0

@@ -1,5 +1,7 @@
--- The entries behind the header: eight bytes for a record, ten for a resource (Palm File Format Specification, record
--- entries of a PDB file and resource entries of a PRC file). A file has resource entries where its attributes say so.
+-- The entries behind the header: eight bytes for a record, ten for a resource (Palm File Format
+-- Specification, record
+-- entries of a PDB file and resource entries of a PRC file). A file has resource entries where its
+-- attributes say so.
 use Rattle.std.specs.Prelude.{ℕ, zero, suc, ◌+◌, Bool, if◌then◌else◌, List, [], ◌∷◌, ◌++◌, drop, map}
 use Rattle.std.specs.List.{flat_map, zip}
 use Rattle.byteorder.specs.Endian.{big_bytes}
@@ -36,7 +38,8 @@ bit_where flag weight = if flag then weight else 0
 -- the attributes of a record: 0x80 deleted, 0x40 dirty, 0x20 busy, 0x10 secret, and the category
 abbrev pub attributes_of : Record → ℕ
 attributes_of item =
-    bit_where item.deleted 128 + bit_where item.dirty 64 + bit_where item.busy 32 + bit_where item.content.secret 16 + item.content.category
+    bit_where item.deleted 128 + bit_where item.dirty 64 + bit_where item.busy 32
+    + bit_where item.content.secret 16 + item.content.category
 
 -- the bytes of the entry of a record whose data begins at this place
 unfoldable pub record_entry : ℕ → Record → List ℕ
@@ -52,7 +55,8 @@ record_entries begins items = flat_map (λ entry. record_entry entry.0 entry.1) 
 
 -- the entries of resources, by where the data of each begins
 abbrev pub resource_entries : List ℕ → List Resource → List ℕ
-resource_entries begins resources = flat_map (λ entry. resource_entry entry.0 entry.1) (zip begins resources)
+resource_entries begins resources =
+    flat_map (λ entry. resource_entry entry.0 entry.1) (zip begins resources)
 
 -- the data of each record
 abbrev pub record_data : List Record → List (List ℕ)
@@ -65,4 +69,5 @@ resource_data resources = map (λ resource. resource.bytes) resources
 -- where the data of so many entries begins, as the entries at the front say at this place of each
 abbrev pub begins_in : ℕ → ℕ → ℕ → List ℕ → List ℕ
 begins_in size place zero bytes = []
-begins_in size place (suc count) bytes = number_at 4 place bytes ∷ begins_in size place count (drop size bytes)
+begins_in size place (suc count) bytes =
+    number_at 4 place bytes ∷ begins_in size place count (drop size bytes)

@@ -26,7 +26,9 @@ chained bytes = if number_at 4 next_list_place bytes == 0 then None else Some Ch
 
 -- the first rule on headers that bytes break
 abbrev pub header_fault : List ℕ → Option FileFault
-header_fault bytes = option_or (too_short header_length bytes) (option_or (bad_name (name_end bytes)) (chained bytes))
+header_fault bytes =
+    option_or (too_short header_length bytes)
+    (option_or (bad_name (name_end bytes)) (chained bytes))
 
 -- the entries are of resources, as the attributes say
 abbrev pub of_resources : List ℕ → Bool
@@ -40,17 +42,21 @@ count_in bytes = number_at 2 count_place bytes
 abbrev pub first_place : List ℕ → ℕ
 first_place bytes = entries_end (of_resources bytes) (count_in bytes)
 
--- where each block begins: the app block and the sort block as the header says, the data of each entry as it says
+-- where each block begins: the app block and the sort block as the header says, the data of each
+-- entry as it says
 abbrev pub block_begins : List ℕ → List ℕ
 block_begins bytes =
     begin_list (number_at 4 app_place bytes)
-    ++ (begin_list (number_at 4 sort_place bytes) ++ begins_in (entry_length (of_resources bytes)) (begin_place (of_resources bytes)) (count_in bytes)
+    ++ (begin_list (number_at 4 sort_place bytes)
+    ++ begins_in (entry_length (of_resources bytes)) (begin_place (of_resources bytes))
+    (count_in bytes)
     (drop header_length bytes))
 
 -- the first rule on blocks that these break: one is out of its place, or else one is too large
 abbrev pub blocks_fault : ℕ → ℕ → List ℕ → Option FileFault
 blocks_fault first end begins =
-    option_or (option_map BadOffset (first_misplaced first end begins)) (option_map TooLarge (first_oversized end begins))
+    option_or (option_map BadOffset (first_misplaced first end begins))
+    (option_map TooLarge (first_oversized end begins))
 
 -- the first rule that bytes break
 unfoldable pub file_fault : List ℕ → Option FileFault

@@ -1,4 +1,5 @@
--- The text of a database file, and the one text of a database that is written (Palm File Format Specification).
+-- The text of a database file, and the one text of a database that is written (Palm File Format
+-- Specification).
 use Rattle.std.specs.Prelude.{◌≡◌, ℕ, ◌+◌, ◌*◌, ◌^◌, ◌<◌, Bool, true, false, if◌then◌else◌, List, [], ◌∷◌, ◌++◌, length}
 use Rattle.std.specs.List.{concat, AllByRecursion}
 use Rattle.pdb_values.specs.declared.head.DbHead.{DbHead}
@@ -18,17 +19,23 @@ has_resources database = holds_resources database.head.attributes
 
 -- how many entries it has
 abbrev pub entry_count : DatabaseValue → ℕ
-entry_count database = if has_resources database then length database.resources else length database.records
+entry_count database =
+    if has_resources database then length database.resources else length database.records
 
 -- the data of each entry
 abbrev pub data_of : DatabaseValue → List (List ℕ)
-data_of database = if has_resources database then resource_data database.resources else record_data database.records
+data_of database =
+    if has_resources database then resource_data database.resources
+    else record_data database.records
 
 -- the entries, by where the data of each begins
 abbrev pub entries_text : List ℕ → DatabaseValue → List ℕ
-entries_text begins database = if has_resources database then resource_entries begins database.resources else record_entries begins database.records
+entries_text begins database =
+    if has_resources database then resource_entries begins database.resources
+    else record_entries begins database.records
 
--- the blocks of a database, in their order in its file: the app block, the sort block, and the data of each entry
+-- the blocks of a database, in their order in its file: the app block, the sort block, and the data
+-- of each entry
 abbrev pub blocks_of : DatabaseValue → List (List ℕ)
 blocks_of database = block_list database.app ++ (block_list database.sort ++ data_of database)
 
@@ -38,7 +45,8 @@ entries_end of_resources count = header_length + entry_length of_resources * cou
 
 -- where the app block begins in a file with this filler, if it is there
 abbrev pub app_begin : DatabaseValue → List ℕ → ℕ
-app_begin database filler = entries_end (has_resources database) (entry_count database) + length filler
+app_begin database filler =
+    entries_end (has_resources database) (entry_count database) + length filler
 
 -- where the sort block begins, if it is there
 abbrev pub sort_begin : DatabaseValue → List ℕ → ℕ
@@ -52,7 +60,8 @@ data_begin database filler = sort_begin database filler + block_length database.
 unfoldable pub file_text : DatabaseValue → List ℕ → List ℕ → List ℕ
 file_text database after_name filler =
     header_text database.head after_name
-    (block_offset database.app (app_begin database filler)) (block_offset database.sort (sort_begin database filler)) (entry_count database)
+    (block_offset database.app (app_begin database filler))
+    (block_offset database.sort (sort_begin database filler)) (entry_count database)
     ++ entries_text (begins_from (data_begin database filler) (data_of database)) database
     ++ filler
     ++ concat (blocks_of database)
@@ -80,14 +89,16 @@ pub record FitsResource (resource : Resource) : Type 0 where
   pub kind : length resource.kind.0 ≡ 4
   pub id : resource.id < 2 ^ 16
 
--- A text of a database: any bytes behind the name's zero, any filler, and blocks whose places its offsets can name. Its
+-- A text of a database: any bytes behind the name's zero, any filler, and blocks whose places its
+-- offsets can name. Its
 -- entries are of one sort, and no block has more than 65,500 bytes.
 pub record IsFileText (database : DatabaseValue) (bytes : List ℕ) : Type 0 where
   pub after_name : List ℕ
   pub filler : List ℕ
   pub text : bytes ≡ file_text database after_name filler
   pub name_field : length database.head.name + 1 + length after_name ≡ name_length
-  pub begins : AllByRecursion (λ begin. begin < 2 ^ 32) (begins_from (app_begin database filler) (blocks_of database))
+  pub begins : AllByRecursion (λ begin. begin < 2 ^ 32)
+      (begins_from (app_begin database filler) (blocks_of database))
   pub head : FitsHeader database.head
   pub count : entry_count database < 2 ^ 16
   pub records : AllByRecursion FitsRecord database.records

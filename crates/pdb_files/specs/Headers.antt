@@ -1,4 +1,5 @@
--- The header of a database file, its first 78 bytes (Palm File Format Specification, header of a PDB or PRC file).
+-- The header of a database file, its first 78 bytes (Palm File Format Specification, header of a
+-- PDB or PRC file).
 use Rattle.std.specs.Prelude.{ℕ, ◌+◌, ◌-◌, ◌==◌, Bool, List, ◌∷◌, ◌++◌, length, replicate, take, position, Option}
 use Rattle.byteorder.specs.Endian.{big_bytes}
 use Rattle.pdb_values.specs.declared.head.DbHead.{DbHead}
@@ -62,13 +63,15 @@ name_end bytes = position is_zero (take name_length bytes)
 abbrev pub zeros_behind : List ℕ → List ℕ
 zeros_behind name = replicate (name_length - (length name + 1)) 0
 
--- The bytes of a header: the name, a zero, what stands behind it, and the fields in their order. The offset of an
+-- The bytes of a header: the name, a zero, what stands behind it, and the fields in their order.
+-- The offset of an
 -- absent block is 0, and there is no second list of entries.
 unfoldable pub header_text : DbHead → List ℕ → ℕ → ℕ → ℕ → List ℕ
 header_text head after_name app sort count =
     head.name ++ 0 ∷ after_name
     ++ big_bytes 2 head.attributes ++ big_bytes 2 head.version
-    ++ big_bytes 4 head.created ++ big_bytes 4 head.modified ++ big_bytes 4 head.backup ++ big_bytes 4 head.modnum
+    ++ big_bytes 4 head.created ++ big_bytes 4 head.modified ++ big_bytes 4 head.backup
+    ++ big_bytes 4 head.modnum
     ++ big_bytes 4 app ++ big_bytes 4 sort
     ++ head.kind.0 ++ head.creator.0
     ++ big_bytes 4 head.seed ++ big_bytes 4 0 ++ big_bytes 2 count

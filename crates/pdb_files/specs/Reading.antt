@@ -35,11 +35,19 @@ head_in bytes =
 
 -- what a header says
 unfoldable pub header_in : List ℕ → Header
-header_in bytes = record { head = head_in bytes; app = number_at 4 app_place bytes; sort = number_at 4 sort_place bytes; count = count_in bytes }
+header_in bytes = record {
+  head = head_in bytes;
+  app = number_at 4 app_place bytes;
+  sort = number_at 4 sort_place bytes;
+  count = count_in bytes;
+}
 
 -- what a record's entry says beside where its data begins
 unfoldable pub entry_in : List ℕ → Entry
-entry_in bytes = record { attributes = slice_index bytes bits_place; id = number_at 3 id_place bytes }
+entry_in bytes = record {
+  attributes = slice_index bytes bits_place;
+  id = number_at 3 id_place bytes;
+}
 
 -- a bit of this weight is set
 abbrev pub has_bit : ℕ → ℕ → Bool
@@ -53,17 +61,26 @@ record_of entry bytes =
       deleted = has_bit 128 entry.attributes;
       dirty = has_bit 64 entry.attributes;
       busy = has_bit 32 entry.attributes;
-      content = record { category = entry.attributes % 16; secret = has_bit 16 entry.attributes; bytes = bytes };
+      content = record {
+        category = entry.attributes % 16;
+        secret = has_bit 16 entry.attributes;
+        bytes = bytes;
+      };
     }
 
 -- the resource of the entry at the front and its data
 unfoldable pub resource_of : List ℕ → List ℕ → Resource
-resource_of entry bytes = record { kind = record { 0 = code_at type_place entry }; id = number_at 2 number_place entry; bytes = bytes }
+resource_of entry bytes = record {
+  kind = record { 0 = code_at type_place entry };
+  id = number_at 2 number_place entry;
+  bytes = bytes;
+}
 
 -- what entries of this size at the front and the data of each give
 abbrev pub items_in : {A : Type 0} → ℕ → (List ℕ → List ℕ → A) → List ℕ → List (List ℕ) → List A
 items_in size item entries [] = []
-items_in size item entries (block ∷ blocks) = item entries block ∷ items_in size item (drop size entries) blocks
+items_in size item entries (block ∷ blocks) =
+    item entries block ∷ items_in size item (drop size entries) blocks
 
 -- the records of the entries at the front
 abbrev pub records_in : List ℕ → List (List ℕ) → List Record
@@ -83,12 +100,14 @@ database_of header entries blocks =
       app = front_block header.app blocks;
       sort = front_block header.sort behind_app;
       records = if holds_resources header.head.attributes then [] else records_in entries contents;
-      resources = if holds_resources header.head.attributes then resources_in entries contents else [];
+      resources = if holds_resources header.head.attributes
+          then resources_in entries contents else [];
     }
 
 -- the database of bytes that break no rule
 unfoldable pub database_in : List ℕ → DatabaseValue
-database_in bytes = database_of (header_in bytes) (drop header_length bytes) (blocks_in (block_begins bytes) bytes)
+database_in bytes =
+    database_of (header_in bytes) (drop header_length bytes) (blocks_in (block_begins bytes) bytes)
 
 -- the answer is this fault, or without a fault this value, unless memory ran out
 abbrev pub Gives : {A : Type 0} → Result A FileFault → Option FileFault → A → Type 0

@@ -1,4 +1,5 @@
--- The app block and the sort block of a database (Palm File Format Specification, appInfo and sortInfo).
+-- The app block and the sort block of a database (Palm File Format Specification, appInfo and
+-- sortInfo).
 use Rattle.std.specs.Prelude.{ℕ, List, length, Option, None, Some}
 use Rattle.std.specs.Global.{Vec}
 use Rattle.std.specs.Option.{option_map}

@@ -1,4 +1,5 @@
--- Bounds of a database and of a side of a HotSync (Palm File Format Specification for entries, bytes and ids; 200 databases are what this program takes).
+-- Bounds of a database and of a side of a HotSync (Palm File Format Specification for entries,
+-- bytes and ids; 200 databases are what this program takes).
 use Rattle.std.specs.Prelude.{ℕ}
 
 -- the databases that a handheld can have

@@ -1,4 +1,5 @@
--- What contracts see of a record's content (Palm File Format Specification, record entries of a PDB).
+-- What contracts see of a record's content (Palm File Format Specification, record entries of a
+-- PDB).
 use Rattle.std.specs.Prelude.{ℕ, Bool, List}
 
 -- a content is its category, whether it is secret, and its bytes

@@ -1,4 +1,5 @@
--- Databases by name, in byte order of their names (Palm File Format Specification, name in the header).
+-- Databases by name, in byte order of their names (Palm File Format Specification, name in the
+-- header).
 use Rattle.std.specs.Prelude.{◌≡◌, ℕ, Bool, true, List, [], ◌∷◌, find, insert, position, remove, slice_set, Option, None, Some}
 use Rattle.std.specs.Str.{bytes_eq}
 use Rattle.std.specs.List.{list_all, position_or_len}
@@ -19,7 +20,9 @@ is_named name database = bytes_eq database.head.name name
 -- each name stands before all later ones in byte order, so that no two are equal
 abbrev pub NamesRise : List DatabaseValue → Type 0
 NamesRise [] = Unit {0}
-NamesRise (database ∷ databases) = (list_all (λ later. comes_before database.head.name later.head.name) databases ≡ true) × NamesRise databases
+NamesRise (database ∷ databases) =
+    (list_all (λ later. comes_before database.head.name later.head.name) databases ≡ true)
+    × NamesRise databases
 
 -- ---- a look-up
 
@@ -35,7 +38,8 @@ database_of name databases = find (is_named name) databases
 
 -- where a new database of this name goes: in front of the first greater name, or behind all
 abbrev pub place_for : List ℕ → List DatabaseValue → ℕ
-place_for name databases = position_or_len (λ database. comes_before name database.head.name) databases
+place_for name databases =
+    position_or_len (λ database. comes_before name database.head.name) databases
 
 -- a new database goes to its place in the order of names
 abbrev pub with_new : DatabaseValue → List DatabaseValue → List DatabaseValue

@@ -13,5 +13,6 @@ pub record IsName (bytes : List ℕ) : Type 0 where
 -- the first rule that the bytes of a name break
 abbrev pub name_fault : List ℕ → Option NameFault
 name_fault bytes =
-    if length bytes == 0 then Some Empty else if nat_lt 31 (length bytes) then Some TooLong else option_map (λ place. BadByte place)
+    if length bytes == 0 then Some Empty else if nat_lt 31 (length bytes) then Some TooLong
+    else option_map (λ place. BadByte place)
     (position (λ byte. byte == 0) bytes)

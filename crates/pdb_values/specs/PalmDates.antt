@@ -6,11 +6,14 @@ use Rattle.pdb_values.specs.CivilTimes.{is_civil, seconds_of, civil_of}
 
 -- the seconds to a date and time that the calendar has, where 32 bits hold them
 unfoldable pub counted : CivilTime → Option ℕ
-counted time = if is_civil time && nat_lt (seconds_of time) (2 ^ 32) then Some (seconds_of time) else None
+counted time =
+    if is_civil time && nat_lt (seconds_of time) (2 ^ 32) then Some (seconds_of time) else None
 
 -- eight bytes: the year with the high byte first, month, day, hour, minute, second, and a zero
 abbrev pub wire_of : CivilTime → List ℕ
-wire_of time = time.year / 256 ∷ time.year % 256 ∷ time.month ∷ time.day ∷ time.hour ∷ time.minute ∷ time.second ∷ 0 ∷ []
+wire_of time =
+    time.year / 256 ∷ time.year % 256 ∷ time.month ∷ time.day ∷ time.hour ∷ time.minute
+    ∷ time.second ∷ 0 ∷ []
 
 -- what the first seven bytes say
 abbrev pub on_wire : List ℕ → CivilTime
@@ -26,11 +29,14 @@ on_wire bytes =
 
 -- each part is 0
 abbrev pub is_no_date : CivilTime → Bool
-is_no_date time = (time.year == 0) && (time.month == 0) && (time.day == 0) && (time.hour == 0) && (time.minute == 0) && (time.second == 0)
+is_no_date time =
+    (time.year == 0) && (time.month == 0) && (time.day == 0) && (time.hour == 0)
+    && (time.minute == 0) && (time.second == 0)
 
 -- the wire date of these seconds: 0 stands for no date
 abbrev pub wire_date : ℕ → List ℕ
-wire_date seconds = if seconds == 0 then 0 ∷ 0 ∷ 0 ∷ 0 ∷ 0 ∷ 0 ∷ 0 ∷ 0 ∷ [] else wire_of (civil_of seconds)
+wire_date seconds =
+    if seconds == 0 then 0 ∷ 0 ∷ 0 ∷ 0 ∷ 0 ∷ 0 ∷ 0 ∷ 0 ∷ [] else wire_of (civil_of seconds)
 
 -- the seconds of what a wire date says
 abbrev pub wire_seconds : CivilTime → Option ℕ
@@ -43,9 +49,12 @@ read_wire bytes = wire_seconds (on_wire bytes)
 -- `YYYY-MM-DDTHH:MM:SS`
 unfoldable pub text_of : CivilTime → List ℕ
 text_of time =
-    (48 + time.year / 1000) ∷ (48 + time.year / 100 % 10) ∷ (48 + time.year / 10 % 10) ∷ (48 + time.year % 10) ∷ 45
-    ∷ (48 + time.month / 10) ∷ (48 + time.month % 10) ∷ 45 ∷ (48 + time.day / 10) ∷ (48 + time.day % 10) ∷ 84
-    ∷ (48 + time.hour / 10) ∷ (48 + time.hour % 10) ∷ 58 ∷ (48 + time.minute / 10) ∷ (48 + time.minute % 10) ∷ 58
+    (48 + time.year / 1000) ∷ (48 + time.year / 100 % 10) ∷ (48 + time.year / 10 % 10)
+    ∷ (48 + time.year % 10) ∷ 45
+    ∷ (48 + time.month / 10) ∷ (48 + time.month % 10) ∷ 45 ∷ (48 + time.day / 10)
+    ∷ (48 + time.day % 10) ∷ 84
+    ∷ (48 + time.hour / 10) ∷ (48 + time.hour % 10) ∷ 58 ∷ (48 + time.minute / 10)
+    ∷ (48 + time.minute % 10) ∷ 58
     ∷ (48 + time.second / 10) ∷ (48 + time.second % 10) ∷ []
 
 -- the digit at a place of a text, or the nearest digit where there is none
@@ -77,6 +86,8 @@ abbrev pub if_later : Option ℕ → Option ℕ
 if_later None = None
 if_later (Some seconds) = if seconds == 0 then None else Some seconds
 
--- the seconds of a text that is exactly what is written of the date that its digits give, where that is later than 0 seconds
+-- the seconds of a text that is exactly what is written of the date that its digits give, where
+-- that is later than 0 seconds
 abbrev pub read_text : List ℕ → Option ℕ
-read_text text = if bytes_eq text (text_of (in_text text)) then if_later (counted (in_text text)) else None
+read_text text =
+    if bytes_eq text (text_of (in_text text)) then if_later (counted (in_text text)) else None

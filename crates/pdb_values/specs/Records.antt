@@ -10,4 +10,5 @@ is_live item = not item.deleted
 
 -- a deleted record that still has bytes is an archived one
 abbrev pub kind_of : Record → Kind
-kind_of item = if is_live item then Live else if length item.content.bytes == 0 then Deleted else Archived
+kind_of item =
+    if is_live item then Live else if length item.content.bytes == 0 then Deleted else Archived

@@ -14,4 +14,5 @@ set_some resources place (Some resource) = slice_set resources place resource
 
 -- with other bytes in the resource at a place
 abbrev pub with_bytes_at : List Resource → ℕ → List ℕ → List Resource
-with_bytes_at resources place bytes = set_some resources place (option_map (with_bytes bytes) (slice_get resources place))
+with_bytes_at resources place bytes =
+    set_some resources place (option_map (with_bytes bytes) (slice_get resources place))

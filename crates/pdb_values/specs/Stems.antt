@@ -13,7 +13,8 @@ is_plain byte = is_ascii_alphanumeric byte || (byte == 95) || (byte == 45)
 
 -- what stands for a byte: itself, or `%` and its two hexadecimal digits
 unfoldable pub stem_byte : ℕ → List ℕ
-stem_byte byte = if is_plain byte then byte ∷ [] else 37 ∷ hex_digit (byte / 16) ∷ hex_digit (byte % 16) ∷ []
+stem_byte byte =
+    if is_plain byte then byte ∷ [] else 37 ∷ hex_digit (byte / 16) ∷ hex_digit (byte % 16) ∷ []
 
 -- the stem of a name, byte after byte
 abbrev pub stem_of : List ℕ → List ℕ

@@ -32,7 +32,8 @@ IsItem app wanted item = is_exported wanted item ≡ true → IsMemo (memo_of ap
 
 -- the memos that are exported, in the order of their records
 abbrev pub exported_memos : Privacy → DatabaseValue → List MemoValue
-exported_memos wanted database = map (memo_of database.app) (filter (is_exported wanted) database.records)
+exported_memos wanted database =
+    map (memo_of database.app) (filter (is_exported wanted) database.records)
 
 -- what a record adds to the text
 abbrev pub item_text : Option (List ℕ) → Privacy → Record → List ℕ

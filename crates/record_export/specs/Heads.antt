@@ -1,4 +1,5 @@
--- Head lines: `--- ID`, ` private` where the record is private, a space and the label of its category.
+-- Head lines: `--- ID`, ` private` where the record is private, a space and the label of its
+-- category.
 use Rattle.std.specs.Prelude.{ℕ, ◌==◌, ◌&&◌, ◌||◌, Bool, not, List, [], ◌∷◌, ◌++◌, codes, encode_utf8, length, nat_eq, if◌then◌else◌}
 use Rattle.std.specs.Int.{bytes_high_first}
 use Rattle.std.specs.List.{flat_map, starts_with}

@@ -1,10 +1,12 @@
--- Memos as text in UTF-8: the head line and the lines of each. The only lines that begin with three dashes and no fourth are the heads.
+-- Memos as text in UTF-8: the head line and the lines of each. The only lines that begin with three
+-- dashes and no fourth are the heads.
 use Rattle.std.specs.Prelude.{ℕ, ◌<◌, ◌==◌, Bool, List, [], ◌∷◌, ◌++◌, codes, slice_index, if◌then◌else◌}
 use Rattle.std.specs.List.{flat_map}
 use Rattle.palm_text.specs.Characters.{char_text}
 use Rattle.record_export.specs.Heads.{begins_with, head_line, id_limit, line_feed}
 
--- a memo: the id of its record, whether it is private, the label of its category (empty: none), and its text as a Palm's bytes
+-- a memo: the id of its record, whether it is private, the label of its category (empty: none), and
+-- its text as a Palm's bytes
 pub record MemoValue : Type 0 where
   pub id : ℕ
   pub secret : Bool

@@ -42,7 +42,8 @@ abbrev pub written_over : Option ContentValue → Record → Record
 written_over None r = r
 written_over (Some c) r = rewritten c r
 
--- what becomes of a record by what is kept under its id: it goes, stays as it was, or has the kept content in its place
+-- what becomes of a record by what is kept under its id: it goes, stays as it was, or has the kept
+-- content in its place
 abbrev pub kept_record : Option ContentValue → Held → Record → List Record
 kept_record None h r = []
 kept_record (Some c) h r = clean (written_over (replacement (Some c) h) r) ∷ []
@@ -52,7 +53,8 @@ abbrev pub new_under : ℕ → Option Record → Option ContentValue → List (�
 new_under i None keep = with_id i keep
 new_under i (Some r) keep = []
 
--- the handheld's records: in their order, then the replacements under ids that no record has in rising ids, then the adds
+-- the handheld's records: in their order, then the replacements under ids that no record has in
+-- rising ids, then the adds
 abbrev pub merged_records : Choice → (ℕ → Held) → List ℕ → List Record → List Record
 merged_records ch handheld given records =
     flat_map (λ r. kept_record (ch.keep r.id) (handheld r.id) r) records
@@ -67,7 +69,9 @@ is_held_live (archived c) = false
 -- each record's id is one of a record, and it is shown as live where it is live
 abbrev pub AreShown : (ℕ → Held) → List Record → Type 0
 AreShown handheld [] = Unit {0}
-AreShown handheld (r ∷ records) = (nat_lt r.id id_bound ≡ true) × (is_held_live (handheld r.id) ≡ is_live r) × AreShown handheld records
+AreShown handheld (r ∷ records) =
+    (nat_lt r.id id_bound ≡ true) × (is_held_live (handheld r.id) ≡ is_live r)
+    × AreShown handheld records
 
 -- nothing is shown where no record is
 abbrev pub ShowsNoOther : (ℕ → Held) → List Record → Type 0
@@ -88,9 +92,12 @@ abbrev pub is_archived : ℕ × ContentValue → List (ℕ × ContentValue) → 
 is_archived e es = list_any (λ x. (x.0 == e.0) && same_content x.1 e.1) es
 
 -- one copy of each entry: those are left out that an earlier one equals
-abbrev pub one_copy_behind : List (ℕ × ContentValue) → List (ℕ × ContentValue) → List (ℕ × ContentValue)
+abbrev pub one_copy_behind : List (ℕ × ContentValue) → List (ℕ × ContentValue)
+    → List (ℕ × ContentValue)
 one_copy_behind earlier [] = []
-one_copy_behind earlier (e ∷ es) = if is_archived e earlier then one_copy_behind earlier es else e ∷ one_copy_behind (e ∷ earlier) es
+one_copy_behind earlier (e ∷ es) =
+    if is_archived e earlier then one_copy_behind earlier es
+    else e ∷ one_copy_behind (e ∷ earlier) es
 
 -- the archive: the old entries, then the new ones, one copy of each
 abbrev pub merged_archive : Choice → List (ℕ × ContentValue) → List (ℕ × ContentValue)

@@ -1,4 +1,5 @@
--- A session that stops among its replacements and adds: the sides that the next one finds, and what is left to do.
+-- A session that stops among its replacements and adds: the sides that the next one finds, and what
+-- is left to do.
 use Rattle.std.specs.Prelude.{◌≡◌, ◌<◌, ℕ, List, [], ◌∷◌, Some}
 use Rattle.pdb_values.specs.Contents.{ContentValue}
 use Rattle.conduit_rules.specs.ById.{id_bound, put}
@@ -32,7 +33,11 @@ behind (x ∷ xs) = xs
 
 -- the choice with its next add kept under an id
 abbrev pub with_add : Choice → ℕ → ContentValue → Choice
-with_add ch g a = record { keep = put ch.keep g (Some a); archive = ch.archive; adds = behind ch.adds }
+with_add ch g a = record {
+  keep = put ch.keep g (Some a);
+  archive = ch.archive;
+  adds = behind ch.adds;
+}
 
 -- what is still to be done
 abbrev pub rest_of : List Write → Choice → Choice
@@ -43,11 +48,14 @@ rest_of (purge i ∷ ws) ch = ch
 rest_of (clean_up ∷ ws) ch = ch
 rest_of (reset ∷ ws) ch = ch
 
--- these writes are of the choice: each replacement is kept there, each add is the next one, under a new id
+-- these writes are of the choice: each replacement is kept there, each add is the next one, under a
+-- new id
 abbrev pub AreOf : List Write → Choice → Sides → Type 0
 AreOf [] ch s = Unit {0}
 AreOf (replace i c ∷ ws) ch s = (ch.keep i ≡ Some c) × AreOf ws ch (given_to s i c)
-AreOf (add g a ∷ ws) ch s = (ch.adds ≡ a ∷ behind ch.adds) × (s.base g ≡ no_base) × (s.handheld g ≡ nothing) × (g < id_bound)
+AreOf (add g a ∷ ws) ch s =
+    (ch.adds ≡ a ∷ behind ch.adds) × (s.base g ≡ no_base) × (s.handheld g ≡ nothing)
+    × (g < id_bound)
     × AreOf ws (with_add ch g a) (given_to s g a)
 AreOf (purge i ∷ ws) ch s = ⊥
 AreOf (clean_up ∷ ws) ch s = ⊥

@@ -45,7 +45,8 @@ purges is = map purge is
 
 -- the replacements in rising ids, then the adds
 abbrev pub giving : Choice → (ℕ → Held) → List ℕ → List Write
-giving ch handheld given = replaces (replaced_rows ch.keep handheld) ++ adding (numbered given ch.adds)
+giving ch handheld given =
+    replaces (replaced_rows ch.keep handheld) ++ adding (numbered given ch.adds)
 
 -- the records that go, one by one; then those with the delete bit, and the flags
 abbrev pub clearing : Choice → (ℕ → Held) → List Write
@@ -62,4 +63,5 @@ whole ch handheld given = giving ch handheld given ++ clearing ch handheld
 
 -- the handheld gave each add an id that no record has at its turn
 abbrev pub GotFreeIds : Choice → (ℕ → Held) → List ℕ → List Record → Type 0
-GotFreeIds ch handheld given records = AreFree (numbered given ch.adds) (after (replaces (replaced_rows ch.keep handheld)) records)
+GotFreeIds ch handheld given records =
+    AreFree (numbered given ch.adds) (after (replaces (replaced_rows ch.keep handheld)) records)

@@ -1,4 +1,5 @@
--- Whether a session of both sides would cost the desktop some rows of a database, as the session finds it.
+-- Whether a session of both sides would cost the desktop some rows of a database, as the session
+-- finds it.
 use Rattle.std.specs.Prelude.{Bool}
 use Rattle.std.specs.List.{list_any}
 use Rattle.conduit_rules.specs.Plans.{kept_rows}

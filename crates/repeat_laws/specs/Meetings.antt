@@ -48,14 +48,17 @@ pub record IsUnderWay (next : Meeting) : Type 0 where
   pub handheld : next.device.user.pc ≡ 0
   pub desktop : 0 < (slot_of next).marks.pc
 
--- what the next meeting finds where a session stopped before the desktop's commit: of each database the handheld has so many of the
+-- what the next meeting finds where a session stopped before the desktop's commit: of each database
+-- the handheld has so many of the
 -- replacements and adds, with the ids that these got, and the desktop is as it was
-pub record LeftAmongNews (meeting next : Meeting) (given : List ℕ → List ℕ) (count : List ℕ → ℕ) : Type 0 where
+pub record LeftAmongNews (meeting next : Meeting) (given : List ℕ → List ℕ)
+    (count : List ℕ → ℕ) : Type 0 where
   pub asks : AsksTheSame meeting next
   pub marks : IsUnderWay next
   pub slot : slot_of next ≡ slot_of meeting
   pub records : (name : List ℕ) → records_of (task_of next name).handheld
-      ≡ after (news_done (action_at meeting name) (found_of meeting name) (given name) (count name)) (found_of meeting name).records
+      ≡ after (news_done (action_at meeting name) (found_of meeting name) (given name)
+      (count name)) (found_of meeting name).records
 
 -- the desktop has the merge of a database
 pub record IsMergedAt (next : Meeting) (name : List ℕ) (end : Ended) : Type 0 where
@@ -64,21 +67,29 @@ pub record IsMergedAt (next : Meeting) (name : List ℕ) (end : Ended) : Type 0 
   pub base : records_of (task_of next name).base ≡ end.base
   pub archive : entries_of (records_of (task_of next name).archive) ≡ end.archive
 
--- what it finds behind the commit: of each database the handheld has what it was given, and so many of the purges, the clean up and the
+-- what it finds behind the commit: of each database the handheld has what it was given, and so many
+-- of the purges, the clean up and the
 -- reset, and the desktop is merged
-pub record LeftBehindCommit (meeting next : Meeting) (given : List ℕ → List ℕ) (count : List ℕ → ℕ) (name : List ℕ) : Type 0 where
+pub record LeftBehindCommit (meeting next : Meeting) (given : List ℕ → List ℕ) (count : List ℕ → ℕ)
+    (name : List ℕ) : Type 0 where
   pub asks : AsksTheSame meeting next
   pub marks : IsUnderWay next
-  pub merged : IsMergedAt next name (ended (action_at meeting name) (found_of meeting name) (given name))
+  pub merged : IsMergedAt next name
+      (ended (action_at meeting name) (found_of meeting name) (given name))
   pub records : records_of (task_of next name).handheld
-      ≡ after (giving (chosen (action_at meeting name) (found_of meeting name)) (shown (found_of meeting name)) (given name)
-      ++ clearing_done (action_at meeting name) (found_of meeting name) (count name)) (found_of meeting name).records
+      ≡ after (giving (chosen (action_at meeting name) (found_of meeting name))
+      (shown (found_of meeting name)) (given name)
+      ++ clearing_done (action_at meeting name) (found_of meeting name) (count name))
+      (found_of meeting name).records
 
 -- what it finds behind the whole session
-pub record LeftAtEnd (meeting next : Meeting) (given : List ℕ → List ℕ) (name : List ℕ) : Type 0 where
+pub record LeftAtEnd (meeting next : Meeting) (given : List ℕ → List ℕ)
+    (name : List ℕ) : Type 0 where
   pub asks : AsksTheSame meeting next
-  pub merged : IsMergedAt next name (ended (action_at meeting name) (found_of meeting name) (given name))
-  pub records : records_of (task_of next name).handheld ≡ (ended (action_at meeting name) (found_of meeting name) (given name)).records
+  pub merged : IsMergedAt next name
+      (ended (action_at meeting name) (found_of meeting name) (given name))
+  pub records : records_of (task_of next name).handheld
+      ≡ (ended (action_at meeting name) (found_of meeting name) (given name)).records
 
 -- ---- one after another
 
@@ -103,7 +114,8 @@ places_of es = map (λ (e : Meeting × Place). e.1) es
 -- the databases of a session get their ids in order, each as many as it has adds
 abbrev pub ids_dealt : Meeting → List Task → List ℕ → List ℕ → List ℕ
 ids_dealt meeting [] given name = []
-ids_dealt meeting (task ∷ later) given name = if bytes_eq task.name name then take (add_count meeting task) given else ids_dealt meeting later
+ids_dealt meeting (task ∷ later) given name =
+    if bytes_eq task.name name then take (add_count meeting task) given else ids_dealt meeting later
     (drop (add_count meeting task) given) name
 
 -- ---- a whole session
@@ -130,7 +142,8 @@ holding device slot name = record {
 
 -- what they hold once a meeting has ended
 abbrev pub holding_after : Meeting → List ℕ → List ℕ → Ended
-holding_after meeting given name = holding (merged_device meeting given) (merged_slot meeting given) name
+holding_after meeting given name =
+    holding (merged_device meeting given) (merged_slot meeting given) name
 
 -- the ids that a name got of them
 abbrev pub ids_at : Meeting → List ℕ → List ℕ → List ℕ
@@ -138,7 +151,8 @@ ids_at meeting given name = ids_dealt meeting (active meeting) given name
 
 -- ---- no database is skipped that wasn't
 
--- a head that is like another in what sessions look at: what its attributes say of resources, writing and streams, type and creator
+-- a head that is like another in what sessions look at: what its attributes say of resources,
+-- writing and streams, type and creator
 pub record IsLike (head other : DbHead) : Type 0 where
   pub resources : holds_resources head.attributes ≡ holds_resources other.attributes
   pub read_only : is_read_only head.attributes ≡ is_read_only other.attributes
@@ -153,12 +167,18 @@ IsLikeFirst (Some head) other (Some now) = IsLike now head
 IsLikeFirst None (Some head) (Some now) = IsLike now head
 IsLikeFirst None None (Some now) = ⊥
 
--- what the next meeting finds under a name: such heads, a side that had the database still has it, and base rows only where there were some
+-- what the next meeting finds under a name: such heads, a side that had the database still has it,
+-- and base rows only where there were some
 -- or both sides have it
 pub record StandsLike (meeting next : Meeting) (name : List ℕ) : Type 0 where
   pub action : (task_of next name).action ≡ (task_of meeting name).action
-  pub handheld : IsLikeFirst (head_of (task_of meeting name).handheld) (head_of (task_of meeting name).rows) (head_of (task_of next name).handheld)
-  pub rows : IsLikeFirst (head_of (task_of meeting name).rows) (head_of (task_of meeting name).handheld) (head_of (task_of next name).rows)
-  pub has_handheld : is_none (head_of (task_of next name).handheld) ≡ true → is_none (head_of (task_of meeting name).handheld) ≡ true
-  pub has_rows : is_none (head_of (task_of next name).rows) ≡ true → is_none (head_of (task_of meeting name).rows) ≡ true
-  pub has_base : (is_none (head_of (task_of next name).handheld) && is_some (task_of next name).base) ≡ true → is_some (task_of meeting name).base ≡ true
+  pub handheld : IsLikeFirst (head_of (task_of meeting name).handheld)
+      (head_of (task_of meeting name).rows) (head_of (task_of next name).handheld)
+  pub rows : IsLikeFirst (head_of (task_of meeting name).rows)
+      (head_of (task_of meeting name).handheld) (head_of (task_of next name).rows)
+  pub has_handheld : is_none (head_of (task_of next name).handheld) ≡ true
+      → is_none (head_of (task_of meeting name).handheld) ≡ true
+  pub has_rows : is_none (head_of (task_of next name).rows) ≡ true
+      → is_none (head_of (task_of meeting name).rows) ≡ true
+  pub has_base : (is_none (head_of (task_of next name).handheld)
+      && is_some (task_of next name).base) ≡ true → is_some (task_of meeting name).base ≡ true

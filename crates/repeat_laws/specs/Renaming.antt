@@ -20,10 +20,12 @@ AreUnknown x (g ∷ gs) = (is_known x g ≡ false) × AreUnknown x gs
 abbrev pub is_new_with : Found → ContentValue → Record → Bool
 is_new_with x c r = is_live r && (not (is_known x r.id) && same_content r.content c)
 
--- under each known id the same is live, and each content is as often live under an id that nothing had
+-- under each known id the same is live, and each content is as often live under an id that nothing
+-- had
 pub record SameLive (x : Found) (records others : List Record) : Type 0 where
   pub known : (i : ℕ) → is_known x i ≡ true → live_of (held records i) ≡ live_of (held others i)
-  pub new : (c : ContentValue) → count_by (is_new_with x c) records ≡ count_by (is_new_with x c) others
+  pub new : (c : ContentValue)
+      → count_by (is_new_with x c) records ≡ count_by (is_new_with x c) others
 
 pub record SameEnds (x : Found) (e f : Ended) : Type 0 where
   pub records : SameLive x e.records f.records

@@ -1,4 +1,5 @@
--- One database as a session finds it, what both sides hold of it once the session ends, and what a session that stops leaves of it.
+-- One database as a session finds it, what both sides hold of it once the session ends, and what a
+-- session that stops leaves of it.
 use Rattle.std.specs.Prelude.{◌≡◌, ℕ, Bool, true, false, List, [], ◌∷◌, ◌++◌, length, take}
 use Rattle.pdb_values.specs.Contents.{ContentValue}
 use Rattle.pdb_values.specs.declared.record.Record.{Record}
@@ -15,7 +16,8 @@ use Rattle.record_merge.specs.Writes.{Write, replace, add, purge, clean_up, rese
 
 -- ---- one session
 
--- one database as a session finds it: the view of the handheld's records, these, the desktop's rows, base rows and archive, and whether
+-- one database as a session finds it: the view of the handheld's records, these, the desktop's
+-- rows, base rows and archive, and whether
 -- gone base rows count
 pub record Found : Type 0 where
   pub view : List Seen
@@ -77,12 +79,20 @@ given_by (purge i ∷ ws) = given_by ws
 given_by (clean_up ∷ ws) = given_by ws
 given_by (reset ∷ ws) = given_by ws
 
--- what the next session finds: the handheld has these writes, and the desktop is as it was. Both sides don't agree, so that all records
+-- what the next session finds: the handheld has these writes, and the desktop is as it was. Both
+-- sides don't agree, so that all records
 -- are read, and gone rows count
 abbrev pub left_among_news : Action → Found → List ℕ → ℕ → Found
 left_among_news a x given n =
     let records = after (news_done a x given n) x.records in
-    record { view = slow_view records; records = records; rows = x.rows; base = x.base; archive = x.archive; gone_counts = true }
+    record {
+      view = slow_view records;
+      records = records;
+      rows = x.rows;
+      base = x.base;
+      archive = x.archive;
+      gone_counts = true;
+    }
 
 -- nothing is held under the id of a gone row
 abbrev pub NothingIfGone : Based → Held → Type 0
@@ -95,7 +105,8 @@ abbrev pub NoneUnderGone : Bool → List Record → List Record → Type 0
 NoneUnderGone true base records = Unit {0}
 NoneUnderGone false base records = (i : ℕ) → NothingIfGone (base_at base true i) (held records i)
 
--- These are the ids that a stopped session's new records got: all of them, each free at its turn, and no id of a base row, gone or not.
+-- These are the ids that a stopped session's new records got: all of them, each free at its turn,
+-- and no id of a base row, gone or not.
 -- And no record had the id of a gone row, where these didn't count.
 pub record StopsAmongNews (a : Action) (x : Found) (given : List ℕ) (n : ℕ) : Type 0 where
   pub read : IsRead x
@@ -110,18 +121,34 @@ pub record StopsAmongNews (a : Action) (x : Found) (given : List ℕ) (n : ℕ) 
 abbrev pub clearing_done : Action → Found → ℕ → List Write
 clearing_done a x n = take n (clearing (chosen a x) (shown x))
 
--- what the next session finds: the handheld has what it was given, and these writes, and the desktop is merged. Both sides don't agree
+-- what the next session finds: the handheld has what it was given, and these writes, and the
+-- desktop is merged. Both sides don't agree
 abbrev pub left_behind_commit : Action → Found → List ℕ → ℕ → Found
 left_behind_commit a x given n =
     let records = after (giving (chosen a x) (shown x) given ++ clearing_done a x n) x.records in
     let end = ended a x given in
-    record { view = slow_view records; records = records; rows = end.rows; base = end.base; archive = end.archive; gone_counts = true }
+    record {
+      view = slow_view records;
+      records = records;
+      rows = end.rows;
+      base = end.base;
+      archive = end.archive;
+      gone_counts = true;
+    }
 
--- what the next session finds behind a whole one, whichever way it reads and whether or not gone rows count
+-- what the next session finds behind a whole one, whichever way it reads and whether or not gone
+-- rows count
 abbrev pub left_at_end : Action → Found → List ℕ → List Seen → Bool → Found
 left_at_end a x given view gone_counts =
     let end = ended a x given in
-    record { view = view; records = end.records; rows = end.rows; base = end.base; archive = end.archive; gone_counts = gone_counts }
+    record {
+      view = view;
+      records = end.records;
+      rows = end.rows;
+      base = end.base;
+      archive = end.archive;
+      gone_counts = gone_counts;
+    }
 
 -- both ends are the same but for the gone rows of the base
 pub record EndAlike (e f : Ended) : Type 0 where
@@ -132,8 +159,10 @@ pub record EndAlike (e f : Ended) : Type 0 where
 
 -- ---- sessions that stop, one after another
 
--- where a session stopped in a database: before anything was written; or after so many of its replacements and adds, or of its purges, the
--- clean up and the reset, or behind all of it, with the ids that its new records got, and in the last case how the next one reads
+-- where a session stopped in a database: before anything was written; or after so many of its
+-- replacements and adds, or of its purges, the
+-- clean up and the reset, or behind all of it, with the ids that its new records got, and in the
+-- last case how the next one reads
 pub data Place : Type 0 where
   before_mark : Place
   among_news : List ℕ → ℕ → Place
@@ -159,7 +188,8 @@ pub record GotAllIds (a : Action) (x : Found) (given : List ℕ) : Type 0 where
   pub got : GotIds a x given
   pub each : length given ≡ length (chosen a x).adds
 
--- a session may stop among its news: one that goes by the handheld has none, and what one adds that goes by the desktop is purged by the next
+-- a session may stop among its news: one that goes by the handheld has none, and what one adds that
+-- goes by the desktop is purged by the next
 abbrev pub MayStopAmongNews : Action → Found → List ℕ → ℕ → Type 0
 MayStopAmongNews Sync x given n = StopsAmongNews Sync x given n
 MayStopAmongNews Handheld x given n = given ≡ []
@@ -170,7 +200,8 @@ abbrev pub MayStop : Action → Found → Place → Type 0
 MayStop a x before_mark = Unit {0}
 MayStop a x (among_news given n) = MayStopAmongNews a x given n
 MayStop a x (behind_commit given n) = GotAllIds a x given
-MayStop a x (at_end given view gone_counts) = GotAllIds a x given × IsRead (left_at_end a x given view gone_counts)
+MayStop a x (at_end given view gone_counts) =
+    GotAllIds a x given × IsRead (left_at_end a x given view gone_counts)
 
 -- what the session behind all of these finds
 abbrev pub left_by : Action → Found → List Place → Found
@@ -182,7 +213,8 @@ abbrev pub AreStops : Action → Found → List Place → Type 0
 AreStops a x [] = Unit {0}
 AreStops a x (place ∷ places) = MayStop a x place × AreStops a (left a x place) places
 
--- the ids that stand in the end, where these stand that are given later: those that were given before them too. But what a session added
+-- the ids that stand in the end, where these stand that are given later: those that were given
+-- before them too. But what a session added
 -- that goes by the desktop and stopped before its commit doesn't stand
 abbrev pub ids_with : Action → Place → List ℕ → List ℕ
 ids_with Sync place later = ids_given place ++ later

@@ -10,7 +10,8 @@ plain_rule id = record (new_rule id) { required = true }
 
 -- an option with a value
 abbrev pub option_rule : NamedOption → Rule
-option_rule option = record (new_rule option.name) { long = Some option.name; required = option.is_required }
+option_rule option =
+    record (new_rule option.name) { long = Some option.name; required = option.is_required }
 
 -- a flag
 abbrev pub flag_rule : List ℕ → Rule
@@ -18,7 +19,9 @@ flag_rule id = record (new_rule id) { long = Some id; action = Some SetTrue }
 
 -- a command with no argument, and no help
 abbrev pub empty_app : App
-empty_app = let app = new_app (codes "hotsync") in record app { top = record app.top { disable_help_flag = true } }
+empty_app =
+    let app = new_app (codes "hotsync")
+    in record app { top = record app.top { disable_help_flag = true } }
 
 -- with each of these arguments
 abbrev pub with_rules : App → List Rule → App
@@ -27,7 +30,8 @@ with_rules app (rule ∷ rules) = with_rules (with_rule app rule) rules
 
 -- the arguments of a form
 abbrev pub form_rules : Form → List Rule
-form_rules form = map plain_rule form.plain ++ (map option_rule form.options ++ map flag_rule form.flags)
+form_rules form =
+    map plain_rule form.plain ++ (map option_rule form.options ++ map flag_rule form.flags)
 
 -- the command of a form
 unfoldable pub form_app : Form → App

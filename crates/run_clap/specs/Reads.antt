@@ -24,8 +24,10 @@ flag_text given = if given then codes "true" else codes "false"
 -- they have what words of a form hold
 pub record HoldsWords (form : Form) (words : List (List ℕ)) (found : Found) : Type 0 where
   pub plain : HoldsPlain found words 0 form.plain
-  pub options : AllByRecursion (λ option. first_value found option.name ≡ value_of option.name words) form.options
-  pub flags : AllByRecursion (λ flag. one_text found flag ≡ Some (flag_text (has_flag flag words))) form.flags
+  pub options : AllByRecursion
+      (λ option. first_value found option.name ≡ value_of option.name words) form.options
+  pub flags : AllByRecursion
+      (λ flag. one_text found flag ≡ Some (flag_text (has_flag flag words))) form.flags
 
 -- the form of the words of a look
 abbrev pub look_form : Look → Form

@@ -1,4 +1,5 @@
--- The actions of `--actions=L`: items `STEM:WORD` or `*:WORD` with one comma between them, no stem and no `*` twice.
+-- The actions of `--actions=L`: items `STEM:WORD` or `*:WORD` with one comma between them, no stem
+-- and no `*` twice.
 use Rattle.std.specs.Prelude.{◌≡◌, ◌<◌, ℕ, Bool, not, ◌==◌, ◌&&◌, List, [], ◌∷◌, ◌++◌, length, map, Option, Some, None, codes, bytes_eq, is_some, option_map}
 use Rattle.std.specs.Prelude.{option_and_then, true, false, if◌then◌else◌}
 use Rattle.std.specs.List.{AllByRecursion, list_any, filter_map, find, join_with_byte, slice_split, before_first, after_first}
@@ -45,7 +46,8 @@ IsTarget (One name) = IsNameOfBytes name
 -- no two of them are of one database, and at most one is of the others
 abbrev pub AreApart : List NamedAction → Type 0
 AreApart [] = Unit {0}
-AreApart (first ∷ rest) = AllByRecursion (λ other. ¬ (other.target ≡ first.target)) rest × AreApart rest
+AreApart (first ∷ rest) =
+    AllByRecursion (λ other. ¬ (other.target ≡ first.target)) rest × AreApart rest
 
 -- at least one action, each of a database of its own or of the others
 pub record AreActions (actions : List NamedAction) : Type 0 where
@@ -55,7 +57,8 @@ pub record AreActions (actions : List NamedAction) : Type 0 where
 
 -- a text is that of some actions
 abbrev pub IsActionsText : List ℕ → Type 0
-IsActionsText text = (actions : List NamedAction) × AreActions actions × (text ≡ actions_text actions)
+IsActionsText text =
+    (actions : List NamedAction) × AreActions actions × (text ≡ actions_text actions)
 
 -- ---- the same as a test
 
@@ -84,7 +87,9 @@ target_of text = if bytes_eq text (codes "*") then Some Others else option_map O
 -- what an item says: the target before its first colon, and the word behind that
 unfoldable pub item_of : List ℕ → Option NamedAction
 item_of item =
-    option_and_then (λ target. option_map (aimed target) (action_of_word (after_first is_colon item))) (target_of (before_first is_colon item))
+    option_and_then
+    (λ target. option_map (aimed target) (action_of_word (after_first is_colon item)))
+    (target_of (before_first is_colon item))
 
 -- the stem, or `*`, before the first colon
 abbrev pub stem_in : List ℕ → List ℕ
@@ -141,6 +146,7 @@ action_or other (Some found) = found.action
 abbrev pub action_for_others : List NamedAction → ActionWord
 action_for_others actions = action_or Sync (find is_of_others actions)
 
--- the action for a name: that of the item that names it, wherever it stands, or else that of the others
+-- the action for a name: that of the item that names it, wherever it stands, or else that of the
+-- others
 abbrev pub action_for : List ℕ → List NamedAction → ActionWord
 action_for name actions = action_or (action_for_others actions) (find (is_of name) actions)

@@ -6,7 +6,9 @@ use Rattle.run_words.specs.Forms.{Form, is_of_form, plain_at, value_of}
 abbrev pub between_form : Form
 between_form = record {
   plain = codes "handheld" ∷ codes "other" ∷ [];
-  options = record { name = codes "script"; is_required = false } ∷ record { name = codes "trace"; is_required = false } ∷ [];
+  options =
+      record { name = codes "script"; is_required = false }
+      ∷ record { name = codes "trace"; is_required = false } ∷ [];
   flags = [];
 }
 
@@ -29,7 +31,8 @@ between_paths words handheld other = record {
 -- what words of the form give
 abbrev pub between_in : List (List ℕ) → Option Between
 between_in words =
-    option_and_then (λ handheld. option_map (between_paths words handheld) (plain_at 1 words)) (plain_at 0 words)
+    option_and_then (λ handheld. option_map (between_paths words handheld) (plain_at 1 words))
+    (plain_at 0 words)
 
 -- what words give that are of the form, in any order
 unfoldable pub between_of : List (List ℕ) → Option Between

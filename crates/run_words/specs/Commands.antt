@@ -9,7 +9,8 @@ use Rattle.run_words.specs.Numbers.{number_of, count_of}
 use Rattle.run_words.specs.Runs.{Run, run_of}
 use Rattle.run_words.specs.Words.{is_hex, bytes_of}
 
--- a run, a look at a file, the packets in some bytes, a run over folders made of a seed and a count, or an install of a file
+-- a run, a look at a file, the packets in some bytes, a run over folders made of a seed and a
+-- count, or an install of a file
 pub data Task : Type 0 where
   Sync : Run → Task
   LookAt : Look → List ℕ → Task
@@ -59,12 +60,14 @@ hex_bytes hex = if is_hex hex then Some (bytes_of hex) else None
 
 -- the bytes that the words behind `packet` give
 unfoldable pub packet_of : List (List ℕ) → Option (List ℕ)
-packet_of words = if is_of_form packet_form words then option_and_then hex_bytes (plain_at 0 words) else None
+packet_of words =
+    if is_of_form packet_form words then option_and_then hex_bytes (plain_at 0 words) else None
 
 -- the run over made folders that words of its form give
 abbrev pub make_in : List (List ℕ) → Option Task
 make_in words =
-    option_and_then (λ seed. option_map (Make seed) (option_and_then count_of (plain_at 1 words))) (option_and_then number_of (plain_at 0 words))
+    option_and_then (λ seed. option_map (Make seed) (option_and_then count_of (plain_at 1 words)))
+    (option_and_then number_of (plain_at 0 words))
 
 -- the seed and the count behind `make`
 unfoldable pub make_of : List (List ℕ) → Option Task
@@ -73,7 +76,9 @@ make_of words = if is_of_form make_form words then make_in words else None
 -- the export that words of its form give, at the date now
 abbrev pub export_task_in : Option ℕ → List (List ℕ) → Option Task
 export_task_in now words =
-    option_and_then (λ file. option_map (λ export. LookAt (Export export) file) (export_in now words)) (plain_at 0 words)
+    option_and_then
+    (λ file. option_map (λ export. LookAt (Export export) file) (export_in now words))
+    (plain_at 0 words)
 
 -- the file behind `export`, and how it is exported
 unfoldable pub export_of : Option ℕ → List (List ℕ) → Option Task
@@ -82,7 +87,8 @@ export_of now words = if is_of_form export_form words then export_task_in now wo
 -- the import that words of its form give
 abbrev pub import_task_in : List (List ℕ) → Option Task
 import_task_in words =
-    option_and_then (λ file. option_map (λ form. LookAt (Import form) file) (import_in words)) (plain_at 0 words)
+    option_and_then (λ file. option_map (λ form. LookAt (Import form) file) (import_in words))
+    (plain_at 0 words)
 
 -- the file behind `import`, and the form of its text
 unfoldable pub import_of : List (List ℕ) → Option Task

@@ -1,4 +1,5 @@
--- Which words ask for the text of what a database file holds, or for the database of a text, and what they give.
+-- Which words ask for the text of what a database file holds, or for the database of a text, and
+-- what they give.
 use Rattle.std.specs.Prelude.{ℕ, List, Option, Some, None, codes, bytes_eq, option_map, option_and_then, if◌then◌else◌}
 use Rattle.run_words.specs.Forms.{has_flag, value_of}
 use Rattle.run_words.specs.Runs.{date_at}
@@ -20,7 +21,8 @@ abbrev pub dated_form : Option ℕ → List ℕ → List ℕ → Option ExportFo
 dated_form now word date =
     if bytes_eq word (codes "ics") then option_map Calendar (date_at now date) else None
 
--- the form of a text that a word names, and the word of its date where there is one; `ics` has one, and no other form does
+-- the form of a text that a word names, and the word of its date where there is one; `ics` has one,
+-- and no other form does
 abbrev pub export_form_of : Option ℕ → List ℕ → Option (List ℕ) → Option ExportForm
 export_form_of now word None = plain_form word
 export_form_of now word (Some date) = dated_form now word date
@@ -37,7 +39,8 @@ export_with words form = record {
 abbrev pub export_in : Option ℕ → List (List ℕ) → Option Export
 export_in now words =
     option_map (export_with words)
-    (option_and_then (λ word. export_form_of now word (value_of (codes "date") words)) (value_of (codes "as") words))
+    (option_and_then (λ word. export_form_of now word (value_of (codes "date") words))
+    (value_of (codes "as") words))
 
 -- the form of a text that a word names, of which a database is made
 abbrev pub import_form_of : List ℕ → Option ImportForm

@@ -9,7 +9,8 @@ pub record NamedOption : Type 0 where
   pub name : List ℕ
   pub is_required : Bool
 
--- the names of the plain words in their order, the options with a value, and the names of the flags `--NAME`
+-- the names of the plain words in their order, the options with a value, and the names of the flags
+-- `--NAME`
 pub record Form : Type 0 where
   pub plain : List (List ℕ)
   pub options : List NamedOption
@@ -51,7 +52,9 @@ has_flag name words = list_any (is_flag name) words
 -- a plain word, or an option of the form with a value that isn't empty, or a flag of it
 abbrev pub is_word : Form → List ℕ → Bool
 is_word form word =
-    is_plain word || (list_any (λ option. has_value option.name word) form.options || list_any (λ flag. is_flag flag word) form.flags)
+    is_plain word
+    || (list_any (λ option. has_value option.name word) form.options
+    || list_any (λ flag. is_flag flag word) form.flags)
 
 -- how many of the words begin with `--NAME=`
 abbrev pub option_count : List ℕ → List (List ℕ) → ℕ
@@ -64,13 +67,15 @@ flag_count name words = length (filter (is_flag name) words)
 -- the option stands at most once, and not never where it has to stand
 abbrev pub fits_option : List (List ℕ) → NamedOption → Bool
 fits_option words option =
-    nat_le (option_count option.name words) 1 && (not option.is_required || nat_le 1 (option_count option.name words))
+    nat_le (option_count option.name words) 1
+    && (not option.is_required || nat_le 1 (option_count option.name words))
 
 -- the flag stands at most once
 abbrev pub fits_flag : List (List ℕ) → List ℕ → Bool
 fits_flag words flag = nat_le (flag_count flag words) 1
 
--- words are of a form: each is one of it, as many are plain as it has, and each option and each flag of it stands as it has to
+-- words are of a form: each is one of it, as many are plain as it has, and each option and each
+-- flag of it stands as it has to
 unfoldable pub is_of_form : Form → List (List ℕ) → Bool
 is_of_form form words =
     list_all (is_word form) words && ((length (plain_words words) == length form.plain) &&

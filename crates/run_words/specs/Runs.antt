@@ -5,7 +5,8 @@ use Rattle.pdb_values.specs.PalmDates.{if_later, read_text}
 use Rattle.run_words.specs.Actions.{is_actions_text}
 use Rattle.run_words.specs.Forms.{Form, has_flag, is_of_form, plain_at, value_of}
 
--- the seconds of a date word, where these are the seconds of the date now: `now`, unless they are 0, or a date that is written
+-- the seconds of a date word, where these are the seconds of the date now: `now`, unless they are
+-- 0, or a date that is written
 abbrev pub date_at : Option ℕ → List ℕ → Option ℕ
 date_at now word = if bytes_eq word (codes "now") then if_later now else read_text word
 
@@ -13,8 +14,12 @@ date_at now word = if bytes_eq word (codes "now") then if_later now else read_te
 abbrev pub run_form : Form
 run_form = record {
   plain = codes "handheld" ∷ codes "desktop" ∷ [];
-  options = record { name = codes "date"; is_required = true } ∷ record { name = codes "script"; is_required = false }
-      ∷ record { name = codes "trace"; is_required = false } ∷ record { name = codes "actions"; is_required = false } ∷ [];
+  options = record { name = codes "date"; is_required = true } ∷ record {
+    name = codes "script";
+    is_required = false;
+  }
+      ∷ record { name = codes "trace"; is_required = false }
+      ∷ record { name = codes "actions"; is_required = false } ∷ [];
   flags = codes "slow" ∷ codes "add-user" ∷ [];
 }
 
@@ -49,7 +54,9 @@ date_of now words = option_and_then (date_at now) (value_of (codes "date") words
 -- the run that words of its form give, at the date now
 abbrev pub run_in : Option ℕ → List (List ℕ) → Option Run
 run_in now words =
-    option_and_then (λ handheld. option_and_then (λ desktop. option_map (run_between words handheld desktop) (date_of now words))
+    option_and_then
+    (λ handheld. option_and_then
+    (λ desktop. option_map (run_between words handheld desktop) (date_of now words))
     (plain_at 1 words)) (plain_at 0 words)
 
 -- the actions, where the words give any, are the text of some
@@ -58,4 +65,5 @@ are_actions_right words = option_map_or is_actions_text (value_of (codes "action
 
 -- the run that the words behind `run` ask for, in any order, at the date now
 unfoldable pub run_of : Option ℕ → List (List ℕ) → Option Run
-run_of now words = if is_of_form run_form words && are_actions_right words then run_in now words else None
+run_of now words =
+    if is_of_form run_form words && are_actions_right words then run_in now words else None

@@ -6,12 +6,15 @@ use Rattle.pdb_values.specs.Stems.{is_plain}
 
 -- the number of a digit of upper-case hexadecimal, and 16 for any other byte
 abbrev pub digit_number : ℕ → ℕ
-digit_number byte = if nat_le 48 byte && nat_le byte 57 then byte - 48 else (if nat_le 65 byte && nat_le byte 70 then byte - 55 else 16)
+digit_number byte =
+    if nat_le 48 byte && nat_le byte 57 then byte - 48
+    else (if nat_le 65 byte && nat_le byte 70 then byte - 55 else 16)
 
 -- the byte of two digits, where it is one that doesn't stand for itself
 abbrev pub escaped : ℕ → ℕ → Option ℕ
 escaped high low =
-    if nat_lt (digit_number high) 16 && nat_lt (digit_number low) 16 && not (is_plain (digit_number high * 16 + digit_number low))
+    if nat_lt (digit_number high) 16 && nat_lt (digit_number low) 16
+    && not (is_plain (digit_number high * 16 + digit_number low))
     then Some (digit_number high * 16 + digit_number low) else None
 
 -- a byte and those behind it
@@ -22,10 +25,12 @@ onto byte = option_map (λ more. byte ∷ more)
 unfoldable pub bytes_of_stem : List ℕ → Option (List ℕ)
 bytes_of_stem [] = Some []
 bytes_of_stem (first ∷ []) = if is_plain first then Some (first ∷ []) else None
-bytes_of_stem (first ∷ second ∷ []) = if is_plain first then onto first (bytes_of_stem (second ∷ [])) else None
+bytes_of_stem (first ∷ second ∷ []) =
+    if is_plain first then onto first (bytes_of_stem (second ∷ [])) else None
 bytes_of_stem (first ∷ second ∷ third ∷ rest) =
     if is_plain first then onto first (bytes_of_stem (second ∷ third ∷ rest))
-    else (if first == 37 then option_and_then (λ byte. onto byte (bytes_of_stem rest)) (escaped second third) else None)
+    else (if first == 37
+    then option_and_then (λ byte. onto byte (bytes_of_stem rest)) (escaped second third) else None)
 
 -- bytes that are a name
 abbrev pub as_name : List ℕ → Option (List ℕ)

@@ -5,7 +5,8 @@ use Rattle.dlp_commands.specs.declared.link.LinkFault.TheVariants as link
 use Rattle.desktop_session.specs.declared.fault.SessionFault.{SessionFault}
 use Rattle.desktop_session.specs.declared.fault.SessionFault.TheVariants as session
 
--- its link is down, or the link has no fault and a reply is an error or none that can be read, or memory is wanted: never for its user
+-- its link is down, or the link has no fault and a reply is an error or none that can be read, or
+-- memory is wanted: never for its user
 abbrev pub IsLater : Option LinkFault → SessionFault → Type 0
 IsLater fault session.Down = fault ≡ Some link.Down
 IsLater fault (session.Refused code) = fault ≡ None

@@ -18,11 +18,15 @@ nothing handle given = []
 abbrev pub within : Act → (ℕ → List ℕ → List Act) → ℕ → List ℕ → List Act
 within first acts handle given = first ∷ (acts handle given ++ closing handle ∷ [])
 
--- A session asked for these acts, in order, and for nothing else, where they name some handle, and its new records got some ids. With Ok
--- each was answered, and the answer says this of the handle and the ids; with a refusal a beginning of them went out. The handle is the
+-- A session asked for these acts, in order, and for nothing else, where they name some handle, and
+-- its new records got some ids. With Ok
+-- each was answered, and the answer says this of the handle and the ids; with a refusal a beginning
+-- of them went out. The handle is the
 -- first where nothing was open. The user is as before, and with Ok no open database was left.
-pub record Spans {L A : Type 0} (talk : L → Option Talk) (since : L → L → Type 0) (fault : L → Option LinkFault) (downs : L → ℕ)
-    (acts : ℕ → List ℕ → List Act) (says : ℕ → List ℕ → A → Type 0) (old new : SessionValue L) (answer : Result A SessionFault) : Type 0 where
+pub record Spans {L A : Type 0} (talk : L → Option Talk) (since : L → L → Type 0)
+    (fault : L → Option LinkFault) (downs : L → ℕ)
+    (acts : ℕ → List ℕ → List Act) (says : ℕ → List ℕ → A → Type 0) (old new : SessionValue L)
+    (answer : Result A SessionFault) : Type 0 where
   pub handle : ℕ
   pub given : List ℕ
   pub first : IsFirst (talk old.link) handle

@@ -25,13 +25,16 @@ is_sync Sync = true
 is_sync Handheld = false
 is_sync Desktop = false
 
--- a database is read fast where both sides agree, nothing slower is asked, its action looks at both, and all of it is there
+-- a database is read fast where both sides agree, nothing slower is asked, its action looks at
+-- both, and all of it is there
 abbrev pub is_fast_by : Bool → Bool → Action → Bool → Bool → Bool → Bool
-is_fast_by agree slow action handheld rows base = agree && (not slow && (is_sync action && (handheld && (rows && base))))
+is_fast_by agree slow action handheld rows base =
+    agree && (not slow && (is_sync action && (handheld && (rows && base))))
 
 unfoldable pub is_fast : Meeting → Task → Bool
 is_fast meeting task =
-    is_fast_by (agrees meeting) meeting.wishes.slow (action_or_sync task.action) (is_some task.handheld) (is_some task.rows) (is_some task.base)
+    is_fast_by (agrees meeting) meeting.wishes.slow (action_or_sync task.action)
+    (is_some task.handheld) (is_some task.rows) (is_some task.base)
 
 -- the base rows: none where the rows or the base rows are missing
 abbrev pub base_rows_by : Option DatabaseValue → Option DatabaseValue → List Record
@@ -43,9 +46,11 @@ base_rows task = base_rows_by task.rows task.base
 -- what is seen of the handheld's records
 unfoldable pub view : Meeting → Task → List Seen
 view meeting task =
-    if is_fast meeting task then fast_view (base_rows task) (records_of task.handheld) else slow_view (records_of task.handheld)
+    if is_fast meeting task then fast_view (base_rows task) (records_of task.handheld)
+    else slow_view (records_of task.handheld)
 
--- the database as its base, its view and its rows show it; gone rows count where the sides don't agree
+-- the database as its base, its view and its rows show it; gone rows count where the sides don't
+-- agree
 abbrev pub sides_by : List Seen → Option DatabaseValue → Option DatabaseValue → Bool → Sides
 sides_by view rows base agree = sides_of view (records_of rows) (base_rows_by rows base) (not agree)
 

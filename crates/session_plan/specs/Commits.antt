@@ -13,19 +13,29 @@ use Rattle.desk_store.specs.Views.{DeskValue, folder_in}
 use Rattle.desk_store.specs.declared.fault.CommitFault.{CommitFault}
 use Rattle.desk_store.specs.declared.fault.CommitFault.TheVariants.{DeskFault}
 
--- With Ok the desktop has these slots, its folder holds these files over all others, and stands for the slots. Whatever the answer, the folder
--- stands for what it stood for, or for all of the change. It is as it was, or with these files it is that of a desktop with these slots.
+-- With Ok the desktop has these slots, its folder holds these files over all others, and stands for
+-- the slots. Whatever the answer, the folder
+-- stands for what it stood for, or for all of the change. It is as it was, or with these files it
+-- is that of a desktop with these slots.
 -- From the first moment at which anything changed on, it stands for the change.
 -- The folder's failure is answered where its count rose.
-pub record Commits {F : Type 0} (contents : F → Option FileMap) (moments : F → Moments) (paths : F → Option (List (List ℕ))) (faults : F → ℕ)
-    (taken : List SlotValue) (entries : List EntryValue) (desk : DeskValue F) (answer : Result (DeskValue F) (CommitFault × F)) : Type 0 where
+pub record Commits {F : Type 0} (contents : F → Option FileMap) (moments : F → Moments)
+    (paths : F → Option (List (List ℕ))) (faults : F → ℕ)
+    (taken : List SlotValue) (entries : List EntryValue) (desk : DeskValue F)
+    (answer : Result (DeskValue F) (CommitFault × F)) : Type 0 where
   pub slots : IfOk answer (λ after. after.slots ≡ taken)
   pub picked : IfOk answer (λ after. after.picked ≡ desk.picked)
   pub stands : IfOk answer (λ after. IsDesk (contents after.folder) after.slots)
-  pub written : IfOk answer (λ after. contents after.folder ≡ option_map (put_all entries) (contents desk.folder))
+  pub written : IfOk answer
+      (λ after. contents after.folder ≡ option_map (put_all entries) (contents desk.folder))
   pub left : FinishesAs (contents desk.folder) (contents (folder_in answer))
-      ⊎ FinishesAs (option_map (put_all entries) (contents desk.folder)) (contents (folder_in answer))
-  pub made : (folder_in answer ≡ desk.folder) ⊎ IsDesk (option_map (put_all entries) (contents desk.folder)) taken
-  pub each_moment : EachMomentSince (FinishesAs (option_map (put_all entries) (contents desk.folder))) (moments desk.folder) (moments (folder_in answer))
-  pub cause : HasCause (faults desk.folder) (faults (folder_in answer)) (IsErrAnd answer (λ refusal. refusal.0 ≡ DeskFault))
+      ⊎ FinishesAs (option_map (put_all entries) (contents desk.folder))
+      (contents (folder_in answer))
+  pub made : (folder_in answer ≡ desk.folder)
+      ⊎ IsDesk (option_map (put_all entries) (contents desk.folder)) taken
+  pub each_moment : EachMomentSince
+      (FinishesAs (option_map (put_all entries) (contents desk.folder))) (moments desk.folder)
+      (moments (folder_in answer))
+  pub cause : HasCause (faults desk.folder) (faults (folder_in answer))
+      (IsErrAnd answer (λ refusal. refusal.0 ≡ DeskFault))
   pub same_paths : paths (folder_in answer) ≡ paths desk.folder

@@ -32,7 +32,8 @@ names_planned planned = map (λ (one : Planned). one.job.name) planned
 -- ---- rows and ids
 
 -- rows hold records under this name, and each new record of a plan got an id
-pub record TakesPlan (name : List ℕ) (plan : Plan) (given : List ℕ) (rows : DatabaseValue) : Type 0 where
+pub record TakesPlan (name : List ℕ) (plan : Plan) (given : List ℕ)
+    (rows : DatabaseValue) : Type 0 where
   pub records : holds_resources rows.head.attributes ≡ false
   pub named : rows.head.name ≡ name
   pub counted : length given ≡ length plan.adds.items
@@ -70,7 +71,8 @@ pub record IsSeat (slots : List SlotValue) (place user : ℕ) : Type 0 where
 
 -- the slot at a place takes what was planned, with these ids, and the marks that end a session with
 -- this user
-pub record CanTake (date : ℕ) (user : UserInfo) (planned : List Planned) (ids : List (List ℕ)) (place : ℕ)
+pub record CanTake (date : ℕ) (user : UserInfo) (planned : List Planned) (ids : List (List ℕ))
+    (place : ℕ)
     (slots : List SlotValue) : Type 0 where
   pub each : AreTakeable date (slot_at slots place).shelves planned ids
   pub rise : Rise (names_planned planned)

@@ -6,11 +6,13 @@ use Rattle.pdb_values.specs.declared.head.DbHead.{DbHead}
 abbrev pub plain_attributes : ℕ → ℕ
 plain_attributes attributes = bit_and attributes 0x7FFB
 
--- by it a database is made that the handheld lacks: the name, type, creator, version and attributes of the desktop's rows
+-- by it a database is made that the handheld lacks: the name, type, creator, version and attributes
+-- of the desktop's rows
 abbrev pub made_head : DbHead → DbHead
 made_head rows = record rows { attributes = plain_attributes rows.attributes }
 
--- new rows on the desktop have it: those of the handheld's database, made and changed at the session's date
+-- new rows on the desktop have it: those of the handheld's database, made and changed at the
+-- session's date
 abbrev pub rows_head : ℕ → DbHead → DbHead
 rows_head date handheld = record handheld {
   attributes = plain_attributes handheld.attributes;

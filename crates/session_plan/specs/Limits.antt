@@ -1,4 +1,5 @@
--- Whether a session would pass a limit of a side, and with which database first: it is refused before anything is written.
+-- Whether a session would pass a limit of a side, and with which database first: it is refused
+-- before anything is written.
 use Rattle.std.specs.Prelude.{ℕ, ◌+◌, List, [], ◌∷◌, length, if◌then◌else◌, is_none, Option, Some, None}
 use Rattle.conduit_rules.specs.ById.{each_id}
 use Rattle.conduit_rules.specs.States.{first}
@@ -12,10 +13,13 @@ use Rattle.session_plan.specs.Sizes.{is_over}
 use Rattle.session_plan.specs.declared.sizes.Sizes.{Sizes}
 use Rattle.session_plan.specs.Choosing.{choice, seen_held, add_count}
 
--- the records that the handheld gets beside those that it has: the adds, and what is kept under ids that no record has
+-- the records that the handheld gets beside those that it has: the adds, and what is kept under ids
+-- that no record has
 abbrev pub new_count : Meeting → Task → ℕ
 new_count meeting task =
-    add_count meeting task + length (each_id (λ i. new_under i (first i (records_of task.handheld)) ((choice meeting task).keep i)))
+    add_count meeting task
+    + length (each_id
+    (λ i. new_under i (first i (records_of task.handheld)) ((choice meeting task).keep i)))
 
 abbrev pub row_count : Meeting → Task → ℕ
 row_count meeting task = length (kept_rows (choice meeting task).keep) + add_count meeting task
@@ -23,8 +27,10 @@ row_count meeting task = length (kept_rows (choice meeting task).keep) + add_cou
 abbrev pub gone_count : Meeting → Task → ℕ
 gone_count meeting task = length (gone_rows (choice meeting task).keep (seen_held meeting task))
 
+-- how many entries its merged archive has
 abbrev pub archive_count : Meeting → Task → ℕ
-archive_count meeting task = length (merged_archive (choice meeting task) (entries_of (records_of task.archive)))
+archive_count meeting task =
+    length (merged_archive (choice meeting task) (entries_of (records_of task.archive)))
 
 -- how many databases a side has, with this one
 abbrev pub with_one : {A : Type 0} → Option A → ℕ → ℕ
@@ -50,4 +56,5 @@ first_behind meeting handhelds desktops (task ∷ later) =
 
 -- the first database that would pass a limit; the desktop's databases are those of all its slots
 unfoldable pub first_over : Meeting → Option (List ℕ)
-first_over meeting = first_behind meeting (length meeting.device.databases) (all_rows meeting.slots) (active meeting)
+first_over meeting =
+    first_behind meeting (length meeting.device.databases) (all_rows meeting.slots) (active meeting)

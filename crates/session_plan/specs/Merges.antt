@@ -1,4 +1,5 @@
--- What both sides hold after a session: the merge of each database that isn't skipped, and the marks.
+-- What both sides hold after a session: the merge of each database that isn't skipped, and the
+-- marks.
 use Rattle.std.specs.Prelude.{ℕ, List, [], ◌∷◌, take, drop, slice_set, Option, Some, None}
 use Rattle.pdb_values.specs.Databases.{DatabaseValue}
 use Rattle.pdb_values.specs.NamedDatabases.{with_put}
@@ -22,7 +23,8 @@ use Rattle.session_plan.specs.Archives.{archive_records, entries_of}
 
 -- a database that it lacked is new: CreateDB makes it
 abbrev pub new_database : DbHead → DatabaseValue
-new_database head = empty_database (new_head head.name head.kind.0 head.creator.0 head.attributes head.version)
+new_database head =
+    empty_database (new_head head.name head.kind.0 head.creator.0 head.attributes head.version)
 
 -- the database before: the handheld's, or a new one by the head of the desktop's rows
 abbrev pub handheld_before : Option DatabaseValue → Option DatabaseValue → Option DatabaseValue
@@ -31,17 +33,22 @@ handheld_before None (Some rows) = Some (new_database (made_head rows.head))
 handheld_before None None = None
 
 -- with its records merged
-abbrev pub put_merged : Meeting → Task → List ℕ → Option DatabaseValue → List DatabaseValue → List DatabaseValue
+abbrev pub put_merged : Meeting → Task → List ℕ → Option DatabaseValue → List DatabaseValue
+    → List DatabaseValue
 put_merged meeting task given None databases = databases
 put_merged meeting task given (Some before) databases =
-    with_put (with_records (merged_records (choice meeting task) (seen_held meeting task) given before.records) before) databases
+    with_put (with_records
+    (merged_records (choice meeting task)
+    (seen_held meeting task) given before.records) before) databases
 
 -- each database in its place, with the ids that its new records got
-unfoldable pub merged_databases : Meeting → List Task → List ℕ → List DatabaseValue → List DatabaseValue
+unfoldable pub merged_databases : Meeting → List Task → List ℕ → List DatabaseValue
+    → List DatabaseValue
 merged_databases meeting [] given databases = databases
 merged_databases meeting (task ∷ later) given databases =
     merged_databases meeting later (drop (add_count meeting task) given)
-    (put_merged meeting task (take (add_count meeting task) given) (handheld_before task.handheld task.rows) databases)
+    (put_merged meeting task (take (add_count meeting task) given)
+    (handheld_before task.handheld task.rows) databases)
 
 unfoldable pub merged_device : Meeting → List ℕ → Device
 merged_device meeting given = record {
@@ -77,7 +84,10 @@ abbrev pub merged_of : Meeting → Task → List ℕ → DatabaseValue → Merge
 merged_of meeting task given rows = record {
   rows = with_records (merged_rows (choice meeting task) given) rows;
   base = beside rows (merged_base (choice meeting task) (seen_held meeting task) given);
-  archive = archive_of rows (archive_records (merged_archive (choice meeting task) (entries_of (records_of task.archive))));
+  archive =
+      archive_of rows
+      (archive_records
+      (merged_archive (choice meeting task) (entries_of (records_of task.archive))));
 }
 
 abbrev pub put_archive : Option DatabaseValue → List DatabaseValue → List DatabaseValue
@@ -99,7 +109,8 @@ unfoldable pub merged_shelves : Meeting → List Task → List ℕ → ShelvesVa
 merged_shelves meeting [] given shelves = shelves
 merged_shelves meeting (task ∷ later) given shelves =
     merged_shelves meeting later (drop (add_count meeting task) given)
-    (shelve meeting task (take (add_count meeting task) given) (rows_before meeting.wishes.date task.rows task.handheld) shelves)
+    (shelve meeting task (take (add_count meeting task) given)
+    (rows_before meeting.wishes.date task.rows task.handheld) shelves)
 
 unfoldable pub merged_slot : Meeting → List ℕ → SlotValue
 merged_slot meeting given = record {
@@ -109,4 +120,5 @@ merged_slot meeting given = record {
 
 -- all slots: the picked one is merged, all others are as they were
 unfoldable pub merged_slots : Meeting → List ℕ → List SlotValue
-merged_slots meeting given = slice_set (with_place meeting.slots meeting.picked) meeting.picked (merged_slot meeting given)
+merged_slots meeting given =
+    slice_set (with_place meeting.slots meeting.picked) meeting.picked (merged_slot meeting given)

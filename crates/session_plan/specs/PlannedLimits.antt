@@ -34,7 +34,8 @@ one_unless there = if there then 0 else 1
 unfoldable pub unseen_count : List Seen → List (ℕ × ContentValue) → ℕ
 unseen_count view [] = 0
 unseen_count view (row ∷ rows) =
-    one_unless (begins_with row.0 (entries_from row.0 view)) + unseen_count (entries_from row.0 view) rows
+    one_unless (begins_with row.0 (entries_from row.0 view))
+    + unseen_count (entries_from row.0 view) rows
 
 -- ---- sizes
 
@@ -48,14 +49,18 @@ archived_under shelves one = entries_of (records_of (database_of one.job.name sh
 
 -- the entries of the archive once it gets the new ones
 abbrev pub archive_planned : ShelvesValue → Planned → ℕ
-archive_planned shelves one = length (one_copy_behind [] (archived_under shelves one ++ one.plan.archive.items))
+archive_planned shelves one =
+    length (one_copy_behind [] (archived_under shelves one ++ one.plan.archive.items))
 
--- those of a planned database, where the handheld and the desktop have so many with those that came before
+-- those of a planned database, where the handheld and the desktop have so many with those that came
+-- before
 abbrev pub sizes_planned : ShelvesValue → ℕ → ℕ → Planned → Sizes
 sizes_planned shelves handhelds desktops one = record {
   handhelds = if is_none one.job.handheld then handhelds + 1 else 0;
   desktops = if is_none one.job.rows then desktops + 1 else 0;
-  records = length one.view.seen.items + (length one.plan.adds.items + unseen_count one.view.seen.items one.plan.kept.items);
+  records =
+      length one.view.seen.items
+      + (length one.plan.adds.items + unseen_count one.view.seen.items one.plan.kept.items);
   rows = rows_planned one;
   base = rows_planned one + length one.plan.gone.items;
   archive = archive_planned shelves one;
@@ -67,7 +72,8 @@ over_planned shelves handhelds desktops [] = None
 over_planned shelves handhelds desktops (one ∷ later) =
     if is_some one.job.skip then over_planned shelves handhelds desktops later
     else (if is_over (sizes_planned shelves handhelds desktops one) then Some one.job.name
-    else over_planned shelves (with_one one.job.handheld handhelds) (with_one one.job.rows desktops) later)
+    else over_planned shelves (with_one one.job.handheld handhelds)
+    (with_one one.job.rows desktops) later)
 
 -- ---- how many there are
 

@@ -14,13 +14,17 @@ use Rattle.session_plan.specs.Tasks.{records_of}
 -- a plan leaves out the content of some live row of the desktop
 abbrev pub loses_planned : ShelvesValue → Planned → Bool
 loses_planned shelves one =
-    list_any (is_lost one.plan.kept.items one.plan.adds.items) (records_of (database_of one.job.name shelves.rows))
+    list_any (is_lost one.plan.kept.items one.plan.adds.items)
+    (records_of (database_of one.job.name shelves.rows))
 
 -- it does, and the database isn't skipped and goes by both sides
 abbrev pub is_loss_planned : ShelvesValue → Planned → Bool
-is_loss_planned shelves one = is_none one.job.skip && (is_sync (action_or_sync one.job.action) && loses_planned shelves one)
+is_loss_planned shelves one =
+    is_none one.job.skip && (is_sync (action_or_sync one.job.action) && loses_planned shelves one)
 
 -- the first of them, where the handheld is new to the slot
 unfoldable pub loss_planned : UserInfo → Marks → ShelvesValue → List Planned → Option (List ℕ)
 loss_planned handheld slot shelves planned =
-    if is_new_to handheld slot then option_map (λ (one : Planned). one.job.name) (find (is_loss_planned shelves) planned) else None
+    if is_new_to handheld slot
+    then option_map (λ (one : Planned). one.job.name) (find (is_loss_planned shelves) planned)
+    else None

@@ -17,7 +17,8 @@ told count = min count 4294967295
 
 -- the new entries of the archive, behind the old ones
 abbrev pub archived_planned : ShelvesValue → Planned → ℕ
-archived_planned shelves one = archive_planned shelves one - length (one_copy_behind [] (archived_under shelves one))
+archived_planned shelves one =
+    archive_planned shelves one - length (one_copy_behind [] (archived_under shelves one))
 
 -- how a planned database is synchronised, where the desktop has these databases before
 abbrev pub counts_planned : ShelvesValue → Planned → Counts
@@ -38,7 +39,10 @@ did_by_plan shelves one (Some skip) = Skipped skip
 
 -- what is done with a planned database, under its name
 abbrev pub report_planned : ShelvesValue → Planned → DbReport
-report_planned shelves one = record { name = one.job.name; did = did_by_plan shelves one one.job.skip }
+report_planned shelves one = record {
+  name = one.job.name;
+  did = did_by_plan shelves one one.job.skip;
+}
 
 -- with each of them
 unfoldable pub reports_planned : ShelvesValue → List Planned → List DbReport

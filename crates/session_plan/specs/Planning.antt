@@ -14,14 +14,18 @@ use Rattle.session_plan.specs.Choosing.{action_or_sync, sides_by}
 
 -- the database of a job, as it was seen and as the desktop has it
 abbrev pub sides_under : ShelvesValue → Bool → Job → List Seen → Sides
-sides_under shelves agree job seen = sides_by seen (database_of job.name shelves.rows) (database_of job.name shelves.bases) agree
+sides_under shelves agree job seen =
+    sides_by seen (database_of job.name shelves.rows) (database_of job.name shelves.bases) agree
 
 -- a plan is that of its action
 abbrev pub IsPlanUnder : ShelvesValue → Bool → Job → View → Plan → Type 0
-IsPlanUnder shelves agree job view plan = IsPlan (action_or_sync job.action) (sides_under shelves agree job view.seen.items) plan
+IsPlanUnder shelves agree job view plan =
+    IsPlan (action_or_sync job.action) (sides_under shelves agree job view.seen.items) plan
 
 -- each job has its view and its plan
-pub record ArePlanned (shelves : ShelvesValue) (agree : Bool) (jobs : List Job) (views : List View) (planned : List Planned) : Type 0 where
+pub record ArePlanned (shelves : ShelvesValue) (agree : Bool) (jobs : List Job) (views : List View)
+    (planned : List Planned) : Type 0 where
   pub jobs_are : map (λ (one : Planned). one.job) planned ≡ jobs
   pub views_are : map (λ (one : Planned). one.view) planned ≡ views
-  pub plans : AllByRecursion (λ (one : Planned). IsPlanUnder shelves agree one.job one.view one.plan) planned
+  pub plans : AllByRecursion
+      (λ (one : Planned). IsPlanUnder shelves agree one.job one.view one.plan) planned

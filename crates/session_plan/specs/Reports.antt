@@ -28,7 +28,8 @@ read_count view = length (filter (λ (seen : Seen). is_received seen.state) view
 
 -- the new entries of the archive, behind the old ones
 abbrev pub archived_count : Meeting → Task → ℕ
-archived_count meeting task = archive_count meeting task - length (one_copy_behind [] (entries_of (records_of task.archive)))
+archived_count meeting task =
+    archive_count meeting task - length (one_copy_behind [] (entries_of (records_of task.archive)))
 
 -- how many records both sides changed, each its own way
 abbrev pub twice_count : Meeting → Task → ℕ

@@ -19,7 +19,8 @@ row_entries plan given = plan.kept.items ++ numbered given plan.adds.items
 
 -- as live and clean records in rising ids; of those of one id the first
 abbrev pub planned_rows : Plan → List ℕ → List Record
-planned_rows plan given = map settled_record (each_id (λ i. with_id i (at i (row_entries plan given))))
+planned_rows plan given =
+    map settled_record (each_id (λ i. with_id i (at i (row_entries plan given))))
 
 -- the base rows: the rows, and then what is gone
 abbrev pub planned_base : Plan → List ℕ → List Record

@@ -25,17 +25,20 @@ one_passes test handheld rows = passes test handheld || passes test rows
 
 -- both sides have it and its type or creator differs
 abbrev pub differ : Option DbHead → Option DbHead → Bool
-differ (Some handheld) (Some rows) = not (bytes_eq handheld.kind.0 rows.kind.0 && bytes_eq handheld.creator.0 rows.creator.0)
+differ (Some handheld) (Some rows) =
+    not (bytes_eq handheld.kind.0 rows.kind.0 && bytes_eq handheld.creator.0 rows.creator.0)
 differ (Some handheld) None = false
 differ None rows = false
 
--- the handheld lacks what an earlier session left on both sides, or the side that the action goes by lacks it
+-- the handheld lacks what an earlier session left on both sides, or the side that the action goes
+-- by lacks it
 abbrev pub is_missing : Action → Option DbHead → Option DbHead → Bool → Bool
 is_missing Sync handheld rows has_base = is_none handheld && has_base
 is_missing Handheld handheld rows has_base = is_none handheld
 is_missing Desktop handheld rows has_base = is_none rows
 
--- the first reason of a database with an action, by the heads of the handheld's database and of the desktop's rows
+-- the first reason of a database with an action, by the heads of the handheld's database and of the
+-- desktop's rows
 abbrev pub reason : Action → Option DbHead → Option DbHead → Bool → Option Skip
 reason action handheld rows has_base =
     if one_passes holds_resources handheld rows then Some skip.Resource

@@ -26,7 +26,8 @@ use Rattle.session_parts.specs.declared.skip.Skip.{Skip}
 
 -- ---- one database
 
--- the rows that a merge changes: the desktop's, or new ones without blocks under the handheld's head
+-- the rows that a merge changes: the desktop's, or new ones without blocks under the handheld's
+-- head
 abbrev pub rows_begun : ℕ → Option DatabaseValue → Option DbHead → Option DatabaseValue
 rows_begun date (Some rows) handheld = Some rows
 rows_begun date None (Some head) = Some (empty_database (rows_head date head))
@@ -34,7 +35,8 @@ rows_begun date None None = None
 
 -- the archive once a plan's entries come to it
 abbrev pub planned_archive : Plan → List Record → List Record
-planned_archive plan old = archive_records (one_copy_behind [] (entries_of old ++ plan.archive.items))
+planned_archive plan old =
+    archive_records (one_copy_behind [] (entries_of old ++ plan.archive.items))
 
 -- the change of a database, whose new records got these ids
 abbrev pub planned_change : Plan → List ℕ → List Record → DatabaseValue → DbChange
@@ -71,19 +73,27 @@ each_of ids = map (λ (one : Vec ℕ). one.items) ids
 unfoldable pub changes_of : ℕ → ShelvesValue → List Planned → List (List ℕ) → List DbChange
 changes_of date shelves [] ids = []
 changes_of date shelves (one ∷ later) [] = []
-changes_of date shelves (one ∷ later) (given ∷ more) = change_of date shelves one given ++ changes_of date shelves later more
+changes_of date shelves (one ∷ later) (given ∷ more) =
+    change_of date shelves one given ++ changes_of date shelves later more
 
--- the slots of a desktop whose slot at this place gets these marks and these databases; behind the last one it is new
+-- the slots of a desktop whose slot at this place gets these marks and these databases; behind the
+-- last one it is new
 abbrev pub slots_with : Marks → List DbChange → ℕ → List SlotValue → List SlotValue
 slots_with marks changes place slots =
-    slice_set (with_place slots place) place (record { marks = marks; shelves = with_changes changes (slot_at slots place).shelves })
+    slice_set (with_place slots place) place
+    (record { marks = marks; shelves = with_changes changes (slot_at slots place).shelves })
 
--- the slots once the one at this place took what was planned, and the marks that end a session with this user
-unfoldable pub taken_slots : ℕ → UserInfo → List Planned → List (List ℕ) → ℕ → List SlotValue → List SlotValue
+-- the slots once the one at this place took what was planned, and the marks that end a session with
+-- this user
+unfoldable pub taken_slots : ℕ → UserInfo → List Planned → List (List ℕ) → ℕ → List SlotValue
+    → List SlotValue
 taken_slots date user planned ids place slots =
-    slots_with (done_marks date user (slot_at slots place).marks) (changes_of date (slot_at slots place).shelves planned ids) place slots
+    slots_with (done_marks date user (slot_at slots place).marks)
+    (changes_of date (slot_at slots place).shelves planned ids) place slots
 
 -- the files that this writes
-unfoldable pub taken_entries : ℕ → UserInfo → List Planned → List (List ℕ) → ℕ → List SlotValue → List EntryValue
+unfoldable pub taken_entries : ℕ → UserInfo → List Planned → List (List ℕ) → ℕ → List SlotValue
+    → List EntryValue
 taken_entries date user planned ids place slots =
-    slot_entries place (changes_of date (slot_at slots place).shelves planned ids) (marks_of (taken_slots date user planned ids place slots))
+    slot_entries place (changes_of date (slot_at slots place).shelves planned ids)
+    (marks_of (taken_slots date user planned ids place slots))

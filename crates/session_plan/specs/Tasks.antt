@@ -19,7 +19,8 @@ use Rattle.session_plan.specs.declared.wishes.Wishes.{Wishes}
 
 -- ---- both sides
 
--- both sides before a session, and what is asked of it: the handheld, the slots of the desktop, and the place of the picked one
+-- both sides before a session, and what is asked of it: the handheld, the slots of the desktop, and
+-- the place of the picked one
 pub record Meeting : Type 0 where
   pub device : Device
   pub slots : List SlotValue
@@ -28,11 +29,17 @@ pub record Meeting : Type 0 where
 
 -- the place of the slot that a handheld's user has
 abbrev pub place_for : Device → List SlotValue → Bool → ℕ
-place_for device slots add = place_of (length slots) (slot_for (users_of (marks_of slots)) device.user.user add)
+place_for device slots add =
+    place_of (length slots) (slot_for (users_of (marks_of slots)) device.user.user add)
 
 -- a handheld meets a desktop: the slot of its user is picked
 abbrev pub meeting_of : Device → List SlotValue → Wishes → Meeting
-meeting_of device slots wishes = record { device = device; slots = slots; picked = place_for device slots wishes.add_user; wishes = wishes }
+meeting_of device slots wishes = record {
+  device = device;
+  slots = slots;
+  picked = place_for device slots wishes.add_user;
+  wishes = wishes;
+}
 
 -- the picked slot
 abbrev pub slot_of : Meeting → SlotValue
@@ -54,13 +61,17 @@ with_names (name ∷ later) names = with_names later (with_name name names)
 abbrev pub names_of : List DatabaseValue → List (List ℕ)
 names_of databases = map (λ (database : DatabaseValue). database.head.name) databases
 
--- the names of a session: those of the handheld's databases and of the desktop's rows, in byte order
+-- the names of a session: those of the handheld's databases and of the desktop's rows, in byte
+-- order
 abbrev pub names : Meeting → List (List ℕ)
-names meeting = with_names (names_of (slot_of meeting).shelves.rows) (with_names (names_of meeting.device.databases) [])
+names meeting =
+    with_names (names_of (slot_of meeting).shelves.rows)
+    (with_names (names_of meeting.device.databases) [])
 
 -- ---- databases
 
--- one database: as the handheld has it, the desktop's rows, base rows and archive, and what is done with it, if anything
+-- one database: as the handheld has it, the desktop's rows, base rows and archive, and what is done
+-- with it, if anything
 pub record Task : Type 0 where
   pub name : List ℕ
   pub handheld : Option DatabaseValue

@@ -1,9 +1,11 @@
--- What both sides know of each other: the user that they agree on, and what each knows once a session is done.
+-- What both sides know of each other: the user that they agree on, and what each knows once a
+-- session is done.
 use Rattle.std.specs.Prelude.{ℕ, ◌==◌, ◌&&◌, not, Bool, List, if◌then◌else◌}
 use Rattle.pdb_values.specs.declared.user.Marks.{Marks}
 use Rattle.pdb_values.specs.declared.user.UserInfo.{UserInfo}
 
--- the slot's user is agreed on where the handheld has none and the slot has one; else the handheld's is
+-- the slot's user is agreed on where the handheld has none and the slot has one; else the
+-- handheld's is
 abbrev pub slots_user_stays : UserInfo → Marks → Bool
 slots_user_stays handheld slot = (handheld.user == 0) && not (slot.user == 0)
 
@@ -17,7 +19,8 @@ agreed_name handheld slot = if slots_user_stays handheld slot then slot.name els
 abbrev pub begun_user : UserInfo → UserInfo
 begun_user handheld = record handheld { pc = 0 }
 
--- what the handheld knows once it is done: the agreed user, this desktop, and the date as both of its dates
+-- what the handheld knows once it is done: the agreed user, this desktop, and the date as both of
+-- its dates
 abbrev pub done_user : ℕ → UserInfo → Marks → UserInfo
 done_user date handheld slot = record handheld {
   user = agreed_user handheld slot;

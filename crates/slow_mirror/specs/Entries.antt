@@ -16,7 +16,11 @@ abbrev pub seen_of : LentValue → Seen
 seen_of lent = record {
   id = lent.id;
   state = state_as (lent_kind lent.attributes);
-  content = record { category = lent.category; secret = has_bit 0x10 lent.attributes; bytes = lent.bytes };
+  content = record {
+    category = lent.category;
+    secret = has_bit 0x10 lent.attributes;
+    bytes = lent.bytes;
+  };
 }
 
 -- the entry of the record in a reply; a refusal has none

@@ -1,4 +1,5 @@
--- A plan, carried out on an open database: what both sides keep and the handheld lacks is put, and, once the desktop has committed,
+-- A plan, carried out on an open database: what both sides keep and the handheld lacks is put, and,
+-- once the desktop has committed,
 -- what goes is taken away.
 use Rattle.std.specs.Prelude.{◌≡◌, ◌<◌, ◌≤◌, ℕ, List, [], ◌∷◌, ◌++◌, length, map, Option, Some, IfErr, IfOk, IfSome, OnOk, Result}
 use Rattle.std.specs.List.{AllByRecursion}
@@ -22,7 +23,8 @@ use Rattle.slow_mirror.specs.Asks.{Asks}
 unfoldable pub puts : ℕ → List ℕ → List (ℕ × ContentValue) → List Act
 puts handle given [] = []
 puts handle [] (entry ∷ entries) = putting 0 handle entry.0 entry.1 ∷ puts handle [] entries
-puts handle (id ∷ given) (entry ∷ entries) = putting id handle entry.0 entry.1 ∷ puts handle given entries
+puts handle (id ∷ given) (entry ∷ entries) =
+    putting id handle entry.0 entry.1 ∷ puts handle given entries
 
 -- new records
 abbrev pub as_new : List ContentValue → List (ℕ × ContentValue)
@@ -34,7 +36,10 @@ news_of plan = plan.replace.items ++ as_new plan.adds.items
 
 -- ids and contents that records can have
 abbrev pub ArePuttable : List (ℕ × ContentValue) → Type 0
-ArePuttable entries = AllByRecursion (λ (entry : ℕ × ContentValue). (entry.0 ≤ 16777215) × (entry.1.category ≤ 15) × (length entry.1.bytes ≤ 65500)) entries
+ArePuttable entries =
+    AllByRecursion
+    (λ (entry : ℕ × ContentValue). (entry.0 ≤ 16777215) × (entry.1.category ≤ 15)
+    × (length entry.1.bytes ≤ 65500)) entries
 
 -- an id for each of them, and 0 for one that has its id
 abbrev pub AreIdsOf : List (ℕ × ContentValue) → List ℕ → Type 0
@@ -45,23 +50,29 @@ AreIdsOf (entry ∷ entries) (id ∷ given) = (0 < entry.0 → id ≡ 0) × AreI
 
 -- no record of the database has the id that a new one gets
 abbrev pub IsFreeFor : ℕ → ℕ → ℕ → Device → Type 0
-IsFreeFor handle id given device = IfSome (base_at device handle) (λ base. id ≡ 0 → IsFree given base.database.records)
+IsFreeFor handle id given device =
+    IfSome (base_at device handle) (λ base. id ≡ 0 → IsFree given base.database.records)
 
 -- each at its turn
 abbrev pub AreFreeFor : ℕ → List (ℕ × ContentValue) → List ℕ → Device → Type 0
 AreFreeFor handle [] given device = Unit {0}
 AreFreeFor handle (entry ∷ entries) [] device = Unit {0}
 AreFreeFor handle (entry ∷ entries) (id ∷ given) device =
-    IsFreeFor handle entry.0 id device × AreFreeFor handle entries given (acted (putting id handle entry.0 entry.1) device).1
+    IsFreeFor handle entry.0 id device
+    × AreFreeFor handle entries given (acted (putting id handle entry.0 entry.1) device).1
 
--- A session put these, in order, and nothing else; each new one got an id that was free at its turn, and the answer says this of the
+-- A session put these, in order, and nothing else; each new one got an id that was free at its
+-- turn, and the answer says this of the
 -- ids. It stopped where a reply to WriteRecord did not come or was a refusal.
-pub record PutsAll {L A : Type 0} (talk : L → Option Talk) (since : L → L → Type 0) (fault : L → Option LinkFault) (downs : L → ℕ) (handle : ℕ)
-    (entries : List (ℕ × ContentValue)) (says : List ℕ → A → Type 0) (old new : SessionValue L) (answer : Result A SessionFault) : Type 0 where
+pub record PutsAll {L A : Type 0} (talk : L → Option Talk) (since : L → L → Type 0)
+    (fault : L → Option LinkFault) (downs : L → ℕ) (handle : ℕ)
+    (entries : List (ℕ × ContentValue)) (says : List ℕ → A → Type 0) (old new : SessionValue L)
+    (answer : Result A SessionFault) : Type 0 where
   pub given : List ℕ
   pub asks : Asks talk since fault downs (puts handle given entries) old new answer
   pub ids : OnOk answer (AreIdsOf entries given)
-  pub free : OnOk answer (IfSome (talk old.link) (λ talk. AreFreeFor handle entries given talk.device))
+  pub free : OnOk answer
+      (IfSome (talk old.link) (λ talk. AreFreeFor handle entries given talk.device))
   pub said : IfOk answer (says given)
   pub cause : IfErr answer (HasCause (fault new.link) (reply_at 0x21 new.reply))
 
@@ -75,7 +86,8 @@ purge_writes handle ids = map (removing handle) ids ++ cleaning handle ∷ reset
 abbrev pub after_puts : List ℕ → List (ℕ × ContentValue) → List Record → List Record
 after_puts given [] records = records
 after_puts [] (entry ∷ entries) records = records
-after_puts (id ∷ given) (entry ∷ entries) records = after_puts given entries (put_record (given_id id entry.0) entry.1 records)
+after_puts (id ∷ given) (entry ∷ entries) records =
+    after_puts given entries (put_record (given_id id entry.0) entry.1 records)
 
 -- the records without those of these ids
 abbrev pub removed : List ℕ → List Record → List Record
@@ -88,4 +100,7 @@ after_purges ids records = reset_flags (cleaned_up (removed ids records))
 
 -- the handle leads to the database that it led to, with these records
 abbrev pub IsOpenWith : ℕ → Base → List Record → Device → Type 0
-IsOpenWith handle base records device = base_at device handle ≡ Some (record { opened = base.opened; database = with_records records base.database })
+IsOpenWith handle base records device = base_at device handle ≡ Some (record {
+  opened = base.opened;
+  database = with_records records base.database;
+})

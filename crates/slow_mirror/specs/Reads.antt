@@ -37,7 +37,9 @@ entries_of (Some talk) handle = entries_told talk.device handle
 -- the entries of the records that the device lends at so many indexes
 unfoldable pub seen_below : Device → ℕ → ℕ → List Seen
 seen_below device handle zero = []
-seen_below device handle (suc count) = seen_below device handle count ++ seen_in (reply_at 0x20 (acted (reading_at handle count) device).0)
+seen_below device handle (suc count) =
+    seen_below device handle count
+    ++ seen_in (reply_at 0x20 (acted (reading_at handle count) device).0)
 
 -- what a whole reading shows of the device's records
 abbrev pub slow_shown : Device → ℕ → List Seen

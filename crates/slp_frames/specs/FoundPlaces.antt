@@ -8,7 +8,9 @@ use Rattle.slp_frames.specs.declared.place.Place.TheVariants.{Whole, Open, Dead}
 
 -- what stands at the front, with the size of a packet's body
 abbrev pub IsPlace : List ℕ → Place → Type 0
-IsPlace bytes (Whole size) = (place_of bytes ≡ scan.Whole (packet_at bytes)) × (size ≡ (fields_at bytes).size) × (text_len size ≤ length bytes)
+IsPlace bytes (Whole size) =
+    (place_of bytes ≡ scan.Whole (packet_at bytes)) × (size ≡ (fields_at bytes).size)
+    × (text_len size ≤ length bytes)
 IsPlace bytes Open = place_of bytes ≡ scan.Open
 IsPlace bytes Dead = place_of bytes ≡ scan.Dead
 

@@ -1,4 +1,5 @@
--- The numbers of a packet, as pilot-link's pi-slp.h has them. That a body has at most 1,028 bytes is this reader's own rule: it
+-- The numbers of a packet, as pilot-link's pi-slp.h has them. That a body has at most 1,028 bytes
+-- is this reader's own rule: it
 -- is as long as the longest fragment.
 use Rattle.std.specs.Prelude.{ℕ, List, [], ◌∷◌}
 

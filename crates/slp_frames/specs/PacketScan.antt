@@ -1,4 +1,5 @@
--- The packets of a stream of bytes as a function, for equations: the law `scan_is_by_places` says that they are those of `IsScan`.
+-- The packets of a stream of bytes as a function, for equations: the law `scan_is_by_places` says
+-- that they are those of `IsScan`.
 use Rattle.std.specs.Prelude.{ℕ, zero, suc, ◌-◌, Bool, ◌&&◌, List, [], ◌∷◌, length, take, drop, slice_index, nat_lt, nat_le, nat_eq, if◌then◌else◌}
 use Rattle.std.specs.List.{starts_with}
 use Rattle.byteorder.specs.Endian.{big_number}
@@ -18,7 +19,13 @@ fields_at bytes = record {
 -- the packet with this header whose text the bytes begin with, if one stands there
 abbrev pub packet_behind : HeaderValue → List ℕ → PacketValue
 packet_behind header bytes =
-    record { dest = header.dest; source = header.source; kind = header.kind; id = header.id; body = take header.size (drop header_len bytes) }
+    record {
+      dest = header.dest;
+      source = header.source;
+      kind = header.kind;
+      id = header.id;
+      body = take header.size (drop header_len bytes);
+    }
 
 abbrev pub packet_at : List ℕ → PacketValue
 packet_at bytes = packet_behind (fields_at bytes) bytes
@@ -26,12 +33,14 @@ packet_at bytes = packet_behind (fields_at bytes) bytes
 -- a packet's text stands at the front: the one that these fields and this body make
 unfoldable pub has_packet : List ℕ → Bool
 has_packet bytes =
-    nat_le (fields_at bytes).size max_body && starts_with nat_eq bytes (packet_text (packet_at bytes))
+    nat_le (fields_at bytes).size max_body
+    && starts_with nat_eq bytes (packet_text (packet_at bytes))
 
 -- a packet's header stands at the front: the one that these fields make
 unfoldable pub has_header : List ℕ → Bool
 has_header bytes =
-    nat_le (fields_at bytes).size max_body && starts_with nat_eq bytes (header_text (fields_at bytes))
+    nat_le (fields_at bytes).size max_body
+    && starts_with nat_eq bytes (header_text (fields_at bytes))
 
 -- the bytes may become a packet's text by further ones, as far as its header tells
 unfoldable pub is_open : List ℕ → Bool
@@ -46,9 +55,11 @@ pub data Place : Type 0 where
   Dead : Place
 
 unfoldable pub place_of : List ℕ → Place
-place_of bytes = if has_packet bytes then Whole (packet_at bytes) else (if is_open bytes then Open else Dead)
+place_of bytes =
+    if has_packet bytes then Whole (packet_at bytes) else (if is_open bytes then Open else Dead)
 
--- what stands at a place, and the packets behind it: `behind count` are those that begin behind so many bytes more
+-- what stands at a place, and the packets behind it: `behind count` are those that begin behind so
+-- many bytes more
 abbrev pub with_later : Place → (ℕ → List PacketValue) → List PacketValue
 with_later (Whole packet) behind = packet ∷ behind (text_len (length packet.body) - 1)
 with_later Open behind = []
@@ -58,7 +69,8 @@ with_later Dead behind = behind 0
 abbrev pub scan_behind : ℕ → List ℕ → List PacketValue
 scan_behind count [] = []
 scan_behind (suc count) (byte ∷ bytes) = scan_behind count bytes
-scan_behind zero (byte ∷ bytes) = with_later (place_of (byte ∷ bytes)) (λ count. scan_behind count bytes)
+scan_behind zero (byte ∷ bytes) =
+    with_later (place_of (byte ∷ bytes)) (λ count. scan_behind count bytes)
 
 -- the packets that these bytes hold, in order
 abbrev pub scan : List ℕ → List PacketValue

@@ -22,7 +22,13 @@ pub record PacketValue : Type 0 where
 
 -- the header that a packet has
 abbrev pub header_of : PacketValue → HeaderValue
-header_of packet = record { dest = packet.dest; source = packet.source; kind = packet.kind; size = length packet.body; id = packet.id }
+header_of packet = record {
+  dest = packet.dest;
+  source = packet.source;
+  kind = packet.kind;
+  size = length packet.body;
+  id = packet.id;
+}
 
 -- bytes, and the sum of them modulo 256
 abbrev pub with_sum : List ℕ → List ℕ
@@ -35,7 +41,8 @@ with_crc bytes = bytes ++ big_bytes crc_len (crc_of bytes)
 -- the ten bytes of a header: BE EF ED, the fields in their order, and the sum of these nine bytes
 unfoldable pub header_text : HeaderValue → List ℕ
 header_text header =
-    with_sum (sync_bytes ++ header.dest ∷ header.source ∷ header.kind ∷ (big_bytes 2 header.size ++ header.id ∷ []))
+    with_sum (sync_bytes
+    ++ header.dest ∷ header.source ∷ header.kind ∷ (big_bytes 2 header.size ++ header.id ∷ []))
 
 -- the bytes of a packet: its header, its body, and the CRC of both
 unfoldable pub packet_text : PacketValue → List ℕ

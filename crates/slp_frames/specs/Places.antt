@@ -1,5 +1,7 @@
--- Which packets a stream of bytes holds, by places. Sockets, header and CRC are those of pilot-link; that a body has at most
--- 1,028 bytes and that the next place is tried after a bad header or CRC is this protocol reader's own rule.
+-- Which packets a stream of bytes holds, by places. Sockets, header and CRC are those of
+-- pilot-link; that a body has at most
+-- 1,028 bytes and that the next place is tried after a bad header or CRC is this protocol reader's
+-- own rule.
 use Rattle.std.specs.Prelude.{◌≡◌, ℕ, ◌+◌, ◌<◌, ◌≤◌, List, [], ◌∷◌, ◌++◌, length, take, drop, ◌⊎◌}
 use Rattle.slp_frames.specs.PacketText.{HeaderValue, header_text, PacketValue, packet_text, HasText, text_len}
 use Rattle.slp_frames.specs.Numbers.{sync_bytes, header_len, max_body}
@@ -28,7 +30,8 @@ pub record IsPacketFront (bytes : List ℕ) : Type 0 where
 abbrev pub IsOpen : List ℕ → Type 0
 IsOpen bytes = IsHeaderFront bytes ⊎ IsPacketFront bytes
 
--- Bytes are dead where they begin with no packet's text and aren't open: no further bytes change that.
+-- Bytes are dead where they begin with no packet's text and aren't open: no further bytes change
+-- that.
 pub record IsDead (bytes : List ℕ) : Type 0 where
   pub no_packet : (packet : PacketValue) → ¬ Begins packet bytes
   pub not_open : ¬ IsOpen bytes
@@ -44,11 +47,13 @@ pub record IsNext (bytes : List ℕ) (from : ℕ) (found : Located) : Type 0 whe
   pub text : Begins found.packet (drop found.place bytes)
   pub dead : (place : ℕ) → from ≤ place → place < found.place → IsDead (drop place bytes)
 
--- all packets from the place `from` on: each is the next after the end of the one before it, and after the last there is none
+-- all packets from the place `from` on: each is the next after the end of the one before it, and
+-- after the last there is none
 abbrev pub IsScanFrom : List ℕ → ℕ → List Located → Type 0
 IsScanFrom bytes from [] = (found : Located) → ¬ IsNext bytes from found
 IsScanFrom bytes from (found ∷ later) =
-    IsNext bytes from found × IsScanFrom bytes (found.place + text_len (length found.packet.body)) later
+    IsNext bytes from found
+    × IsScanFrom bytes (found.place + text_len (length found.packet.body)) later
 
 -- the packets that these bytes hold, with their places
 abbrev pub IsScan : List ℕ → List Located → Type 0

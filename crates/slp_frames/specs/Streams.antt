@@ -15,7 +15,8 @@ pub record Gains (taken : List ℕ) (first now : List PacketValue) (held : List 
 pub record GainsFront (taken : List ℕ) (first now : List PacketValue) : Type 0 where
   pub handed : List PacketValue
   pub is : now ≡ first ++ handed
-  pub front : (more : List ℕ) → (later : List PacketValue) × (scan (taken ++ more) ≡ handed ++ later)
+  pub front : (more : List ℕ)
+      → (later : List PacketValue) × (scan (taken ++ more) ≡ handed ++ later)
 
 -- no packet is held, and there is room
 pub record IsDrained (held : List ℕ) : Type 0 where

@@ -1,4 +1,5 @@
--- How a session went over any link, call by call: each record tells what one call answered, and how it went on then.
+-- How a session went over any link, call by call: each record tells what one call answered, and how
+-- it went on then.
 use Rattle.std.specs.Prelude.{◌≡◌, ◌⊎◌, ℕ, Bool, List, [], ◌∷◌, length, map, Option, IfOk, Result, Ok, Err}
 use Rattle.std.specs.Global.{Vec}
 use Rattle.std.specs.Result.{IsErrAnd}
@@ -69,61 +70,87 @@ abbrev pub last_acts : ℕ → UserInfo → Marks → List Act
 last_acts date user slot = marking (done_user date user slot) 0xF0 ∷ ending ∷ []
 
 -- the databases were purged, and both sides told the end, as far as it went
-pub record Closes {L F : Type 0} (talk : L → Option Talk) (since : L → L → Type 0) (fault : L → Option LinkFault) (downs : L → ℕ)
-    (date : ℕ) (slot : Marks) (prepared : Prepared) (old : SessionValue L) (folder : F) (left : Outcome L F) : Type 0 where
+pub record Closes {L F : Type 0} (talk : L → Option Talk) (since : L → L → Type 0)
+    (fault : L → Option LinkFault) (downs : L → ℕ)
+    (date : ℕ) (slot : Marks) (prepared : Prepared) (old : SessionValue L) (folder : F)
+    (left : Outcome L F) : Type 0 where
   pub answer : Result (Ended L) (Halted L)
-  pub ends : Ends talk since fault downs prepared.planned.items (last_acts date old.user slot) old answer
+  pub ends : Ends talk since fault downs prepared.planned.items
+      (last_acts date old.user slot) old answer
   pub is : left ≡ closed folder prepared.reports answer
 
 -- the desktop has committed, or it didn't
-abbrev pub AfterCommit : {L F : Type 0} → (L → Option Talk) → (L → L → Type 0) → (L → Option LinkFault) → (L → ℕ) → ℕ → Marks → Prepared → SessionValue L
+abbrev pub AfterCommit : {L F : Type 0} → (L → Option Talk) → (L → L → Type 0)
+    → (L → Option LinkFault) → (L → ℕ) → ℕ → Marks → Prepared → SessionValue L
     → Result (DeskValue F) (CommitFault × F) → Outcome L F → Type 0
-AfterCommit talk since fault downs date slot prepared old (Ok desk) left = Closes talk since fault downs date slot prepared old desk.folder left
-AfterCommit talk since fault downs date slot prepared old (Err refusal) left = left ≡ stopped old.link refusal.1 (stop_of refusal.0)
+AfterCommit talk since fault downs date slot prepared old (Ok desk) left =
+    Closes talk since fault downs date slot prepared old desk.folder left
+AfterCommit talk since fault downs date slot prepared old (Err refusal) left =
+    left ≡ stopped old.link refusal.1 (stop_of refusal.0)
 
 -- the desktop was to commit, where the handheld's new records got these ids
-pub record Carries {L F : Type 0} (talk : L → Option Talk) (since : L → L → Type 0) (fault : L → Option LinkFault) (downs : L → ℕ)
-    (contents : F → Option FileMap) (moments : F → Moments) (paths : F → Option (List (List ℕ))) (faults : F → ℕ)
-    (date : ℕ) (prepared : Prepared) (ids : List (List ℕ)) (old : SessionValue L) (desk : DeskValue F) (left : Outcome L F) : Type 0 where
+pub record Carries {L F : Type 0} (talk : L → Option Talk) (since : L → L → Type 0)
+    (fault : L → Option LinkFault) (downs : L → ℕ)
+    (contents : F → Option FileMap) (moments : F → Moments) (paths : F → Option (List (List ℕ)))
+    (faults : F → ℕ)
+    (date : ℕ) (prepared : Prepared) (ids : List (List ℕ)) (old : SessionValue L)
+    (desk : DeskValue F) (left : Outcome L F) : Type 0 where
   pub answer : Result (DeskValue F) (CommitFault × F)
-  pub commits : Commits contents moments paths faults (taken_slots date old.user prepared.planned.items ids desk.picked desk.slots)
+  pub commits : Commits contents moments paths faults
+      (taken_slots date old.user prepared.planned.items ids desk.picked desk.slots)
       (taken_entries date old.user prepared.planned.items ids desk.picked desk.slots) desk answer
   pub goes : AfterCommit talk since fault downs date (marks_in desk) prepared old answer left
 
 -- ---- the news
 
 -- the handheld has its news, or not all of it
-abbrev pub AfterNews : {L F : Type 0} → (L → Option Talk) → (L → L → Type 0) → (L → Option LinkFault) → (L → ℕ) → (F → Option FileMap) → (F → Moments) →
+abbrev pub AfterNews : {L F : Type 0} → (L → Option Talk) → (L → L → Type 0)
+    → (L → Option LinkFault) → (L → ℕ) → (F → Option FileMap) → (F → Moments) →
     (F → Option (List (List ℕ))) → (F → ℕ) → ℕ → Prepared
     → SessionValue L → DeskValue F → Result (Vec (Vec ℕ)) SessionFault → Outcome L F → Type 0
-AfterNews talk since fault downs contents moments paths faults date prepared now desk (Ok ids) left =
-    Carries talk since fault downs contents moments paths faults date prepared (each_of ids.items) now desk left
-AfterNews talk since fault downs contents moments paths faults date prepared now desk (Err cause) left =
+AfterNews talk since fault downs contents moments paths faults date prepared now desk
+    (Ok ids) left =
+    Carries talk since fault downs contents moments paths faults date prepared
+    (each_of ids.items) now desk left
+AfterNews talk since fault downs contents moments paths faults date prepared now desk
+    (Err cause) left =
     left ≡ stopped now.link desk.folder (stop.Session cause)
 
 -- the handheld was to get its news
-pub record Writes {L F : Type 0} (talk : L → Option Talk) (since : L → L → Type 0) (fault : L → Option LinkFault) (downs : L → ℕ)
-    (contents : F → Option FileMap) (moments : F → Moments) (paths : F → Option (List (List ℕ))) (faults : F → ℕ)
-    (date : ℕ) (prepared : Prepared) (old : SessionValue L) (desk : DeskValue F) (left : Outcome L F) : Type 0 where
+pub record Writes {L F : Type 0} (talk : L → Option Talk) (since : L → L → Type 0)
+    (fault : L → Option LinkFault) (downs : L → ℕ)
+    (contents : F → Option FileMap) (moments : F → Moments) (paths : F → Option (List (List ℕ)))
+    (faults : F → ℕ)
+    (date : ℕ) (prepared : Prepared) (old : SessionValue L) (desk : DeskValue F)
+    (left : Outcome L F) : Type 0 where
   pub now : SessionValue L
   pub answer : Result (Vec (Vec ℕ)) SessionFault
   pub sends : SpansBehind talk since fault downs (marking (begun_user old.user) 0x40) news_under
-      (λ told one handle given (ids : Vec ℕ). gained told one handle given ids.items) prepared.planned.items (λ (made : Vec (Vec ℕ)). made.items) old now answer
-  pub goes : AfterNews talk since fault downs contents moments paths faults date prepared now desk answer left
+      (λ told one handle given
+      (ids : Vec ℕ). gained told one handle given ids.items) prepared.planned.items
+      (λ (made : Vec (Vec ℕ)). made.items) old now answer
+  pub goes : AfterNews talk since fault downs contents moments paths faults
+      date prepared now desk answer left
 
 -- ---- what precedes each write
 
 -- the databases of a session, as the handheld listed their heads and the desktop has them
 abbrev pub jobs_met : {F : Type 0} → List DbHead → Wishes → DeskValue F → UserInfo → List Job
-jobs_met heads wishes desk user = jobs_of heads (shelves_in desk) (agreed user (marks_in desk)) wishes
+jobs_met heads wishes desk user =
+    jobs_of heads (shelves_in desk) (agreed user (marks_in desk)) wishes
 
 -- they were to be read, and planned
-pub record ReadsAll {L F : Type 0} (talk : L → Option Talk) (since : L → L → Type 0) (fault : L → Option LinkFault) (downs : L → ℕ)
-    (heads : List DbHead) (wishes : Wishes) (desk : DeskValue F) (old new : SessionValue L) (answer : Result (Vec Planned) SessionFault) : Type 0 where
+pub record ReadsAll {L F : Type 0} (talk : L → Option Talk) (since : L → L → Type 0)
+    (fault : L → Option LinkFault) (downs : L → ℕ)
+    (heads : List DbHead) (wishes : Wishes) (desk : DeskValue F) (old new : SessionValue L)
+    (answer : Result (Vec Planned) SessionFault) : Type 0 where
   pub reads : SpansEach talk since fault downs (reads_under (shelves_in desk))
-      (λ told job handle given (view : View). shown_under (shelves_in desk) told job handle given view.seen.items) (jobs_met heads wishes desk old.user)
+      (λ told job handle given (view : View). shown_under
+      (shelves_in desk) told job handle given view.seen.items) (jobs_met heads wishes desk old.user)
       (λ (planned : Vec Planned). map (λ (one : Planned). one.view) planned.items) old new answer
-  pub plans : IfOk answer (λ planned. ArePlanned (shelves_in desk) (agreed old.user (marks_in desk)) (jobs_met heads wishes desk old.user)
+  pub plans : IfOk answer
+      (λ planned. ArePlanned (shelves_in desk) (agreed old.user (marks_in desk))
+      (jobs_met heads wishes desk old.user)
       (map (λ (one : Planned). one.view) planned.items) planned.items)
 
 -- the reports of what was prepared
@@ -132,57 +159,75 @@ reported (Ok prepared) = Ok prepared.reports
 reported (Err cause) = Err cause
 
 -- the limits were looked at, and what a new handheld would cost, or not all was read
-abbrev pub AfterReading : {F : Type 0} → List DbHead → DeskValue F → UserInfo → Result (Vec Planned) SessionFault → Result Prepared Stop → Type 0
+abbrev pub AfterReading : {F : Type 0} → List DbHead → DeskValue F → UserInfo
+    → Result (Vec Planned) SessionFault → Result Prepared Stop → Type 0
 AfterReading heads desk user (Ok planned) answer =
     Judges (limit_planned (shelves_in desk) (length heads) (all_rows desk.slots) planned.items)
-    (loss_planned user (marks_in desk) (shelves_in desk) planned.items) (reports_planned (shelves_in desk) planned.items) (reported answer)
+    (loss_planned user (marks_in desk) (shelves_in desk) planned.items)
+    (reports_planned (shelves_in desk) planned.items) (reported answer)
     × IfOk answer (λ prepared. prepared.planned ≡ planned)
 AfterReading heads desk user (Err cause) answer = answer ≡ Err (stop.Session cause)
 
 -- what precedes each write was to be done
-pub record Prepares {L F : Type 0} (talk : L → Option Talk) (since : L → L → Type 0) (fault : L → Option LinkFault) (downs : L → ℕ)
-    (heads : List DbHead) (wishes : Wishes) (desk : DeskValue F) (old new : SessionValue L) (answer : Result Prepared Stop) : Type 0 where
+pub record Prepares {L F : Type 0} (talk : L → Option Talk) (since : L → L → Type 0)
+    (fault : L → Option LinkFault) (downs : L → ℕ)
+    (heads : List DbHead) (wishes : Wishes) (desk : DeskValue F) (old new : SessionValue L)
+    (answer : Result Prepared Stop) : Type 0 where
   pub reading : Result (Vec Planned) SessionFault
   pub reads : ReadsAll talk since fault downs heads wishes desk old new reading
   pub goes : AfterReading heads desk new.user reading answer
 
 -- it was done, or not all of it
-abbrev pub AfterPreparing : {L F : Type 0} → (L → Option Talk) → (L → L → Type 0) → (L → Option LinkFault) → (L → ℕ) → (F → Option FileMap) → (F → Moments) →
+abbrev pub AfterPreparing : {L F : Type 0} → (L → Option Talk) → (L → L → Type 0)
+    → (L → Option LinkFault) → (L → ℕ) → (F → Option FileMap) → (F → Moments) →
     (F → Option (List (List ℕ))) → (F → ℕ) → ℕ
     → SessionValue L → DeskValue F → Result Prepared Stop → Outcome L F → Type 0
-AfterPreparing talk since fault downs contents moments paths faults date now desk (Ok prepared) left =
+AfterPreparing talk since fault downs contents moments paths faults date now desk
+    (Ok prepared) left =
     Writes talk since fault downs contents moments paths faults date prepared now desk left
-AfterPreparing talk since fault downs contents moments paths faults date now desk (Err cause) left = left ≡ stopped now.link desk.folder cause
+AfterPreparing talk since fault downs contents moments paths faults date now desk (Err cause) left =
+    left ≡ stopped now.link desk.folder cause
 
 -- ---- the whole
 
 -- the slot of a user is picked
 abbrev pub picked_for : {F : Type 0} → List ℕ → ℕ → Bool → DeskValue F → DeskValue F
-picked_for users user add desk = record desk { picked = place_of (length desk.slots) (slot_for users user add) }
+picked_for users user add desk =
+    record desk { picked = place_of (length desk.slots) (slot_for users user add) }
 
 -- both sides have met
-pub record GoesOn {L F : Type 0} (talk : L → Option Talk) (since : L → L → Type 0) (fault : L → Option LinkFault) (downs : L → ℕ)
-    (contents : F → Option FileMap) (moments : F → Moments) (paths : F → Option (List (List ℕ))) (faults : F → ℕ)
-    (users : List ℕ) (wishes : Wishes) (met : Met L) (desk : DeskValue F) (left : Outcome L F) : Type 0 where
+pub record GoesOn {L F : Type 0} (talk : L → Option Talk) (since : L → L → Type 0)
+    (fault : L → Option LinkFault) (downs : L → ℕ)
+    (contents : F → Option FileMap) (moments : F → Moments) (paths : F → Option (List (List ℕ)))
+    (faults : F → ℕ)
+    (users : List ℕ) (wishes : Wishes) (met : Met L) (desk : DeskValue F)
+    (left : Outcome L F) : Type 0 where
   pub now : SessionValue L
   pub answer : Result Prepared Stop
-  pub prepares : Prepares talk since fault downs met.heads.items wishes (picked_for users met.linked.user.user wishes.add_user desk) met.linked now answer
+  pub prepares : Prepares talk since fault downs met.heads.items wishes
+      (picked_for users met.linked.user.user wishes.add_user desk) met.linked now answer
   pub goes : AfterPreparing talk since fault downs contents moments paths faults wishes.date now
       (picked_for users met.linked.user.user wishes.add_user desk) answer left
 
 -- both sides have met, or they have not
-abbrev pub AfterMeeting : {L F : Type 0} → (L → Option Talk) → (L → L → Type 0) → (L → Option LinkFault) → (L → ℕ) → (F → Option FileMap) → (F → Moments) →
+abbrev pub AfterMeeting : {L F : Type 0} → (L → Option Talk) → (L → L → Type 0)
+    → (L → Option LinkFault) → (L → ℕ) → (F → Option FileMap) → (F → Moments) →
     (F → Option (List (List ℕ))) → (F → ℕ) → List ℕ → Wishes
     → DeskValue F → Result (Met L) (Halted L) → Outcome L F → Type 0
 AfterMeeting talk since fault downs contents moments paths faults users wishes desk (Ok met)
     left = GoesOn talk since fault downs contents moments paths faults users wishes met desk left
-AfterMeeting talk since fault downs contents moments paths faults users wishes desk (Err halted) left =
+AfterMeeting talk since fault downs contents moments paths faults users wishes desk
+    (Err halted) left =
     left ≡ stopped halted.link desk.folder (stop.Session halted.cause)
 
 -- a session from its beginning
-pub record Runs {L F : Type 0} (talk : L → Option Talk) (since : L → L → Type 0) (fault : L → Option LinkFault) (downs : L → ℕ)
-    (contents : F → Option FileMap) (moments : F → Moments) (paths : F → Option (List (List ℕ))) (faults : F → ℕ)
+pub record Runs {L F : Type 0} (talk : L → Option Talk) (since : L → L → Type 0)
+    (fault : L → Option LinkFault) (downs : L → ℕ)
+    (contents : F → Option FileMap) (moments : F → Moments) (paths : F → Option (List (List ℕ)))
+    (faults : F → ℕ)
     (wishes : Wishes) (old : L) (desk : DeskValue F) (left : Outcome L F) : Type 0 where
   pub answer : Result (Met L) (Halted L)
-  pub meets : MeetsOrNot talk since fault downs (users_of (marks_of desk.slots)) wishes.add_user old answer
-  pub goes : AfterMeeting talk since fault downs contents moments paths faults (users_of (marks_of desk.slots)) wishes desk answer left
+  pub meets : MeetsOrNot talk since fault downs
+      (users_of (marks_of desk.slots)) wishes.add_user old answer
+  pub goes : AfterMeeting talk since fault downs contents moments paths faults
+      (users_of (marks_of desk.slots)) wishes desk answer left

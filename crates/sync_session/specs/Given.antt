@@ -13,4 +13,5 @@ AreDealtTo meeting [] [] = Unit {0}
 AreDealtTo meeting [] (given ∷ more) = ⊥
 AreDealtTo meeting (task ∷ later) [] = ⊥
 AreDealtTo meeting (task ∷ later) (given ∷ more) =
-    (length given ≡ (if is_none (skip_of task) then add_count meeting task else 0)) × AreDealtTo meeting later more
+    (length given ≡ (if is_none (skip_of task) then add_count meeting task else 0))
+    × AreDealtTo meeting later more

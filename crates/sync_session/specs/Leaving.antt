@@ -26,15 +26,21 @@ pub record IsDatabaseFile (place : ℕ) (file : List ℕ) : Type 0 where
 abbrev pub IsSlotsFile : ℕ → List ℕ → Type 0
 IsSlotsFile place file = (file ≡ desktop_info_file) ⊎ IsDatabaseFile place file
 
--- With these files put over the others, all of one slot or the information file, the folder has what an ended session leaves. One that
--- stopped left it standing for what it stood for, or for that. At each moment since it stood for that. Its failure is told exactly where its count rose.
-pub record LeavesFolder {L F : Type 0} (contents : F → Option FileMap) (moments : F → Moments) (paths : F → Option (List (List ℕ))) (faults : F → ℕ)
+-- With these files put over the others, all of one slot or the information file, the folder has
+-- what an ended session leaves. One that
+-- stopped left it standing for what it stood for, or for that. At each moment since it stood for
+-- that. Its failure is told exactly where its count rose.
+pub record LeavesFolder {L F : Type 0} (contents : F → Option FileMap) (moments : F → Moments)
+    (paths : F → Option (List (List ℕ))) (faults : F → ℕ)
     (folder : F) (left : Outcome L F) : Type 0 where
   pub entries : List EntryValue
   pub place : ℕ
   pub files : AllByRecursion (λ (entry : EntryValue). IsSlotsFile place entry.name) entries
-  pub written : OnOk left.end (contents left.folder ≡ option_map (put_all entries) (contents folder))
-  pub stands : FinishesAs (contents folder) (contents left.folder) ⊎ FinishesAs (option_map (put_all entries) (contents folder)) (contents left.folder)
-  pub each_moment : EachMomentSince (FinishesAs (option_map (put_all entries) (contents folder))) (moments folder) (moments left.folder)
+  pub written : OnOk left.end
+      (contents left.folder ≡ option_map (put_all entries) (contents folder))
+  pub stands : FinishesAs (contents folder) (contents left.folder)
+      ⊎ FinishesAs (option_map (put_all entries) (contents folder)) (contents left.folder)
+  pub each_moment : EachMomentSince (FinishesAs (option_map (put_all entries) (contents folder)))
+      (moments folder) (moments left.folder)
   pub cause : HasCause (faults folder) (faults left.folder) (IsErrOf left.end stop.DeskFault)
   pub same_paths : paths left.folder ≡ paths folder

@@ -1,4 +1,5 @@
--- What a handheld gets, and what it loses then: under handle 1, since one database is open at a time.
+-- What a handheld gets, and what it loses then: under handle 1, since one database is open at a
+-- time.
 use Rattle.std.specs.Prelude.{ℕ, List, [], ◌∷◌, ◌++◌, length, replicate, take, drop, Option, Some, None}
 use Rattle.pdb_values.specs.Contents.{ContentValue}
 use Rattle.pdb_values.specs.Databases.{DatabaseValue}
@@ -18,9 +19,11 @@ replaced meeting task = replaced_rows (choice meeting task).keep (seen_held meet
 
 abbrev pub writes : Meeting → Task → List ℕ → List Act
 writes meeting task given =
-    puts 1 (replicate (length (replaced meeting task)) 0 ++ given) (replaced meeting task ++ as_new (choice meeting task).adds)
+    puts 1 (replicate (length (replaced meeting task)) 0 ++ given)
+    (replaced meeting task ++ as_new (choice meeting task).adds)
 
--- a database that the handheld lacks is made by the head of the desktop's rows, also where nothing is to be written
+-- a database that the handheld lacks is made by the head of the desktop's rows, also where nothing
+-- is to be written
 abbrev pub made : Option DatabaseValue → List Act → List Act
 made None acts = []
 made (Some rows) acts = making (made_head rows.head) ∷ (acts ++ closing 1 ∷ [])
@@ -41,9 +44,13 @@ news_acts meeting task given = news_by task.handheld task (writes meeting task g
 unfoldable pub all_news : Meeting → List Task → List ℕ → List Act
 all_news meeting [] given = []
 all_news meeting (task ∷ later) given =
-    news_acts meeting task (take (add_count meeting task) given) ++ all_news meeting later (drop (add_count meeting task) given)
+    news_acts meeting task (take (add_count meeting task) given)
+    ++ all_news meeting later (drop (add_count meeting task) given)
 
--- ---- purges: what isn't kept goes one by one, then what has the delete bit, and all counts as unchanged
+-- ---- purges: what isn't kept goes one by one, then what has the delete bit, and all counts as
+-- unchanged
 
 unfoldable pub purge_acts : Meeting → Task → List Act
-purge_acts meeting task = opened task.name (purge_writes 1 (purged_ids (choice meeting task).keep (seen_held meeting task)))
+purge_acts meeting task =
+    opened task.name
+    (purge_writes 1 (purged_ids (choice meeting task).keep (seen_held meeting task)))

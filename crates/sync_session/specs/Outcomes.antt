@@ -42,7 +42,8 @@ use Rattle.session_plan.specs.Tasks.{Meeting, names, task_of}
 
 -- ---- the desktop's folder
 
--- it stands for these slots: once a journal that was not finished is finished, it is the folder of a desktop with them
+-- it stands for these slots: once a journal that was not finished is finished, it is the folder of
+-- a desktop with them
 abbrev pub StandsForSlots : List SlotValue → Option FileMap → Type 0
 StandsForSlots slots told = IsDesk (option_map finished told) slots
 
@@ -59,7 +60,12 @@ pub record Tellings : Type 0 where
 
 abbrev pub tellings : {F : Type 0} → (F → Option FileMap) → (F → Moments) → F → F → Tellings
 tellings contents moments before after =
-    record { before = contents before; after = contents after; moments_before = moments before; moments_after = moments after }
+    record {
+      before = contents before;
+      after = contents after;
+      moments_before = moments before;
+      moments_after = moments after;
+    }
 
 -- the file of a database that the session doesn't skip, in the picked slot
 pub record IsTaskFile (meeting : Meeting) (file : List ℕ) : Type 0 where
@@ -73,20 +79,28 @@ pub record IsTaskFile (meeting : Meeting) (file : List ℕ) : Type 0 where
 abbrev pub IsCommitFile : Meeting → List ℕ → Type 0
 IsCommitFile meeting file = (file ≡ desktop_info_file) ⊎ IsTaskFile meeting file
 
--- The folder was changed by one commit at most. Where the session ended it has these files over those that it had; where it stopped it
+-- The folder was changed by one commit at most. Where the session ended it has these files over
+-- those that it had; where it stopped it
 -- stands for what it stood for, or for that, and so it did at each moment that passed.
-pub record ChangesDesk (meeting : Meeting) (folder : Tellings) (answer : Result (Vec DbReport) Stop) : Type 0 where
+pub record ChangesDesk (meeting : Meeting) (folder : Tellings)
+    (answer : Result (Vec DbReport) Stop) : Type 0 where
   pub entries : List EntryValue
   pub files : AllByRecursion (λ (entry : EntryValue). IsCommitFile meeting entry.name) entries
   pub written : OnOk answer (folder.after ≡ option_map (put_all entries) folder.before)
-  pub stands : FinishesAs folder.before folder.after ⊎ FinishesAs (option_map (put_all entries) folder.before) folder.after
-  pub each_moment : EachMomentSince (FinishesAs (option_map (put_all entries) folder.before)) folder.moments_before folder.moments_after
+  pub stands : FinishesAs folder.before folder.after
+      ⊎ FinishesAs (option_map (put_all entries) folder.before) folder.after
+  pub each_moment : EachMomentSince
+      (FinishesAs
+      (option_map (put_all entries) folder.before)) folder.moments_before folder.moments_after
 
 -- ---- a session that ended
 
--- All of the session's requests went out and were answered, and each new record got an id that was free at its turn. The folder is that
--- of a desktop with the merge under these ids, without a journal, and what was done with each database is told in order.
-pub record IsEnded {L : Type 0} (talk : L → Option Talk) (meeting : Meeting) (old new : L) (folder : Tellings) (reports : List DbReport) : Type 0 where
+-- All of the session's requests went out and were answered, and each new record got an id that was
+-- free at its turn. The folder is that
+-- of a desktop with the merge under these ids, without a journal, and what was done with each
+-- database is told in order.
+pub record IsEnded {L : Type 0} (talk : L → Option Talk) (meeting : Meeting) (old new : L)
+    (folder : Tellings) (reports : List DbReport) : Type 0 where
   pub given : List ℕ
   pub count : length given ≡ adds_of meeting
   pub free : GetFreeIds (session meeting given) meeting.device
@@ -101,16 +115,20 @@ pub record IsEnded {L : Type 0} (talk : L → Option Talk) (meeting : Meeting) (
 abbrev pub requests_before_commit : Meeting → List (List ℕ)
 requests_before_commit meeting = map text (before_commit meeting (replicate (adds_of meeting) 0))
 
--- The folder stands for what it stood for, and no more went out than a beginning of what precedes the commit.
-pub record IsUncommitted {L : Type 0} (talk : L → Option Talk) (since : L → L → Type 0) (fault : L → Option LinkFault) (downs : L → ℕ)
+-- The folder stands for what it stood for, and no more went out than a beginning of what precedes
+-- the commit.
+pub record IsUncommitted {L : Type 0} (talk : L → Option Talk) (since : L → L → Type 0)
+    (fault : L → Option LinkFault) (downs : L → ℕ)
     (meeting : Meeting) (old new : L) (folder : Tellings) : Type 0 where
   pub given : List ℕ
   pub stops : Stops talk since fault downs (requests_before_commit meeting) old new
   pub stands : FinishesAs folder.before folder.after
   pub moments : MergedSince meeting given folder.moments_before folder.moments_after
 
--- All that precedes the commit was answered, the folder stands for the merge, and no more went out then than a beginning of what follows.
-pub record IsCommitted {L : Type 0} (talk : L → Option Talk) (since : L → L → Type 0) (fault : L → Option LinkFault) (downs : L → ℕ)
+-- All that precedes the commit was answered, the folder stands for the merge, and no more went out
+-- then than a beginning of what follows.
+pub record IsCommitted {L : Type 0} (talk : L → Option Talk) (since : L → L → Type 0)
+    (fault : L → Option LinkFault) (downs : L → ℕ)
     (meeting : Meeting) (old new : L) (folder : Tellings) : Type 0 where
   pub given : List ℕ
   pub between : L
@@ -126,7 +144,8 @@ pub record IsCommitted {L : Type 0} (talk : L → Option Talk) (since : L → L 
 
 -- the slot for the handheld's user
 abbrev pub slot_in : Meeting → Slot
-slot_in meeting = slot_for (users_of (marks_of meeting.slots)) meeting.device.user.user meeting.wishes.add_user
+slot_in meeting =
+    slot_for (users_of (marks_of meeting.slots)) meeting.device.user.user meeting.wishes.add_user
 
 -- both sides have a user, and no slot has the handheld's
 pub record IsOtherUser (meeting : Meeting) (handheld desktop : ℕ) : Type 0 where
@@ -136,54 +155,68 @@ pub record IsOtherUser (meeting : Meeting) (handheld desktop : ℕ) : Type 0 whe
 
 -- the handheld's user, where it has a slot, and else why a session stops
 abbrev pub seat_of : Meeting → Result UserInfo SessionFault
-seat_of meeting = user_with (users_of (marks_of meeting.slots)) meeting.device.user (slot_in meeting)
+seat_of meeting =
+    user_with (users_of (marks_of meeting.slots)) meeting.device.user (slot_in meeting)
 
 -- this database would pass a limit first, and all is read and nothing written
-pub record IsLimit {L : Type 0} (talk : L → Option Talk) (meeting : Meeting) (old new : L) (name : List ℕ) : Type 0 where
+pub record IsLimit {L : Type 0} (talk : L → Option Talk) (meeting : Meeting) (old new : L)
+    (name : List ℕ) : Type 0 where
   pub first : first_over meeting ≡ Some name
   pub does : Does talk (before_writes meeting) old new
 
--- no limit would be passed, the handheld never ended a session, the slot of its user did, and this database would lose live rows of the
+-- no limit would be passed, the handheld never ended a session, the slot of its user did, and this
+-- database would lose live rows of the
 -- desktop first; all is read and nothing written
-pub record IsNewHandheld {L : Type 0} (talk : L → Option Talk) (meeting : Meeting) (old new : L) (name : List ℕ) : Type 0 where
+pub record IsNewHandheld {L : Type 0} (talk : L → Option Talk) (meeting : Meeting) (old new : L)
+    (name : List ℕ) : Type 0 where
   pub within : first_over meeting ≡ None
   pub first : first_loss meeting ≡ Some name
   pub does : Does talk (before_writes meeting) old new
 
--- all that precedes the commit was answered, each new record got an id that was free at its turn, and no more went out
-pub record IsAtCommit {L : Type 0} (talk : L → Option Talk) (meeting : Meeting) (old new : L) : Type 0 where
+-- all that precedes the commit was answered, each new record got an id that was free at its turn,
+-- and no more went out
+pub record IsAtCommit {L : Type 0} (talk : L → Option Talk) (meeting : Meeting)
+    (old new : L) : Type 0 where
   pub given : List ℕ
   pub count : length given ≡ adds_of meeting
   pub free : GetFreeIds (before_commit meeting given) meeting.device
   pub does : Does talk (before_commit meeting given) old new
 
--- The cause of a stop. A reply is refused only where the link has no fault; for its user a session stops where nothing else was asked for;
--- the folder tells its own failure by its count, and it fails at the commit alone; want of memory is free.
-abbrev pub IsStopOf : {L : Type 0} → (L → Option Talk) → (L → Option LinkFault) → Meeting → L → L → Stop → Type 0
+-- The cause of a stop. A reply is refused only where the link has no fault; for its user a session
+-- stops where nothing else was asked for;
+-- the folder tells its own failure by its count, and it fails at the commit alone; want of memory
+-- is free.
+abbrev pub IsStopOf : {L : Type 0} → (L → Option Talk) → (L → Option LinkFault) → Meeting → L → L
+    → Stop → Type 0
 IsStopOf talk fault meeting old new (stop.Session session.Down) = fault new ≡ Some Down
 IsStopOf talk fault meeting old new (stop.Session (session.Refused code)) = fault new ≡ None
 IsStopOf talk fault meeting old new (stop.Session (session.BadReply broken)) = fault new ≡ None
 IsStopOf talk fault meeting old new (stop.Session (session.OtherUser handheld desktop)) =
     IsOtherUser meeting handheld desktop × Does talk (reading_user ∷ []) old new
-IsStopOf talk fault meeting old new (stop.Session session.TooManyUsers) = (slot_in meeting ≡ Full) × Does talk (reading_user ∷ []) old new
+IsStopOf talk fault meeting old new (stop.Session session.TooManyUsers) =
+    (slot_in meeting ≡ Full) × Does talk (reading_user ∷ []) old new
 IsStopOf talk fault meeting old new (stop.Session session.NoMemory) = Unit {0}
 IsStopOf talk fault meeting old new (stop.Limit name) = IsLimit talk meeting old new name
-IsStopOf talk fault meeting old new (stop.NewHandheld name) = IsNewHandheld talk meeting old new name
+IsStopOf talk fault meeting old new (stop.NewHandheld name) =
+    IsNewHandheld talk meeting old new name
 IsStopOf talk fault meeting old new stop.DeskFault = IsAtCommit talk meeting old new
 
 -- it stopped for this, unless its link is down or memory was wanted
 abbrev pub StopsFor : Stop → Result (Vec DbReport) Stop → Type 0
 StopsFor why (Ok reports) = ⊥
-StopsFor why (Err cause) = (cause ≡ why) ⊎ ((cause ≡ stop.Session session.Down) ⊎ (cause ≡ stop.Session session.NoMemory))
+StopsFor why (Err cause) =
+    (cause ≡ why) ⊎ ((cause ≡ stop.Session session.Down) ⊎ (cause ≡ stop.Session session.NoMemory))
 
--- it stopped for a limit that this database would pass, unless what it said or memory stopped it before
+-- it stopped for a limit that this database would pass, unless what it said or memory stopped it
+-- before
 abbrev pub StopsAtLimit : List ℕ → Result (Vec DbReport) Stop → Type 0
 StopsAtLimit name (Ok reports) = ⊥
 StopsAtLimit name (Err (stop.Session cause)) = Unit {0}
 StopsAtLimit name (Err (stop.Limit other)) = other ≡ name
 StopsAtLimit name (Err other) = ⊥
 
--- it stopped for a new handheld, by which this database would lose live rows, unless what it said or memory stopped it before
+-- it stopped for a new handheld, by which this database would lose live rows, unless what it said
+-- or memory stopped it before
 abbrev pub StopsAtLoss : List ℕ → Result (Vec DbReport) Stop → Type 0
 StopsAtLoss name (Ok reports) = ⊥
 StopsAtLoss name (Err (stop.Session cause)) = Unit {0}
@@ -192,18 +225,28 @@ StopsAtLoss name (Err other) = ⊥
 
 -- ---- both
 
--- A session of these two sides ended, or it stopped: before the desktop's commit or behind it, and by its cause. Where the handheld's user
--- has no slot, nothing but the user is asked for, and it stops for that; where a limit would be passed, nothing is written, and it stops for
+-- A session of these two sides ended, or it stopped: before the desktop's commit or behind it, and
+-- by its cause. Where the handheld's user
+-- has no slot, nothing but the user is asked for, and it stops for that; where a limit would be
+-- passed, nothing is written, and it stops for
 -- that or before; and else where a new handheld would cost the desktop live rows.
-pub record SessionEnds {L : Type 0} (talk : L → Option Talk) (since : L → L → Type 0) (fault : L → Option LinkFault) (downs : L → ℕ)
-    (meeting : Meeting) (old new : L) (folder : Tellings) (answer : Result (Vec DbReport) Stop) : Type 0 where
+pub record SessionEnds {L : Type 0} (talk : L → Option Talk) (since : L → L → Type 0)
+    (fault : L → Option LinkFault) (downs : L → ℕ)
+    (meeting : Meeting) (old new : L) (folder : Tellings)
+    (answer : Result (Vec DbReport) Stop) : Type 0 where
   pub ended : IfOk answer (λ reports. IsEnded talk meeting old new folder reports.items)
-  pub stopped : OnErr answer (IsUncommitted talk since fault downs meeting old new folder ⊎ IsCommitted talk since fault downs meeting old new folder)
+  pub stopped : OnErr answer
+      (IsUncommitted talk since fault downs meeting old new folder
+      ⊎ IsCommitted talk since fault downs meeting old new folder)
   pub cause : IfErr answer (IsStopOf talk fault meeting old new)
   pub changed : ChangesDesk meeting folder answer
   pub unseated : (why : SessionFault) → seat_of meeting ≡ Err why
-      → Stops talk since fault downs (text reading_user ∷ []) old new × StopsFor (stop.Session why) answer
-  pub over : IsSome (first_over meeting) → Stops talk since fault downs (map text (before_writes meeting)) old new
+      → Stops talk since fault downs (text reading_user ∷ []) old new
+      × StopsFor (stop.Session why) answer
+  pub over : IsSome (first_over meeting)
+      → Stops talk since fault downs (map text (before_writes meeting)) old new
   pub limit : (name : List ℕ) → first_over meeting ≡ Some name → StopsAtLimit name answer
-  pub losing : IsSome (first_loss meeting) → Stops talk since fault downs (map text (before_writes meeting)) old new
-  pub loss : (name : List ℕ) → first_over meeting ≡ None → first_loss meeting ≡ Some name → StopsAtLoss name answer
+  pub losing : IsSome (first_loss meeting)
+      → Stops talk since fault downs (map text (before_writes meeting)) old new
+  pub loss : (name : List ℕ) → first_over meeting ≡ None → first_loss meeting ≡ Some name
+      → StopsAtLoss name answer

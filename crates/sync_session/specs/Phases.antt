@@ -17,22 +17,26 @@ use Rattle.session_parts.specs.Spans.{nothing, within}
 -- what a database that the handheld has gets: it is opened where there is something
 abbrev pub opened_news : List ℕ → List (ℕ × ContentValue) → ℕ → List ℕ → List Act
 opened_news name [] = nothing
-opened_news name (entry ∷ entries) = within (opening name) (λ handle given. puts handle given (entry ∷ entries))
+opened_news name (entry ∷ entries) =
+    within (opening name) (λ handle given. puts handle given (entry ∷ entries))
 
 -- one that it lacks is made, also where there is nothing
 abbrev pub made_news : Option DbHead → List (ℕ × ContentValue) → ℕ → List ℕ → List Act
 made_news None entries = nothing
-made_news (Some rows) entries = within (making (made_head rows)) (λ handle given. puts handle given entries)
+made_news (Some rows) entries =
+    within (making (made_head rows)) (λ handle given. puts handle given entries)
 
 -- one that is skipped gets nothing
-abbrev pub news_by : Option Skip → Option DbHead → Option DbHead → List ℕ → List (ℕ × ContentValue) → ℕ → List ℕ → List Act
+abbrev pub news_by : Option Skip → Option DbHead → Option DbHead → List ℕ → List (ℕ × ContentValue)
+    → ℕ → List ℕ → List Act
 news_by (Some skip) handheld rows name entries = nothing
 news_by None None rows name entries = made_news rows entries
 news_by None (Some handheld) rows name entries = opened_news name entries
 
 -- what a database gets before the desktop commits
 unfoldable pub news_under : Option Talk → Planned → ℕ → List ℕ → List Act
-news_under told one = news_by one.job.skip one.job.handheld one.job.rows one.job.name (news_of one.plan)
+news_under told one =
+    news_by one.job.skip one.job.handheld one.job.rows one.job.name (news_of one.plan)
 
 -- what it loses then, unless it is skipped
 abbrev pub purges_by : Option Skip → List ℕ → List ℕ → ℕ → List ℕ → List Act
@@ -42,12 +46,17 @@ purges_by None name ids = within (opening name) (λ handle given. purge_writes h
 unfoldable pub purges_under : Option Talk → Planned → ℕ → List ℕ → List Act
 purges_under told one = purges_by one.job.skip one.job.name one.plan.purge.items
 
--- the ids that its new records got, once it was opened or made; none where the handheld doesn't get it
-abbrev pub gained_by : Option Skip → Option DbHead → Option DbHead → List ℕ → Plan → Option Talk → ℕ → List ℕ → List ℕ → Type 0
+-- the ids that its new records got, once it was opened or made; none where the handheld doesn't get
+-- it
+abbrev pub gained_by : Option Skip → Option DbHead → Option DbHead → List ℕ → Plan → Option Talk
+    → ℕ → List ℕ → List ℕ → Type 0
 gained_by (Some skip) handheld rows name plan told handle given ids = ids ≡ []
-gained_by None (Some handheld) rows name plan told handle given ids = AreGained (saying (opening name ∷ []) told) plan handle given ids
-gained_by None None (Some rows) name plan told handle given ids = AreGained (saying (making (made_head rows) ∷ []) told) plan handle given ids
+gained_by None (Some handheld) rows name plan told handle given ids =
+    AreGained (saying (opening name ∷ []) told) plan handle given ids
+gained_by None None (Some rows) name plan told handle given ids =
+    AreGained (saying (making (made_head rows) ∷ []) told) plan handle given ids
 gained_by None None None name plan told handle given ids = ids ≡ []
 
 unfoldable pub gained : Option Talk → Planned → ℕ → List ℕ → List ℕ → Type 0
-gained told one handle given ids = gained_by one.job.skip one.job.handheld one.job.rows one.job.name one.plan told handle given ids
+gained told one handle given ids =
+    gained_by one.job.skip one.job.handheld one.job.rows one.job.name one.plan told handle given ids

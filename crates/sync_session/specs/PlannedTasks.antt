@@ -19,9 +19,11 @@ listed_head database = option_map (λ (database : DatabaseValue). listed databas
 -- a database of a meeting, as it is before it is read
 abbrev pub job_for : Meeting → Task → Job
 job_for meeting task =
-    job_by task.name (listed_head task.handheld) (head_of task.rows) (is_some task.base) task.action (agrees meeting) meeting.wishes.slow
+    job_by task.name (listed_head task.handheld) (head_of task.rows)
+    (is_some task.base) task.action (agrees meeting) meeting.wishes.slow
 
--- it is that of the meeting, and where it isn't skipped it was seen as it is, and what is planned is the plan of its action
+-- it is that of the meeting, and where it isn't skipped it was seen as it is, and what is planned
+-- is the plan of its action
 pub record IsPlannedFor (meeting : Meeting) (task : Task) (one : Planned) : Type 0 where
   pub job : one.job ≡ job_for meeting task
   pub seen : skip_of task ≡ None → one.view.seen.items ≡ view meeting task
@@ -32,7 +34,8 @@ abbrev pub AreEachPlannedFor : Meeting → List Task → List Planned → Type 0
 AreEachPlannedFor meeting [] [] = Unit {0}
 AreEachPlannedFor meeting [] (one ∷ planned) = ⊥
 AreEachPlannedFor meeting (task ∷ later) [] = ⊥
-AreEachPlannedFor meeting (task ∷ later) (one ∷ planned) = IsPlannedFor meeting task one × AreEachPlannedFor meeting later planned
+AreEachPlannedFor meeting (task ∷ later) (one ∷ planned) =
+    IsPlannedFor meeting task one × AreEachPlannedFor meeting later planned
 
 -- these are the databases of a meeting, all of them
 abbrev pub ArePlannedFor : Meeting → List Planned → Type 0

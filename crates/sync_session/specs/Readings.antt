@@ -22,24 +22,32 @@ reads_by true base told handle given = fast_reads_of base handle told
 reads_by false base told handle given = slow_reads handle (entries_of told handle)
 
 -- what is skipped or what the handheld lacks is not opened
-abbrev pub opened_reads : Option Skip → Option DbHead → Bool → List ℕ → List Record → Option Talk → ℕ → List ℕ → List Act
+abbrev pub opened_reads : Option Skip → Option DbHead → Bool → List ℕ → List Record → Option Talk
+    → ℕ → List ℕ → List Act
 opened_reads (Some skip) handheld fast name base told = nothing
 opened_reads None None fast name base told = nothing
-opened_reads None (Some handheld) fast name base told = within (opening name) (reads_by fast base (saying (opening name ∷ []) told))
+opened_reads None (Some handheld) fast name base told =
+    within (opening name) (reads_by fast base (saying (opening name ∷ []) told))
 
 unfoldable pub reads_under : ShelvesValue → Option Talk → Job → ℕ → List ℕ → List Act
-reads_under shelves told job = opened_reads job.skip job.handheld job.fast job.name (records_of (database_of job.name shelves.bases)) told
+reads_under shelves told job =
+    opened_reads job.skip job.handheld job.fast job.name
+    (records_of (database_of job.name shelves.bases)) told
 
 -- what is seen then, where a device is told
 abbrev pub shown_by : Bool → List Record → Option Talk → ℕ → List Seen → Type 0
-shown_by true base told handle seen = IfSome told (λ talk. seen ≡ fast_shown base handle talk.device)
+shown_by true base told handle seen =
+    IfSome told (λ talk. seen ≡ fast_shown base handle talk.device)
 shown_by false base told handle seen = IfSome told (λ talk. seen ≡ slow_shown talk.device handle)
 
-abbrev pub opened_shown : Option Skip → Option DbHead → Bool → List ℕ → List Record → Option Talk → ℕ → List Seen → Type 0
+abbrev pub opened_shown : Option Skip → Option DbHead → Bool → List ℕ → List Record → Option Talk
+    → ℕ → List Seen → Type 0
 opened_shown (Some skip) handheld fast name base told handle seen = seen ≡ []
 opened_shown None None fast name base told handle seen = seen ≡ []
-opened_shown None (Some handheld) fast name base told handle seen = shown_by fast base (saying (opening name ∷ []) told) handle seen
+opened_shown None (Some handheld) fast name base told handle seen =
+    shown_by fast base (saying (opening name ∷ []) told) handle seen
 
 unfoldable pub shown_under : ShelvesValue → Option Talk → Job → ℕ → List ℕ → List Seen → Type 0
 shown_under shelves told job handle given seen =
-    opened_shown job.skip job.handheld job.fast job.name (records_of (database_of job.name shelves.bases)) told handle seen
+    opened_shown job.skip job.handheld job.fast job.name
+    (records_of (database_of job.name shelves.bases)) told handle seen

@@ -14,9 +14,11 @@ use Rattle.session_plan.specs.Choosing.{base_rows, is_fast}
 -- an unchanged record without a base row is read by its id
 abbrev pub read_by_id : List Record → Option Record → List Act
 read_by_id base None = []
-read_by_id base (Some r) = if is_changed r then [] else (if has_row base r.id then [] else reading_of 1 r.id ∷ [])
+read_by_id base (Some r) =
+    if is_changed r then [] else (if has_row base r.id then [] else reading_of 1 r.id ∷ [])
 
--- the ids in parts of 8,000, the changed records one by one until there is none, and the others without a base row by rising ids
+-- the ids in parts of 8,000, the changed records one by one until there is none, and the others
+-- without a base row by rising ids
 abbrev pub fast_reads : List Record → List Record → List Act
 fast_reads base records =
     counting 1 ∷ (id_listings 1 (id_parts (length records))
@@ -25,7 +27,8 @@ fast_reads base records =
 
 abbrev pub reads : Meeting → Task → List Act
 reads meeting task =
-    if is_fast meeting task then fast_reads (base_rows task) (records_of task.handheld) else slow_reads 1 (length (records_of task.handheld))
+    if is_fast meeting task then fast_reads (base_rows task) (records_of task.handheld)
+    else slow_reads 1 (length (records_of task.handheld))
 
 -- a database is opened, and closed at the end
 abbrev pub opened : List ℕ → List Act → List Act

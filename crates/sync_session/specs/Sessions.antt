@@ -1,4 +1,5 @@
--- What a session says: requests in order, each with the id that its new record got, as a list computed from both sides.
+-- What a session says: requests in order, each with the id that its new record got, as a list
+-- computed from both sides.
 use Rattle.std.specs.Prelude.{ℕ, List, [], ◌∷◌, ◌++◌, filter, length, map, max, replicate, sum_by}
 use Rattle.std.specs.List.{flat_map}
 use Rattle.dlp_commands.specs.Changes.{changes}
@@ -13,12 +14,15 @@ use Rattle.sync_session.specs.Reads.{read_acts}
 use Rattle.session_plan.specs.Choosing.{add_count}
 use Rattle.sync_session.specs.News.{all_news, purge_acts}
 
--- the mark that begins what is written (PC, bit 0x40), and the one that ends it (user, PC, date and name: 0xF0)
+-- the mark that begins what is written (PC, bit 0x40), and the one that ends it (user, PC, date and
+-- name: 0xF0)
 abbrev pub begin_mark : Meeting → Act
 begin_mark meeting = marking (begun_user meeting.device.user) 0x40
 
+-- the mark that ends it: user, PC, date and name (bits 0xF0)
 abbrev pub end_mark : Meeting → Act
-end_mark meeting = marking (done_user meeting.wishes.date meeting.device.user (slot_of meeting).marks) 0xF0
+end_mark meeting =
+    marking (done_user meeting.wishes.date meeting.device.user (slot_of meeting).marks) 0xF0
 
 -- the handheld's databases are listed: one request for each, and one where it has none
 unfoldable pub listing_all : Meeting → List Act
@@ -26,15 +30,18 @@ listing_all meeting = listings (max 1 (length meeting.device.databases))
 
 -- nothing is written yet
 unfoldable pub before_writes : Meeting → List Act
-before_writes meeting = greeting ++ (listing_all meeting ++ flat_map (read_acts meeting) (active meeting))
+before_writes meeting =
+    greeting ++ (listing_all meeting ++ flat_map (read_acts meeting) (active meeting))
 
 -- up to the desktop's commit
 unfoldable pub before_commit : Meeting → List ℕ → List Act
-before_commit meeting given = before_writes meeting ++ begin_mark meeting ∷ all_news meeting (active meeting) given
+before_commit meeting given =
+    before_writes meeting ++ begin_mark meeting ∷ all_news meeting (active meeting) given
 
 -- behind it
 unfoldable pub after_commit : Meeting → List Act
-after_commit meeting = flat_map (purge_acts meeting) (active meeting) ++ (end_mark meeting ∷ ending ∷ [])
+after_commit meeting =
+    flat_map (purge_acts meeting) (active meeting) ++ (end_mark meeting ∷ ending ∷ [])
 
 -- the whole, where the new records got these ids
 unfoldable pub session : Meeting → List ℕ → List Act
@@ -54,4 +61,5 @@ plan_writes meeting = filter changes (requests meeting)
 
 -- how many of them stand before the desktop's commit
 unfoldable pub writes_before_commit : Meeting → ℕ
-writes_before_commit meeting = length (filter changes (map text (before_commit meeting (replicate (adds_of meeting) 0))))
+writes_before_commit meeting =
+    length (filter changes (map text (before_commit meeting (replicate (adds_of meeting) 0))))

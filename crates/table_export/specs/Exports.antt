@@ -1,4 +1,5 @@
--- The tables of databases: a head row with the names of the columns, and a row for each record that is exported.
+-- The tables of databases: a head row with the names of the columns, and a row for each record that
+-- is exported.
 use Rattle.std.specs.Prelude.{ℕ, ◌&&◌, Bool, not, List, [], ◌∷◌, ◌++◌, codes, filter, map, replicate, Option, Result, Ok, Err, if◌then◌else◌}
 use Rattle.std.specs.Int.{bytes_high_first}
 use Rattle.std.specs.List.{flat_map}

@@ -1,4 +1,5 @@
--- Tables in CSV (RFC 4180): a line for each row, ended by CR LF, with commas between fields; a field with a comma, a quote or a line break stands in quotes, and a quote in it is doubled.
+-- Tables in CSV (RFC 4180): a line for each row, ended by CR LF, with commas between fields; a
+-- field with a comma, a quote or a line break stands in quotes, and a quote in it is doubled.
 use Rattle.std.specs.Prelude.{ℕ, ◌≤◌, List, encode_utf8_all, length}
 use Rattle.std.specs.List.{flat_map}
 use Rattle.csv.specs.Reading.{default_config, records}

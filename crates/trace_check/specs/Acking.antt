@@ -20,12 +20,18 @@ use Rattle.trace_check.specs.declared.repeats.Repeats.{Repeats}
 abbrev pub numbered_value : DataCame → Numbered
 numbered_value data_frame = record { number = data_frame.number; key = data_frame.key }
 
--- the data frames of X that came, the newest first, each with the number of the newest late frame of X up to it
+-- the data frames of X that came, the newest first, each with the number of the newest late frame
+-- of X up to it
 abbrev pub data_came : End → (ℕ → Bool) → List Sent → List DataCame
 data_came X came [] = []
 data_came X came (frame ∷ past) =
     if is_data_of X frame && came (length past + 1)
-    then record { number = length past + 1; key = frame.key; late = newest (late_of X) (frame ∷ past) } ∷ data_came X came past
+    then record {
+      number = length past
+          + 1;
+      key = frame.key;
+      late = newest (late_of X) (frame ∷ past);
+    } ∷ data_came X came past
     else data_came X came past
 
 -- the first ones of those that came, so many, the newest first
@@ -44,7 +50,9 @@ abbrev pub repeats_after : Sent → Repeats → Repeats
 repeats_after frame old = record {
   handheld = if is_data_of Handheld frame then Some frame.key else old.handheld;
   desktop = if is_data_of Desktop frame then Some frame.key else old.desktop;
-  newest = if frame.is_data && is_again (newest_of frame.from old) frame.key then old.count + 1 else old.newest;
+  newest =
+      if frame.is_data && is_again (newest_of frame.from old) frame.key then old.count + 1
+      else old.newest;
   count = old.count + 1;
 }
 
@@ -72,12 +80,15 @@ pub record AcksNext (data_frames : List DataCame) (old : Acks) (key : Key) : Typ
 -- what was acknowledged when this was sent, and the repeats behind it
 abbrev pub Hears : End → List DataCame → Sent → Acks → Acks → Type 0
 Hears by data_frames frame old new =
-    MatchBool (is_ack_of by frame) (AcksNext data_frames old frame.key × (new ≡ record { repeats = repeats_after frame old.repeats; acked = old.acked + 1 }))
+    MatchBool (is_ack_of by frame)
+    (AcksNext data_frames old frame.key
+    × (new ≡ record { repeats = repeats_after frame old.repeats; acked = old.acked + 1 }))
     (new ≡ record { repeats = repeats_after frame old.repeats; acked = old.acked })
 
 -- the frame is an acknowledgement, and not that of the next data frame
 abbrev pub HearsWrong : End → List DataCame → Sent → Acks → Type 0
-HearsWrong by data_frames frame old = (is_ack_of by frame ≡ true) × ¬ (AcksNext data_frames old frame.key)
+HearsWrong by data_frames frame old =
+    (is_ack_of by frame ≡ true) × ¬ (AcksNext data_frames old frame.key)
 
 -- what was sent goes before the past, if something was
 abbrev pub pushed : Option Sent → List Sent → List Sent
@@ -85,7 +96,10 @@ pushed None past = past
 pushed (Some frame) past = frame ∷ past
 
 -- a frame of a trace is passed or not
-pub record Passes (by : End) (data_frames : List DataCame) (frame : FrameValue) (old : Acks) (passed : Bool) (new : Acks) : Type 0 where
+pub record Passes (by : End) (data_frames : List DataCame) (frame : FrameValue) (old : Acks)
+    (passed : Bool) (new : Acks) : Type 0 where
   pub sent : Option Sent
   pub adds : (past : List Sent) → add_frame frame past ≡ pushed sent past
-  pub hears : MatchOption sent ((passed ≡ true) × (new ≡ old)) (λ frame. MatchBool passed (Hears by data_frames frame old new) (HearsWrong by data_frames frame old))
+  pub hears : MatchOption sent ((passed ≡ true) × (new ≡ old))
+      (λ frame. MatchBool passed (Hears by data_frames frame old new)
+      (HearsWrong by data_frames frame old))

@@ -1,4 +1,5 @@
--- What reached an end, by the first frame that came with it: its newest late frame tells whether that one is held.
+-- What reached an end, by the first frame that came with it: its newest late frame tells whether
+-- that one is held.
 use Rattle.std.specs.Prelude.{ℕ, ◌+◌, Bool, false, ◌&&◌, ◌||◌, List, [], ◌∷◌, length, nat_eq, nat_lt}
 use Rattle.std.specs.Prelude.{Option, Some, None}
 use Rattle.std.specs.Bool.{then_some}
@@ -15,7 +16,8 @@ first_late p Y came (frame ∷ past) =
     option_or (first_late p Y came past)
     (then_some (p (frame ∷ past) && came (length past + 1)) (newest (late_of Y) (frame ∷ past)))
 
--- what has this arrival came, and isn't held by the newest repeat: no frame up to it is late, or the repeat stands behind
+-- what has this arrival came, and isn't held by the newest repeat: no frame up to it is late, or
+-- the repeat stands behind
 abbrev pub is_free : ℕ → Option ℕ → Bool
 is_free repeat None = false
 is_free repeat (Some late) = nat_eq late 0 || nat_lt late repeat

@@ -55,7 +55,8 @@ speaker_after notice side =
     let later = record side { late = late_after notice side } in
     let arrival = arrival_of notice side in
     let again = is_key notice.key side.key in
-    let spoke = if again then with_repeat arrival later else with_fragment notice.key arrival later in
+    let spoke = if again then with_repeat arrival later
+    else with_fragment notice.key arrival later in
     if notice.is_data then spoke else later
 
 -- and of the other end, where this is known of the one that sends

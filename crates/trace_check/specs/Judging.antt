@@ -17,7 +17,8 @@ use Rattle.trace_check.specs.declared.rule.Rule.TheVariants.{A, B, C, D, E, F, G
 use Rattle.trace_check.specs.declared.rule.Verdict.{Verdict}
 use Rattle.trace_check.specs.declared.rule.Verdict.TheVariants.{Proper, Not}
 
--- a proper trace: it is one by the fates and the messages that it says itself, and both ends begin with their greetings
+-- a proper trace: it is one by the fates and the messages that it says itself, and both ends begin
+-- with their greetings
 pub record IsProperTrace (frames : List FrameValue) : Type 0 where
   pub proper : IsProper (fates_in frames) (talk_in frames) frames
   pub wake : Greets Wake Handheld frames
@@ -27,16 +28,19 @@ pub record IsProperTrace (frames : List FrameValue) : Type 0 where
 abbrev pub KnowsBefore : End → End → Talk → (ℕ → Bool) → List Sent → Type 0
 KnowsBefore X Y talk came [] = Unit {0}
 KnowsBefore X Y talk came (frame ∷ past) =
-    (is_data_of X frame ≡ true → is_repeat X frame past ≡ false → 0 < length (said X past) → IsKnown X Y talk came past)
+    (is_data_of X frame ≡ true → is_repeat X frame past ≡ false → 0 < length (said X past)
+    → IsKnown X Y talk came past)
     × KnowsBefore X Y talk came past
 
 -- each new fragment of X goes out once what its message answers was taken
 abbrev pub AnswersInTurn : End → Talk → (ℕ → Bool) → List Sent → Type 0
 AnswersInTurn X talk came [] = Unit {0}
 AnswersInTurn X talk came (frame ∷ past) =
-    (is_data_of X frame ≡ true → is_repeat X frame past ≡ false → AnswersReached X talk came past) × AnswersInTurn X talk came past
+    (is_data_of X frame ≡ true → is_repeat X frame past ≡ false → AnswersReached X talk came past)
+    × AnswersInTurn X talk came past
 
--- what both ends say are the fragments of their messages, greetings first, none too often, and again only for a fault
+-- what both ends say are the fragments of their messages, greetings first, none too often, and
+-- again only for a fault
 pub record SayMessages (frames : List FrameValue) : Type 0 where
   pub handheld : SaysMessages Handheld (talk_in frames) (past_of frames)
   pub desktop : SaysMessages Desktop (talk_in frames) (past_of frames)
@@ -58,7 +62,9 @@ Keeps E frames =
 Keeps F frames =
     AnswersInTurn Handheld (talk_in frames) (came_in frames) (past_of frames)
     × AnswersInTurn Desktop (talk_in frames) (came_in frames) (past_of frames)
-Keeps G frames = DataIsAcked Handheld Desktop (came_in frames) (past_of frames) × DataIsAcked Desktop Handheld (came_in frames) (past_of frames)
+Keeps G frames =
+    DataIsAcked Handheld Desktop (came_in frames) (past_of frames)
+    × DataIsAcked Desktop Handheld (came_in frames) (past_of frames)
 
 -- the place of a rule in their order
 abbrev pub place_of : Rule → ℕ
@@ -75,30 +81,40 @@ pub record IsFirstBroken (rule : Rule) (frames : List FrameValue) : Type 0 where
   pub broken : ¬ (Keeps rule frames)
   pub kept : (other : Rule) → place_of other < place_of rule → Keeps other frames
 
--- what a trace is: proper, with the whole messages behind the greetings, or not by its first broken rule
+-- what a trace is: proper, with the whole messages behind the greetings, or not by its first broken
+-- rule
 abbrev pub IsVerdict : List FrameValue → Verdict → Type 0
 IsVerdict frames (Proper requests replies) =
-    IsProperTrace frames × (requests ≡ whole_count Desktop frames - 1) × (replies ≡ whole_count Handheld frames - 1)
+    IsProperTrace frames × (requests ≡ whole_count Desktop frames - 1)
+    × (replies ≡ whole_count Handheld frames - 1)
 IsVerdict frames (Not rule) = IsFirstBroken rule frames
 
 -- the rules are the definition
 abbrev pub HasSevenRules : Type 0
-HasSevenRules = (frames : List FrameValue) → IsProperTrace frames ↔ ((rule : Rule) → Keeps rule frames)
+HasSevenRules =
+    (frames : List FrameValue) → IsProperTrace frames ↔ ((rule : Rule) → Keeps rule frames)
 
 -- a trace has one verdict
 abbrev pub HasOneVerdict : Type 0
-HasOneVerdict = (frames : List FrameValue) (x y : Verdict) → IsVerdict frames x → IsVerdict frames y → x ≡ y
+HasOneVerdict =
+    (frames : List FrameValue) (x y : Verdict) → IsVerdict frames x → IsVerdict frames y → x ≡ y
 
 -- what is proper by some fates is proper by those that its frames say
 abbrev pub SaysItsFates : Type 0
-SaysItsFates = (script : ℕ → FateValue) (talk : Talk) (frames : List FrameValue) → IsProper script talk frames → IsProper (fates_in frames) talk frames
+SaysItsFates =
+    (script : ℕ → FateValue) (talk : Talk) (frames : List FrameValue) → IsProper script talk frames
+    → IsProper (fates_in frames) talk frames
 
 -- what is proper by some messages is proper by those that its frames say
 abbrev pub SaysItsMessages : Type 0
-SaysItsMessages = (script : ℕ → FateValue) (talk : Talk) (frames : List FrameValue) → IsProper script talk frames → IsProper script (talk_in frames) frames
+SaysItsMessages =
+    (script : ℕ → FateValue) (talk : Talk) (frames : List FrameValue) → IsProper script talk frames
+    → IsProper script (talk_in frames) frames
 
--- what is proper by some fates, and by messages that begin with the greetings, is a proper trace by itself
+-- what is proper by some fates, and by messages that begin with the greetings, is a proper trace by
+-- itself
 abbrev pub SpeaksForItself : Type 0
 SpeaksForItself =
-    (script : ℕ → FateValue) (talk : Talk) (frames : List FrameValue) → IsProper script talk frames → IfFirst (IsGreeting Wake) talk.handheld
+    (script : ℕ → FateValue) (talk : Talk) (frames : List FrameValue) → IsProper script talk frames
+    → IfFirst (IsGreeting Wake) talk.handheld
     → IfFirst (IsGreeting Init) talk.desktop → IsProperTrace frames

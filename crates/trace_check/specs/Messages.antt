@@ -27,13 +27,17 @@ parts_behind part = piece_count part.key.size - 1
 abbrev pub filled : ℕ → List ℕ → List ℕ
 filled size bytes = bytes ++ replicate (size - length bytes) 0
 
--- The messages from one on that has this size and these bytes so far and wants so many parts more. One whose parts are missing is filled with zeros.
+-- The messages from one on that has this size and these bytes so far and wants so many parts more.
+-- One whose parts are missing is filled with zeros.
 abbrev pub messages_from : ℕ → ℕ → List ℕ → List Part → List (List ℕ)
 messages_from wanted size bytes [] = filled size bytes ∷ []
-messages_from zero size bytes (part ∷ later) = filled size bytes ∷ messages_from (parts_behind part) part.key.size part.bytes later
-messages_from (suc wanted) size bytes (part ∷ later) = messages_from wanted size (bytes ++ part.bytes) later
+messages_from zero size bytes (part ∷ later) =
+    filled size bytes ∷ messages_from (parts_behind part) part.key.size part.bytes later
+messages_from (suc wanted) size bytes (part ∷ later) =
+    messages_from wanted size (bytes ++ part.bytes) later
 
--- the messages whose parts these are, one after the other: each takes as many parts as the size in its first one asks for
+-- the messages whose parts these are, one after the other: each takes as many parts as the size in
+-- its first one asks for
 abbrev pub messages_in : List Part → List (List ℕ)
 messages_in [] = []
 messages_in (part ∷ later) = messages_from (parts_behind part) part.key.size part.bytes later
@@ -55,7 +59,10 @@ parts_in X frames = reverse (spoken X (past_of frames))
 
 -- the messages of both ends
 abbrev pub talk_in : List FrameValue → Talk
-talk_in frames = record { handheld = messages_in (parts_in Handheld frames); desktop = messages_in (parts_in Desktop frames) }
+talk_in frames = record {
+  handheld = messages_in (parts_in Handheld frames);
+  desktop = messages_in (parts_in Desktop frames);
+}
 
 -- how many messages an end said whole
 abbrev pub whole_count : End → List FrameValue → ℕ
@@ -73,4 +80,5 @@ IfFirst P (message ∷ later) = P message
 
 -- the first message of an end is a greeting of this kind, where it is whole
 abbrev pub Greets : HelloKind → End → List FrameValue → Type 0
-Greets kind X frames = 0 < whole_count X frames → IfFirst (IsGreeting kind) (messages_of X (talk_in frames))
+Greets kind X frames =
+    0 < whole_count X frames → IfFirst (IsGreeting kind) (messages_of X (talk_in frames))

@@ -35,7 +35,8 @@ abbrev pub AreTraced : ℕ → List FrameValue → Type 0
 AreTraced number [] = Unit {0}
 AreTraced number (frame ∷ later) = IsTraced number frame × AreTraced (number + 1) later
 
--- behind the lines of all frames before this number stands something, which begins with no line of a frame of this number
+-- behind the lines of all frames before this number stands something, which begins with no line of
+-- a frame of this number
 pub record IsBadLine (bytes : List ℕ) (number : ℕ) : Type 0 where
   pub frames : List FrameValue
   pub rest : List ℕ
@@ -43,9 +44,11 @@ pub record IsBadLine (bytes : List ℕ) (number : ℕ) : Type 0 where
   pub counted : length frames + 1 ≡ number
   pub is : bytes ≡ trace_text frames ++ rest
   pub some : 0 < length rest
-  pub bad : (frame : FrameValue) (later : List ℕ) → IsTraced number frame → rest ≡ frame_line frame ++ later → ⊥
+  pub bad : (frame : FrameValue) (later : List ℕ) → IsTraced number frame
+      → rest ≡ frame_line frame ++ later → ⊥
 
--- what a text is: the text of a trace, or bad at its first bad line; of want of memory nothing is said
+-- what a text is: the text of a trace, or bad at its first bad line; of want of memory nothing is
+-- said
 abbrev pub IsTraceReading : List ℕ → Result (List FrameValue) TraceFault → Type 0
 IsTraceReading bytes (Ok frames) = AreTraced 1 frames × (bytes ≡ trace_text frames)
 IsTraceReading bytes (Err (BadLine number)) = IsBadLine bytes number

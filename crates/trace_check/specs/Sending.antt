@@ -15,7 +15,13 @@ course_value Late = past.Late
 -- a frame as what was sent
 abbrev pub sent_value : SentFrame → Sent
 sent_value frame =
-    record { from = frame.from; is_data = frame.is_data; key = frame.key; bytes = frame.bytes.now; course = course_value frame.course }
+    record {
+      from = frame.from;
+      is_data = frame.is_data;
+      key = frame.key;
+      bytes = frame.bytes.now;
+      course = course_value frame.course;
+    }
 
 -- it goes before those that were sent, if something was sent
 abbrev pub added : Option SentFrame → List Sent → List Sent

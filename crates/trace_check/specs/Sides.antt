@@ -1,4 +1,5 @@
--- What is known of an end behind some frames: which of its fragments reached the other end, and where its messages begin.
+-- What is known of an end behind some frames: which of its fragments reached the other end, and
+-- where its messages begin.
 use Rattle.std.specs.Prelude.{◌≡◌, ℕ, ◌+◌, ◌-◌, ◌<◌, ◌≤◌, Bool, false, ◌&&◌, List, [], ◌∷◌, ◌++◌, length, nat_eq, nat_lt}
 use Rattle.std.specs.Prelude.{slice_index_or, slice_set, Option, Some, None, if◌then◌else◌}
 use Rattle.std.specs.Option.{option_or}
@@ -11,8 +12,10 @@ use Rattle.trace_text.specs.Talks.{Talk, messages_of, pieces_before}
 use Rattle.trace_check.specs.Arrivals.{first_late, is_free, bears, acks}
 use Rattle.trace_check.specs.declared.side.Side.{Side}
 
--- What is known of an end: how many fragments stand before each message that it began and before the next, the
--- arrival of each fragment that it said, its newest key, the arrival of the acknowledgement of that, and its newest
+-- What is known of an end: how many fragments stand before each message that it began and before
+-- the next, the
+-- arrival of each fragment that it said, its newest key, the arrival of the acknowledgement of
+-- that, and its newest
 -- late frame.
 pub record SideValue : Type 0 where
   pub starts : List ℕ
@@ -31,7 +34,8 @@ side_value side = record {
   late = side.late;
 }
 
--- where so many fragments were said, this is how many stand before each message that was begun and before the next
+-- where so many fragments were said, this is how many stand before each message that was begun and
+-- before the next
 pub record AreStarts (messages : List (List ℕ)) (said : ℕ) (starts : List ℕ) : Type 0 where
   pub begun : ℕ
   pub there : begun ≤ length messages

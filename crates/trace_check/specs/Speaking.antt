@@ -28,12 +28,23 @@ pub record MayRepeat (old : Speaker) (fault : ℕ) : Type 0 where
 
 -- the end behind a repeat, and behind a new part
 abbrev pub repeated_at : ℕ → Speaker → Speaker
-repeated_at number old = record { newest = old.newest; run = old.run + 1; last_repeat = number; standing = old.standing }
+repeated_at number old = record {
+  newest = old.newest;
+  run = old.run + 1;
+  last_repeat = number;
+  standing = old.standing;
+}
 
 abbrev pub begun_with : Part → Speaker → Speaker
-begun_with part old = record { newest = Some part.key; run = 1; last_repeat = old.last_repeat; standing = next old.standing part }
+begun_with part old = record {
+  newest = Some part.key;
+  run = 1;
+  last_repeat = old.last_repeat;
+  standing = next old.standing part;
+}
 
--- The end says this part in the frame of this number, where the newest fault has that number, and is so then.
+-- The end says this part in the frame of this number, where the newest fault has that number, and
+-- is so then.
 abbrev pub SaysNext : HelloKind → Speaker → Part → ℕ → ℕ → Speaker → Type 0
 SaysNext greeting old part number fault new =
     MatchBool (is_again old.newest part.key) (MayRepeat old fault × (new ≡ repeated_at number old))
@@ -42,7 +53,8 @@ SaysNext greeting old part number fault new =
 -- it says a new part and is so then, or may not
 abbrev pub BeginsOrNot : Bool → HelloKind → Part → Speaker → Speaker → Type 0
 BeginsOrNot began greeting part old new =
-    MatchBool began (MaySay greeting old.standing part × (new ≡ begun_with part old)) (¬ (MaySay greeting old.standing part))
+    MatchBool began (MaySay greeting old.standing part × (new ≡ begun_with part old))
+    (¬ (MaySay greeting old.standing part))
 
 -- the end is so behind these frames
 pub record IsSpeaker (X : End) (past : List Sent) (speaker : Speaker) : Type 0 where
@@ -58,4 +70,6 @@ pub record SpeaksSo (greeting : HelloKind) (X : End) (past : List Sent) : Type 0
 
 -- a frame behind these has its fault, if it is a repeat of X
 abbrev pub HasFault : End → Sent → List Sent → Type 0
-HasFault X frame past = is_repeat X frame past ≡ true → (0 < newest faulted past) × (last_repeat X past ≤ newest faulted past + 1)
+HasFault X frame past =
+    is_repeat X frame past ≡ true
+    → (0 < newest faulted past) × (last_repeat X past ≤ newest faulted past + 1)

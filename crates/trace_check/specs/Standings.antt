@@ -16,17 +16,21 @@ part_with key bytes = record { key = key; bytes = bytes }
 abbrev pub start : Standing
 start = record { begun = 0; size = 0; wanted = 0 }
 
--- the part is the piece of this number of a message of this size under this id, by its key and how many bytes it has
+-- the part is the piece of this number of a message of this size under this id, by its key and how
+-- many bytes it has
 pub record IsPiece (id size number : ℕ) (part : Part) : Type 0 where
   pub key_is : part.key ≡ (piece_of id size number).key
   pub count : length part.bytes ≡ (piece_of id size number).length
 
--- the part goes on where an end stands that wants so many parts: it begins the next message, or is the next piece of the last one
+-- the part goes on where an end stands that wants so many parts: it begins the next message, or is
+-- the next piece of the last one
 abbrev pub GoesOnBy : ℕ → Standing → Part → Type 0
 GoesOnBy zero old part = IsPiece (session_id old.begun) part.key.size 0 part
-GoesOnBy (suc wanted) old part = IsPiece (session_id (old.begun - 1)) old.size (piece_count old.size - suc wanted) part
+GoesOnBy (suc wanted) old part =
+    IsPiece (session_id (old.begun - 1)) old.size (piece_count old.size - suc wanted) part
 
--- what the part must be so that the first message, where it ends with the part, is a greeting of this kind
+-- what the part must be so that the first message, where it ends with the part, is a greeting of
+-- this kind
 abbrev pub GreetsBy : HelloKind → ℕ → ℕ → Part → Type 0
 GreetsBy kind zero wanted part = parts_behind part ≡ 0 → IsGreeting kind part.bytes
 GreetsBy kind (suc zero) zero part = Unit {0}
@@ -41,7 +45,11 @@ pub record MaySay (kind : HelloKind) (old : Standing) (part : Part) : Type 0 whe
 
 -- where the end stands behind the part
 abbrev pub next_by : ℕ → Standing → Part → Standing
-next_by zero old part = record { begun = old.begun + 1; size = part.key.size; wanted = parts_behind part }
+next_by zero old part = record {
+  begun = old.begun + 1;
+  size = part.key.size;
+  wanted = parts_behind part;
+}
 next_by (suc wanted) old part = record { begun = old.begun; size = old.size; wanted = wanted }
 
 abbrev pub next : Standing → Part → Standing

@@ -24,17 +24,30 @@ speaker_of Desktop talking = talking.desktop
 
 -- both, where one of them became this
 abbrev pub with_speaker : End → Speaker → Talking → Talking
-with_speaker Handheld speaker old = record { handheld = speaker; desktop = old.desktop; count = old.count; fault = old.fault }
-with_speaker Desktop speaker old = record { handheld = old.handheld; desktop = speaker; count = old.count; fault = old.fault }
+with_speaker Handheld speaker old = record {
+  handheld = speaker;
+  desktop = old.desktop;
+  count = old.count;
+  fault = old.fault;
+}
+with_speaker Desktop speaker old = record {
+  handheld = old.handheld;
+  desktop = speaker;
+  count = old.count;
+  fault = old.fault;
+}
 
 -- an end says this part next, and becomes this
 abbrev pub EndSays : End → Talking → Part → Speaker → Type 0
-EndSays X old part new = SaysNext (greeting_of X) (speaker_of X old) part (old.count + 1) old.fault new
+EndSays X old part new =
+    SaysNext (greeting_of X) (speaker_of X old) part (old.count + 1) old.fault new
 
 -- both, when this was said, if it is data
 abbrev pub Says : Sent → Talking → Talking → Type 0
 Says frame old new =
-    MatchBool frame.is_data ((speaker : Speaker) × EndSays frame.from old (part_of frame) speaker × (new ≡ with_speaker frame.from speaker old)) (new ≡ old)
+    MatchBool frame.is_data
+    ((speaker : Speaker) × EndSays frame.from old (part_of frame) speaker
+    × (new ≡ with_speaker frame.from speaker old)) (new ≡ old)
 
 -- both are so behind these frames
 pub record IsTalking (past : List Sent) (talking : Talking) : Type 0 where
@@ -50,7 +63,8 @@ pub record TalksSo (past : List Sent) : Type 0 where
 -- from a past that keeps the rule they went on to a longer one that does, or it doesn't
 abbrev pub GoesOnOrNot : Bool → List Sent → List Sent → Talking → Talking → Type 0
 GoesOnOrNot passed past longer old new =
-    IsTalking past old → TalksSo past → MatchBool passed (IsTalking longer new × TalksSo longer) (¬ (TalksSo longer))
+    IsTalking past old → TalksSo past
+    → MatchBool passed (IsTalking longer new × TalksSo longer) (¬ (TalksSo longer))
 
 -- there is room for one frame more
 pub record HasRoom (talking : Talking) : Type 0 where

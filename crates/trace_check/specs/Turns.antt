@@ -1,4 +1,5 @@
--- Whether a new fragment may go out, by what is known of both ends, and how far the frames of a trace were walked.
+-- Whether a new fragment may go out, by what is known of both ends, and how far the frames of a
+-- trace were walked.
 use Rattle.std.specs.Prelude.{◌≡◌, ◌↔◌, ℕ, ◌-◌, Bool, true, false, not, ◌&&◌, ◌||◌, List, length, drop, nat_eq}
 use Rattle.std.specs.Prelude.{Option, Some, None, if◌then◌else◌}
 use Rattle.trace_text.specs.declared.frame.End.{End}

@@ -1,4 +1,5 @@
--- Traces of a session between two empty folders on 2001-09-09 at 01:46:40, computed by hand from the formats: over a line that loses nothing, and over one
+-- Traces of a session between two empty folders on 2001-09-09 at 01:46:40, computed by hand from
+-- the formats: over a line that loses nothing, and over one
 -- that loses the acknowledgement of the first request and the first reply to it.
 use Rattle.std.specs.Prelude.{ℕ, ◌+◌, ◌*◌, ◌-◌, ◌||◌, nat_eq, nat_lt, codes, if◌then◌else◌, Bool, true, false, List, [], ◌∷◌}
 use Rattle.trace_text.specs.declared.frame.End.{End}
@@ -18,7 +19,13 @@ from_hex (high ∷ low ∷ text) = (digit high * 16 + digit low) ∷ from_hex te
 
 -- a frame with these bytes in hexadecimal
 abbrev pub frame : ℕ → End → FateValue → Bool → List ℕ → FrameValue
-frame number from fate came text = record { number = number; from = from; fate = fate; came = came; bytes = from_hex text }
+frame number from fate came text = record {
+  number = number;
+  from = from;
+  fate = fate;
+  came = came;
+  bytes = from_hex text;
+}
 
 -- the wake and the replies; the init and the requests
 abbrev pub talk : Talk
@@ -69,11 +76,13 @@ quiet_frames =
     ∷ frame 14 Handheld Untouched true (codes "beefed030302000403a902c000082bb3")
     ∷ frame 15 Handheld Untouched true (codes "beefed030302000803ad01c00004960000051325")
     ∷ frame 16 Desktop Untouched true (codes "beefed030302000403a902c00004ea3f")
-    ∷ frame 17 Desktop Untouched true (codes "beefed030302001e04c401c0001a110120160000000000000000000000000000000000000000400036bb")
+    ∷ frame 17 Desktop Untouched true
+    (codes "beefed030302001e04c401c0001a110120160000000000000000000000000000000000000000400036bb")
     ∷ frame 18 Handheld Untouched true (codes "beefed030302000404aa02c0001a3f53")
     ∷ frame 19 Handheld Untouched true (codes "beefed030302000804ae01c00004910000002313")
     ∷ frame 20 Desktop Untouched true (codes "beefed030302000404aa02c00004ccac")
-    ∷ frame 21 Desktop Untouched true (codes "beefed030302001e05c501c0001a1101201600000000000000000000000107d10909012e2800f0002128")
+    ∷ frame 21 Desktop Untouched true
+    (codes "beefed030302001e05c501c0001a1101201600000000000000000000000107d10909012e2800f0002128")
     ∷ frame 22 Handheld Untouched true (codes "beefed030302000405ab02c0001ad0a2")
     ∷ frame 23 Handheld Untouched true (codes "beefed030302000805af01c0000491000000a775")
     ∷ frame 24 Desktop Untouched true (codes "beefed030302000405ab02c00004235d")
@@ -83,7 +92,8 @@ quiet_frames =
     ∷ frame 28 Desktop Untouched false (codes "beefed030302000406ac02c000048a69")
     ∷ []
 
--- the trace of the other line: the request and its reply are sent again, and the reply counts as acknowledgement
+-- the trace of the other line: the request and its reply are sent again, and the reply counts as
+-- acknowledgement
 abbrev pub losing_frames : List FrameValue
 losing_frames =
     frame 1 Handheld Untouched true (codes "beefed030302000effaf01c0000a0100010100000000258071ae")
@@ -105,11 +115,13 @@ losing_frames =
     ∷ frame 17 Handheld Untouched true (codes "beefed030302000403a902c000082bb3")
     ∷ frame 18 Handheld Untouched true (codes "beefed030302000803ad01c00004960000051325")
     ∷ frame 19 Desktop Untouched true (codes "beefed030302000403a902c00004ea3f")
-    ∷ frame 20 Desktop Untouched true (codes "beefed030302001e04c401c0001a110120160000000000000000000000000000000000000000400036bb")
+    ∷ frame 20 Desktop Untouched true
+    (codes "beefed030302001e04c401c0001a110120160000000000000000000000000000000000000000400036bb")
     ∷ frame 21 Handheld Untouched true (codes "beefed030302000404aa02c0001a3f53")
     ∷ frame 22 Handheld Untouched true (codes "beefed030302000804ae01c00004910000002313")
     ∷ frame 23 Desktop Untouched true (codes "beefed030302000404aa02c00004ccac")
-    ∷ frame 24 Desktop Untouched true (codes "beefed030302001e05c501c0001a1101201600000000000000000000000107d10909012e2800f0002128")
+    ∷ frame 24 Desktop Untouched true
+    (codes "beefed030302001e05c501c0001a1101201600000000000000000000000107d10909012e2800f0002128")
     ∷ frame 25 Handheld Untouched true (codes "beefed030302000405ab02c0001ad0a2")
     ∷ frame 26 Handheld Untouched true (codes "beefed030302000805af01c0000491000000a775")
     ∷ frame 27 Desktop Untouched true (codes "beefed030302000405ab02c00004235d")
@@ -138,11 +150,13 @@ changed_frames =
     ∷ frame 14 Handheld Untouched true (codes "beefed030302000403a902c000082bb3")
     ∷ frame 15 Handheld Untouched true (codes "beefed030302000803ad01c00004960000051325")
     ∷ frame 16 Desktop Untouched true (codes "beefed030302000403a902c00004ea3f")
-    ∷ frame 17 Desktop Untouched true (codes "beefed030302001e04c401c0001a110120160000000000000000000000000000000000000000400036bb")
+    ∷ frame 17 Desktop Untouched true
+    (codes "beefed030302001e04c401c0001a110120160000000000000000000000000000000000000000400036bb")
     ∷ frame 18 Handheld Untouched true (codes "beefed030302000404aa02c0001a3f53")
     ∷ frame 19 Handheld Untouched true (codes "beefed030302000804ae01c00004910000002313")
     ∷ frame 20 Desktop Untouched true (codes "beefed030302000404aa02c00004ccac")
-    ∷ frame 21 Desktop Untouched true (codes "beefed030302001e05c501c0001a1101201600000000000000000000000107d10909012e2800f0002128")
+    ∷ frame 21 Desktop Untouched true
+    (codes "beefed030302001e05c501c0001a1101201600000000000000000000000107d10909012e2800f0002128")
     ∷ frame 22 Handheld Untouched true (codes "beefed030302000405ab02c0001ad0a2")
     ∷ frame 23 Handheld Untouched true (codes "beefed030302000805af01c0000491000000a775")
     ∷ frame 24 Desktop Untouched true (codes "beefed030302000405ab02c00004235d")

@@ -1,4 +1,5 @@
--- What a frame bears: the key and the kind of the fragment in its packet, and the front of the part of a message in it.
+-- What a frame bears: the key and the kind of the fragment in its packet, and the front of the part
+-- of a message in it.
 use Rattle.std.specs.Prelude.{ℕ, ◌==◌, Bool, List, length, drop, slice_index}
 use Rattle.byteorder.specs.Endian.{big_number}
 use Rattle.slp_frames.specs.PacketScan.{packet_at}
@@ -8,7 +9,8 @@ use Rattle.padp_link.specs.Pieces.{key_of}
 use Rattle.trace_text.specs.Frames.{fields_of}
 use Rattle.trace_page.specs.declared.bearing.Bearing.{Bearing}
 
--- what a fragment in a packet of this transaction bears: a reply says its error in its third and fourth byte
+-- what a fragment in a packet of this transaction bears: a reply says its error in its third and
+-- fourth byte
 abbrev pub bearing_of : ℕ → FragmentValue → Bearing
 bearing_of id fragment = record {
   key = key_of id fragment;

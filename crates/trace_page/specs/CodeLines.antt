@@ -5,7 +5,8 @@ use Rattle.std.specs.Prelude.{ℕ, ◌+◌, ◌==◌, List, [], ◌∷◌, ◌++
 abbrev pub met_behind : ℕ → ℕ → ℕ
 met_behind met byte =
     if met == 6 then (if byte == 60 then 1 else 6)
-    else (if byte == slice_index (codes "<code>") met then met + 1 else (if byte == 60 then 1 else 0))
+    else (if byte == slice_index (codes "<code>") met then met + 1
+    else (if byte == 60 then 1 else 0))
 
 -- a byte is shown behind `<code>`, and a line feed in place of the `<` behind it
 abbrev pub shown : ℕ → ℕ → List ℕ

@@ -1,4 +1,5 @@
--- The name of what a frame bears: a greeting, a request or a reply by the function's name (pilot-link, `pi-dlp.h`), an acknowledgement.
+-- The name of what a frame bears: a greeting, a request or a reply by the function's name
+-- (pilot-link, `pi-dlp.h`), an acknowledgement.
 use Rattle.std.specs.Prelude.{ℕ, ◌-◌, ◌==◌, ◌&&◌, Bool, false, not, List, [], ◌++◌, codes, Option, Some, None, if◌then◌else◌}
 use Rattle.std.specs.Fmt.{decimal}
 use Rattle.dlp_args.specs.Functions.{function_of}
@@ -47,7 +48,8 @@ function_word ReadRecordIdList = codes "ReadRecordIDList"
 
 -- a greeting by its first byte
 abbrev pub greeting_word : ℕ → List ℕ
-greeting_word front = if front == 1 then codes "Wake" else (if front == 2 then codes "Init" else codes "greeting")
+greeting_word front =
+    if front == 1 then codes "Wake" else (if front == 2 then codes "Init" else codes "greeting")
 
 -- a request by its function, where there is one
 abbrev pub request_word : Option Function → List ℕ
@@ -67,7 +69,8 @@ function_byte Desktop front = front
 -- a message of an end by its first byte
 unfoldable pub message_word : End → Bearing → ℕ → List ℕ
 message_word from bearing front =
-    if is_greeting bearing then greeting_word front else request_word (function_of (function_byte from front)) ++ reply_ending from
+    if is_greeting bearing then greeting_word front
+    else request_word (function_of (function_byte from front)) ++ reply_ending from
 
 -- which part of its message it is, where that has more than one
 unfoldable pub part_word : Bearing → List ℕ
@@ -77,16 +80,19 @@ part_word bearing =
 
 -- a handheld's reply that says an error
 abbrev pub says_error : End → Bearing → Bool
-says_error Handheld bearing = begins_message bearing && not (is_greeting bearing) && not (bearing.error == 0)
+says_error Handheld bearing =
+    begins_message bearing && not (is_greeting bearing) && not (bearing.error == 0)
 says_error Desktop bearing = false
 
 -- the error of a reply
 abbrev pub error_word : End → Bearing → List ℕ
-error_word from bearing = if says_error from bearing then codes " error " ++ decimal bearing.error else []
+error_word from bearing =
+    if says_error from bearing then codes " error " ++ decimal bearing.error else []
 
 -- a part of the message that begins with this byte, or what else a frame is
 abbrev pub name_by : PadpKind → End → Bearing → ℕ → List ℕ
-name_by Data from bearing front = message_word from bearing front ++ part_word bearing ++ error_word from bearing
+name_by Data from bearing front =
+    message_word from bearing front ++ part_word bearing ++ error_word from bearing
 name_by Ack from bearing front = codes "ack"
 name_by Tickle from bearing front = codes "tickle"
 name_by Abort from bearing front = codes "abort"

@@ -20,11 +20,15 @@ times past frame = if is_repeat frame.from (sent_in frame) past then run frame.f
 -- the first byte of the message that an end is at, 0 before any
 abbrev pub front_of : End → List Sent → ℕ
 front_of X [] = 0
-front_of X (frame ∷ past) = if is_data_of X frame && has_flag first_flag frame.key.flags then slice_index frame.bytes 0 else front_of X past
+front_of X (frame ∷ past) =
+    if is_data_of X frame && has_flag first_flag frame.key.flags then slice_index frame.bytes 0
+    else front_of X past
 
 -- the row of a frame, by those before it
 abbrev pub row : List Sent → FrameValue → List ℕ
-row past frame = row_text (times past frame) (front_of frame.from (add_frame frame past)) frame (borne frame.bytes)
+row past frame =
+    row_text (times past frame) (front_of frame.from (add_frame frame past)) frame
+    (borne frame.bytes)
 
 -- a row for each frame, by those before it
 abbrev pub rows : List Sent → List FrameValue → List ℕ
@@ -34,7 +38,8 @@ rows past (frame ∷ later) = row past frame ++ rows (add_frame frame past) late
 -- the desktop's first part of a request, and of one that is sent for the first time
 abbrev pub begins_request : End → Bearing → Bool
 begins_request Handheld bearing = false
-begins_request Desktop bearing = is_data_kind bearing.kind && begins_message bearing && not (is_greeting bearing)
+begins_request Desktop bearing =
+    is_data_kind bearing.kind && begins_message bearing && not (is_greeting bearing)
 
 abbrev pub is_new_request : ℕ → End → Bearing → Bool
 is_new_request times from bearing = times == 0 && begins_request from bearing
@@ -52,7 +57,8 @@ is_again times frame = not (times == 0)
 -- how many frames pass
 abbrev pub counted : (ℕ → FrameValue → Bool) → List Sent → List FrameValue → ℕ
 counted p past [] = 0
-counted p past (frame ∷ later) = (if p (times past frame) frame then 1 else 0) + counted p (add_frame frame past) later
+counted p past (frame ∷ later) =
+    (if p (times past frame) frame then 1 else 0) + counted p (add_frame frame past) later
 
 -- a number and a word
 unfoldable pub count_text : ℕ → List ℕ → List ℕ
@@ -61,12 +67,16 @@ count_text count word = decimal count ++ word
 -- the sentence with these numbers
 unfoldable pub counts_text : ℕ → ℕ → ℕ → ℕ → List ℕ
 counts_text frames requests disturbed again =
-    codes "<p>" ++ count_text frames (codes " frames, ") ++ count_text requests (codes " requests, ")
-    ++ count_text disturbed (codes " disturbed by the line, ") ++ count_text again (codes " sent again.</p>\n")
+    codes "<p>" ++ count_text frames (codes " frames, ")
+    ++ count_text requests (codes " requests, ")
+    ++ count_text disturbed (codes " disturbed by the line, ")
+    ++ count_text again (codes " sent again.</p>\n")
 
 -- what was counted
 abbrev pub heading : List FrameValue → List ℕ
-heading frames = counts_text (length frames) (counted is_request [] frames) (counted is_disturbed [] frames) (counted is_again [] frames)
+heading frames =
+    counts_text (length frames) (counted is_request [] frames) (counted is_disturbed [] frames)
+    (counted is_again [] frames)
 
 -- the page
 abbrev pub page_text : List FrameValue → List ℕ

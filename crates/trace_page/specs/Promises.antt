@@ -15,16 +15,21 @@ use Rattle.trace_page.specs.declared.bearing.Bearing.{Bearing}
 
 -- what stands between the tags of code is the trace
 abbrev pub HoldsItsTrace : Type 0
-HoldsItsTrace = (frames : List FrameValue) → AreTraced 1 frames → code_lines (page_text frames) ≡ trace_text frames
+HoldsItsTrace =
+    (frames : List FrameValue) → AreTraced 1 frames
+    → code_lines (page_text frames) ≡ trace_text frames
 
 -- no page is that of two traces
 abbrev pub IsOfOneTrace : Type 0
-IsOfOneTrace = (frames others : List FrameValue) → AreTraced 1 frames → AreTraced 1 others → page_text frames ≡ page_text others → frames ≡ others
+IsOfOneTrace =
+    (frames others : List FrameValue) → AreTraced 1 frames → AreTraced 1 others
+    → page_text frames ≡ page_text others → frames ≡ others
 
 -- a digit, a letter, a space, a plus, a minus, a full stop, a comma or a bracket
 abbrev pub is_plain : ℕ → Bool
 is_plain byte =
-    (nat_le 48 byte && nat_le byte 57) || (nat_le 97 byte && nat_le byte 122) || (nat_le 65 byte && nat_le byte 90) || byte == 32
+    (nat_le 48 byte && nat_le byte 57) || (nat_le 97 byte && nat_le byte 122)
+    || (nat_le 65 byte && nat_le byte 90) || byte == 32
     || (nat_le 43 byte && nat_le byte 46) || (nat_le 40 byte && nat_le byte 41)
 
 abbrev pub IsPlain : List ℕ → Type 0
@@ -43,4 +48,6 @@ pub record HasPlainWords (times front : ℕ) (frame : FrameValue) (bearing : Bea
 
 -- so no byte of a frame has to be escaped, and none can make a tag
 abbrev pub NeedsNoEscape : Type 0
-NeedsNoEscape = (number times front : ℕ) (frame : FrameValue) → IsTraced number frame → HasPlainWords times front frame (borne frame.bytes)
+NeedsNoEscape =
+    (number times front : ℕ) (frame : FrameValue) → IsTraced number frame
+    → HasPlainWords times front frame (borne frame.bytes)

@@ -1,4 +1,5 @@
--- What the page knows of the frames so far: of each end the newest key, how often it stood in a row, and the front of the message that it is at.
+-- What the page knows of the frames so far: of each end the newest key, how often it stood in a
+-- row, and the front of the message that it is at.
 use Rattle.std.specs.Prelude.{ℕ, ◌+◌, Bool, false, Option, Some, None, List, if◌then◌else◌}
 use Rattle.padp_link.specs.declared.piece.Key.{Key}
 use Rattle.trace_text.specs.declared.frame.End.{End}
@@ -26,7 +27,8 @@ is_newest key (Some newest) = same_key key newest
 
 -- a data frame with the newest key
 abbrev pub repeats : Side → Bearing → Bool
-repeats side bearing = if is_data_kind bearing.kind then is_newest bearing.key side.newest else false
+repeats side bearing =
+    if is_data_kind bearing.kind then is_newest bearing.key side.newest else false
 
 -- which sending it is, 0 where it is no repeat
 abbrev pub times_by : Side → Bearing → ℕ
@@ -51,5 +53,11 @@ side_in Desktop seen = seen.desktop
 
 -- both ends behind a frame of one
 abbrev pub seen_after : End → Bearing → Seen → Seen
-seen_after Handheld bearing seen = record { handheld = side_after seen.handheld bearing; desktop = seen.desktop }
-seen_after Desktop bearing seen = record { handheld = seen.handheld; desktop = side_after seen.desktop bearing }
+seen_after Handheld bearing seen = record {
+  handheld = side_after seen.handheld bearing;
+  desktop = seen.desktop;
+}
+seen_after Desktop bearing seen = record {
+  handheld = seen.handheld;
+  desktop = side_after seen.desktop bearing;
+}

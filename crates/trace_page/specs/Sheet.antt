@@ -1,4 +1,5 @@
--- What stands on each page, whatever the trace: the style sheet, the three switches, the head of the list, and the end.
+-- What stands on each page, whatever the trace: the style sheet, the three switches, the head of
+-- the list, and the end.
 use Rattle.std.specs.Prelude.{ℕ, List, ◌++◌, codes}
 
 -- the head of the page, with its style sheet

@@ -1,4 +1,5 @@
--- What a line does with a frame: its words, which arrive, which are faults, and how many bytes land.
+-- What a line does with a frame: its words, which arrive, which are faults, and how many bytes
+-- land.
 use Rattle.std.specs.Prelude.{ℕ, ◌+◌, ◌%◌, Bool, true, false, ◌||◌, List, [], ◌∷◌, ◌++◌, length, take, drop, codes, bit_xor}
 use Rattle.std.specs.Fmt.{decimal}
 use Rattle.hex.specs.Hex.{encode_lower}
@@ -68,7 +69,8 @@ xored (x ∷ xs) (byte ∷ bytes) = bit_xor byte x ∷ xored xs bytes
 
 -- a frame that was hit
 abbrev pub hit_at : ℕ → List ℕ → List ℕ → List ℕ
-hit_at place xs bytes = take (place % length bytes) bytes ++ xored xs (drop (place % length bytes) bytes)
+hit_at place xs bytes =
+    take (place % length bytes) bytes ++ xored xs (drop (place % length bytes) bytes)
 
 -- what arrives by itself, with a gap behind it, and isn't the frame as it was sent
 abbrev pub strange_bytes : FateValue → List ℕ → List ℕ

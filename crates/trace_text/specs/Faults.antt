@@ -43,13 +43,15 @@ count p (frame ∷ past) = if p frame then count p past + 1 else count p past
 -- the number of the newest repeat of X, or 0
 abbrev pub last_repeat : End → List Sent → ℕ
 last_repeat X [] = 0
-last_repeat X (frame ∷ past) = if is_repeat X frame past then length past + 1 else last_repeat X past
+last_repeat X (frame ∷ past) =
+    if is_repeat X frame past then length past + 1 else last_repeat X past
 
 -- of either end
 abbrev pub newest_repeat : List Sent → ℕ
 newest_repeat past = max (last_repeat Handheld past) (last_repeat Desktop past)
 
--- frame n of X is held behind this past: it or an earlier frame of X is late, and no repeat stands behind that one
+-- frame n of X is held behind this past: it or an earlier frame of X is late, and no repeat stands
+-- behind that one
 pub record IsHeldIn (X : End) (n : ℕ) (past : List Sent) : Type 0 where
   pub late : ℕ
   pub frame : Sent
@@ -60,8 +62,11 @@ pub record IsHeldIn (X : End) (n : ℕ) (past : List Sent) : Type 0 where
   pub is_late_one : late_of X frame ≡ true
   pub no_repeat : newest_repeat past ≤ late
 
--- Each repeat has its fault: where w is the same end's repeat before it, a frame from w - 1 on is faulted, and else any frame.
+-- Each repeat has its fault: where w is the same end's repeat before it, a frame from w - 1 on is
+-- faulted, and else any frame.
 abbrev pub RepeatsHaveFaults : List Sent → Type 0
 RepeatsHaveFaults [] = Unit {0}
 RepeatsHaveFaults (frame ∷ past) =
-    ((X : End) → is_repeat X frame past ≡ true → (0 < newest faulted past) × (last_repeat X past ≤ newest faulted past + 1)) × RepeatsHaveFaults past
+    ((X : End) → is_repeat X frame past ≡ true
+    → (0 < newest faulted past) × (last_repeat X past ≤ newest faulted past + 1))
+    × RepeatsHaveFaults past

@@ -1,4 +1,5 @@
--- Frames as what they bear: the packet and the fragment in their bytes, and what becomes of them by their fate.
+-- Frames as what they bear: the packet and the fragment in their bytes, and what becomes of them by
+-- their fate.
 use Rattle.std.specs.Prelude.{◌≡◌, ℕ, ◌-◌, Bool, true, false, List, [], ◌∷◌, drop, map, slice_index, slice_index_or, if◌then◌else◌}
 use Rattle.byteorder.specs.Endian.{big_number}
 use Rattle.slp_frames.specs.PacketText.{packet_text}
@@ -38,7 +39,8 @@ fragment_in frame = fields_of (packet_at frame.bytes).body
 
 -- the packet of this transaction with this fragment: between the sockets 3, of type 2
 abbrev pub padp_packet : ℕ → FragmentValue → List ℕ
-padp_packet id fragment = packet_text (record { dest = 3; source = 3; kind = 2; id = id; body = fragment_text fragment })
+padp_packet id fragment =
+    packet_text (record { dest = 3; source = 3; kind = 2; id = id; body = fragment_text fragment })
 
 -- a frame bears data or an acknowledgement; one whose fate is an abort may bear an abort
 abbrev pub MayBear : FateValue → PadpKind → Type 0

@@ -17,7 +17,8 @@ kind_word Abort = codes "abort"
 -- ` padp KIND FLAGS SIZE data N`
 unfoldable pub fragment_words : FragmentValue → List ℕ
 fragment_words fragment =
-    codes " padp " ++ kind_word fragment.kind ++ codes " " ++ encode_lower (fragment.flags ∷ []) ++ codes " " ++ decimal fragment.size
+    codes " padp " ++ kind_word fragment.kind ++ codes " " ++ encode_lower (fragment.flags ∷ [])
+    ++ codes " " ++ decimal fragment.size
     ++ (codes " data " ++ decimal (length fragment.bytes))
 
 -- ` body N`
@@ -27,13 +28,17 @@ body_words body = codes " body " ++ decimal (length body)
 -- `slp DEST SOURCE TYPE id ID`
 unfoldable pub header_words : PacketValue → List ℕ
 header_words packet =
-    codes "slp " ++ decimal packet.dest ++ codes " " ++ decimal packet.source ++ codes " " ++ decimal packet.kind ++ (codes " id " ++ decimal packet.id)
+    codes "slp " ++ decimal packet.dest ++ codes " " ++ decimal packet.source ++ codes " "
+    ++ decimal packet.kind ++ (codes " id " ++ decimal packet.id)
 
 -- the words of a body: its fragment, where it is the text of one, and else its length
 pub record ShowsBody (body words : List ℕ) : Type 0 where
-  pub fragment : (fragment : FragmentValue) → FragmentText fragment body → words ≡ fragment_words fragment
-  pub other : ((fragment : FragmentValue) → ¬ (FragmentText fragment body)) → words ≡ body_words body
+  pub fragment : (fragment : FragmentValue) → FragmentText fragment body
+      → words ≡ fragment_words fragment
+  pub other : ((fragment : FragmentValue) → ¬ (FragmentText fragment body))
+      → words ≡ body_words body
 
 -- the text shows the packet: its header and then its body
 abbrev pub ShowsPacket : PacketValue → List ℕ → Type 0
-ShowsPacket packet text = (words : List ℕ) × (text ≡ header_words packet ++ words) × ShowsBody packet.body words
+ShowsPacket packet text =
+    (words : List ℕ) × (text ≡ header_words packet ++ words) × ShowsBody packet.body words

@@ -4,13 +4,15 @@ use Rattle.padp_link.specs.declared.piece.Key.{Key}
 use Rattle.trace_text.specs.declared.frame.End.{End}
 use Rattle.trace_text.specs.declared.frame.End.TheVariants.{Handheld, Desktop}
 
--- what becomes of a frame: it comes to the other end, it doesn't (or comes damaged), or it comes late
+-- what becomes of a frame: it comes to the other end, it doesn't (or comes damaged), or it comes
+-- late
 pub data Course : Type 0 where
   Came : Course
   Gone : Course
   Late : Course
 
--- a frame: who sent it, whether it bears a data fragment or an acknowledgement, its key, the part of a message, and what becomes of it
+-- a frame: who sent it, whether it bears a data fragment or an acknowledgement, its key, the part
+-- of a message, and what becomes of it
 pub record Sent : Type 0 where
   pub from : End
   pub is_data : Bool
@@ -35,9 +37,11 @@ first (key ∷ older) = Some key
 abbrev pub add : Option Key → List Key → List Key
 add None keys = keys
 add (Some key) [] = key ∷ []
-add (Some key) (newest ∷ older) = if same_key key newest then newest ∷ older else key ∷ newest ∷ older
+add (Some key) (newest ∷ older) =
+    if same_key key newest then newest ∷ older else key ∷ newest ∷ older
 
--- the keys that are picked of the frames, the newest first, each once where it stands several times in a row
+-- the keys that are picked of the frames, the newest first, each once where it stands several times
+-- in a row
 abbrev pub keys : (Sent → Option Key) → List Sent → List Key
 keys pick [] = []
 keys pick (frame ∷ past) = add (pick frame) (keys pick past)
@@ -81,4 +85,6 @@ is_repeat X frame past = is_data_of X frame && is_newest_key frame.key (said X p
 -- how many data frames of X with its newest key stand in a row
 abbrev pub run : End → List Sent → ℕ
 run X [] = 0
-run X (frame ∷ past) = if is_repeat X frame past then run X past + 1 else (if is_data_of X frame then 1 else run X past)
+run X (frame ∷ past) =
+    if is_repeat X frame past then run X past + 1
+    else (if is_data_of X frame then 1 else run X past)

@@ -1,4 +1,5 @@
--- Proper traces: what holds of the frames of every run of two retrying ends over a line, said without timers, tries or queues.
+-- Proper traces: what holds of the frames of every run of two retrying ends over a line, said
+-- without timers, tries or queues.
 use Rattle.std.specs.Prelude.{◌≡◌, ◌⊎◌, ℕ, ◌+◌, ◌≤◌, ◌<◌, Bool, true, false, ◌&&◌, not, List, [], ◌∷◌, ◌++◌, length, reverse, Option, Some, None, if◌then◌else◌}
 use Rattle.std.specs.Bool.{MatchBool}
 use Rattle.std.specs.List.{AllByRecursion}
@@ -17,17 +18,20 @@ use Rattle.trace_text.specs.Talks.{Talk, Turn, messages_of, pieces_before, answe
 abbrev pub AreNumbered : ℕ → (ℕ → FateValue) → List FrameValue → Type 0
 AreNumbered number script [] = Unit {0}
 AreNumbered number script (frame ∷ later) =
-    (frame.number ≡ number) × (frame.fate ≡ script number) × (ends_run frame.fate frame.bytes ≡ true → later ≡ []) × AreNumbered (number + 1) script later
+    (frame.number ≡ number) × (frame.fate ≡ script number)
+    × (ends_run frame.fate frame.bytes ≡ true → later ≡ []) × AreNumbered (number + 1) script later
 
 -- a frame of this end that didn't come, or of the other end
 abbrev pub StaysAway : End → FrameValue → Type 0
 StaysAway X frame = frame.from ≡ X → frame.came ≡ false
 
--- A frame comes only where its fate lets it arrive. Behind one that could arrive and didn't come, no frame of its direction comes.
+-- A frame comes only where its fate lets it arrive. Behind one that could arrive and didn't come,
+-- no frame of its direction comes.
 abbrev pub ComeInOrder : List FrameValue → Type 0
 ComeInOrder [] = Unit {0}
 ComeInOrder (frame ∷ later) =
-    (frame.came ≡ true → arrives frame.fate ≡ true) × (arrives frame.fate ≡ true → frame.came ≡ false → AllByRecursion (StaysAway frame.from) later)
+    (frame.came ≡ true → arrives frame.fate ≡ true)
+    × (arrives frame.fate ≡ true → frame.came ≡ false → AllByRecursion (StaysAway frame.from) later)
     × ComeInOrder later
 
 -- Frame n reached the frame that is sent behind this past: it stands there, came, and isn't held.
@@ -46,12 +50,15 @@ pub record AcksNewest (X Y : End) (past : List Sent) (n : ℕ) (frame : Sent) : 
   pub key_is : first (said X past) ≡ Some frame.key
 
 -- frame n bears the fragment of X of this number, from 1 on
-pub record BearsNumber (X : End) (past : List Sent) (n : ℕ) (frame : Sent) (number : ℕ) : Type 0 where
+pub record BearsNumber (X : End) (past : List Sent) (n : ℕ) (frame : Sent)
+    (number : ℕ) : Type 0 where
   pub is : IsDataOf X frame
   pub number_is : length (said X (at n past)) ≡ number
 
--- frame n bears the first fragment of the message that answers X's message of this number, whose last fragment is the newest of X
-pub record AnswersNewest (X Y : End) (talk : Talk) (past : List Sent) (n : ℕ) (frame : Sent) : Type 0 where
+-- frame n bears the first fragment of the message that answers X's message of this number, whose
+-- last fragment is the newest of X
+pub record AnswersNewest (X Y : End) (talk : Talk) (past : List Sent) (n : ℕ)
+    (frame : Sent) : Type 0 where
   pub number : ℕ
   pub answer : ℕ
   pub asked : number < length (messages_of X talk)
@@ -67,11 +74,13 @@ pub record IsKnown (X Y : End) (talk : Talk) (came : ℕ → Bool) (past : List 
   pub cause : AcksNewest X Y past n reaches.frame ⊎ AnswersNewest X Y talk past n reaches.frame
 
 -- a frame with the last fragment of this message reached it
-pub record EndReached (turn : Turn) (talk : Talk) (came : ℕ → Bool) (past : List Sent) : Type 0 where
+pub record EndReached (turn : Turn) (talk : Talk) (came : ℕ → Bool)
+    (past : List Sent) : Type 0 where
   pub n : ℕ
   pub reaches : Reaches came n past
   pub there : turn.number < length (messages_of turn.end talk)
-  pub bears : BearsNumber turn.end past n reaches.frame (pieces_before (messages_of turn.end talk) (turn.number + 1))
+  pub bears : BearsNumber turn.end past n reaches.frame
+      (pieces_before (messages_of turn.end talk) (turn.number + 1))
 
 abbrev pub IfAnswers : Option Turn → Talk → (ℕ → Bool) → List Sent → Type 0
 IfAnswers None talk came past = Unit {0}
@@ -80,14 +89,17 @@ IfAnswers (Some turn) talk came past = EndReached turn talk came past
 -- where a message of X begins behind this past, the end of the message that it answers was reached
 abbrev pub AnswersReached : End → Talk → (ℕ → Bool) → List Sent → Type 0
 AnswersReached X talk came past =
-    (number : ℕ) → number < length (messages_of X talk) → pieces_before (messages_of X talk) number ≡ length (said X past)
+    (number : ℕ) → number < length (messages_of X talk)
+    → pieces_before (messages_of X talk) number ≡ length (said X past)
     → IfAnswers (answered_by X number) talk came past
 
--- each new fragment of X goes out once X knows that the one before it was taken, and once what its message answers was taken
+-- each new fragment of X goes out once X knows that the one before it was taken, and once what its
+-- message answers was taken
 abbrev pub BeginInTurn : End → End → Talk → (ℕ → Bool) → List Sent → Type 0
 BeginInTurn X Y talk came [] = Unit {0}
 BeginInTurn X Y talk came (frame ∷ past) =
-    (is_data_of X frame ≡ true → is_repeat X frame past ≡ false → (0 < length (said X past) → IsKnown X Y talk came past) × AnswersReached X talk came past)
+    (is_data_of X frame ≡ true → is_repeat X frame past ≡ false
+    → (0 < length (said X past) → IsKnown X Y talk came past) × AnswersReached X talk came past)
     × BeginInTurn X Y talk came past
 
 -- no key stands more than ten times in a row
@@ -109,34 +121,43 @@ pub record Numbered : Type 0 where
 abbrev pub data_that_came : End → (ℕ → Bool) → List Sent → List Numbered
 data_that_came X came [] = []
 data_that_came X came (frame ∷ past) =
-    if is_data_of X frame && came (length past + 1) then record { number = length past + 1; key = frame.key } ∷ data_that_came X came past else data_that_came X
+    if is_data_of X frame && came (length past + 1)
+    then record { number = length past + 1; key = frame.key } ∷ data_that_came X came past
+    else data_that_came X
     came past
 
 abbrev pub is_ack_of : End → Sent → Bool
 is_ack_of Y frame = is_end Y frame.from && not frame.is_data
 
--- The acknowledgements by Y in this past are those of these data frames, in order: each bears the key of its own, which reached it.
+-- The acknowledgements by Y in this past are those of these data frames, in order: each bears the
+-- key of its own, which reached it.
 abbrev pub AcksAreFor : End → (ℕ → Bool) → List Sent → List Numbered → Type 0
 AcksAreFor Y came [] answered = answered ≡ []
 AcksAreFor Y came (frame ∷ past) answered =
     MatchBool (is_ack_of Y frame)
-    ((data_frame : Numbered) × (older : List Numbered) × (answered ≡ data_frame ∷ older) × (data_frame.key ≡ frame.key) × Reaches came data_frame.number past
+    ((data_frame : Numbered) × (older : List Numbered) × (answered ≡ data_frame ∷ older)
+    × (data_frame.key ≡ frame.key) × Reaches came data_frame.number past
     × AcksAreFor Y came past older)
     (AcksAreFor Y came past answered)
 
 -- of all but the last
-pub record AllButLastAcked (Y : End) (came : ℕ → Bool) (past : List Sent) (answered : List Numbered) : Type 0 where
+pub record AllButLastAcked (Y : End) (came : ℕ → Bool) (past : List Sent)
+    (answered : List Numbered) : Type 0 where
   pub last : Numbered
   pub older : List Numbered
   pub is : answered ≡ last ∷ older
   pub acked : AcksAreFor Y came past older
 
--- The acknowledgements are those of the data frames that came: of all of them, or of all but the last.
+-- The acknowledgements are those of the data frames that came: of all of them, or of all but the
+-- last.
 abbrev pub DataIsAcked : End → End → (ℕ → Bool) → List Sent → Type 0
-DataIsAcked X Y came past = AcksAreFor Y came past (data_that_came X came past) ⊎ AllButLastAcked Y came past (data_that_came X came past)
+DataIsAcked X Y came past =
+    AcksAreFor Y came past (data_that_came X came past)
+    ⊎ AllButLastAcked Y came past (data_that_came X came past)
 
 -- all that holds of one end's frames
-pub record SpeaksProperly (X Y : End) (talk : Talk) (came : ℕ → Bool) (past : List Sent) : Type 0 where
+pub record SpeaksProperly (X Y : End) (talk : Talk) (came : ℕ → Bool)
+    (past : List Sent) : Type 0 where
   pub says : SaysMessages X talk past
   pub ten : AtMostTen X past
   pub begins : BeginInTurn X Y talk came past

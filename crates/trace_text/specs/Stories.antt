@@ -19,7 +19,8 @@ told_parts story = flat_map (λ told. message_parts told.id told.message) story
 pub record IsStoryOf (parts : List Part) (story : List Told) : Type 0 where
   pub rest : List Part
   pub is : parts ≡ told_parts story ++ rest
-  pub unfinished : (id : ℕ) (message : List ℕ) (later : List Part) → rest ≡ message_parts id message ++ later → ⊥
+  pub unfinished : (id : ℕ) (message : List ℕ) (later : List Part)
+      → rest ≡ message_parts id message ++ later → ⊥
 
 -- the story of the end that takes what X sent
 abbrev pub IsStory : End → List FrameValue → List Told → Type 0

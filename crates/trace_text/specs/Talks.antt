@@ -17,14 +17,16 @@ messages_of Desktop talk = talk.desktop
 abbrev pub pieces_before : List (List ℕ) → ℕ → ℕ
 pieces_before messages zero = 0
 pieces_before [] (suc number) = 0
-pieces_before (message ∷ later) (suc number) = piece_count (length message) + pieces_before later number
+pieces_before (message ∷ later) (suc number) =
+    piece_count (length message) + pieces_before later number
 
 -- a message by its end and its number among its end's messages
 pub record Turn : Type 0 where
   pub end : End
   pub number : ℕ
 
--- The message that an end's message of this number answers: the init answers the wake, the first request the init, each later one the reply before it,
+-- The message that an end's message of this number answers: the init answers the wake, the first
+-- request the init, each later one the reply before it,
 -- a reply its request.
 abbrev pub answered_by : End → ℕ → Option Turn
 answered_by Handheld zero = None

@@ -19,7 +19,13 @@ pub record FrameValue : Type 0 where
 -- the frames of the program as frames
 abbrev pub frame_value : Frame → FrameValue
 frame_value frame =
-    record { number = frame.number; from = frame.from; fate = fate_value frame.fate; came = frame.came; bytes = frame.bytes.items }
+    record {
+      number = frame.number;
+      from = frame.from;
+      fate = fate_value frame.fate;
+      came = frame.came;
+      bytes = frame.bytes.items;
+    }
 
 -- the word of an end
 abbrev pub end_word : End → List ℕ
@@ -33,7 +39,8 @@ mark_word came = if came then codes "+" else codes "-"
 -- `NUMBER END FATE MARK HEX` and a line feed
 abbrev pub frame_line : FrameValue → List ℕ
 frame_line frame =
-    decimal frame.number ++ codes " " ++ end_word frame.from ++ codes " " ++ fate_words frame.fate ++ codes " " ++ mark_word frame.came ++ codes " "
+    decimal frame.number ++ codes " " ++ end_word frame.from ++ codes " " ++ fate_words frame.fate
+    ++ codes " " ++ mark_word frame.came ++ codes " "
     ++ encode_lower frame.bytes ++ codes "\n"
 
 -- a line for each frame
