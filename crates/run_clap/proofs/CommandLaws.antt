@@ -7,7 +7,7 @@ use Rattle.clap.specs.Takes.{takes}
 use Rattle.clap.specs.Walk.{rows_of}
 use Rattle.clap.specs.declared.parser.matches.Found.{Found}
 use Rattle.run_words.specs.Betweens.{Between, between_form, between_in, between_of}
-use Rattle.run_words.specs.Commands.{Task, Sync, LookAt, Scan, Make, Install, export_form, export_of, export_task_in, file_form, file_of, hex_bytes, import_form, import_of, import_task_in, install_between, install_of, make_form, make_in, make_of, packet_form, packet_of, task_of}
+use Rattle.run_words.specs.Commands.{Task, Sync, LookAt, Scan, Make, Install, Backup, export_form, export_of, export_task_in, file_form, file_of, hex_bytes, import_form, import_of, import_task_in, install_between, install_of, make_form, make_in, make_of, packet_form, packet_of, task_of}
 use Rattle.run_words.specs.Exports.{export_in, import_in}
 use Rattle.run_words.specs.Forms.{is_of_form, plain_at}
 use Rattle.run_words.specs.Runs.{are_actions_right, run_form, run_in, run_of}
@@ -145,7 +145,14 @@ module _ (now : Option ℕ) (first : List ℕ) (rest : List (List ℕ)) {task : 
   unfolding install_of
   install_asked e = between_asked (between_of rest) refl e
 
-  chosen : (a b c d i v p m n s : Bool)
+  backup_asked : option_map Backup (between_of rest) ≡ Some task → IsAsked now (first ∷ rest) task
+  unfolding between_of
+  backup_asked e =
+      let between = mapped Backup (between_of rest) e in
+      let right = kept (is_of_form between_form rest) (between_in rest) between.1 in
+      subst (IsAsked now (first ∷ rest)) between.2 (record { first = first; rest = rest; are = refl; right = right.0; asks = right.1 })
+
+  chosen : (a b c d i v p m n s k : Bool)
       → cond a (option_map Sync (run_of now rest))
       (cond b (option_map (LookAt Check) (file_of rest))
       (cond c (option_map (LookAt Show) (file_of rest))
@@ -154,19 +161,21 @@ module _ (now : Option ℕ) (first : List ℕ) (rest : List (List ℕ)) {task : 
       (cond v (option_map (LookAt Verify) (file_of rest))
       (cond p (option_map (LookAt Picture) (file_of rest))
       (cond m (option_map Scan (packet_of rest))
-      (cond n (make_of rest) (cond s (install_of rest) None))))))))) ≡ Some task
+      (cond n (make_of rest) (cond s (install_of rest)
+      (cond k (option_map Backup (between_of rest)) None)))))))))) ≡ Some task
       → IsAsked now (first ∷ rest) task
-  chosen true b c d i v p m n s e = run_asked e
-  chosen false true c d i v p m n s e = check_asked e
-  chosen false false true d i v p m n s e = show_asked e
-  chosen false false false true i v p m n s e = export_asked e
-  chosen false false false false true v p m n s e = import_asked e
-  chosen false false false false false true p m n s e = verify_asked e
-  chosen false false false false false false true m n s e = picture_asked e
-  chosen false false false false false false false true n s e = packet_asked e
-  chosen false false false false false false false false true s e = make_asked e
-  chosen false false false false false false false false false true e = install_asked e
-  chosen false false false false false false false false false false e = cc
+  chosen true b c d i v p m n s k e = run_asked e
+  chosen false true c d i v p m n s k e = check_asked e
+  chosen false false true d i v p m n s k e = show_asked e
+  chosen false false false true i v p m n s k e = export_asked e
+  chosen false false false false true v p m n s k e = import_asked e
+  chosen false false false false false true p m n s k e = verify_asked e
+  chosen false false false false false false true m n s k e = picture_asked e
+  chosen false false false false false false false true n s k e = packet_asked e
+  chosen false false false false false false false false true s k e = make_asked e
+  chosen false false false false false false false false false true k e = install_asked e
+  chosen false false false false false false false false false false true e = backup_asked e
+  chosen false false false false false false false false false false false e = cc
 
 words_ask : (now : Option ℕ) (words : List (List ℕ)) {task : Task} → task_of now words ≡ Some task → IsAsked now words task
 unfolding task_of
@@ -174,7 +183,7 @@ words_ask now [] e = cc
 words_ask now (first ∷ rest) e =
     chosen now first rest (bytes_eq first (codes "run")) (bytes_eq first (codes "check")) (bytes_eq first (codes "show")) (bytes_eq first (codes "export"))
     (bytes_eq first (codes "import")) (bytes_eq first (codes "verify")) (bytes_eq first (codes "picture")) (bytes_eq first (codes "packet")) (bytes_eq first (codes "make"))
-    (bytes_eq first (codes "install")) e
+    (bytes_eq first (codes "install")) (bytes_eq first (codes "backup")) e
 
 -- ---- each of the forms has names that differ
 
@@ -283,6 +292,7 @@ task_proper (LookAt look file) = look_proper look
 task_proper (Scan bytes) = packet_proper
 task_proper (Make seed count) = make_proper
 task_proper (Install between) = between_proper
+task_proper (Backup between) = between_proper
 
 -- ---- words in the form are taken by the command of their form, and its matches hold what they ask for
 

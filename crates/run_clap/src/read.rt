@@ -41,6 +41,7 @@ fn form_of(command: &Command<'_>) -> WordForm<'static>
         Command::Packet(_) => PACKET,
         Command::Make(_) => MAKE,
         Command::Install(_) => BETWEEN,
+        Command::Backup(_) => BETWEEN,
     }
 }
 
@@ -110,6 +111,10 @@ fn command_in<'a>(
         },
         Command::Install(_) => match between_in(matches) {
             Some(words) => Some(Command::Install(words)),
+            None => None,
+        },
+        Command::Backup(_) => match between_in(matches) {
+            Some(words) => Some(Command::Backup(words)),
             None => None,
         },
     }

@@ -10,13 +10,15 @@ use Rattle.run_words.specs.Runs.{Run, run_of}
 use Rattle.run_words.specs.Words.{is_hex, bytes_of}
 
 -- a run, a look at a file, the packets in some bytes, a run over folders made of a seed and a
--- count, or an install of a file
+-- count,
+-- an install of a file, or a backup into a folder
 pub data Task : Type 0 where
   Sync : Run → Task
   LookAt : Look → List ℕ → Task
   Scan : List ℕ → Task
   Make : ℕ → ℕ → Task
   Install : Between → Task
+  Backup : Between → Task
 
 -- plain words alone, of these names
 abbrev pub plain_form : List (List ℕ) → Form
@@ -114,7 +116,9 @@ task_behind now command words =
     else (if bytes_eq command (codes "picture") then option_map (LookAt Picture) (file_of words)
     else (if bytes_eq command (codes "packet") then option_map Scan (packet_of words)
     else (if bytes_eq command (codes "make") then make_of words
-    else (if bytes_eq command (codes "install") then install_of words else None)))))))))
+    else (if bytes_eq command (codes "install") then install_of words
+    else (if bytes_eq command (codes "backup") then option_map Backup (between_of words)
+    else None))))))))))
 
 -- what these words ask for, where the date now is this, if it can be told
 unfoldable pub task_of : Option ℕ → List (List ℕ) → Option Task

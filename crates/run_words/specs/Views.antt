@@ -1,7 +1,7 @@
 -- What contracts see of words, and of what they give.
 use Rattle.std.specs.Prelude.{map, option_copied}
 use Rattle.run_words.specs.Betweens.{Between}
-use Rattle.run_words.specs.Commands.{Task, Sync, LookAt, Scan, Make, Install}
+use Rattle.run_words.specs.Commands.{Task, Sync, LookAt, Scan, Make, Install, Backup}
 use Rattle.run_words.specs.Forms.{Form, NamedOption}
 use Rattle.run_words.specs.Runs.{Run}
 use Rattle.run_words.specs.Words.{bytes_of}
@@ -53,3 +53,4 @@ task_view (commands.Look look) = LookAt look.look look.file.now
 task_view (commands.Packet packet) = Scan (bytes_of packet.hex.now)
 task_view (commands.Make make) = Make make.seed make.count
 task_view (commands.Install words) = Install (between_view words)
+task_view (commands.Backup words) = Backup (between_view words)

@@ -1,6 +1,7 @@
 // Commands.
 ghost use Rattle.std.specs.Prelude.{◌≡◌, map, string_bytes, option_map};
-ghost use Rattle.run_words.specs.Commands.{LookAt, Scan, Sync, export_of, file_of, import_of, install_of, make_of, packet_of, task_of};
+ghost use Rattle.run_words.specs.Betweens.{between_of};
+ghost use Rattle.run_words.specs.Commands.{Backup, LookAt, Scan, Sync, export_of, file_of, import_of, install_of, make_of, packet_of, task_of};
 ghost use Rattle.run_words.specs.Exports.{export_in as export_of_words, import_in as import_of_words};
 ghost use Rattle.run_words.specs.Runs.{run_of};
 ghost use Rattle.run_words.specs.Views.{task_view};
@@ -88,6 +89,8 @@ pub enum Command<'a> {
     Make(MakeWords),
     /// `install`.
     Install(BetweenWords<'a>),
+    /// `backup`.
+    Backup(BetweenWords<'a>),
 }
 
 /// What these words ask for, by the first of them, or `None` exactly where they are not in the form. `now` is the
@@ -110,6 +113,7 @@ pub fn command_of<'a>(now: Option<u32>, words: &'a [String]) -> Option<Command<'
         "packet" => packet_command(words),
         "make" => make_command(words),
         "install" => install_command(words),
+        "backup" => backup_command(words),
         _ => None,
     }
 }
@@ -224,4 +228,15 @@ fn install_command<'a>(words: &'a [String]) -> Option<Command<'a>>
         return None;
     }
     Some(Command::Install(between))
+}
+
+// The handheld and the folder behind `backup`.
+fn backup_command<'a>(words: &'a [String]) -> Option<Command<'a>>
+    ensures { option_map task_view result
+        ≡ option_map Backup (between_of (map string_bytes words.entry.now)) }
+{
+    match between_words(words) {
+        Some(between) => Some(Command::Backup(between)),
+        None => None,
+    }
 }

@@ -2,7 +2,7 @@
 //!
 //! The first word is the command: `run HANDHELD DESKTOP --date=D [--script=F] [--trace=F] [--slow] [--actions=L] [--add-user]`,
 //! `check FILE`, `show FILE`, `export FILE --as=FORM [--date=D] [--without-private] [--keep-broken]`, `import FILE --as=txt`,
-//! `verify FILE`, `picture FILE`, `packet HEX`, `make SEED N` or `install HANDHELD FILE [--trace=F]`. The form of the words behind
+//! `verify FILE`, `picture FILE`, `packet HEX`, `make SEED N`, `install HANDHELD FILE [--trace=F]` or `backup HANDHELD FOLDER [--script=F] [--trace=F]`. The form of the words behind
 //! it is a table, and they stand in any order. A plain word is not empty and does not begin with `-`. A date is written, or it is `now`, the date that the caller
 //! hands over. No call takes memory but for the list of actions.
 #![tactic(auto)]
