@@ -18,11 +18,11 @@ use Rattle.hotsync_looks.specs.declared.status.Surplus.TheVariants as surplus
 use Rattle.hotsync_looks.specs.declared.status.Status.{Status}
 use Rattle.hotsync_looks.specs.declared.status.Status.TheVariants.{Done, Usage, BadScript, TooLong, BadFile, TooMany, HandheldFolder, DesktopFolder, SourceRead}
 use Rattle.hotsync_looks.specs.declared.status.Status.TheVariants.{TraceWrite, OutWrite, NoMemory, LineDown, Unplugged, Aborted, Undetected, OtherUser}
-use Rattle.hotsync_looks.specs.declared.status.Status.TheVariants.{TooManyUsers, Limit, NewHandheld, WrongSide, InUse, CannotExport, BadRecord, BadText, Overfull, BadTrace, NotProper, CannotInstall}
+use Rattle.hotsync_looks.specs.declared.status.Status.TheVariants.{TooManyUsers, Limit, NewHandheld, WrongSide, InUse, CannotExport, BadRecord, BadText, Overfull, BadTrace, NotProper, CannotInstall, NotBackupFolder}
 use Rattle.session_parts.specs.declared.report.Counts.{Counts}
 use Rattle.session_parts.specs.declared.report.DbReport.{DbReport}
 use Rattle.session_parts.specs.declared.report.Did.{Did}
-use Rattle.session_parts.specs.declared.report.Did.TheVariants.{Synced, Skipped, Installed}
+use Rattle.session_parts.specs.declared.report.Did.TheVariants.{Synced, Skipped, Installed, BackedUp}
 use Rattle.session_parts.specs.declared.skip.Skip.{Skip}
 use Rattle.session_parts.specs.declared.skip.Skip.TheVariants as skip
 use Rattle.trace_check.specs.declared.rule.Rule.{Rule}
@@ -147,6 +147,7 @@ refusal_line TooManyUsers = codes "too many users" ++ line_feed
 refusal_line (Limit name) = word_line (codes "limit ") (stem_of name)
 refusal_line (NewHandheld name) = word_line (codes "new handheld ") (stem_of name)
 refusal_line (CannotInstall name) = word_line (codes "cannot install ") (stem_of name)
+refusal_line NotBackupFolder = codes "not a backup folder" ++ line_feed
 
 -- how the handheld's database was read
 abbrev pub mode_word : Bool → List ℕ
@@ -174,11 +175,12 @@ counts_text counts =
     ++ count_text (codes " purged ") counts.purged
     ++ count_text (codes " archived ") counts.archived ++ count_text (codes " rows ") counts.rows
 
--- this, or ` skipped REASON`, or ` installed entries N`
+-- this, or ` skipped REASON`, or ` installed entries N`, or ` backed up entries N`
 abbrev pub did_text : Did → List ℕ
 did_text (Synced counts) = counts_text counts
 did_text (Skipped reason) = codes " skipped " ++ skip_word reason
 did_text (Installed entries) = count_text (codes " installed entries ") entries
+did_text (BackedUp entries) = count_text (codes " backed up entries ") entries
 
 -- what was done with the database of a name, behind its stem
 unfoldable pub database_line : List ℕ → Did → List ℕ

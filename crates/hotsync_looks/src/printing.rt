@@ -162,6 +162,7 @@ fn did_text(alloc: Global, did: Did) -> Result<String, AllocError>
         Did::Synced(counts) => counts_text(alloc, counts),
         Did::Skipped(reason) => skip_text(alloc, reason),
         Did::Installed(entries) => installed_text(alloc, entries),
+        Did::BackedUp(entries) => backed_up_text(alloc, entries),
     }
 }
 
@@ -195,6 +196,15 @@ fn installed_text(alloc: Global, entries: u32) -> Result<String, AllocError>
 {
     let mut text = String::new(alloc);
     push_count(&mut text, " installed entries ", entries)?;
+    Ok(text)
+}
+
+// How many entries the file of a backup has.
+fn backed_up_text(alloc: Global, entries: u32) -> Result<String, AllocError>
+    ensures { IfOk result (λ text. string_bytes text ≡ text_of_did (Did.BackedUp entries)) }
+{
+    let mut text = String::new(alloc);
+    push_count(&mut text, " backed up entries ", entries)?;
     Ok(text)
 }
 
@@ -268,6 +278,7 @@ fn refusal_line(alloc: Global, refusal: &Status) -> Result<String, AllocError>
         Status::Limit(name) => limit_line(alloc, name),
         Status::NewHandheld(name) => new_handheld_line(alloc, name),
         Status::CannotInstall(name) => cannot_install_line(alloc, name),
+        Status::NotBackupFolder => String::from_str(alloc, "not a backup folder\n"),
     }
 }
 

@@ -103,6 +103,8 @@ pub enum Status {
     NewHandheld(DbName),
     /// The folder of this end has the information file of the other one.
     WrongSide(End),
+    /// The folder for a backup is one that is synchronised.
+    NotBackupFolder,
 }
 
 impl From<AllocError> for Status {
@@ -202,7 +204,8 @@ impl Status {
             | Status::Limit(_)
             | Status::NewHandheld(_)
             | Status::WrongSide(_)
-            | Status::CannotInstall(_) => 7,
+            | Status::CannotInstall(_)
+            | Status::NotBackupFolder => 7,
         }
     }
 }

@@ -20,6 +20,8 @@ pub enum Did {
     Skipped(Skip),
     /// The handheld has it from a file, of so many entries.
     Installed(u32),
+    /// Its file has it, of so many entries.
+    BackedUp(u32),
 }
 
 /// How a database was synchronised, in numbers of records.
