@@ -2,8 +2,8 @@
 use Rattle.std.proofs.lemmas.Grind.{common_steps}
 use Rattle.std.proofs.lemmas.Bool.Decides.{nat_tests}
 use Rattle.std.proofs.lemmas.List.{append-nil, map-append}
-use Rattle.std.proofs.Common.{arith, ltb-true, ◌≡◌, ◌∙◌, ◌<◌, ◌≤◌, ◌+◌, ◌-◌, ap, refl, sym, subst, inl, inr, ◌⊎◌, ℕ, zero, suc, true, false, List, [], ◌∷◌, ◌++◌, length, map, append_assoc}
-use Rattle.std.specs.Prelude.{Option, Some, None, IfErr, IfOk, IfSome, OnOk, Result, Ok, Err, flat_map, max}
+use Rattle.std.proofs.Common.{arith, ltb-true, ◌≡◌, ◌≢◌, ◌∙◌, ◌<◌, ◌≤◌, ◌+◌, ◌-◌, ap, refl, sym, subst, inl, inr, ◌⊎◌, ℕ, zero, suc, true, false, List, [], ◌∷◌, ◌++◌, length, map, append_assoc}
+use Rattle.std.specs.Prelude.{Option, Some, None, IfErr, IfOk, IfSome, IsErrOf, OnOk, Result, Ok, Err, flat_map, max}
 use Rattle.std.specs.Global.{Vec}
 use Rattle.std.specs.Option.{option_map}
 use Rattle.hs_folders.specs.FileMaps.{FileMap}
@@ -17,6 +17,8 @@ use Rattle.pdb_values.specs.declared.user.UserInfo.{UserInfo}
 use Rattle.dlp_replies.specs.declared.fault.ReplyFault.{ReplyFault}
 use Rattle.dlp_replies.specs.ReplyReading.{reply_at}
 use Rattle.dlp_replies.specs.ReplyValues.{ReplyValue}
+use Rattle.dlp_commands.specs.Links.{WentDown}
+use Rattle.dlp_commands.specs.declared.link.LinkFault.TheVariants as link_fault
 use Rattle.desk_journal.specs.Entries.{EntryValue}
 use Rattle.desk_journal.specs.Overlays.{put_all}
 use Rattle.palm_device.specs.Devices.{Device}
@@ -31,6 +33,7 @@ use Rattle.desktop_session.specs.Tellings.{IsProper, device_after}
 use Rattle.desktop_session.specs.declared.fault.SessionFault.TheVariants as session
 use Rattle.session_parts.specs.Causes.{IsLater}
 use Rattle.session_parts.specs.Meets.{IsUnlisted, Meets, MeetsOrNot, greeting, meeting_acts}
+use Rattle.session_parts.specs.Leaving.{Leaves}
 use Rattle.session_parts.specs.Rests.{IsAtRest}
 use Rattle.session_parts.specs.Stretches.{AreFirst, EachSays, each_acts}
 use Rattle.session_parts.specs.declared.meeting.Met.{Met}
@@ -167,6 +170,7 @@ module _ {L F : Type 0} {talk : L → Option Talk} {since : L → L → Type 0} 
     stops = stops;
     now = new;
     behind = inl refl;
+    unkept = λ is. absurd cc;
     ended = tt;
     cause = later;
   }
@@ -258,8 +262,30 @@ module _ {L F : Type 0} {talk : L → Option Talk} {since : L → L → Type 0} 
         ∙ acts_are told.device rests database there.0 (talk some.now) some.next.given now_tells)
         stops
 
+    next_does : (rest : List DbHead) (later : List DatabaseValue) → rest ≡ map listed_of later → AreHeld told.device.databases later → rest ≢ []
+        → Does talk (next_acts (talk some.now) rest some.next) some.now went.now.link
+        → (later ≢ []) × Does talk (next_of later) some.now went.now.link
+    next_does [] later same there more does = absurd (more refl)
+    next_does (head ∷ rest) [] same there more does = absurd cc
+    next_does (head ∷ rest) (database ∷ later) same there more does =
+        let first : head ≡ listed_of database = cc in
+        let handle = first_is told.device (talk some.now) some.next.handle now_tells rests.closed some.first in (
+          λ none. cc,
+          subst (λ (acts : List Act). Does talk acts some.now went.now.link)
+              (ap (λ (h : DbHead). backups_under (talk some.now) h some.next.handle some.next.given) first
+              ∙ ap (λ (n : ℕ). backups_under (talk some.now) (listed_of database) n some.next.given) handle
+              ∙ acts_are told.device rests database there.0 (talk some.now) some.next.given now_tells)
+              does,
+        )
+
     all_does : Does talk (backup_front told.device ++ flat_map backup_of split.kept) old some.now
     all_does = does_then talk (backup_front told.device) (flat_map backup_of split.kept) old link some.now front_does kept_does
+
+    read_does : {new : L} → Does talk (next_of split.later) some.now new
+        → Does talk (backup_front told.device ++ (flat_map backup_of split.kept ++ next_of split.later)) old new
+    read_does {new} does =
+        does_then talk (backup_front told.device) (flat_map backup_of split.kept ++ next_of split.later) old link new front_does
+        (does_then talk (flat_map backup_of split.kept) (next_of split.later) link some.now new kept_does does)
 
     all_stops : {new : L} → Stops talk since fault downs (map text (next_of split.later)) some.now new
         → Stops talk since fault downs (map text (backup_front told.device ++ (flat_map backup_of split.kept ++ next_of split.later))) old new
@@ -284,10 +310,11 @@ module _ {L F : Type 0} {talk : L → Option Talk} {since : L → L → Type 0} 
         (ap (map file_of) all.wholes_are ∙ files-are told.device split.kept) some.each_moment
 
     ends : (answer : Result (Vec Moved) Stop) (new : L) → Stops talk since fault downs (map text (next_of split.later)) some.now new
+        → (IsErrOf answer stop.DeskFault → (split.later ≢ []) × Does talk (next_of split.later) some.now new)
         → IfOk answer (λ moved. (split.later ≡ [])
         × (Does talk (backup_acts told.device) old new × (moved.items ≡ map (λ (d : DatabaseValue). kept_moved (read_of told.device d)) told.device.databases)))
         → IfErr answer (IsBackupCause fault new) → BackupEnds talk since fault downs contents moments told.device old new folder left.folder answer
-    ends answer new stops ended cause = record {
+    ends answer new stops unkept ended cause = record {
       kept = split.kept;
       later = split.later;
       parts = split.parts;
@@ -296,6 +323,7 @@ module _ {L F : Type 0} {talk : L → Option Talk} {since : L → L → Type 0} 
       stops = all_stops stops;
       now = some.now;
       behind = inr (all_does, stops);
+      unkept = λ is. let next = unkept is in (next.0, read_does next.1);
       ended = ended;
       cause = cause;
     }
@@ -304,18 +332,24 @@ module _ {L F : Type 0} {talk : L → Option Talk} {since : L → L → Type 0} 
     none_later [] same = refl
     none_later (d ∷ later) same = absurd cc
 
-    unended : (why : Stop) (new : L) → new ≡ went.now.link → IsBackupCause fault went.now.link why
+    unended : (why : Stop) (new : L) → new ≡ went.now.link
+        → (IsErrOf {T = Vec Moved} (Err why) stop.DeskFault → (some.rest ≢ []) × Does talk (next_acts (talk some.now) some.rest some.next) some.now went.now.link)
+        → IsBackupCause fault went.now.link why
         → BackupEnds talk since fault downs contents moments told.device old new folder left.folder (Err why)
-    unended why new same cause =
+    unended why new same unkept cause =
         rw same (ends (Err why) went.now.link
-        (next_stops some.rest split.later split.rest_is (held_last told.device.databases split.kept split.later held) some.behind) tt cause)
+        (next_stops some.rest split.later split.rest_is (held_last told.device.databases split.kept split.later held) some.behind)
+        (λ is. let next = unkept is in
+        next_does some.rest split.later split.rest_is (held_last told.device.databases split.kept split.later held) next.0 next.1) tt cause)
 
-    by : (answer told_end : Result (Vec Moved) Stop) → OnOk answer ((some.rest ≡ []) × (went.now.link ≡ some.now))
+    by : (answer told_end : Result (Vec Moved) Stop)
+        → (IsErrOf answer stop.DeskFault → (some.rest ≢ []) × Does talk (next_acts (talk some.now) some.rest some.next) some.now went.now.link)
+        → OnOk answer ((some.rest ≡ []) × (went.now.link ≡ some.now))
         → IfOk answer (λ moved. moved.items ≡ map kept_moved some.wholes) → IfErr answer (IsBackupCause fault went.now.link)
         → Finishes talk since fault downs went.now.link left.link answer told_end
         → BackupEnds talk since fault downs contents moments told.device old left.link folder left.folder told_end
     unfolding backup_acts
-    by (Ok moved) (Ok other) whole said cause finishes =
+    by (Ok moved) (Ok other) unkept whole said cause finishes =
         let none : split.later ≡ [] = none_later split.later (sym whole.0 ∙ split.rest_is) in
         let kept : split.kept ≡ told.device.databases
         = sym (append-nil split.kept) ∙ ap (λ (ds : List DatabaseValue). split.kept ++ ds) (sym none) ∙ split.parts in
@@ -323,7 +357,7 @@ module _ {L F : Type 0} {talk : L → Option Talk} {since : L → L → Type 0} 
         = ap (λ (ds : List DatabaseValue). (backup_front told.device ++ flat_map backup_of ds) ++ ending ∷ []) kept
         ∙ append_assoc (backup_front told.device) (flat_map backup_of told.device.databases) (ending ∷ [])
         ∙ append_assoc greeting (listings (max 1 (length told.device.databases))) (flat_map backup_of told.device.databases ++ ending ∷ []) in
-        ends (Ok other) left.link (rw none (rw whole.1 at finishes.0)) (
+        ends (Ok other) left.link (rw none (rw whole.1 at finishes.0)) (λ is. absurd cc) (
           none,
           (
             subst (λ (acts : List Act). Does talk acts old left.link) acts
@@ -333,19 +367,56 @@ module _ {L F : Type 0} {talk : L → Option Talk} {since : L → L → Type 0} 
           ),
         )
         tt
-    by (Ok moved) (Err (stop.Session why)) whole said cause finishes =
+    by (Ok moved) (Err (stop.Session why)) unkept whole said cause finishes =
         let none : split.later ≡ [] = none_later split.later (sym whole.0 ∙ split.rest_is) in
-        ends (Err (stop.Session why)) left.link (rw none (rw whole.1 at finishes.0)) tt finishes.1
-    by (Ok moved) (Err stop.DeskFault) whole said cause finishes = absurd finishes
-    by (Ok moved) (Err (stop.Limit name)) whole said cause finishes = absurd finishes
-    by (Ok moved) (Err (stop.NewHandheld name)) whole said cause finishes = absurd finishes
-    by (Err why) told_end whole said cause finishes = rw finishes.1 (unended why left.link finishes.0 cause)
+        ends (Err (stop.Session why)) left.link (rw none (rw whole.1 at finishes.0)) (λ is. absurd cc) tt finishes.1
+    by (Ok moved) (Err stop.DeskFault) unkept whole said cause finishes = absurd finishes
+    by (Ok moved) (Err (stop.Limit name)) unkept whole said cause finishes = absurd finishes
+    by (Ok moved) (Err (stop.NewHandheld name)) unkept whole said cause finishes = absurd finishes
+    by (Err why) told_end unkept whole said cause finishes = rw finishes.1 (unended why left.link finishes.0 unkept cause)
 
     pub met_ends : BackupEnds talk since fault downs contents moments told.device old left.link folder left.folder left.end
-    met_ends = by went.answer left.end some.all some.told some.cause went.finishes
+    met_ends = by went.answer left.end some.unkept some.all some.told some.cause went.finishes
 
   pub over_ends : {met : Met L} → MeetsOrNot talk since fault downs (0 ∷ []) false old (Ok met) → {left : MoveOutcome L F}
       → BackupWent talk since fault downs contents moments met.heads.items met.linked folder left
       → BackupEnds talk since fault downs contents moments told.device old left.link folder left.folder left.end
   over_ends (inl meets) went = met_ends meets went
   over_ends (inr lost) went = absurd lost
+
+-- ---- what is left of the link
+
+left_after : {L : Type 0} {talk : L → Option Talk} {since : L → L → Type 0} {fault : L → Option LinkFault} {downs : L → ℕ} {zs : List (List ℕ)} {a b : L}
+    → Stops talk since fault downs zs a b → Leaves since fault downs a b
+left_after stops = record { later = stops.later; fell = stops.fell }
+
+fell_on : {a b c : Option LinkFault} {x y z : ℕ} → WentDown a x y (b ≡ Some link_fault.Down) → WentDown b y z (c ≡ Some link_fault.Down)
+    → WentDown a x z (c ≡ Some link_fault.Down)
+fell_on first second = grind (arith, common_steps, nat_tests)
+
+leaves_then : {L : Type 0} {since : L → L → Type 0} {fault : L → Option LinkFault} {downs : L → ℕ}
+    (since_more : (a b c : L) → since a b → since b c → since a c) (a b c : L) → Leaves since fault downs a b → Leaves since fault downs b c
+    → Leaves since fault downs a c
+leaves_then since_more a b c first second = record { later = since_more a b c first.later second.later; fell = fell_on first.fell second.fell }
+
+finish_left : {L : Type 0} (talk : L → Option Talk) {since : L → L → Type 0} {fault : L → Option LinkFault} {downs : L → ℕ}
+    (since_more : (a b c : L) → since a b → since b c → since a c) (old now new : L) (answer told : Result (Vec Moved) Stop)
+    → Finishes talk since fault downs now new answer told → Leaves since fault downs old now → Leaves since fault downs old new
+finish_left talk since_more old now new (Ok moved) (Ok other) finishes before = leaves_then since_more old now new before (left_after finishes.0)
+finish_left talk since_more old now new (Ok moved) (Err (stop.Session cause)) finishes before = leaves_then since_more old now new before (left_after finishes.0)
+finish_left talk since_more old now new (Ok moved) (Err stop.DeskFault) finishes before = absurd finishes
+finish_left talk since_more old now new (Ok moved) (Err (stop.Limit name)) finishes before = absurd finishes
+finish_left talk since_more old now new (Ok moved) (Err (stop.NewHandheld name)) finishes before = absurd finishes
+finish_left {L} talk {since} {fault} {downs} since_more old now new (Err why) told finishes before =
+    subst (λ (l : L). Leaves since fault downs old l) (sym finishes.0) before
+
+pub over_leaves : {L F : Type 0} {talk : L → Option Talk} {since : L → L → Type 0} {fault : L → Option LinkFault} {downs : L → ℕ}
+    {contents : F → Option FileMap} {moments : F → Moments} (since_more : (a b c : L) → since a b → since b c → since a c) {old : L} {folder : F}
+    {met : Met L} → MeetsOrNot talk since fault downs (0 ∷ []) false old (Ok met) → {left : MoveOutcome L F}
+    → BackupWent talk since fault downs contents moments met.heads.items met.linked folder left → Leaves since fault downs old left.link
+over_leaves {talk = talk} since_more {old} {met = met} (inl meets) {left} went =
+    let some = went.keeps in
+    finish_left talk since_more old went.now.link left.link went.answer left.end went.finishes
+    (leaves_then since_more old some.now went.now.link
+    (leaves_then since_more old met.linked.link some.now (left_after meets.stops) (left_after some.stops)) (left_after some.behind))
+over_leaves since_more (inr lost) went = absurd lost

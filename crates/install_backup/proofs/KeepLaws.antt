@@ -1,7 +1,7 @@
 -- Databases that are read whole, one after another, each kept in its file.
 use Rattle.std.proofs.lemmas.List.{append-nil, map-append}
-use Rattle.std.proofs.Common.{inl, inr, ◌≡◌, ◌∙◌, ◌+◌, ◌≤◌, ap, refl, sym, subst, ℕ, List, [], ◌∷◌, ◌++◌, length, map, take, append_assoc}
-use Rattle.std.specs.Prelude.{Option, Some, None, IfErr, Result, Ok, Err}
+use Rattle.std.proofs.Common.{inl, inr, ◌≡◌, ◌≢◌, ◌∙◌, ◌+◌, ◌≤◌, ap, refl, sym, subst, ℕ, List, [], ◌∷◌, ◌++◌, length, map, take, append_assoc}
+use Rattle.std.specs.Prelude.{Option, Some, None, IfErr, IsErrOf, OnOk, Result, Ok, Err}
 use Rattle.std.specs.Global.{Vec}
 use Rattle.std.specs.FinMap as finmap
 use Rattle.std.specs.Option.{option_map}
@@ -21,7 +21,7 @@ use Rattle.session_parts.specs.Spans.{Spans}
 use Rattle.session_parts.specs.declared.stop.Stop.{Stop}
 use Rattle.session_parts.specs.declared.stop.Stop.TheVariants as stop
 use Rattle.session_parts.proofs.EachLaws.{EachSoFar, each_none, each_on}
-use Rattle.session_parts.proofs.LinkWords.{LinkFault, SessionFault, SessionValue, Talk, text}
+use Rattle.session_parts.proofs.LinkWords.{Does, LinkFault, SessionFault, SessionValue, Talk, text}
 use Rattle.install_backup.specs.declared.moved.Moved.{Moved}
 use Rattle.install_backup.specs.Backups.{HasSome, IsBackupCause, IsKept, IsUnkept, KeepsOne, KeepsSome, SaysCopied, backups_under, file_of, kept_moved, next_acts}
 
@@ -177,6 +177,7 @@ module _ {L F : Type 0} {talk : L → Option Talk} {since : L → L → Type 0} 
       next = record { handle = step.spans.handle; given = step.spans.given };
       first = step.spans.first;
       behind = step.spans.stops;
+      unkept = λ is. read_whole step.read step.kept step.spans.does is;
       all = tt;
       told = tt;
       cause = cause_of why step.read step.kept step.spans.cause;
@@ -187,6 +188,16 @@ module _ {L F : Type 0} {talk : L → Option Talk} {since : L → L → Type 0} 
             → contents after ≡ contents here
         same (Ok whole) kept = kept.0
         same (Err cause) kept = kept.0
+
+        faulted : (cause : SessionFault) → why ≡ stop.Session cause → IsErrOf {T = Vec Moved} (Err why) stop.DeskFault → ⊥
+        faulted cause is other = cc
+
+        read_whole : (read : Result DatabaseValue SessionFault) → IsKept read (contents here) (contents after) (Err why)
+            → OnOk read (Does talk (backups_under (talk now.link) head step.spans.handle step.spans.given) now.link new.link)
+            → IsErrOf {T = Vec Moved} (Err why) stop.DeskFault
+            → (head ∷ split.rest ≢ []) × Does talk (backups_under (talk now.link) head step.spans.handle step.spans.given) now.link new.link
+        read_whole (Ok whole) kept does is = (λ none. cc, does)
+        read_whole (Err cause) kept does is = absurd (faulted cause kept.1 is)
 
         unkept : (why : Stop) → IsUnkept why → IsBackupCause fault new.link why
         unkept stop.DeskFault is = tt
@@ -225,6 +236,7 @@ module _ {L F : Type 0} {talk : L → Option Talk} {since : L → L → Type 0} 
       first = first_one (talk new.link);
       behind = stops_none talk since fault downs (map text (next_acts (talk new.link) split.rest (record { handle = 1; given = [] }))) new.link new.link refl
           (itself new.link) (fell_none fault downs new.link);
+      unkept = λ is. absurd cc;
       all = tt;
       told = tt;
       cause = tt;
@@ -251,6 +263,7 @@ module _ {L F : Type 0} {talk : L → Option Talk} {since : L → L → Type 0} 
     next = record { handle = 1; given = [] };
     first = first_one (talk new.link);
     behind = stops_none talk since fault downs [] new.link new.link refl (itself new.link) (fell_none fault downs new.link);
+    unkept = λ is. absurd cc;
     all = (refl, refl);
     told = before.told;
     cause = tt;

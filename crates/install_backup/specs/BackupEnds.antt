@@ -1,5 +1,5 @@
 -- How a session that backs a handheld up went.
-use Rattle.std.specs.Prelude.{◌≡◌, ◌⊎◌, ℕ, List, [], ◌∷◌, ◌++◌, map, length, max, Option, IfErr, IfOk, Result, Ok, Err, false, flat_map}
+use Rattle.std.specs.Prelude.{◌≡◌, ◌≢◌, ◌⊎◌, ℕ, List, [], ◌∷◌, ◌++◌, map, length, max, Option, IfErr, IfOk, IsErrOf, Result, Ok, Err, false, flat_map}
 use Rattle.std.specs.Global.{Vec}
 use Rattle.std.specs.Option.{option_map}
 use Rattle.hs_folders.specs.FileMaps.{FileMap}
@@ -90,8 +90,9 @@ next_of (database ∷ databases) = backup_of database
 -- A backup of a handheld: the files of the first of its databases are as they were read, and no
 -- others, and at each moment on the way those
 -- of a beginning of them; each of these was read whole and closed, and of the next one no more was
--- asked for than its reading. Once all are
--- kept the session is ended, and else it stopped.
+-- asked for than its reading. Where the folder
+-- refused a file its database was read whole and closed. Once all are kept the session is ended,
+-- and else it stopped.
 pub record BackupEnds {L F : Type 0} (talk : L → Option Talk) (since : L → L → Type 0)
     (fault : L → Option LinkFault) (downs : L → ℕ)
     (contents : F → Option FileMap) (moments : F → Moments) (device : Device) (old new : L)
@@ -111,6 +112,9 @@ pub record BackupEnds {L F : Type 0} (talk : L → Option Talk) (since : L → L
   pub behind : (kept ≡ [])
       ⊎ (Does talk (backup_front device ++ flat_map backup_of kept) old now
       × Stops talk since fault downs (map text (next_of later)) now new)
+  pub unkept : IsErrOf answer stop.DeskFault
+      → (later ≢ [])
+      × Does talk (backup_front device ++ (flat_map backup_of kept ++ next_of later)) old new
   pub ended : IfOk answer (λ moved. (later ≡ [])
       × (Does talk (backup_acts device) old new
       × (moved.items

@@ -1,6 +1,6 @@
 -- Databases of a handheld that are backed up one after another, each into its file as soon as it
 -- was read whole and closed.
-use Rattle.std.specs.Prelude.{◌≡◌, ℕ, List, [], ◌∷◌, ◌++◌, map, Option, Some, IfErr, IfOk, IfSome, OnOk, Result, Ok, Err}
+use Rattle.std.specs.Prelude.{◌≡◌, ◌≢◌, ℕ, List, [], ◌∷◌, ◌++◌, map, Option, Some, IfErr, IfOk, IfSome, IsErrOf, OnOk, Result, Ok, Err}
 use Rattle.std.specs.Global.{Vec}
 use Rattle.std.specs.Option.{option_map}
 use Rattle.hs_folders.specs.FileMaps.{FileMap}
@@ -104,8 +104,9 @@ IsBackupCause fault new other = ⊥
 
 -- The first of these databases were read whole and closed, one after another, and their files are
 -- kept, and no others; of the next one no
--- more was asked for than its reading. Where it did not stop, these are all. At each moment the
--- files of a beginning of them were kept.
+-- more was asked for than its reading, and where its file was refused it was read whole. Where it
+-- did not stop, these are all. At each moment
+-- the files of a beginning of them were kept.
 pub record KeepsSome {L F : Type 0} (talk : L → Option Talk) (since : L → L → Type 0)
     (fault : L → Option LinkFault) (downs : L → ℕ)
     (contents : F → Option FileMap) (moments : F → Moments) (heads : List DbHead)
@@ -128,6 +129,8 @@ pub record KeepsSome {L F : Type 0} (talk : L → Option Talk) (since : L → L 
   pub next : Stretch
   pub first : IsFirst (talk now) next.handle
   pub behind : Stops talk since fault downs (map text (next_acts (talk now) rest next)) now new.link
+  pub unkept : IsErrOf answer stop.DeskFault
+      → (rest ≢ []) × Does talk (next_acts (talk now) rest next) now new.link
   pub all : OnOk answer ((rest ≡ []) × (new.link ≡ now))
   pub told : IfOk answer (λ moved. moved.items ≡ map kept_moved wholes)
   pub cause : IfErr answer (IsBackupCause fault new.link)

@@ -1,6 +1,9 @@
 -- A session that backs a handheld up ends.
-use Rattle.install_backup.proofs.BackLaws.{over_ends, unmet_ends}
+use Rattle.install_backup.proofs.BackLaws.{over_ends, over_leaves, unmet_ends}
 use Rattle.install_backup.proofs.whole_backup.backup_session.Goals as goal
+
+pub returns-in-Ok-clause-link : goal.returns-in-Ok-clause-link
+returns-in-Ok-clause-link g c = over_leaves g.met.L.Link.since_more c.in-Ok.ensures c.backup_met.ensures.went
 
 pub returns-in-Ok-clause-ends : goal.returns-in-Ok-clause-ends
 returns-in-Ok-clause-ends g c = λ told is rests.
