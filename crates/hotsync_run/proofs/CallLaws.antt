@@ -2,7 +2,7 @@
 use Rattle.std.proofs.lemmas.Grind.{common_steps}
 use Rattle.std.proofs.Common.{arith, ◌≡◌, ◌⊎◌, inl, inr, refl, subst, sym}
 use Rattle.std.specs.Prelude.{None, Option, Some}
-use Rattle.run_words.specs.Commands.{Install, LookAt, Make, Scan, Sync, Task}
+use Rattle.run_words.specs.Commands.{Backup, Install, LookAt, Make, Scan, Sync, Task}
 use Rattle.hotsync_run.specs.Calls.{IsCall}
 use Rattle.hotsync_run.specs.Causes.{ByEnd, HasBegun}
 use Rattle.hotsync_looks.proofs.PrintedLaws.{printed_weaken}
@@ -11,6 +11,7 @@ use Rattle.hotsync_looks.specs.Printed.{IsPrinted}
 use Rattle.hotsync_looks.specs.Told.{SinkTold}
 use Rattle.hotsync_run.specs.Told.{CallTold}
 use Rattle.hotsync_run.specs.Reports.{IsNotStarted}
+use Rattle.hotsync_run.specs.Backups.{backup_command}
 use Rattle.hotsync_run.specs.Installs.{install_command}
 use Rattle.hotsync_run.specs.Runs.{run_command}
 use Rattle.hotsync_run.specs.SessionCalls.{IsSessionCall, SentNothing, SessionCommand}
@@ -69,6 +70,7 @@ pub unread_call : (task : Option Task) (before : CallTold) {out out_after : Sink
 unread_call (Some (Sync run)) before is printed =
     unread_session (run_command run) before (record { stands = stands_same refl; unread = λ unread. stays_same refl }) is printed
 unread_call (Some (Install words)) before is printed = unread_session (install_command words) before refl is printed
+unread_call (Some (Backup words)) before is printed = unread_session (backup_command words) before (stays_same refl) is printed
 unread_call None before is printed = grind (arith, common_steps)
 unread_call (Some (LookAt look file)) before is printed = grind (arith, common_steps)
 unread_call (Some (Scan bytes)) before is printed = grind (arith, common_steps)

@@ -54,7 +54,7 @@ pub record ToldAll {F : Type 0} (acts : List Act) (old new : WorldValue F) : Typ
   pub exchanges_are : (world_talk new).exchanges ≡ exchanges acts old.server.device
   pub none_left : slice_get new.log.issued new.answered ≡ None
 
-told_all : {F : Type 0} {acts : List Act} {old new : WorldValue F} → old.log ≡ no_log
+pub told_all : {F : Type 0} {acts : List Act} {old new : WorldValue F} → old.log ≡ no_log
     → Does (λ (world : WorldValue F). Some (world_talk world)) acts old new → ToldAll acts old new
 unfolding saying sent grown
 told_all {acts} {old} {new} silent does =
@@ -118,7 +118,7 @@ performed-prefix {log} is prefix = grind (arith, take-prefix (length log.replies
 
 -- ---- exchanges in a row
 
-exchanged-length : (xs ys : List (List ℕ)) → length (exchanged xs ys) ≤ length ys
+pub exchanged-length : (xs ys : List (List ℕ)) → length (exchanged xs ys) ≤ length ys
 exchanged-length [] ys = omega arith
 exchanged-length (x ∷ xs) [] = omega arith
 exchanged-length (x ∷ xs) (y ∷ ys) = let rest = exchanged-length xs ys in omega (arith, rest)
@@ -135,7 +135,7 @@ exchanged-append [] ys (z ∷ zs) ws same = absurd (omega (arith, same))
 exchanged-append (x ∷ xs) ys [] ws same = absurd (omega (arith, same))
 exchanged-append (x ∷ xs) ys (z ∷ zs) ws same = grind (arith, exchanged-append xs ys zs ws (omega (arith, same)))
 
-acts-count : (acts : List Act) (device : Device) → length (exchanges acts device) ≡ length (map text acts)
+pub acts-count : (acts : List Act) (device : Device) → length (exchanges acts device) ≡ length (map text acts)
 acts-count [] device = refl
 acts-count (act ∷ acts) device = ap (λ (n : ℕ). suc n) (acts-count acts (acted act device).1)
 

@@ -26,7 +26,8 @@ use Rattle.hotsync_run.specs.Causes.{IsCutShort, down_status, stop_status}
 use Rattle.hotsync_run.specs.Closings.{left_status}
 use Rattle.hotsync_run.specs.Installs.{InstallShows, ShowsInstall, acts_until_full, install_report}
 use Rattle.hotsync_run.specs.LineRuns.{SaidAll}
-use Rattle.hotsync_run.specs.Moves.{TellsInstalls, installed_did, installed_report}
+use Rattle.hotsync_run.specs.Moves.{TellsMoves, moved_did, moved_report}
+use Rattle.hotsync_run.specs.declared.moved.Way.TheVariants.{ToHandheld}
 use Rattle.hotsync_run.specs.Told.{FolderTold}
 use Rattle.hotsync_run.specs.Whole.{StopsAnswered}
 use Rattle.hotsync_run.proofs.EndLaws.{logged_all}
@@ -86,7 +87,7 @@ pub record ToldEnds {F : Type 0} (fault : WorldValue F → Option LinkFault) (da
   pub full : has_room database.head.name device.databases ≡ false → StopsAtFull database.head.name answer
 
 report-is : (database : DatabaseValue) (b : Bool) → b ≡ true
-    → installed_did (cond b (Some (written_count database)) None) ≡ installed_did (Some (written_count database))
+    → moved_did ToHandheld (cond b (Some (written_count database)) None) ≡ moved_did ToHandheld (Some (written_count database))
 report-is database true is = refl
 report-is database false is = absurd cc
 
@@ -96,17 +97,17 @@ module _ {F : Type 0} (since : WorldValue F → WorldValue F → Type 0) (fault 
   is_first full = first_of (is_installable database) (has_room database.head.name device.databases) database.head.name is full
 
   told_installed : {moved : List Moved} {reports : List DbReport}
-      → IsInstalled (λ (world : WorldValue F). Some (world_talk world)) (database ∷ []) device old new moved → reports ≡ map installed_report moved
+      → IsInstalled (λ (world : WorldValue F). Some (world_talk world)) (database ∷ []) device old new moved → reports ≡ map (moved_report ToHandheld) moved
       → ToldInstalled database device old new reports
   told_installed installed told = record {
     does = installed.does;
     room = room_of (is_installable database) (has_room database.head.name device.databases) database.head.name is installed.room;
-    told = told ∙ ap (map installed_report) installed.told
+    told = told ∙ ap (map (moved_report ToHandheld)) installed.told
         ∙ (λ k. record { name = database.head.name; did = report-is database (is_installable database) is k } ∷ []);
   }
 
   pub told_ends : (end : Result (Vec Moved) Stop) (answer : Result (Vec DbReport) Stop)
-      → InstallEnds (λ (world : WorldValue F). Some (world_talk world)) since fault downs (database ∷ []) device old new end → TellsInstalls end answer
+      → InstallEnds (λ (world : WorldValue F). Some (world_talk world)) since fault downs (database ∷ []) device old new end → TellsMoves ToHandheld end answer
       → ToldEnds fault database device old new answer
   told_ends (Ok moved) (Ok reports) ends told = record {
     ended = told_installed ends.ended told;

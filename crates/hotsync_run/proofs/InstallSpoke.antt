@@ -24,7 +24,8 @@ use Rattle.install_backup.specs.InstallActs.{install_acts, is_installable}
 use Rattle.install_backup.specs.InstallEnds.{InstallEnds, IsInstallStop}
 use Rattle.hotsync_run.specs.Closings.{Closes, left_databases, left_end, left_in}
 use Rattle.hotsync_run.specs.Installs.{EndedInstall, HadInstall, InstallLeft, IsInstallTalk, ShowsInstall}
-use Rattle.hotsync_run.specs.Moves.{TellsInstalls}
+use Rattle.hotsync_run.specs.Moves.{TellsMoves}
+use Rattle.hotsync_run.specs.declared.moved.Way.TheVariants.{ToHandheld}
 use Rattle.hotsync_run.specs.Sessions.{KeptSilent}
 use Rattle.hotsync_run.specs.Told.{FolderTold, SidesTold, folder_told}
 use Rattle.hotsync_run.proofs.EndLaws.{logged_all}
@@ -85,7 +86,7 @@ pub install_spoke : {F : Type 0} {contents : F → Option FileMap} {moments : F 
     → WorldSince contents moments paths faults old new
     → InstallEnds (λ (world : WorldValue F). Some (world_talk world)) (λ (first last : WorldValue F). WorldSince contents moments paths faults first last)
     fault downs (database ∷ []) old.server.device old new end
-    → TellsInstalls end answer → Closes new answer status report
+    → TellsMoves ToHandheld end answer → Closes new answer status report
     → IsInstallTalk old.server.device database (record { palm = folder_told contents moments paths faults old.server.folder; desk = desk })
     (record { palm = folder_told contents moments paths faults new.server.folder; desk = desk }) status report
 install_spoke {F} {contents} {moments} {paths} {faults} fault downs {database} {old} {new} desk end answer {status} {report} stands rests bounded writable is

@@ -1,6 +1,12 @@
 pub mod AgainCalls
 pub mod AgainLaws
 pub mod AnsweredRuns
+pub mod BackupActLaws
+pub mod BackupRefused
+pub mod BackupRuns
+pub mod BackupSaid
+pub mod BackupSpoke
+pub mod BackupWell
 pub mod CallLaws
 pub mod CallPrinted
 pub mod CleanLaws

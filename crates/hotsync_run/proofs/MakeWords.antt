@@ -2,7 +2,7 @@
 use Rattle.std.proofs.lemmas.Grind.{common_steps}
 use Rattle.std.proofs.Common.{◌≡◌, ◌≤◌, ℕ, Bool, List, [], ◌∷◌, subst, arith}
 use Rattle.std.specs.Prelude.{Option, None, Some, codes, bytes_eq, cond, is_some, option_and_then, option_map}
-use Rattle.run_words.specs.Commands.{Task, Sync, LookAt, Scan, Make, Install, export_form, export_of, export_task_in, file_of, import_form, import_of, import_task_in, install_between, install_of, make_form, make_in, make_of, packet_of, task_behind, task_of}
+use Rattle.run_words.specs.Commands.{Task, Sync, LookAt, Scan, Make, Install, Backup, export_form, export_of, export_task_in, file_of, import_form, import_of, import_task_in, install_between, install_of, make_form, make_in, make_of, packet_of, task_behind, task_of}
 use Rattle.run_words.specs.Betweens.{Between, between_of}
 use Rattle.run_words.specs.Exports.{export_in, import_in}
 use Rattle.run_words.specs.Forms.{is_of_form, plain_at}
@@ -19,6 +19,7 @@ IsFew (Some (LookAt look file)) = Unit {0}
 IsFew (Some (Scan bytes)) = Unit {0}
 IsFew (Some (Make seed count)) = count ≤ 5000
 IsFew (Some (Install between)) = Unit {0}
+IsFew (Some (Backup between)) = Unit {0}
 
 few_if : (test : Bool) (one other : Option Task) → IsFew one → IsFew other → IsFew (cond test one other)
 few_if test one other a b = grind (arith, common_steps)
@@ -71,7 +72,8 @@ few_behind now command words =
     (few_if (bytes_eq command (codes "picture")) _ _ (few_map (LookAt _) (file_of words) (λ file. tt))
     (few_if (bytes_eq command (codes "packet")) _ _ (few_map Scan (packet_of words) (λ bytes. tt))
     (few_if (bytes_eq command (codes "make")) _ _ (few_made words)
-    (few_if (bytes_eq command (codes "install")) _ _ (few_installed words) tt)))))))))
+    (few_if (bytes_eq command (codes "install")) _ _ (few_installed words)
+    (few_if (bytes_eq command (codes "backup")) _ _ (few_map Backup (between_of words) (λ between. tt)) tt))))))))))
 
 few_words : (now : Option ℕ) (words : List (List ℕ)) → IsFew (task_of now words)
 unfolding task_of

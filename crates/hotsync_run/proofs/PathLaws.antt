@@ -2,7 +2,7 @@
 use Rattle.std.proofs.Common.{◌≡◌, Bor, refl, subst, List, ℕ}
 use Rattle.std.specs.Prelude.{None, Option, Some, option_copied}
 use Rattle.run_words.specs.Betweens.{Between}
-use Rattle.run_words.specs.Commands.{Install, LookAt, Sync, Task}
+use Rattle.run_words.specs.Commands.{Backup, Install, LookAt, Sync, Task}
 use Rattle.run_words.specs.Runs.{Run}
 use Rattle.run_words.specs.declared.look.Look.{Look}
 use Rattle.hotsync_run.specs.Calls.{paths_of}
@@ -45,3 +45,18 @@ module _ {task : Option Task} {words : Between} (is : task ≡ Some (Install wor
   -- and its trace where the words do
   pub install_trace : (paths_of task).trace ≡ None → words.trace ≡ None
   install_trace none = subst (λ (t : Option Task). (paths_of t).trace ≡ None) is none
+
+module _ {task : Option Task} {words : Between} (is : task ≡ Some (Backup words)) where
+  -- a backup names both folders
+  pub backup_handheld : (paths_of task).handheld ≡ None → ⊥
+  backup_handheld none = some_is_none (subst (λ (t : Option Task). (paths_of t).handheld ≡ None) is none)
+
+  pub backup_desktop : (paths_of task).desktop ≡ None → ⊥
+  backup_desktop none = some_is_none (subst (λ (t : Option Task). (paths_of t).desktop ≡ None) is none)
+
+  -- and its script and its trace where the words do
+  pub backup_source : (paths_of task).source ≡ None → words.script ≡ None
+  backup_source none = subst (λ (t : Option Task). (paths_of t).source ≡ None) is none
+
+  pub backup_trace : (paths_of task).trace ≡ None → words.trace ≡ None
+  backup_trace none = subst (λ (t : Option Task). (paths_of t).trace ≡ None) is none

@@ -80,7 +80,7 @@ pub record IsDesktopAlone (refusal : Status) : Type 0 where
 desktop_cases : (fault : DeskOpenFault) → IsDesktopAlone (desktop_status fault)
 desktop_cases fault = grind (arith, common_steps)
 
-desktop_failed : (refusal : Status) → IsDesktopFailure refusal → IsDesktopAlone refusal
+pub desktop_failed : (refusal : Status) → IsDesktopFailure refusal → IsDesktopAlone refusal
 desktop_failed refusal is = grind (arith, common_steps)
 
 desktop_wrong : IsDesktopAlone (WrongSide line_end.Desktop)

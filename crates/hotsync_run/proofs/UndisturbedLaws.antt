@@ -65,7 +65,7 @@ unshown_script {bytes} {rules} (BadScript line) is refuses shown =
 unshown_script _ is refuses shown = absurd shown
 
 -- nor does a source that told them
-judged_script : (path left : Option (List ℕ)) {refusal : Status} → IsGoodScript path left → ScriptRefuses path left refusal
+pub judged_script : (path left : Option (List ℕ)) {refusal : Status} → IsGoodScript path left → ScriptRefuses path left refusal
     → (refusal ≡ SourceRead) ⊎ (refusal ≡ NoMemory)
 judged_script None left good refuses = absurd (none_is_some refuses.named)
 judged_script (Some name) None good refuses = absurd (none_holds (List ℕ) (good.told refl))
@@ -125,7 +125,7 @@ failed_handheld blames (inl e) = absurd (blames.handheld e)
 failed_handheld blames (inr (inl e)) = absurd (blames.handheld_in_use e)
 failed_handheld blames (inr (inr e)) = e
 
-failed_desktop : {status : Status} → BlamesNone status → IsDesktopFailure status → status ≡ NoMemory
+pub failed_desktop : {status : Status} → BlamesNone status → IsDesktopFailure status → status ≡ NoMemory
 failed_desktop blames (inl e) = absurd (blames.desktop e)
 failed_desktop blames (inr (inl e)) = absurd (blames.desktop_in_use e)
 failed_desktop blames (inr (inr e)) = e

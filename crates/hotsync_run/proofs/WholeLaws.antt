@@ -40,7 +40,7 @@ use Rattle.hotsync_run.specs.declared.report.SessionEnd.TheVariants.{Ended}
 use Rattle.hotsync_looks.specs.declared.status.Status.{Status}
 use Rattle.hotsync_looks.specs.declared.status.Status.TheVariants.{Done, Usage, BadScript, TooLong, BadFile, TooMany, HandheldFolder, DesktopFolder, SourceRead}
 use Rattle.hotsync_looks.specs.declared.status.Status.TheVariants.{TraceWrite, OutWrite, NoMemory, LineDown, Unplugged, Aborted, Undetected, OtherUser}
-use Rattle.hotsync_looks.specs.declared.status.Status.TheVariants.{TooManyUsers, Limit, NewHandheld, WrongSide, InUse, CannotExport, BadRecord, BadText, Overfull, BadTrace, NotProper, CannotInstall}
+use Rattle.hotsync_looks.specs.declared.status.Status.TheVariants.{TooManyUsers, Limit, NewHandheld, WrongSide, InUse, CannotExport, BadRecord, BadText, Overfull, BadTrace, NotProper, CannotInstall, NotBackupFolder}
 
 -- ---- the frames tell one story
 
@@ -192,6 +192,7 @@ module _ {asked : List (List ℕ)} where
   whole_over (BadTrace line) some over short whole = absurd over.ends
   whole_over (NotProper rule) some over short whole = absurd over.ends
   whole_over (CannotInstall name) some over short whole = absurd over.ends
+  whole_over NotBackupFolder some over short whole = absurd over.ends
   whole_over (OtherUser handheld desktop) some over short whole = absurd (stopped_short whole (short tt))
   whole_over TooManyUsers some over short whole = absurd (stopped_short whole (short tt))
   whole_over (Limit name) some over short whole = absurd (stopped_short whole (short tt))

@@ -4,8 +4,9 @@ use Rattle.std.specs.declared.alloc.Global.{Global}
 use Rattle.hs_folders.specs.declared.folder.Folder.{Ghosts as FolderMembers}
 use Rattle.hs_folders.specs.declared.sink.Sink.{Ghosts as SinkMembers}
 use Rattle.hs_folders.specs.declared.source.Source.{Ghosts as SourceMembers}
-use Rattle.run_words.specs.Commands.{Task, Sync, LookAt, Scan, Make, Install, task_of}
+use Rattle.run_words.specs.Commands.{Task, Sync, LookAt, Scan, Make, Install, Backup, task_of}
 use Rattle.hotsync_looks.specs.Looks.{IsLook}
+use Rattle.hotsync_run.specs.Backups.{IsBackup, backup_paths}
 use Rattle.hotsync_run.specs.Installs.{IsInstall, install_paths}
 use Rattle.hotsync_run.specs.Makes.{IsMake}
 use Rattle.hotsync_looks.specs.Printed.{IsPrinted}
@@ -29,7 +30,7 @@ pub record IsNothing (out out_after : SinkTold) (status : Status) : Type 0 where
   pub printed : IsPrinted (λ text. ⊥) out out_after status
 
 -- What is known of a call: words out of the form give the usage line. Only a run sends anything, a
--- session between made folders, and an install.
+-- session between made folders, an install, and a backup.
 abbrev pub IsCall : Option Task → CallTold → CallTold → SinkTold → SinkTold → Status
     → Report → Type 0
 IsCall None before after out out_after status report = IsNothing out out_after status
@@ -43,6 +44,8 @@ IsCall (Some (Make seed count)) before after out out_after status report =
     IsMake seed count out out_after status report
 IsCall (Some (Install words)) before after out out_after status report =
     IsInstall words before after out out_after status report
+IsCall (Some (Backup words)) before after out out_after status report =
+    IsBackup words before after out out_after status report
 
 -- a call: what its words ask for, its objects before and after it, and what it answered
 pub record Call : Type 0 where
@@ -70,21 +73,24 @@ OfCall Fact palms desks sources traces outs palm desk source trace out answer re
     (sink_told outs.taken outs.paths outs.faults out)
     (sink_told outs.taken outs.paths outs.faults said) answer.status answer.report
 
--- the words ask for a session: for a run, for one between made folders, or for an install
+-- the words ask for a session: for a run, for one between made folders, for an install, or for a
+-- backup
 abbrev pub HasSession : Option Task → Type 0
 HasSession (Some (Sync run)) = ⊤
 HasSession (Some (Make seed count)) = ⊤
 HasSession (Some (Install words)) = ⊤
+HasSession (Some (Backup words)) = ⊤
 HasSession _ = ⊥
 
 -- no path
 abbrev pub no_paths : Paths
 no_paths = record { handheld = None; desktop = None; source = None; trace = None }
 
--- the paths that words give to each object: those of a run and of an install, and the file of a
--- look
+-- the paths that words give to each object: those of a run, of an install and of a backup, and the
+-- file of a look
 abbrev pub paths_of : Option Task → Paths
 paths_of (Some (Sync run)) = run_paths run
 paths_of (Some (Install words)) = install_paths words
+paths_of (Some (Backup words)) = backup_paths words
 paths_of (Some (LookAt look file)) = record no_paths { source = Some file }
 paths_of _ = no_paths

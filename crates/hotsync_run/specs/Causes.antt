@@ -11,7 +11,7 @@ use Rattle.hotsync_run.specs.declared.report.SessionEnd.TheVariants.{NotStarted,
 use Rattle.hotsync_looks.specs.declared.status.Status.{Status}
 use Rattle.hotsync_looks.specs.declared.status.Status.TheVariants.{Done, Usage, BadScript, TooLong, BadFile, TooMany, HandheldFolder, DesktopFolder, SourceRead}
 use Rattle.hotsync_looks.specs.declared.status.Status.TheVariants.{TraceWrite, OutWrite, NoMemory, LineDown, Unplugged, Aborted, Undetected, OtherUser}
-use Rattle.hotsync_looks.specs.declared.status.Status.TheVariants.{TooManyUsers, Limit, NewHandheld, WrongSide, InUse, CannotExport, BadRecord, BadText, Overfull, BadTrace, NotProper, CannotInstall}
+use Rattle.hotsync_looks.specs.declared.status.Status.TheVariants.{TooManyUsers, Limit, NewHandheld, WrongSide, InUse, CannotExport, BadRecord, BadText, Overfull, BadTrace, NotProper, CannotInstall, NotBackupFolder}
 
 -- ---- the status of a session
 
@@ -72,6 +72,7 @@ EndsAs (Overfull _) end = ⊥
 EndsAs (BadTrace _) end = ⊥
 EndsAs (NotProper _) end = ⊥
 EndsAs (CannotInstall _) end = ⊥
+EndsAs NotBackupFolder end = ⊥
 EndsAs other end = end ≡ Stopped
 
 -- why the line is down, with the frames that the report names

@@ -1,4 +1,5 @@
 pub mod Again
+pub mod Backups
 pub mod Calls
 pub mod Causes
 pub mod Clean

@@ -4,23 +4,27 @@ use Rattle.std.specs.Global.{Vec}
 use Rattle.desktop_session.specs.declared.fault.SessionFault.TheVariants as session
 use Rattle.session_parts.specs.declared.report.DbReport.{DbReport}
 use Rattle.session_parts.specs.declared.report.Did.{Did}
-use Rattle.session_parts.specs.declared.report.Did.TheVariants.{Skipped, Installed}
+use Rattle.session_parts.specs.declared.report.Did.TheVariants.{Skipped, Installed, BackedUp}
 use Rattle.session_parts.specs.declared.skip.Skip.TheVariants as skip
 use Rattle.session_parts.specs.declared.stop.Stop.{Stop}
 use Rattle.session_parts.specs.declared.stop.Stop.TheVariants as stop
 use Rattle.install_backup.specs.declared.moved.Moved.{Moved}
+use Rattle.hotsync_run.specs.declared.moved.Way.{Way}
+use Rattle.hotsync_run.specs.declared.moved.Way.TheVariants.{ToHandheld, ToFiles}
 
--- so many entries were installed, or a read-only database was passed over
-abbrev pub installed_did : Option ℕ → Did
-installed_did (Some entries) = Installed entries
-installed_did None = Skipped skip.ReadOnly
+-- so many entries were installed or backed up, or a read-only database was passed over
+abbrev pub moved_did : Way → Option ℕ → Did
+moved_did ToHandheld (Some entries) = Installed entries
+moved_did ToHandheld None = Skipped skip.ReadOnly
+moved_did ToFiles (Some entries) = BackedUp entries
+moved_did ToFiles None = Skipped skip.ReadOnly
 
-abbrev pub installed_report : Moved → DbReport
-installed_report moved = record { name = moved.name; did = installed_did moved.entries }
+abbrev pub moved_report : Way → Moved → DbReport
+moved_report way moved = record { name = moved.name; did = moved_did way moved.entries }
 
 -- what a session tells that answered this: of each database, unless memory ran out for it
-abbrev pub TellsInstalls : Result (Vec Moved) Stop → Result (Vec DbReport) Stop → Type 0
-TellsInstalls (Ok moved) (Ok reports) = reports.items ≡ map installed_report moved.items
-TellsInstalls (Ok moved) (Err why) = why ≡ stop.Session session.NoMemory
-TellsInstalls (Err cause) (Ok reports) = ⊥
-TellsInstalls (Err cause) (Err why) = why ≡ cause
+abbrev pub TellsMoves : Way → Result (Vec Moved) Stop → Result (Vec DbReport) Stop → Type 0
+TellsMoves way (Ok moved) (Ok reports) = reports.items ≡ map (moved_report way) moved.items
+TellsMoves way (Ok moved) (Err why) = why ≡ stop.Session session.NoMemory
+TellsMoves way (Err cause) (Ok reports) = ⊥
+TellsMoves way (Err cause) (Err why) = why ≡ cause

@@ -6,3 +6,8 @@ use Rattle.handheld_store.specs.Stores.{StoreValue}
 abbrev pub device_in : {F E : Type 0} → Result (StoreValue F) (E × F) → F
 device_in (Ok store) = store.folder
 device_in (Err refused) = refused.1
+
+-- the folder, or the one that is handed back
+abbrev pub folder_in : {F E : Type 0} → Result F (E × F) → F
+folder_in (Ok folder) = folder
+folder_in (Err refused) = refused.1

@@ -5,6 +5,7 @@ ghost use Rattle.hotsync_run.specs.Refusals.{BlamesHandheld, BlamesSource};
 ghost use Rattle.hotsync_run.specs.Reports.{IsNotStarted};
 
 use crate::answer::Answer;
+use crate::backup::backup_folder;
 use crate::install::install_file;
 use crate::make::make;
 use crate::report::SessionEnd;
@@ -68,6 +69,9 @@ pub fn hotsync<H: Folder, D: Folder, S: Source, T: Sink, O: Sink>(
         }
         Ok(Command::Install(words)) => {
             install_file(alloc, &words, device, desk, source, trace, out)
+        }
+        Ok(Command::Backup(words)) => {
+            backup_folder(alloc, &words, device, desk, source, trace, out)
         }
         Err(WordsFault::Usage) => {
             let status = print_refusal(alloc, Status::Usage, out);

@@ -11,7 +11,7 @@ ghost use Rattle.hotsync_run.specs.Told.{sides_told};
 
 use crate::answer::Answer;
 use crate::closing::{Closed, close_session};
-use crate::moved::installs_told;
+use crate::moved::{Way, moves_told};
 use handheld_server::Server;
 use handheld_store::Store;
 use hotsync_looks::Status;
@@ -81,7 +81,7 @@ fn install_over<H: Folder, D: Folder>(
         folder: (),
         end,
     } = outcome;
-    let end = installs_told(alloc, end);
+    let end = moves_told(alloc, Way::ToHandheld, end);
     let closed = close_session(alloc, link, end);
     let Closed {
         status,

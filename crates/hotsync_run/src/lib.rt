@@ -4,10 +4,13 @@
 //! A run judges the line's script, the handheld's folder and the desktop's, in this order, and opens the
 //! trace. Then both sides have a whole session over a line that does with each frame what the script says.
 //! Beside it, a database file is counted or shown, so are the packets in captured bytes, a session is had between
-//! folders that are made in memory, and the database of a file is installed on a handheld.
+//! folders that are made in memory, the database of a file is installed on a handheld, and a handheld's databases
+//! are backed up into files.
 #![tactic(auto)]
 
 mod answer;
+mod backup;
+mod backup_talk;
 mod clock;
 mod closing;
 mod command;

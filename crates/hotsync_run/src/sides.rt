@@ -1,4 +1,4 @@
-// Both sides of a run, opened.
+// The folders of a session, opened.
 ghost use Rattle.std.specs.Prelude.{◌≡◌, ◌≢◌, ◌⊎◌, ◌≤◌, IfErr, IfOk, IfSome, IsErrOf, OnErr, OnOk, bytes_eq, false, string_bytes, true};
 ghost use Rattle.std.specs.FinMap as finmap;
 ghost use Rattle.std.specs.List.{list_any};
@@ -12,11 +12,12 @@ ghost use Rattle.desk_store.specs.Bounds.{AreBounded};
 ghost use Rattle.desk_store.specs.Desks.{IsDesk};
 ghost use Rattle.desk_store.specs.Views.{folder_in as desk_in};
 ghost use Rattle.hotsync_looks.specs.Opening.{Opens, OpensAtMost};
+ghost use Rattle.hotsync_run.specs.Backups.{FilesRefuse, StandsApart, is_synced, lists_synced};
 ghost use Rattle.hotsync_run.specs.Refusals.{DesktopRefuses, DesktopShows, HandheldRefuses, HandheldShows, HasDesktop, LeavesDesktopUnread, is_desktop, is_handheld};
-ghost use Rattle.hotsync_run.specs.Views.{device_in};
+ghost use Rattle.hotsync_run.specs.Views.{device_in, folder_in};
 
 use desk_store::Desk;
-use folder_files::{DESKTOP_INFO, DEVICE_INFO};
+use folder_files::{DESKTOP_INFO, DEVICE_INFO, JOURNAL};
 use handheld_store::Store;
 use hotsync_looks::Status;
 use hs_folders::{Folder, FolderFault, FolderOpenFault};
@@ -195,6 +196,74 @@ fn open_desk<D: Folder>(alloc: Global, desk: D) -> Result<Desk<D>, (Status, D)>
         Ok(desk) => Ok(desk),
         Err((fault, desk)) => Err((Status::from(fault), desk)),
     }
+}
+
+/// Opens the folder for the files of a backup at this path, of which no file is read. One that is synchronised is no such
+/// folder. A refusal hands it back.
+pub fn open_files<D: Folder>(alloc: Global, files: D, path: &str) -> Result<D, (Status, D)>
+    ensures apart { OnOk result (StandsApart (D.contents files)) }
+    ensures refused { IfErr result (λ refused. FilesRefuse (D.contents files) refused.0) }
+    ensures failed { IfErr result (λ refused. refused.0 ≡ Status.DesktopFolder
+        → Rose (D.faults files) (D.faults refused.1)) }
+    ensures in_use { IfErr result (λ refused. refused.0 ≡ Status.InUse End.Desktop
+        → Rose (D.faults files) (D.faults refused.1)) }
+
+    ensures contents { D.contents (folder_in result) ≡ D.contents files }
+    ensures moments { D.moments (folder_in result) ≡ D.moments files }
+    ensures later { D.faults files ≤ D.faults (folder_in result) }
+    ensures opened { OnOk result (Opens path.now (D.paths files) (D.paths (folder_in result))) }
+    ensures path { OpensAtMost path.now (D.paths files) (D.paths (folder_in result)) }
+{
+    let mut files = files;
+    match files.open(path) {
+        Ok(()) => judge_files(alloc, files),
+        Err(FolderOpenFault::InUse) => Err((Status::InUse(End::Desktop), files)),
+        Err(FolderOpenFault::Failed) => Err((Status::DesktopFolder, files)),
+        Err(FolderOpenFault::NoMemory) => Err((Status::NoMemory, files)),
+    }
+}
+
+// Whether this folder may get the files of a backup.
+fn judge_files<D: Folder>(alloc: Global, files: D) -> Result<D, (Status, D)>
+    ensures apart { OnOk result (StandsApart (D.contents files)) }
+    ensures refused { IfErr result (λ refused. FilesRefuse (D.contents files) refused.0) }
+    ensures failed { IfErr result (λ refused. refused.0 ≡ Status.DesktopFolder
+        → Rose (D.faults files) (D.faults refused.1)) }
+    ensures free { IfErr result (λ refused. refused.0 ≢ Status.InUse End.Desktop) }
+
+    ensures contents { D.contents (folder_in result) ≡ D.contents files }
+    ensures moments { D.moments (folder_in result) ≡ D.moments files }
+    ensures later { D.faults files ≤ D.faults (folder_in result) }
+    ensures paths { D.paths (folder_in result) ≡ D.paths files }
+{
+    let mut files = files;
+    match is_kept_synced(alloc, &mut files) {
+        Ok(false) => Ok(files),
+        Ok(true) => Err((Status::NotBackupFolder, files)),
+        Err(FolderFault::Failed) => Err((Status::DesktopFolder, files)),
+        Err(FolderFault::Missing | FolderFault::NoMemory) => Err((Status::NoMemory, files)),
+    }
+}
+
+// Whether the folder lists a file of one that is synchronised.
+fn is_kept_synced<F: Folder>(alloc: Global, folder: &mut F) -> Result<bool, FolderFault>
+    ensures listed { IfOk result (λ found. IfSome (F.contents folder.old) (λ files.
+        is_synced files ≡ found)) }
+    ensures contents { F.contents folder.new ≡ F.contents folder.old }
+    ensures moments { F.moments folder.new ≡ F.moments folder.old }
+    ensures paths { F.paths folder.new ≡ F.paths folder.old }
+    ensures cause { HasCause (F.faults folder.old) (F.faults folder.new)
+        (IsErrOf result FolderFault.Failed) }
+{
+    let names = folder.list(alloc)?;
+    Ok(has_synced(&names))
+}
+
+// Whether one of these names is that of such a file.
+fn has_synced(names: &[String]) -> bool
+    ensures { result ≡ lists_synced names.now }
+{
+    is_among(names, DESKTOP_INFO) || is_among(names, DEVICE_INFO) || is_among(names, JOURNAL)
 }
 
 // Whether the folder lists a file of this name.

@@ -7,7 +7,7 @@ use Rattle.hotsync_looks.specs.Told.{sink_told, source_told}
 use Rattle.hotsync_run.specs.Told.{CallTold, folder_told}
 use Rattle.hotsync_run.proofs.CallLaws.{only_memory, unread_call}
 use Rattle.hotsync_run.proofs.MakeWords.{few_asked}
-use Rattle.hotsync_run.proofs.PathLaws.{copied_none, install_handheld, install_source, install_trace, look_source, run_desktop, run_handheld, run_source, run_trace}
+use Rattle.hotsync_run.proofs.PathLaws.{backup_desktop, backup_handheld, backup_source, backup_trace, copied_none, install_handheld, install_source, install_trace, look_source, run_desktop, run_handheld, run_source, run_trace}
 use Rattle.hotsync_run.proofs.command.hotsync.Goals as goal
 
 pub make-status-requires : goal.make-status-requires
@@ -65,3 +65,21 @@ pub returns-in-Ok-Install-clause-trace : goal.returns-in-Ok-Install-clause-trace
 returns-in-Ok-Install-clause-trace g c = λ none.
     c.install_file.ensures.trace (copied_none _
     (install_trace (c.in-Ok-Install.ensures.command ∙ ap (λ (command : Command). Some (task_view command)) c.in-Ok-Install.field-0-is) none))
+
+pub returns-in-Ok-Backup-clause-device : goal.returns-in-Ok-Backup-clause-device
+returns-in-Ok-Backup-clause-device g c = λ none.
+    absurd (backup_handheld (c.in-Ok-Backup.ensures.command ∙ ap (λ (command : Command). Some (task_view command)) c.in-Ok-Backup.field-0-is) none)
+
+pub returns-in-Ok-Backup-clause-desk : goal.returns-in-Ok-Backup-clause-desk
+returns-in-Ok-Backup-clause-desk g c = λ none.
+    absurd (backup_desktop (c.in-Ok-Backup.ensures.command ∙ ap (λ (command : Command). Some (task_view command)) c.in-Ok-Backup.field-0-is) none)
+
+pub returns-in-Ok-Backup-clause-source : goal.returns-in-Ok-Backup-clause-source
+returns-in-Ok-Backup-clause-source g c = λ none.
+    c.backup_folder.ensures.source (copied_none _
+    (backup_source (c.in-Ok-Backup.ensures.command ∙ ap (λ (command : Command). Some (task_view command)) c.in-Ok-Backup.field-0-is) none))
+
+pub returns-in-Ok-Backup-clause-trace : goal.returns-in-Ok-Backup-clause-trace
+returns-in-Ok-Backup-clause-trace g c = λ none.
+    c.backup_folder.ensures.trace (copied_none _
+    (backup_trace (c.in-Ok-Backup.ensures.command ∙ ap (λ (command : Command). Some (task_view command)) c.in-Ok-Backup.field-0-is) none))

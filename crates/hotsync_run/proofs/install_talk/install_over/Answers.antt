@@ -14,6 +14,6 @@ returns-clause-talk g c =
     let rests = opened_rests c.requires.kept c.requires.proper c.requires.closed in
     let desk = folder_told g.D.Folder.contents g.D.Folder.moments g.D.Folder.paths g.D.Folder.faults c.args.desk in
     rw closed.folder (install_spoke (λ world. world.fault) (λ world. downs_of world.fault) desk
-    outcome.result.end c.installs_told-end.result c.requires.stands rests c.requires.bounded c.requires.writable (ap not c.requires.writable)
+    outcome.result.end c.moves_told-end.result c.requires.stands rests c.requires.bounded c.requires.writable (ap not c.requires.writable)
     c.requires.silent c.requires.cause c.requires.script outcome.ensures.link.later
-    (outcome.ensures.ends (world_talk c.args.world) refl rests (c.requires.bounded, tt)) c.installs_told-end.ensures closed.closes)
+    (outcome.ensures.ends (world_talk c.args.world) refl rests (c.requires.bounded, tt)) c.moves_told-end.ensures closed.closes)
