@@ -3,7 +3,7 @@ _hotsync() {
     local word=${COMP_WORDS[COMP_CWD]}
     COMPREPLY=()
     if [ "$COMP_CWD" -eq 1 ]; then
-        COMPREPLY=($(compgen -W 'run check show export import verify picture packet install make' -- "$word"))
+        COMPREPLY=($(compgen -W 'run check show export import verify picture packet install backup make' -- "$word"))
         return
     fi
     case ${COMP_WORDS[1]} in
@@ -34,6 +34,17 @@ _hotsync() {
         case $word in
         -*)
             COMPREPLY=($(compgen -W '--trace=' -- "$word"))
+            if [ "${#COMPREPLY[@]}" -eq 1 ]; then
+                compopt -o nospace
+            fi
+            ;;
+        *) COMPREPLY=($(compgen -f -- "$word")) ;;
+        esac
+        ;;
+    backup)
+        case $word in
+        -*)
+            COMPREPLY=($(compgen -W '--script= --trace=' -- "$word"))
             if [ "${#COMPREPLY[@]}" -eq 1 ]; then
                 compopt -o nospace
             fi

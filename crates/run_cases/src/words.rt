@@ -23,6 +23,7 @@ pub fn words_text(alloc: Global, now: Option<u32>, line: &str) -> Result<String,
             format!(in alloc; "make seed {} count {}\n", make.seed, make.count)
         }
         Ok(Command::Install(words)) => install_text(alloc, &words),
+        Ok(Command::Backup(words)) => backup_text(alloc, &words),
         Err(WordsFault::Usage) if !in_form => String::from_str(alloc, "usage\n"),
         Err(_) => String::from_str(alloc, "no memory\n"),
     }
@@ -33,6 +34,16 @@ fn install_text(alloc: Global, words: &BetweenWords<'_>) -> Result<String, Alloc
         "install handheld {} other {} trace {}\n",
         words.handheld,
         words.other,
+        words.trace.unwrap_or("-")
+    )
+}
+
+fn backup_text(alloc: Global, words: &BetweenWords<'_>) -> Result<String, AllocError> {
+    format!(in alloc;
+        "backup handheld {} other {} script {} trace {}\n",
+        words.handheld,
+        words.other,
+        words.script.unwrap_or("-"),
         words.trace.unwrap_or("-")
     )
 }
