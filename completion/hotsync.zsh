@@ -1,0 +1,48 @@
+#compdef hotsync
+# Completion of hotsync's words for zsh: put it as _hotsync into a folder of $fpath.
+_hotsync() {
+    local -a commands
+    commands=(
+        'run:synchronise two folders'
+        'check:read a database file and count its entries'
+        'show:print what a database file holds'
+        'export:print what the records of a database say'
+        'import:print the database of a text of memos'
+        'verify:judge a trace'
+        'picture:print a trace as a page'
+        'packet:print the packets in bytes'
+        'install:put a database file onto a handheld'
+        'backup:put the databases of a handheld into a folder of files'
+        'make:print what a run over made folders does'
+    )
+    if ((CURRENT == 2)); then
+        _describe command commands
+        return
+    fi
+    shift words
+    ((CURRENT--))
+    case ${words[1]} in
+    run)
+        _arguments '1:handheld:_files -/' '2:desktop:_files -/' \
+            '--date=[the date of the session]:date:(now)' '--script=[the line script]:file:_files' \
+            '--trace=[the file for the trace]:file:_files' '--slow[read all records]' \
+            '--actions=[what is done with each database]:actions:' \
+            '--add-user[give the handheld a user of its own on the desktop]'
+        ;;
+    export)
+        _arguments '1:file:_files' '--as=[the form]:form:(txt vcf csv ics)' \
+            '--date=[the time at which the calendar is made]:date:(now)' \
+            '--without-private[leave private records out]' '--keep-broken[keep records that are out of their form]'
+        ;;
+    import) _arguments '1:file:_files' '--as=[the form]:form:(txt)' ;;
+    install) _arguments '1:handheld:_files -/' '2:file:_files' '--trace=[the file for the trace]:file:_files' ;;
+    backup)
+        _arguments '1:handheld:_files -/' '2:folder:_files -/' '--script=[the line script]:file:_files' \
+            '--trace=[the file for the trace]:file:_files'
+        ;;
+    check | show | verify | picture) _arguments '1:file:_files' ;;
+    packet) _arguments '1:bytes in hexadecimal digits:' ;;
+    make) _arguments '1:seed:' '2:how many records:' ;;
+    esac
+}
+_hotsync "$@"
