@@ -42,9 +42,9 @@ HasHeardAll TooLong left course =
 HasHeardAll end left course = Unit {0}
 
 -- A talk of this hand over a source that had the first bytes left and has the second ones, where it
--- tells them: the first packets of what was read were
--- taken, and the sink took the bytes `before` and what was said to these packets. Where one packet
--- more was begun, no request was performed by it.
+-- tells them: the first packets of what was read were taken, and the sink took the bytes `before`
+-- and what was said to these packets. Where one packet more was begun, no request was performed by
+-- it.
 pub record Listens (left after : Option (List ℕ)) (old new : Hand) (told later : Option (List ℕ))
     (before : List ℕ) (end : DeviceEnd) : Type 0 where
   pub course : Course
@@ -57,8 +57,7 @@ pub record Listens (left after : Option (List ℕ)) (old new : Hand) (told later
   pub heard : HasHeardAll end left course
 
 -- A run of a handheld with this device over such a source: the first packets of what was read were
--- taken, and the sink took the wake and what was said to
--- these packets.
+-- taken, and the sink took the wake and what was said to these packets.
 pub record IsDeviceRun (device : Device) (left after told later : Option (List ℕ))
     (end : DeviceEnd) (course : Course) : Type 0 where
   pub read : left ≡ option_map (λ rest. course.bytes ++ rest) after

@@ -20,7 +20,7 @@ data Answers (X Y : End) (talk : Talk) (y : Half) : Type 0 where
   answers_other : 0 < count_messages Y talk → answered_by X (count_messages X talk) ≡ Some (record { end = Y; number = count_messages Y talk - 1 })
       → answer_to Y (count_messages Y talk - 1) ≡ Some (count_messages X talk) → Answers X Y talk y
   answers_own : 0 < count_messages X talk → answered_by X (count_messages X talk) ≡ Some (record { end = X; number = count_messages X talk - 1 })
-      → piece_count (length y.message.items) ≤ y.sender.acknowledged → Answers X Y talk y
+      → piece_count (length y.message) ≤ y.sender.acknowledged → Answers X Y talk y
 
 answers_handheld : {talk : Talk} {y : Half} (h : ℕ) {d : ℕ} → count_messages Handheld talk ≡ h → count_messages Desktop talk ≡ d → IsInTurn Handheld h d y
     → Answers Handheld Desktop talk y
@@ -75,19 +75,19 @@ module _ {X Y : End} {talk : Talk} {cursor : End → ℕ} {past : List Sent} {x 
 -- ---- a message begins
 
 -- the first piece stands on the line
-abbrev pub first_frame : Half → ℕ → Vec ℕ Global → FateValue → Sent
-first_frame x id message given = data_frame x.end (key_now (beginning id message.items)) ((part_now (beginning id message.items)).bytes) (course_of given)
+abbrev pub first_frame : Half → ℕ → List ℕ → FateValue → Sent
+first_frame x id message given = data_frame x.end (key_now (beginning id message)) ((part_now (beginning id message)).bytes) (course_of given)
 
-pub starts-told : {talk : Talk} {wire : Wire} {x y : Half} {id : ℕ} (message : Vec ℕ Global) (given : FateValue) → Turn wire x y → (id ≡ x.sender.id → ⊥)
+pub starts-told : {talk : Talk} {wire : Wire} {x y : Half} {id : ℕ} (message : List ℕ) (given : FateValue) → Turn wire x y → (id ≡ x.sender.id → ⊥)
     → y.receiver.awaited ≡ Some id → y.receiver.pieces ≡ [] → IsNextTo talk x y id → Talks talk wire x y
-    → Talked x.end y.end (say x.end message.items talk) (cursor_of x y) (first_frame x id message given ∷ past_now wire.frames.items)
-    (beginning id message.items) (side_of y)
+    → Talked x.end y.end (say x.end message talk) (cursor_of x y) (first_frame x id message given ∷ past_now wire.frames.items)
+    (beginning id message) (side_of y)
 starts-told {talk} {wire} {x} {y} {id} message given turn different awaited none next talks = go (answers_of x.end y.end turn.settled.apart next.turn) where
   past : List Sent
   past = past_now wire.frames.items
 
   side : Side
-  side = beginning id message.items
+  side = beginning id message
 
   talking : Talking x.end y.end talk (cursor_of x y) (past_now wire.frames.items) (side_of x) (side_of y) false false
   talking = talking_as turn.settled.line.core.there.follows turn.settled.line.core.back.follows talks
@@ -100,8 +100,8 @@ starts-told {talk} {wire} {x} {y} {id} message given turn different awaited none
 
   told : IfAnswers (answered_by x.end (count_messages x.end talk)) talk (came_by (cursor_of x y) (past_now wire.frames.items)) (past_now wire.frames.items)
       → (Waiting (side_of y) → (0 < count_messages y.end talk) × (answer_to y.end (count_messages y.end talk - 1) ≡ Some (count_messages x.end talk)))
-      → Talked x.end y.end (say x.end message.items talk) (cursor_of x y) (first_frame x id message given ∷ past_now wire.frames.items)
-      (beginning id message.items) (side_of y)
+      → Talked x.end y.end (say x.end message talk) (cursor_of x y) (first_frame x id message given ∷ past_now wire.frames.items)
+      (beginning id message) (side_of y)
   told answers waits =
       let line = running_starts (course_of given) turn.settled.apart turn.settled.line turn.knows different awaited none (λ w. omega (arith, w, turn.last)) in
       record {
@@ -121,8 +121,8 @@ starts-told {talk} {wire} {x} {y} {id} message given turn different awaited none
       }
 
   go : Answers x.end y.end talk y
-      → Talked x.end y.end (say x.end message.items talk) (cursor_of x y) (first_frame x id message given ∷ past_now wire.frames.items)
-      (beginning id message.items) (side_of y)
+      → Talked x.end y.end (say x.end message talk) (cursor_of x y) (first_frame x id message given ∷ past_now wire.frames.items)
+      (beginning id message) (side_of y)
   go (answers_nothing answers zero_is) = told (subst (λ o. IfAnswers o talk (came_by (cursor_of x y) past) past) (sym answers) tt)
       (λ w. absurd (none_waits talking.y_speech zero_is (turn.settled.line.core.y_speaks.newest w)))
   go (answers_other some answers back) = told
@@ -134,14 +134,14 @@ starts-told {talk} {wire} {x} {y} {id} message given turn different awaited none
       (last_taken talking.x_speech (omega (arith, turn.idle)) turn.settled.line.core.there.follows some))
       (λ w. absurd (omega (arith, w, idle)))
 
-pub starts-talks : {talk : Talk} {wire : Wire} (new : Wire) {x y : Half} {id : ℕ} (size : ℕ) (message : Vec ℕ Global) {given : FateValue} → Turn wire x y
+pub starts-talks : {talk : Talk} {wire : Wire} (new : Wire) {x y : Half} {id : ℕ} (size : ℕ) (message : List ℕ) {given : FateValue} → Turn wire x y
     → (id ≡ x.sender.id → ⊥) → y.receiver.awaited ≡ Some id → y.receiver.pieces ≡ []
-    → Sends wire.frames.items x.end id (part_now (beginning id message.items)) given None new.frames.items → new.released ≡ wire.released → IsNextTo talk x y id
+    → Sends wire.frames.items x.end id (part_now (beginning id message)) given None new.frames.items → new.released ≡ wire.released → IsNextTo talk x y id
     → Talks talk wire x y
-    → Talks (say x.end message.items talk) new (record x { sender = begun id size; message = message }) y
+    → Talks (say x.end message talk) new (record x { sender = begun id size; message = message }) y
 starts-talks {talk} {wire} new {x} {y} {id} size message {given} turn different awaited none sends released next talks =
-    let longer = extends wire new x.end id (part_now (beginning id message.items)) given turn.settled.go sends tt released in
-    subst (λ p. Talked x.end y.end (say x.end message.items talk) (cursor_of x y) p (beginning id message.items) (side_of y)) (sym longer.past)
+    let longer = extends wire new x.end id (part_now (beginning id message)) given turn.settled.go sends tt released in
+    subst (λ p. Talked x.end y.end (say x.end message talk) (cursor_of x y) p (beginning id message) (side_of y)) (sym longer.past)
     (starts-told message given turn different awaited none next talks)
 
 -- ---- a tick

@@ -52,7 +52,7 @@ module _ {wire : Wire} {x y : Half} {key : Key} {taken : Taken} where
   -- the end that waits waits on its last piece
   pub answers_wait : DataHeard wire x y key taken → (taken ≡ Repeated → ⊥) → Waits y.sender → WaitsOnLast y.sender
   answers_wait heard new waits = go taken new (after_heard heard) where
-    same : y.sender.length ≡ length y.message.items
+    same : y.sender.length ≡ length y.message
     same = heard.holds.y_half.length_is
 
     from : (answer : Taken) (whole : Bool)
@@ -129,7 +129,7 @@ module _ {wire new : Wire} {x y : Half} {key : Key} {sender : SenderValue} where
       let at_head = head holds.go heard.next in
       let longer = extends wire new y.end key.id (ack_fragment key) given holds.go sends tt released in
       let k = sender.acknowledged in
-      let over : piece_count (length y.message.items) ≤ k = subst (λ n. piece_count n ≤ k) (ap (λ s. s.length) rest ∙ holds.y_half.length_is) idle in
+      let over : piece_count (length y.message) ≤ k = subst (λ n. piece_count n ≤ k) (ap (λ s. s.length) rest ∙ holds.y_half.length_is) idle in
       let line = running_newest holds.apart holds.line at_head.inside at_head.here at_head.late heard.is heard.next.comes_here accepting over in
       let keyed = subst (λ key. Line x.end y.end (ack_frame y.end key (course_of given) ∷ past) (x.taken + 1) y.taken wire.released (side_of x)
       (record (side_of y) { acknowledged = k }) x.receiver (after_answer heard.before key.id (data_fragment key sent.bytes) taken) false false x.sender.tries

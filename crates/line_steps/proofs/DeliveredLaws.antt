@@ -29,7 +29,7 @@ whole_message {message} {count} all =
     let complete = is_complete-pieces count message (omega (arith, all)) (omega (arith, all)) ∙ eq-eqb count (piece_count (length message)) all in
     whole_of-held (length message) count message (omega (arith, all)) complete
 
-pub delivered : {wire : Wire} {x y : Half} {key : Key} → DataHeard wire x y key Whole → whole_of y.receiver.pieces ≡ Some x.message.items
+pub delivered : {wire : Wire} {x y : Half} {key : Key} → DataHeard wire x y key Whole → whole_of y.receiver.pieces ≡ Some x.message
 delivered {wire} {x} {y} {key} heard =
     let after = after_heard heard in
     let accepting = after.1 in
@@ -61,15 +61,15 @@ ends_sent sends = grind (arith, common_steps)
 -- the message was made whole by its last piece, which is acknowledged
 acknowledged : {wire : Wire} (new : Wire) {x y : Half} {key : Key} {given : FateValue} → DataHeard wire x y key Whole
     → Sends wire.frames.items y.end key.id (ack_fragment key) given None new.frames.items
-    → EndsAcknowledging y.end (last_key x.sender.id x.message.items) (map frame_value new.frames.items)
+    → EndsAcknowledging y.end (last_key x.sender.id x.message) (map frame_value new.frames.items)
 acknowledged new {x} {y} {key} heard sends =
     let accepting = (after_heard heard).1 in
     let side = side_of x in
-    let count = piece_count (length x.message.items) in
+    let count = piece_count (length x.message) in
     let all : side.acknowledged + 1 ≡ count = eqb-true _ _ accepting.whole_is in
     let number : side.acknowledged ≡ count - 1 = omega (arith, all) in
-    let key_is : key ≡ last_key x.sender.id x.message.items =
-    sym heard.key_is ∙ accepting.key_is ∙ ap (λ n. (piece_of x.sender.id (length x.message.items) n).key) number in
+    let key_is : key ≡ last_key x.sender.id x.message =
+    sym heard.key_is ∙ accepting.key_is ∙ ap (λ n. (piece_of x.sender.id (length x.message) n).key) number in
     subst (λ k. EndsAcknowledging y.end k (map frame_value new.frames.items)) key_is (ends_sent sends)
 
 pub turned_after : {wire : Wire} (new : Wire) {x y : Half} {key : Key} (taken : Taken) (given : FateValue) (sender : SenderValue) → DataHeard wire x y key taken

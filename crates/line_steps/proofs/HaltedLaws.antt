@@ -135,7 +135,7 @@ module _ {wire : Wire} {x y : Half} where
   ack_faults given holds it is more =
       let at_head = head holds.go it.next in
       let w = waits_with holds.y_half is in
-      let below : y.sender.acknowledged + 1 < piece_count (length y.message.items) =
+      let below : y.sender.acknowledged + 1 < piece_count (length y.message) =
       subst (λ n. y.sender.acknowledged + 1 < piece_count n) holds.y_half.length_is more in
       (running_next_piece {course = course_of given} holds.apart holds.line at_head.inside at_head.here at_head.late it.is w.waits
       (w.key_is ∙ sym it.key_is) below).traced.faults
@@ -259,15 +259,15 @@ module _ {wire : Wire} {x y : Half} where
             (took_of false y_speech (y_heard_as wire x y false turn.settled.apart.there line.core.back.follows talks)));
       }
 
-  pub start_speaks : {talk : Talk} (new : Wire) {id : ℕ} (message : Vec ℕ Global) (given : FateValue) (halt : Halt) → Turn wire x y → (id ≡ x.sender.id → ⊥)
+  pub start_speaks : {talk : Talk} (new : Wire) {id : ℕ} (message : List ℕ) (given : FateValue) (halt : Halt) → Turn wire x y → (id ≡ x.sender.id → ⊥)
       → y.receiver.awaited ≡ Some id → y.receiver.pieces ≡ []
-      → Halts wire.frames.items x.end id (part_now (beginning id message.items)) given halt new.frames.items → IsNextTo talk x y id → Talks talk wire x y
-      → Spoke (say x.end message.items talk) new x y
+      → Halts wire.frames.items x.end id (part_now (beginning id message)) given halt new.frames.items → IsNextTo talk x y id → Talks talk wire x y
+      → Spoke (say x.end message talk) new x y
   start_speaks {talk} new message given halt turn different awaited none halts next talks =
       let line = turn.settled.line in
       let after = running_starts (course_of given) turn.settled.apart line turn.knows different awaited none (λ w. omega (arith, w, turn.last)) in
-      behind_halt (Spoken x.end y.end (say x.end message.items talk) (cursor_of x y)) wire.frames.items new.frames.items given halt data_plain halts
-      (more_spoken message.items turn talks)
+      behind_halt (Spoken x.end y.end (say x.end message talk) (cursor_of x y)) wire.frames.items new.frames.items given halt data_plain halts
+      (more_spoken message turn talks)
       (spoken_of after.traced.faults (omega (arith, cursor_own x.end x.taken y.taken, line.core.there.cur_in))
       (omega (arith, cursor_other x.end y.end x.taken y.taken turn.settled.apart.there, line.core.back.cur_in))
       (starts-told message given turn different awaited none next talks))
@@ -278,7 +278,7 @@ module _ {wire : Wire} {x y : Half} where
       → Blocked y.end (past_now wire.frames.items) y.taken wire.released → Waits x.sender → RepeatsHaveFaults (again_frame x given ∷ past_now wire.frames.items)
   again_faults given holds x_blocked y_blocked waits =
       let now = waits_now holds.x_half waits in
-      elim (cases_lt y.sender.acknowledged (piece_count (length y.message.items))) [
+      elim (cases_lt y.sender.acknowledged (piece_count (length y.message))) [
         | inl too ↦ (running_tick_two {course = course_of given} (course_of given) holds.apart holds.line x_blocked y_blocked now too).traced.faults.1
         | inr idle ↦ (running_tick_one {course = course_of given} holds.apart holds.line x_blocked y_blocked now (λ w. omega (arith, w, idle))).traced.faults
       ]

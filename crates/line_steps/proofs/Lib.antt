@@ -18,6 +18,7 @@ pub mod PieceLaws
 pub mod ProperLaws
 pub mod RecordedLaws
 pub mod RestingLaws
+pub mod RoomLaws
 pub mod SendingLaws
 pub mod StartingLaws
 pub mod StoryLaws

@@ -80,7 +80,7 @@ module _ {n : ℕ} {wire new : Wire} where
   underway_marked : {x y : Half} → Marks n wire new → Underway wire x y → Underway new x y
   underway_marked {x} {y} marks it = record {
     waits = it.waits;
-    due = subst (λ p. (length (acked y.end p) < length (said x.end p)) ⊎ (x.sender.acknowledged + 1 < piece_count (length x.message.items)))
+    due = subst (λ p. (length (acked y.end p) < length (said x.end p)) ⊎ (x.sender.acknowledged + 1 < piece_count (length x.message)))
         (sym (past-marks marks)) it.due;
   }
 

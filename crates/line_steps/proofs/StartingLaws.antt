@@ -13,13 +13,13 @@ use Rattle.line_steps.proofs.TurnLaws.{holds_turned}
 abbrev pub begun : ℕ → ℕ → SenderValue
 begun id size = record { id = id; length = size; acknowledged = 0; tries = 1 }
 
-pub starts : {wire new : Wire} {x y : Half} {id size : ℕ} {message : Vec ℕ Global} {given : FateValue} → Turn wire x y → (id ≡ x.sender.id → ⊥)
-    → y.receiver.awaited ≡ Some id → y.receiver.pieces ≡ [] → size ≡ length message.items
-    → Sends wire.frames.items x.end id (part_now (beginning id message.items)) given None new.frames.items → new.released ≡ wire.released
+pub starts : {wire new : Wire} {x y : Half} {id size : ℕ} {message : List ℕ} {given : FateValue} → Turn wire x y → (id ≡ x.sender.id → ⊥)
+    → y.receiver.awaited ≡ Some id → y.receiver.pieces ≡ [] → size ≡ length message
+    → Sends wire.frames.items x.end id (part_now (beginning id message)) given None new.frames.items → new.released ≡ wire.released
     → Holds new (record x { sender = begun id size; message = message }) y
 starts {wire} {new} {x} {id} {message} {given} turn other awaited none fits sends released =
     let settled = turn.settled in
-    let longer = extends wire new x.end id (part_now (beginning id message.items)) given settled.go sends tt released in
+    let longer = extends wire new x.end id (part_now (beginning id message)) given settled.go sends tt released in
     let line = running_starts (course_of given) settled.apart settled.line turn.knows other awaited none (λ waits. omega (arith, waits, turn.last)) in
     record {
       apart = settled.apart;

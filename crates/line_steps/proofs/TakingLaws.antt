@@ -81,7 +81,7 @@ pub ack_last : {wire : Wire} {x y : Half} {key : Key} → Holds wire x y → Ack
 ack_last {y} holds it is last =
     let at_head = head holds.go it.next in
     let w = waits_with holds.y_half is in
-    let ends : y.sender.acknowledged + 1 ≡ piece_count (length y.message.items) = omega (arith, w.waits, last, ap piece_count holds.y_half.length_is) in
+    let ends : y.sender.acknowledged + 1 ≡ piece_count (length y.message) = omega (arith, w.waits, last, ap piece_count holds.y_half.length_is) in
     let line = running_last_ack holds.line at_head.inside at_head.here at_head.late it.is it.next.comes_here w.waits (w.key_is ∙ sym it.key_is) ends in
     record {
       apart = holds.apart;
@@ -101,7 +101,7 @@ ack_more {wire} {new} {y} {given} holds it is more sends released =
     let sent = sent_of it.next.frame in
     let at_head = head holds.go it.next in
     let w = waits_with holds.y_half is in
-    let below : y.sender.acknowledged + 1 < piece_count (length y.message.items) =
+    let below : y.sender.acknowledged + 1 < piece_count (length y.message) =
     subst (λ n. y.sender.acknowledged + 1 < piece_count n) holds.y_half.length_is more in
     let longer = extends wire new y.end y.sender.id (part_now (side_of (advanced y))) given holds.go sends tt released in
     let line = running_next_piece holds.apart holds.line at_head.inside at_head.here at_head.late it.is w.waits (w.key_is ∙ sym it.key_is) below in

@@ -43,7 +43,7 @@ ack_last-talks {wire} {x} {y} holds it is last talks =
     let sent = sent_of it.next.frame in
     let at_head = head holds.go it.next in
     let w = waits_with holds.y_half is in
-    let ends : y.sender.acknowledged + 1 ≡ piece_count (length y.message.items) = omega (arith, w.waits, last, ap piece_count holds.y_half.length_is) in
+    let ends : y.sender.acknowledged + 1 ≡ piece_count (length y.message) = omega (arith, w.waits, last, ap piece_count holds.y_half.length_is) in
     let m = matched holds.line.core (omega arith) (omega (arith, at_head.inside)) at_head.here it.is w.waits (w.key_is ∙ sym it.key_is) in
     record {
       fx = holds.fx;
@@ -75,7 +75,7 @@ module _ {talk : Talk} {wire : Wire} {x y : Half} {key : Key} where
       let sent = sent_of it.next.frame in
       let at_head = head holds.go it.next in
       let w = waits_with holds.y_half is in
-      let below : y.sender.acknowledged + 1 < piece_count (length y.message.items) =
+      let below : y.sender.acknowledged + 1 < piece_count (length y.message) =
       subst (λ n. y.sender.acknowledged + 1 < piece_count n) holds.y_half.length_is more in
       let next = acknowledged (side_of y) in
       let m = matched holds.line.core (omega arith) (omega (arith, at_head.inside)) at_head.here it.is w.waits (w.key_is ∙ sym it.key_is) in
@@ -156,7 +156,7 @@ module _ {talk : Talk} {wire : Wire} {x y : Half} {key : Key} where
       let past = past_now wire.frames.items in
       let at_head = head holds.go heard.next in
       let k = sender.acknowledged in
-      let over : piece_count (length y.message.items) ≤ k = subst (λ n. piece_count n ≤ k) (ap (λ s. s.length) rest ∙ holds.y_half.length_is) idle in
+      let over : piece_count (length y.message) ≤ k = subst (λ n. piece_count n ≤ k) (ap (λ s. s.length) rest ∙ holds.y_half.length_is) idle in
       let core = accepting.core k (course_of given) over in
       let told : Talked x.end y.end talk (cursor_of (moved x) y) (ack_frame y.end sent.key (course_of given) ∷ past)
       (side_of x) (record (side_of y) { acknowledged = k }) = record {

@@ -78,7 +78,7 @@ ack_more-underway {wire} {new} {y} {given} holds it is more sends released =
     let sent = sent_of it.next.frame in
     let at_head = head holds.go it.next in
     let w = waits_with holds.y_half is in
-    let below : y.sender.acknowledged + 1 < piece_count (length y.message.items) =
+    let below : y.sender.acknowledged + 1 < piece_count (length y.message) =
     subst (λ n. y.sender.acknowledged + 1 < piece_count n) holds.y_half.length_is more in
     let m = matched holds.line.core (omega arith) (omega (arith, at_head.inside)) at_head.here it.is w.waits (w.key_is ∙ sym it.key_is) in
     let longer = extends wire new y.end y.sender.id (part_now (side_of (advanced y))) given holds.go sends tt released in
@@ -142,7 +142,7 @@ module _ {wire new : Wire} {x y : Half} {key : Key} {sender : SenderValue} where
       let longer = acked_past new heard sends released in
       let after = after_heard heard in
       let accepting = after.1 in
-      let core = accepting.core (piece_count (length y.message.items)) (course_of given) (omega arith) in
+      let core = accepting.core (piece_count (length y.message)) (course_of given) (omega arith) in
       let more = more_pieces accepting.waits (eqb-false _ _ accepting.whole_is) in
       record {
         own = λ it. underway longer core.there.follows (active_taken accepting.waits more);
@@ -187,13 +187,13 @@ heeded-underway {heard} {wire} {x} {new} {later_x} {later_y} heeded still =
 
 -- ---- a message begins, and a tick
 
-pub starts-underway : {wire new : Wire} {x y : Half} {id size : ℕ} {message : Vec ℕ Global} {given : FateValue} → Turn wire x y → (id ≡ x.sender.id → ⊥)
-    → y.receiver.awaited ≡ Some id → y.receiver.pieces ≡ [] → size ≡ length message.items
-    → Sends wire.frames.items x.end id (part_now (beginning id message.items)) given None new.frames.items → new.released ≡ wire.released
+pub starts-underway : {wire new : Wire} {x y : Half} {id size : ℕ} {message : List ℕ} {given : FateValue} → Turn wire x y → (id ≡ x.sender.id → ⊥)
+    → y.receiver.awaited ≡ Some id → y.receiver.pieces ≡ [] → size ≡ length message
+    → Sends wire.frames.items x.end id (part_now (beginning id message)) given None new.frames.items → new.released ≡ wire.released
     → Underway new (record x { sender = begun id size; message = message }) y
 starts-underway {wire} {new} {x} {id} {message} {given} turn other awaited none fits sends released =
     let settled = turn.settled in
-    let side = beginning id message.items in
+    let side = beginning id message in
     let longer = extends wire new x.end id (part_now side) given settled.go sends tt released in
     let line = running_starts (course_of given) settled.apart settled.line turn.knows other awaited none (λ waits. omega (arith, waits, turn.last)) in
     underway longer.past line.core.there.follows (active_begun (line.core.x_speaks.waits refl))

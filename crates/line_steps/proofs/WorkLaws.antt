@@ -33,7 +33,7 @@ pub ack_last-less : {wire : Wire} {x y : Half} {key : Key} → Holds wire x y �
     → piece_count y.sender.length ≤ y.sender.acknowledged + 1 → work_left wire (moved x) (advanced y) < work_left wire x y
 ack_last-less {wire} {x} {y} holds it is last =
     let w = waits_with holds.y_half is in
-    let ends : y.sender.acknowledged + 1 ≡ piece_count (length y.message.items) = omega (arith, w.waits, last, ap piece_count holds.y_half.length_is) in
+    let ends : y.sender.acknowledged + 1 ≡ piece_count (length y.message) = omega (arith, w.waits, last, ap piece_count holds.y_half.length_is) in
     let less = measure_last_ack x.end y.end (past_now wire.frames.items) (side_of x) (side_of y) x.sender.tries y.sender.tries (head holds.go it.next).inside
     holds.line.core.back.cur_in ends in
     omega (arith, less, rest-idle (acknowledged (side_of y)) y.sender.tries (omega (arith, ends)), rest-idle (acknowledged (side_of y)) 1 (omega (arith, ends)))
@@ -45,7 +45,7 @@ pub ack_more-less : {wire : Wire} (new : Wire) {x y : Half} {key : Key} {given :
 ack_more-less {wire} new {x} {y} {given} holds it more sends released =
     let past = past_now wire.frames.items in
     let next = acknowledged (side_of y) in
-    let below : y.sender.acknowledged + 1 < piece_count (length y.message.items) =
+    let below : y.sender.acknowledged + 1 < piece_count (length y.message) =
     subst (λ n. y.sender.acknowledged + 1 < piece_count n) holds.y_half.length_is more in
     let longer = extends wire new y.end y.sender.id (part_now (side_of (advanced y))) given holds.go sends tt released in
     let less = measure_next_piece x.end y.end past (side_of x) (side_of y) x.sender.tries y.sender.tries (key_now next) ((part_now next).bytes)
@@ -88,7 +88,7 @@ took_data-less {wire} new {x} {y} {key} {taken} given sender heard after sends r
   newest : sender ≡ record y.sender { acknowledged = sender.acknowledged } → piece_count sender.length ≤ sender.acknowledged
       → work_left new (moved x) (record y { sender = sender }) < work_left wire x y
   newest rest idle =
-      let over : piece_count (length y.message.items) ≤ sender.acknowledged =
+      let over : piece_count (length y.message) ≤ sender.acknowledged =
       subst (λ n. piece_count n ≤ sender.acknowledged) (ap (λ s. s.length) rest ∙ heard.holds.y_half.length_is) idle in
       subst (λ s. work_left new (moved x) (record y { sender = s }) < work_left wire x y) (sym rest)
       (keyed sender.acknowledged y.sender.tries (measure_newest x.end y.end past (side_of x) (side_of y) x.sender.tries y.sender.tries (course_of given)

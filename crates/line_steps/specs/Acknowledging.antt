@@ -13,9 +13,8 @@ abbrev pub last_key : ℕ → List ℕ → Key
 last_key id message = (piece_of id (length message) (piece_count (length message) - 1)).key
 
 -- The last of these frames is an acknowledgement by Y of the piece with this key, and the run goes
--- on behind it: its fate is neither an unplug nor an
--- abort, and
--- nothing that arrives of it by itself holds a packet.
+-- on behind it: its fate is neither an unplug nor an abort, and nothing that arrives of it by
+-- itself holds a packet.
 pub record EndsAcknowledging (Y : End) (key : Key) (frames : List FrameValue) : Type 0 where
   pub before : List FrameValue
   pub last : FrameValue

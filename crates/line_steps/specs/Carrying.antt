@@ -31,8 +31,8 @@ pub record SameMessage (old new : Half) : Type 0 where
 pub record Carried (wire : Wire) (x y : Half) : Type 0 where
   pub turn : Turn wire y x
   pub waits : Waits x.sender
-  pub message : whole_of y.receiver.pieces ≡ Some x.message.items
-  pub acked : EndsAcknowledging y.end (last_key x.sender.id x.message.items)
+  pub message : whole_of y.receiver.pieces ≡ Some x.message
+  pub acked : EndsAcknowledging y.end (last_key x.sender.id x.message)
       (map frame_value wire.frames.items)
 
 -- the message is over, or on its way still

@@ -9,6 +9,7 @@ pub mod Marking
 pub mod Promising
 pub mod Sending
 pub mod Resting
+pub mod Rooms
 pub mod Running
 pub mod Settling
 pub mod Stories

@@ -1,5 +1,5 @@
 -- A frame came.
-use Rattle.std.specs.Prelude.{◌≡◌, ℕ, zero, suc, true, List, [], ◌∷◌}
+use Rattle.std.specs.Prelude.{◌≡◌, ℕ, zero, suc, true, List, [], ◌∷◌, vec_capacity}
 use Rattle.trace_text.specs.declared.frame.Frame.{Frame}
 use Rattle.line_steps.specs.declared.half.Wire.{Wire}
 
@@ -12,3 +12,4 @@ marked (suc n) (frame ∷ later) = frame ∷ marked n later
 pub record Marks (n : ℕ) (wire new : Wire) : Type 0 where
   pub frames_are : new.frames.items ≡ marked n wire.frames.items
   pub released_is : new.released ≡ wire.released
+  pub room_is : vec_capacity new.frames ≡ vec_capacity wire.frames

@@ -33,13 +33,13 @@ AllGo number (frame ∷ later) = Goes number (frame_value frame) × AllGo (numbe
 abbrev pub side_of : Half → Side
 side_of half = record {
   id = half.sender.id;
-  message = half.message.items;
+  message = half.message;
   acknowledged = half.sender.acknowledged;
 }
 
 -- the sender sends the message, and the reader took a gap last
 pub record IsHalf (half : Half) : Type 0 where
-  pub length_is : half.sender.length ≡ length half.message.items
+  pub length_is : half.sender.length ≡ length half.message
   pub gap : half.reader.held ≡ []
 
 -- what holds of the wire and of both ends after each step

@@ -69,15 +69,14 @@ pub record KeepsAll (wire : Wire) (x y later_x later_y : Half) : Type 0 where
   pub counted : Counted wire x y → Counted wire later_x later_y
 
 -- What the next message of x answers: the other end's last one, or nothing, or for the first
--- request the desktop's own greeting, where the other end waits for
--- nothing.
+-- request the desktop's own greeting, where the other end waits for nothing.
 abbrev pub IsInTurn : End → ℕ → ℕ → Half → Type 0
 IsInTurn Handheld handheld desktop y =
     ((handheld ≡ 0) × (desktop ≡ 0)) ⊎ ((0 < handheld) × (desktop ≡ handheld + 1))
 IsInTurn Desktop handheld desktop y =
     ((handheld ≡ 1) × (desktop ≡ 0))
     ⊎ ((handheld ≡ 1) × (desktop ≡ 1)
-    × (piece_count (length y.message.items) ≤ y.sender.acknowledged))
+    × (piece_count (length y.message) ≤ y.sender.acknowledged))
     ⊎ ((1 < desktop) × (handheld ≡ desktop))
 
 -- so its id is that of its number

@@ -30,15 +30,15 @@ pub record Turn (wire : Wire) (x y : Half) : Type 0 where
   pub settled : Settled wire x y
   pub knows : length (said x.end (past_now wire.frames.items))
       ≤ length (acked y.end (at y.taken (past_now wire.frames.items)))
-  pub idle : piece_count (length x.message.items) ≤ x.sender.acknowledged
-  pub last : piece_count (length y.message.items) ≤ y.sender.acknowledged + 1
+  pub idle : piece_count (length x.message) ≤ x.sender.acknowledged
+  pub last : piece_count (length y.message) ≤ y.sender.acknowledged + 1
 
 -- behind data that made a message whole it is the turn of x, which took it, has the message, and
 -- sent its acknowledgement last
 abbrev pub TurnAfter : Taken → Wire → Half → Half → Type 0
 TurnAfter Whole wire x y =
-    Turn wire x y × (whole_of x.receiver.pieces ≡ Some y.message.items)
-    × EndsAcknowledging x.end (last_key y.sender.id y.message.items)
+    Turn wire x y × (whole_of x.receiver.pieces ≡ Some y.message)
+    × EndsAcknowledging x.end (last_key y.sender.id y.message)
     (map frame_value wire.frames.items)
 TurnAfter taken wire x y = ⊤
 

@@ -19,7 +19,7 @@ pub record Underway (wire : Wire) (x y : Half) : Type 0 where
   pub waits : Waiting (side_of x)
   pub due : (length (acked y.end (past_now wire.frames.items))
       < length (said x.end (past_now wire.frames.items)))
-      ⊎ (x.sender.acknowledged + 1 < piece_count (length x.message.items))
+      ⊎ (x.sender.acknowledged + 1 < piece_count (length x.message))
 
 -- unless y took the last piece
 abbrev pub UnderwayAfter : Taken → Wire → Half → Half → Type 0

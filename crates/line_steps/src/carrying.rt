@@ -12,6 +12,7 @@ ghost use Rattle.line_steps.specs.Advancing.{Advances, FallsShort, StandsStill};
 ghost use Rattle.line_steps.specs.Carrying.{Carried, SameMessage, StepTo, IsNext, makes_whole};
 ghost use Rattle.line_steps.specs.Counting.{Counted};
 ghost use Rattle.line_steps.specs.Halting.{Halted};
+ghost use Rattle.line_steps.specs.Rooms.{WantsRoom};
 ghost use Rattle.line_steps.specs.Running.{Holds, AtHead, AllGo, SamePlace, past_now};
 ghost use Rattle.line_steps.specs.Telling.{KeepsTalk, Recorded, Talks};
 ghost use Rattle.line_steps.specs.Turning.{Turn};
@@ -23,9 +24,9 @@ use crate::sending::Halt;
 use crate::skipping::skip_to_head;
 use crate::taking::take_next;
 use crate::ticking::{delivers, tick};
+use arrayvec::ArrayVec;
 use line_script::Script;
 use padp_link::Taken;
-use std::alloc::AllocError;
 use trace_text::{End, Fate};
 
 /// Carries the message of the end `x`, which was begun, over to the other end. A frame has the fate that the script gives
@@ -45,6 +46,7 @@ pub fn carry(wire: &mut Wire, x: &mut Half, y: &mut Half, script: &Script) -> Re
     ensures advances { Advances wire.old x.old y.old wire.new x.new y.new }
     ensures short { IfErr result (λ halt. (talk : Talk) → Talks talk wire.old x.old y.old →
         FallsShort halt talk wire.new x.new) }
+    ensures room { WantsRoom result wire.old.frames wire.new.frames }
 {
     loop {
         if step(wire, x, y, script)? {
@@ -61,13 +63,14 @@ pub fn settle(wire: &mut Wire, x: &mut Half, y: &mut Half, script: &Script) -> R
         Recorded script.now wire.new x.new y.new }
     ensures counted { Counted wire.old x.old y.old → Counted wire.new x.new y.new }
     ensures turn { OnOk result (Turn wire.new x.new y.new) }
-    ensures idle { OnOk result (piece_count (length y.new.message.items)
+    ensures idle { OnOk result (piece_count (length y.new.message)
         ≤ y.new.sender.acknowledged) }
     ensures x_same { OnOk result (SameMessage x.old x.new) }
     ensures y_same { OnOk result (SameMessage y.old y.new) }
     ensures talks { OnOk result (KeepsTalk wire.old x.old y.old wire.new x.new y.new) }
     ensures halted { IfErr result
         (λ halt. Halted halt wire.old x.old y.old wire.new x.new y.new) }
+    ensures room { WantsRoom result wire.old.frames wire.new.frames }
 {
     loop {
         if x.sender.current().is_none() {
@@ -89,6 +92,7 @@ fn step(wire: &mut Wire, x: &mut Half, y: &mut Half, script: &Script) -> Result<
     ensures step { IfOk result (λ whole. StepTo whole wire.old x.old y.old wire.new x.new y.new) }
     ensures advances { Advances wire.old x.old y.old wire.new x.new y.new }
     ensures still { IfErr result (λ halt. StandsStill halt wire.old x.old wire.new x.new) }
+    ensures room { WantsRoom result wire.old.frames wire.new.frames }
 {
     skip_to_head(wire, x, y);
     skip_to_head(wire, y, x);
@@ -109,9 +113,10 @@ fn deliver(wire: &mut Wire, x: &mut Half, y: &mut Half, script: &Script) -> Resu
     ensures step { IfOk result (λ whole. StepTo whole wire.old x.old y.old wire.new x.new y.new) }
     ensures advances { Advances wire.old x.old y.old wire.new x.new y.new }
     ensures still { IfErr result (λ halt. StandsStill halt wire.old x.old wire.new x.new) }
+    ensures room { WantsRoom result wire.old.frames wire.new.frames }
 {
     let number = wire.frames.len() as u64 + 1;
-    let fate = fate_of(script, number)?;
+    let fate = fate_of(script, number);
     match next_of(wire, x, y) {
         Next::Own => {
             let heard = take_next(wire, x, y, fate)?;
@@ -122,7 +127,7 @@ fn deliver(wire: &mut Wire, x: &mut Half, y: &mut Half, script: &Script) -> Resu
             Ok(false)
         }
         Next::Nothing => {
-            let other = fate_of(script, number + 1)?;
+            let other = fate_of(script, number + 1);
             wait(wire, x, y, fate, other)?;
             Ok(false)
         }
@@ -188,6 +193,7 @@ fn wait(wire: &mut Wire, x: &mut Half, y: &mut Half, fate: Fate, other: Fate) ->
     ensures halted { IfErr result
         (λ halt. Halted halt wire.old x.old y.old wire.new x.new y.new) }
     ensures step { OnOk result (StepTo false wire.old x.old y.old wire.new x.new y.new) }
+    ensures room { WantsRoom result wire.old.frames wire.new.frames }
 {
     match x.end {
         End::Desktop => tick(wire, x, y, fate, other),
@@ -196,17 +202,26 @@ fn wait(wire: &mut Wire, x: &mut Half, y: &mut Half, fate: Fate, other: Fate) ->
 }
 
 /// The fate that the script gives the frame of this number.
-pub fn fate_of(script: &Script, number: u64) -> Result<Fate, AllocError>
-    ensures { IfOk result (λ fate. fate_value fate ≡ fate_by script.now number) }
+pub fn fate_of(script: &Script, number: u64) -> Fate
+    ensures { fate_value result ≡ fate_by script.now number }
 {
-    Ok(match script.fate(number) {
+    match script.fate(number) {
         Fate::Ok => Fate::Ok,
         Fate::Lost => Fate::Lost,
         Fate::Late => Fate::Late,
         Fate::Cut(count) => Fate::Cut(*count),
-        Fate::Hit(place, bytes) => Fate::Hit(*place, bytes.clone()?),
-        Fate::Noise(bytes) => Fate::Noise(bytes.clone()?),
+        Fate::Hit(place, bytes) => Fate::Hit(*place, copy_of(bytes)),
+        Fate::Noise(bytes) => Fate::Noise(copy_of(bytes)),
         Fate::Unplug => Fate::Unplug,
         Fate::Abort => Fate::Abort,
-    })
+    }
+}
+
+/// The same bytes.
+fn copy_of<const MOST: usize>(bytes: &ArrayVec<u8, MOST>) -> ArrayVec<u8, MOST>
+    ensures { result.items ≡ bytes.now.items }
+{
+    let mut copy = ArrayVec::new();
+    let _fits = copy.try_extend_from_slice(bytes.as_slice()).is_ok();
+    copy
 }

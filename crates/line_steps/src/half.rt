@@ -1,4 +1,5 @@
 //! What was sent over the line so far, and the two ends of it.
+use dlp_args::Message;
 use padp_link::{Receiver, Sender};
 use slp_frames::SlpReader;
 use trace_text::{End, Frame};
@@ -16,9 +17,9 @@ pub struct Wire {
 #[derive(Drop)]
 pub struct Half {
     pub end: End,
-    /// Sends the message.
+    /// Sends the message, in memory that was taken when the end was made.
     pub sender: Sender,
-    pub message: Vec<u8>,
+    pub message: Message,
     pub receiver: Receiver,
     /// Reads what arrives of the other end's frames.
     pub reader: SlpReader,

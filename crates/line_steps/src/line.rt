@@ -7,6 +7,7 @@ ghost use Rattle.line_steps.specs.Telling.{Talks, no_talk};
 ghost use Rattle.line_steps.specs.Turning.{Turn};
 
 use crate::half::{Half, Wire};
+use dlp_args::Message;
 use padp_link::{Receiver, Sender};
 use slp_frames::SlpReader;
 use std::alloc::{AllocError, Global};
@@ -21,8 +22,8 @@ pub struct Line {
 }
 
 impl Line {
-    /// A line over which nothing was sent. It is the handheld's turn. The memory for the longest message of each end is
-    /// taken here.
+    /// A line over which nothing was sent. It is the handheld's turn. The memory for the longest message that each end
+    /// sends and takes is taken here; afterwards only the list of frames grows.
     pub fn new(alloc: Global) -> Result<Line, AllocError>
         ensures turn { IfOk result (λ line. Turn line.wire line.handheld line.desktop) }
         ensures handheld { IfOk result (λ line. IsNew line.handheld Handheld) }
@@ -51,11 +52,12 @@ impl Line {
 fn new_half(alloc: Global, end: End) -> Result<Half, AllocError>
     ensures { IfOk result (λ half. IsNew half end) }
 {
+    let message = Message::new(alloc)?;
     let receiver = Receiver::new(alloc)?;
     Ok(Half {
         end,
         sender: Sender::new(),
-        message: Vec::new(alloc),
+        message,
         receiver,
         reader: SlpReader::new(),
         taken: 0,

@@ -6,6 +6,7 @@ ghost use Rattle.padp_link.specs.FragmentValues.{fragment_value};
 ghost use Rattle.padp_link.specs.Senders.{Waits, waiting};
 ghost use Rattle.trace_text.specs.Fates.{fate_value};
 ghost use Rattle.line_laws.specs.Core.{part_now};
+ghost use Rattle.line_steps.specs.Rooms.{WantsRoom};
 ghost use Rattle.line_steps.specs.Running.{IsHalf, side_of};
 ghost use Rattle.line_steps.specs.Sending.{Sends, Halts, ack_fragment};
 
@@ -25,6 +26,7 @@ pub(crate) fn send_piece(wire: &mut Wire, half: &Half, fate: Fate) -> Result<(),
         (λ halt. Halts wire.old.frames.items half.now.end half.now.sender.id (part_now
         (side_of half.now)) (fate_value fate) halt wire.new.frames.items) }
     ensures released { wire.new.released ≡ wire.old.released }
+    ensures room { WantsRoom result wire.old.frames wire.new.frames }
 {
     let Some(piece) = half.sender.current() else {
         return Ok(());
@@ -52,7 +54,7 @@ fn fragment_with(half: &Half, piece: Piece) -> Fragment<'_>
         kind: PadpKind::Data,
         flags: piece.key.flags,
         size: piece.key.size,
-        bytes: &half.message[place..end],
+        bytes: &half.message.bytes()[place..end],
     }
 }
 
@@ -65,6 +67,7 @@ pub(crate) fn send_ack(wire: &mut Wire, from: End, key: Key, fate: Fate) -> Resu
     ensures halt { IfErr result (λ halt. Halts wire.old.frames.items from key.id
         (ack_fragment key) (fate_value fate) halt wire.new.frames.items) }
     ensures released { wire.new.released ≡ wire.old.released }
+    ensures room { WantsRoom result wire.old.frames wire.new.frames }
 {
     let fragment = ack_with(key.flags, key.size);
     send(&mut wire.frames, from, key.id, &fragment, fate)

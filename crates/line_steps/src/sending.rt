@@ -4,6 +4,7 @@ ghost use Rattle.padp_link.specs.FragmentText.{IsFragment, FragmentText, fragmen
 ghost use Rattle.padp_link.specs.FragmentValues.{fragment_value};
 ghost use Rattle.trace_text.specs.Fates.{fate_value};
 ghost use Rattle.trace_text.specs.Frames.{padp_packet};
+ghost use Rattle.line_steps.specs.Rooms.{WantsRoom};
 ghost use Rattle.line_steps.specs.Sending.{Sends, Halts};
 ghost use Rattle.line_steps.specs.declared.sending.Halt.TheVariants.{NoMemory};
 
@@ -55,6 +56,7 @@ pub(crate) fn send(
         (fate_value fate) None frames.new.items) }
     ensures halt { IfErr result (λ halt. Halts frames.old.items from id
         (fragment_value fragment.now) (fate_value fate) halt frames.new.items) }
+    ensures room { WantsRoom result frames.old frames.new }
 {
     let bytes = packet_with(id, fragment);
     let stop = stop_of(&fate, bytes.as_slice());

@@ -12,6 +12,7 @@ ghost use Rattle.line_steps.specs.Counting.{Lands, landed};
 ghost use Rattle.line_steps.specs.Halting.{Halted};
 ghost use Rattle.line_steps.specs.Hearing.{Hears};
 ghost use Rattle.line_steps.specs.Marking.{marked, Marks};
+ghost use Rattle.line_steps.specs.Rooms.{WantsRoom};
 ghost use Rattle.line_steps.specs.Running.{Holds, Heeded, Stays};
 ghost use Rattle.line_steps.specs.Taking.{Delivers, AckNext, DataHeard};
 ghost use Rattle.line_steps.specs.Turning.{TurnAfter, TurnBehind};
@@ -43,6 +44,7 @@ pub fn take_next(wire: &mut Wire, x: &mut Half, y: &mut Half, fate: Fate) -> Res
         (λ halt. Halted halt wire.old x.old y.old wire.new x.new y.new) }
     ensures up { IfErr result (λ halt. IsUp halt) }
     ensures less { OnOk result (work_left wire.new x.new y.new < work_left wire.old x.old y.old) }
+    ensures room { WantsRoom result wire.old.frames wire.new.frames }
 {
     mark(wire, x.taken);
     take_marked(wire, x, y, fate)
@@ -64,6 +66,7 @@ fn take_marked(wire: &mut Wire, x: &mut Half, y: &mut Half, fate: Fate) -> Resul
         (λ halt. Halted halt wire.old x.old y.old wire.new x.new y.new) }
     ensures up { IfErr result (λ halt. IsUp halt) }
     ensures less { OnOk result (work_left wire.new x.new y.new < work_left wire.old x.old y.old) }
+    ensures room { WantsRoom result wire.old.frames wire.new.frames }
 {
     let heard = hear_frame(&wire.frames[x.taken], y);
     match heard {
@@ -114,6 +117,7 @@ fn take_ack(wire: &mut Wire, x: &mut Half, y: &mut Half, key: Key, fate: Fate) -
     ensures moved { x.new ≡ record x.old { taken = x.old.taken + 1 } }
     ensures stays { Stays y.old y.new }
     ensures reader { y.new.reader ≡ y.old.reader }
+    ensures room { WantsRoom result wire.old.frames wire.new.frames }
 {
     x.taken += 1;
     if !y.sender.on_ack(key) {
@@ -147,6 +151,7 @@ fn take_data(
     ensures moved { x.new ≡ record x.old { taken = x.old.taken + 1 } }
     ensures stays { Stays y.old y.new }
     ensures reader { y.new.reader ≡ y.old.reader }
+    ensures room { WantsRoom result wire.old.frames wire.new.frames }
 {
     x.taken += 1;
     match taken {

@@ -4,6 +4,7 @@ ghost use Rattle.padp_link.specs.Senders.{Waits};
 ghost use Rattle.line_laws.specs.Progress.{Blocked};
 ghost use Rattle.line_steps.specs.Adding.{AddsOne, AddsTwo, IsFirst};
 ghost use Rattle.line_steps.specs.Halting.{Halted, NotAgain};
+ghost use Rattle.line_steps.specs.Rooms.{WantsRoom};
 ghost use Rattle.line_steps.specs.Running.{AllGo, AtHead, Holds, IsHalf, Stays, past_now};
 ghost use Rattle.line_steps.specs.Taking.{Delivers};
 ghost use Rattle.line_steps.specs.Ticking.{SendsAgain};
@@ -63,6 +64,7 @@ pub fn tick(
     ensures y_reader { y.new.reader ≡ y.old.reader }
     ensures underway { OnOk result
         (StillUnderway Nothing wire.old x.old y.old wire.new x.new y.new) }
+    ensures room { WantsRoom result wire.old.frames wire.new.frames }
 {
     wire.released = wire.frames.len();
     if x.sender.current().is_none() {
@@ -86,6 +88,7 @@ fn send_again(wire: &mut Wire, half: &mut Half, fate: Fate) -> Result<(), Halt>
     ensures stays { Stays half.old half.new }
     ensures reader { half.new.reader ≡ half.old.reader }
     ensures again { OnOk result (SendsAgain wire.old half.old (fate_value fate) wire.new half.new) }
+    ensures room { WantsRoom result wire.old.frames wire.new.frames }
 {
     if half.sender.on_timer().is_err() {
         return Err(Halt::Down(half.end));

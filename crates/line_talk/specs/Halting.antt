@@ -14,8 +14,8 @@ use Rattle.line_steps.specs.Telling.{IsNextTo, Talks, cursor_of}
 use Rattle.line_talk.specs.Rests.{AreEnds}
 
 -- It halted before the message of x was over: then the frames tell it by the rules, though it may
--- have stopped within it or before it. What was taken of y
--- stays taken, and where an end has spent its tries the message wasn't taken whole.
+-- have stopped within it or before it. What was taken of y stays taken, and where an end has spent
+-- its tries the message wasn't taken whole.
 pub record HaltedOver (halt : Halt) (id : ℕ) (message : List ℕ) (wire : Wire) (x y : Half)
     (new : Wire) (later_x later_y : Half) : Type 0 where
   pub by : HaltsBy halt (cursor_of later_x later_y) new.frames.items
@@ -38,8 +38,7 @@ half_of Handheld line = line.handheld
 half_of Desktop line = line.desktop
 
 -- It halted while X said the last of its messages: all messages of the other end were taken, and
--- where an end has spent its tries this last one wasn't
--- taken whole.
+-- where an end has spent its tries this last one wasn't taken whole.
 pub record HaltsWithin (X : End) (halt : Halt) (talk : Talk) (line : Line) : Type 0 where
   pub others : piece_total (other_end X) talk ≤ took_count line.wire (half_of (other_end X) line)
   pub short : FallsShort halt talk line.wire (half_of X line)

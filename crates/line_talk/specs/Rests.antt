@@ -27,7 +27,7 @@ pub record MayAsk (line : Line) (requests : ℕ) : Type 0 where
   pub handheld_id : line.handheld.sender.id ≡ session_id requests
   pub desktop_id : line.desktop.sender.id ≡ session_id requests
   pub idle : requests ≡ 0
-      → piece_count (length line.handheld.message.items) ≤ line.handheld.sender.acknowledged
+      → piece_count (length line.handheld.message) ≤ line.handheld.sender.acknowledged
 
 -- the handheld has the request behind so many, and may reply to it
 pub record MayAnswer (line : Line) (requests : ℕ) : Type 0 where

@@ -7,6 +7,7 @@ ghost use Rattle.trace_text.specs.Talks.{Talk};
 ghost use Rattle.trace_text.specs.TraceLines.{frame_value};
 ghost use Rattle.line_laws.specs.Talking.{say};
 ghost use Rattle.line_steps.specs.Acknowledging.{EndsAcknowledging, last_key};
+ghost use Rattle.line_steps.specs.Rooms.{WantsRoom};
 ghost use Rattle.line_talk.specs.Halting.{HaltsWithin, LineEnds};
 ghost use Rattle.line_talk.specs.Rests.{MayAnswer, MayAsk};
 ghost use Rattle.line_talk.specs.Telling.{HasSaid, LineCounts, LineRecords, LineTells};
@@ -14,16 +15,9 @@ ghost use Rattle.line_talk.specs.Telling.{HasSaid, LineCounts, LineRecords, Line
 use crate::over::send_over;
 use line_script::Script;
 use line_steps::{Halt, Line};
-use std::alloc::Global;
 
 /// The desktop sends the request behind so many, and the handheld takes it whole.
-pub fn ask(
-    alloc: Global,
-    line: &mut Line,
-    script: &Script,
-    requests: usize,
-    request: &[u8],
-) -> Result<(), Halt>
+pub fn ask(line: &mut Line, script: &Script, requests: usize, request: &[u8]) -> Result<(), Halt>
     requires asks { MayAsk line.old requests }
     requires short { length request.now < 65536 }
     ensures answers { OnOk result (MayAnswer line.new requests) }
@@ -38,9 +32,9 @@ pub fn ask(
     ensures within { IfErr result (λ halt. (talk : Talk) → HasSaid talk requests requests →
         LineTells talk line.old → HaltsWithin Desktop halt (say Desktop request.now talk)
         line.new) }
+    ensures room { WantsRoom result line.old.wire.frames line.new.wire.frames }
 {
     send_over(
-        alloc,
         &mut line.wire,
         &mut line.desktop,
         &mut line.handheld,
@@ -51,13 +45,7 @@ pub fn ask(
 }
 
 /// The handheld sends the reply to it, and the desktop takes it whole.
-pub fn answer(
-    alloc: Global,
-    line: &mut Line,
-    script: &Script,
-    requests: usize,
-    reply: &[u8],
-) -> Result<(), Halt>
+pub fn answer(line: &mut Line, script: &Script, requests: usize, reply: &[u8]) -> Result<(), Halt>
     requires answers { MayAnswer line.old requests }
     requires short { length reply.now < 65536 }
     ensures asks { OnOk result (MayAsk line.new (requests + 1)) }
@@ -74,9 +62,9 @@ pub fn answer(
     ensures within { IfErr result (λ halt. (talk : Talk) → HasSaid talk requests (requests + 1) →
         LineTells talk line.old → HaltsWithin Handheld halt (say Handheld reply.now talk)
         line.new) }
+    ensures room { WantsRoom result line.old.wire.frames line.new.wire.frames }
 {
     send_over(
-        alloc,
         &mut line.wire,
         &mut line.handheld,
         &mut line.desktop,

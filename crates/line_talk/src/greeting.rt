@@ -3,6 +3,7 @@ ghost use Rattle.std.specs.Prelude.{◌≡◌, ◌∷◌, [], ℕ, List, IfErr, 
 ghost use Rattle.cmp_hello.specs.declared.hello.Hello.{Hello};
 ghost use Rattle.cmp_hello.specs.HelloText.{HelloText, hello_bytes};
 ghost use Rattle.padp_link.specs.Receivers.{whole_of};
+ghost use Rattle.line_steps.specs.Rooms.{WantsRoom};
 ghost use Rattle.line_steps.specs.Telling.{no_talk};
 ghost use Rattle.line_talk.specs.Halting.{LineEnds};
 ghost use Rattle.line_talk.specs.Rests.{MayAsk, MayGreet};
@@ -13,7 +14,6 @@ use cmp_hello::{Hello, HelloKind, read_hello, write_hello};
 use line_script::Script;
 use line_steps::{Halt, Line, settle};
 use padp_link::Receiver;
-use std::alloc::Global;
 
 /// The transaction of the greetings.
 const GREETING: u8 = 255;
@@ -23,7 +23,7 @@ const RATE: u32 = 9_600;
 
 /// The handheld wakes the desktop, which answers. The session begins once the desktop knows that its answer came. The rate
 /// is the one that the desktop heard.
-pub fn greet(alloc: Global, line: &mut Line, script: &Script) -> Result<u32, Halt>
+pub fn greet(line: &mut Line, script: &Script) -> Result<u32, Halt>
     requires { MayGreet line.old }
     ensures asks { OnOk result (MayAsk line.new 0) }
     ensures rate { IfOk result (λ rate. rate ≡ wake.rate) }
@@ -33,10 +33,10 @@ pub fn greet(alloc: Global, line: &mut Line, script: &Script) -> Result<u32, Hal
     ensures tells { OnOk result (LineTells no_talk line.old → LineTells greeted line.new) }
     ensures ends { IfErr result (λ halt.
         LineTells no_talk line.old → LineEnds halt greeted line.new) }
+    ensures room { WantsRoom result line.old.wire.frames line.new.wire.frames }
 {
     let wake = greeting(HelloKind::Wake, RATE);
     send_over(
-        alloc,
         &mut line.wire,
         &mut line.handheld,
         &mut line.desktop,
@@ -47,7 +47,6 @@ pub fn greet(alloc: Global, line: &mut Line, script: &Script) -> Result<u32, Hal
     let rate = rate_of(&line.desktop.receiver);
     let init = greeting(HelloKind::Init, rate);
     send_over(
-        alloc,
         &mut line.wire,
         &mut line.desktop,
         &mut line.handheld,

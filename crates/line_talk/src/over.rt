@@ -8,17 +8,16 @@ ghost use Rattle.line_laws.specs.Talking.{say};
 ghost use Rattle.line_steps.specs.Acknowledging.{EndsAcknowledging, last_key};
 ghost use Rattle.line_steps.specs.Carrying.{SameMessage};
 ghost use Rattle.line_steps.specs.Counting.{Counted};
+ghost use Rattle.line_steps.specs.Rooms.{WantsRoom};
 ghost use Rattle.line_steps.specs.Telling.{IsNextTo, Recorded, Talks};
 ghost use Rattle.line_steps.specs.Turning.{Turn};
 ghost use Rattle.line_talk.specs.Halting.{HaltedOver};
 
 use line_script::Script;
 use line_steps::{Half, Halt, Wire, carry, expect, fate_of, start};
-use std::alloc::Global;
 
 /// The end `x` sends this message under this transaction, and the end `y` takes it whole.
 pub(crate) fn send_over(
-    alloc: Global,
     wire: &mut Wire,
     x: &mut Half,
     y: &mut Half,
@@ -47,10 +46,10 @@ pub(crate) fn send_over(
         Talks (say x.old.end message.now talk) wire.new x.new y.new) }
     ensures halted { IfErr result (λ halt. HaltedOver halt id message.now
         wire.old x.old y.old wire.new x.new y.new) }
+    ensures room { WantsRoom result wire.old.frames wire.new.frames }
 {
-    let text = Vec::from_slice(alloc, message)?;
-    let fate = fate_of(script, wire.frames.len() as u64 + 1)?;
+    let fate = fate_of(script, wire.frames.len() as u64 + 1);
     expect(y, id);
-    start(wire, x, y, id, text, fate)?;
+    start(wire, x, y, id, message, fate)?;
     carry(wire, x, y, script)
 }

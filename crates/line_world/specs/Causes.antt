@@ -56,8 +56,8 @@ IsCause (Some link.Down) cause = IsSome cause
 IsCause (Some link.NoMemory) cause = cause ≡ None
 
 -- This end has spent its tries: its last ten data frames bear one key, no acknowledgement of it
--- behind the first of them came, and ten faults stand
--- among the last frames, none of which ends the run.
+-- behind the first of them came, and ten faults stand among the last frames, none of which ends the
+-- run.
 pub record SpentIn (end : End) (frames : List FrameValue) : Type 0 where
   pub cursor : End → ℕ
   pub came : CameByCursor 1 cursor frames

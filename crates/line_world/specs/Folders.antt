@@ -50,8 +50,8 @@ OthersStay told later =
     ≡ option_map (λ held. finmap.get held name) told
 
 -- The device took the steps of these exchanges, and the files went with them; a request that failed
--- is none of them. The folder stands for the device where it
--- stood for the one before; at each moment since it stood for the device after some of the steps.
+-- is none of them. The folder stands for the device where it stood for the one before; at each
+-- moment since it stood for the device after some of the steps.
 pub record ServedSince {F : Type 0} (contents : F → Option FileMap) (moments : F → Moments)
     (paths : F → Option (List (List ℕ))) (faults : F → ℕ)
     (old new : ServerValue F) (exchanges : List Exchange) : Type 0 where

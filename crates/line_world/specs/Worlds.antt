@@ -69,10 +69,8 @@ abbrev pub StoppedUp : Option LinkFault → Option Down → Type 0
 StoppedUp fault cause = (fault ≡ None → ⊥) × (down_end cause ≡ None)
 
 -- Behind the greetings the frames told the handheld the requests that it performed, or one request
--- more, and the desktop the replies that its calls
--- answered, or
--- one reply more: the one more only in a run that stopped before it was dealt with, and not because
--- an end had spent its tries.
+-- more, and the desktop the replies that its calls answered, or one reply more: the one more only
+-- in a run that stopped before it was dealt with, and not because an end had spent its tries.
 pub record TellDone (log : LogValue) (answered : ℕ) (fault : Option LinkFault)
     (cause : Option Down) (frames : List FrameValue) : Type 0 where
   pub requests :
@@ -100,9 +98,8 @@ pub record LeavesOff (log : LogValue) (answered : ℕ) (fault : Option LinkFault
   pub keeper : cause ≡ Some Keeper → length log.performed < length log.issued
 
 -- Since the first of the two more was sent, performed and replied: each request that was performed
--- was one step of the device, in order. The script is
--- the same.
--- A folder that failed meanwhile had its count rise.
+-- was one step of the device, in order. The script is the same. A folder that failed meanwhile had
+-- its count rise.
 pub record WorldSince {F : Type 0} (contents : F → Option FileMap) (moments : F → Moments)
     (paths : F → Option (List (List ℕ))) (faults : F → ℕ)
     (old new : WorldValue F) : Type 0 where

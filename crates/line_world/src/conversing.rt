@@ -55,9 +55,9 @@ pub(crate) fn converse<F: Folder>(
 {
     let requests = log.issued.len();
     log.issue(alloc, request)?;
-    ask(alloc, line, script, requests, request.bytes())?;
+    ask(line, script, requests, request.bytes())?;
     perform(alloc, server, &line.handheld.receiver, log, request, reply)?;
-    answer(alloc, line, script, requests, reply.bytes())?;
+    answer(line, script, requests, reply.bytes())?;
     take_whole(&line.desktop.receiver, reply);
     Ok(())
 }

@@ -1,4 +1,9 @@
 //! The world as a link.
+ghost use Rattle.std.specs.Prelude.{◌≡◌, false, true, Err, IfOk, IfSome, IsErrOf, OnErr, OnOk};
+ghost use Rattle.std.specs.Result.{result_err};
+ghost use Rattle.dlp_commands.specs.Links.{WentDown, first_fault};
+ghost use Rattle.line_talk.specs.Telling.{wake};
+
 use crate::conversing::converse;
 use crate::stop::{Break, cause_of, fault_of};
 use crate::world::World;
@@ -22,11 +27,25 @@ impl<F: Folder> Link for World<F> {
 
     ghost since = { λ first last. WorldSince F.contents F.moments F.paths F.faults first last };
 
-    fn hello(&mut self) -> Result<u32, LinkFault> {
+    /// Its answer is the rate that the handheld woke with.
+    fn hello(&mut self) -> Result<u32, LinkFault>
+        requires { ⟦<Self as Link>⟧.begun self.old ≡ false }
+        ensures rate { IfOk result (λ rate. rate ≡ wake.rate) }
+
+        ensures begun { OnOk result (⟦<Self as Link>⟧.begun self.new ≡ true) }
+        ensures not_begun { OnErr result (⟦<Self as Link>⟧.begun self.new ≡ false) }
+        ensures talk { ⟦<Self as Link>⟧.talk self.new ≡ ⟦<Self as Link>⟧.talk self.old }
+        ensures fault { ⟦<Self as Link>⟧.fault self.new
+            ≡ first_fault (⟦<Self as Link>⟧.fault self.old) (result_err result) }
+        ensures again { IfSome (⟦<Self as Link>⟧.fault self.old) (λ fault. result ≡ Err fault) }
+        ensures cause { WentDown (⟦<Self as Link>⟧.fault self.old) (⟦<Self as Link>⟧.downs self.old)
+            (⟦<Self as Link>⟧.downs self.new) (IsErrOf result LinkFault.Down) }
+        ensures since { ⟦<Self as Link>⟧.since self.old self.new }
+    {
         if let Some(fault) = self.fault {
             return Err(fault);
         }
-        match greet(self.alloc, &mut self.line, &self.script) {
+        match greet(&mut self.line, &self.script) {
             Ok(rate) => {
                 self.begun = true;
                 Ok(rate)

@@ -1,5 +1,6 @@
-use Rattle.line_steps.proofs.Names.{err_from_is_err_and}
+use Rattle.line_steps.proofs.Names.{err_from_is_err_and, Err, Bool, arith}
 use Rattle.line_steps.proofs.AdvancingLaws.{advances_more, falls_short}
+use Rattle.line_steps.proofs.RoomLaws.{room_behind}
 use Rattle.line_steps.proofs.HaltedLaws.{halted_behind}
 use Rattle.line_steps.proofs.CarryingLaws.{not_over, is_over, same_trans, underway-waits}
 use Rattle.line_steps.proofs.carrying.carry.Goals as goal
@@ -22,6 +23,7 @@ loop-preserved c =
       λ talk talks. step.talks talk (c.loop.invariant.5 talk talks),
       λ was. c.step.ensures.counted (c.loop.invariant.6 was),
       advances_more c.loop.invariant.7 c.step.ensures.advances,
+      omega (arith, c.loop.invariant.8, c.step.ensures.room.0),
     )
 
 pub returns-in_err-step-clause-recorded : goal.returns-in_err-step-clause-recorded
@@ -56,3 +58,14 @@ returns-in_err-step-clause-short c =
     let halt = c.in_err-step.field-0.0 in
     rw (p.1, p.2) (λ talk talks. falls_short halt c.step.new.wire c.step.new.x (c.loop.invariant.5 talk talks) c.loop.invariant.1
     c.in_err-step.ensures.halted.x_end c.in_err-step.ensures.still)
+
+pub returns-in_err-step-clause-room : goal.returns-in_err-step-clause-room
+returns-in_err-step-clause-room c =
+    let p = err_from_is_err_and c.from_residual.result c.from_residual.ensures.1 in
+    rw (p.1, p.2) (room_behind {A = Bool} (Err c.in_err-step.field-0.0) c.args.wire.now.frames c.loop.wire.frames c.step.new.wire.frames c.loop.invariant.8 c.in_err-step.ensures.room)
+
+pub returns-then-branch-clause-room : goal.returns-then-branch-clause-room
+returns-then-branch-clause-room c = (
+  omega (arith, c.loop.invariant.8, c.step.ensures.room.0),
+  tt,
+)

@@ -27,53 +27,48 @@ returns-in_err-heard-in-Own-clause-recorded c =
     let size : c.len.result ≡ length c.args.wire.now.frames.items = omega (arith, c.len.ensures) in
     let took = c.take_next.ensures in
     recorded_own c.requires.holds c.in-Own.ensures.0
-    (c.in_ok-fate.ensures ∙ ap (λ n. fate_by c.args.script.now (n + 1)) size) took.adds took.moved took.stays
+    (c.fate_of-fate.ensures ∙ ap (λ n. fate_by c.args.script.now (n + 1)) size) took.adds took.moved took.stays
 
 pub returns-in_ok-heard-in-Own-clause-recorded : goal.returns-in_ok-heard-in-Own-clause-recorded
 returns-in_ok-heard-in-Own-clause-recorded c =
     let size : c.len.result ≡ length c.args.wire.now.frames.items = omega (arith, c.len.ensures) in
     let took = c.take_next.ensures in
     recorded_own c.requires.holds c.in-Own.ensures.0
-    (c.in_ok-fate.ensures ∙ ap (λ n. fate_by c.args.script.now (n + 1)) size) took.adds took.moved took.stays
+    (c.fate_of-fate.ensures ∙ ap (λ n. fate_by c.args.script.now (n + 1)) size) took.adds took.moved took.stays
 
 pub returns-in_err-take_next-in-Other-clause-recorded : goal.returns-in_err-take_next-in-Other-clause-recorded
 returns-in_err-take_next-in-Other-clause-recorded c =
     let size : c.len.result ≡ length c.args.wire.now.frames.items = omega (arith, c.len.ensures) in
     let took = c.take_next-in-Other.ensures in
     recorded_other (holds_turned c.requires.holds) c.in-Other.ensures.0
-    (c.in_ok-fate.ensures ∙ ap (λ n. fate_by c.args.script.now (n + 1)) size) took.adds took.moved took.stays
+    (c.fate_of-fate.ensures ∙ ap (λ n. fate_by c.args.script.now (n + 1)) size) took.adds took.moved took.stays
 
 pub returns-in_ok-take_next-in-Other-clause-recorded : goal.returns-in_ok-take_next-in-Other-clause-recorded
 returns-in_ok-take_next-in-Other-clause-recorded c =
     let size : c.len.result ≡ length c.args.wire.now.frames.items = omega (arith, c.len.ensures) in
     let took = c.take_next-in-Other.ensures in
     recorded_other (holds_turned c.requires.holds) c.in-Other.ensures.0
-    (c.in_ok-fate.ensures ∙ ap (λ n. fate_by c.args.script.now (n + 1)) size) took.adds took.moved took.stays
+    (c.fate_of-fate.ensures ∙ ap (λ n. fate_by c.args.script.now (n + 1)) size) took.adds took.moved took.stays
 
 pub returns-in_err-wait-in-Nothing-clause-recorded : goal.returns-in_err-wait-in-Nothing-clause-recorded
 returns-in_err-wait-in-Nothing-clause-recorded c =
     let size : c.len.result ≡ length c.args.wire.now.frames.items = omega (arith, c.len.ensures) in
     recorded_two c.requires.holds
-    (c.in_ok-fate.ensures ∙ ap (λ n. fate_by c.args.script.now (n + 1)) size)
-    (c.in_ok-other-in-Nothing.ensures ∙ ap (λ n. fate_by c.args.script.now (n + 1 + 1)) size) c.wait.ensures.adds
+    (c.fate_of-fate.ensures ∙ ap (λ n. fate_by c.args.script.now (n + 1)) size)
+    (c.fate_of-other.ensures ∙ ap (λ n. fate_by c.args.script.now (n + 1 + 1)) size) c.wait.ensures.adds
     c.wait.ensures.x_place c.wait.ensures.y_place
 
 pub returns-in_ok-wait-in-Nothing-clause-recorded : goal.returns-in_ok-wait-in-Nothing-clause-recorded
 returns-in_ok-wait-in-Nothing-clause-recorded c =
     let size : c.len.result ≡ length c.args.wire.now.frames.items = omega (arith, c.len.ensures) in
     recorded_two c.requires.holds
-    (c.in_ok-fate.ensures ∙ ap (λ n. fate_by c.args.script.now (n + 1)) size)
-    (c.in_ok-other-in-Nothing.ensures ∙ ap (λ n. fate_by c.args.script.now (n + 1 + 1)) size) c.wait.ensures.adds
+    (c.fate_of-fate.ensures ∙ ap (λ n. fate_by c.args.script.now (n + 1)) size)
+    (c.fate_of-other.ensures ∙ ap (λ n. fate_by c.args.script.now (n + 1 + 1)) size) c.wait.ensures.adds
     c.wait.ensures.x_place c.wait.ensures.y_place
-
-pub returns-in_err-fate-clause-halted : goal.returns-in_err-fate-clause-halted
-returns-in_err-fate-clause-halted c =
-    let p = err_from_is_err_and c.from_residual.result c.from_residual.ensures.1 in
-    rw (p.1, p.2) (no_memory c.requires.holds)
 
 pub returns-in_err-heard-in-Own-clause-halted : goal.returns-in_err-heard-in-Own-clause-halted
 returns-in_err-heard-in-Own-clause-halted c =
-    let p = err_from_is_err_and c.from_residual-in_err-heard-in-Own.result c.from_residual-in_err-heard-in-Own.ensures.1 in
+    let p = err_from_is_err_and c.from_residual.result c.from_residual.ensures.1 in
     rw (p.1, p.2) c.in_err-heard-in-Own.ensures.halted
 
 pub returns-in_err-take_next-in-Other-clause-halted : goal.returns-in_err-take_next-in-Other-clause-halted
@@ -87,11 +82,6 @@ returns-in_err-take_next-in-Other-clause-halted c =
     let p = err_from_is_err_and c.from_residual-in_err-take_next-in-Other.result c.from_residual-in_err-take_next-in-Other.ensures.1 in
     rw (p.1, p.2) (halted_turned apart
     (still_apart y x later_y later_x (ap (λ h. h.end) took.moved) took.stays.end_is apart) c.in_err-take_next-in-Other.ensures.halted)
-
-pub returns-in_err-other-in-Nothing-clause-halted : goal.returns-in_err-other-in-Nothing-clause-halted
-returns-in_err-other-in-Nothing-clause-halted c =
-    let p = err_from_is_err_and c.from_residual-in_err-other-in-Nothing.result c.from_residual-in_err-other-in-Nothing.ensures.1 in
-    rw (p.1, p.2) (no_memory c.requires.holds)
 
 pub returns-in_err-wait-in-Nothing-clause-halted : goal.returns-in_err-wait-in-Nothing-clause-halted
 returns-in_err-wait-in-Nothing-clause-halted c =
@@ -130,12 +120,6 @@ returns-in_ok-wait-in-Nothing-clause-counted c =
     counted_two c.requires.holds
     c.wait.ensures.adds c.wait.ensures.x_place c.wait.ensures.y_place c.wait.ensures.x_reader c.wait.ensures.y_reader
 
-pub returns-in_err-fate-clause-advances : goal.returns-in_err-fate-clause-advances
-returns-in_err-fate-clause-advances c = advances_refl
-
-pub returns-in_err-other-in-Nothing-clause-advances : goal.returns-in_err-other-in-Nothing-clause-advances
-returns-in_err-other-in-Nothing-clause-advances c = advances_refl
-
 pub returns-in_err-heard-in-Own-clause-advances : goal.returns-in_err-heard-in-Own-clause-advances
 returns-in_err-heard-in-Own-clause-advances c =
     let took = c.take_next.ensures in
@@ -166,19 +150,9 @@ returns-in_ok-wait-in-Nothing-clause-advances c =
     let waited = c.wait.ensures in
     advances_two c.requires.holds waited.adds waited.x_place waited.y_place
 
-pub returns-in_err-fate-clause-still : goal.returns-in_err-fate-clause-still
-returns-in_err-fate-clause-still c =
-    let p = err_from_is_err_and c.from_residual.result c.from_residual.ensures.1 in
-    rw (p.1, p.2) tt
-
-pub returns-in_err-other-in-Nothing-clause-still : goal.returns-in_err-other-in-Nothing-clause-still
-returns-in_err-other-in-Nothing-clause-still c =
-    let p = err_from_is_err_and c.from_residual-in_err-other-in-Nothing.result c.from_residual-in_err-other-in-Nothing.ensures.1 in
-    rw (p.1, p.2) tt
-
 pub returns-in_err-heard-in-Own-clause-still : goal.returns-in_err-heard-in-Own-clause-still
 returns-in_err-heard-in-Own-clause-still c =
-    let p = err_from_is_err_and c.from_residual-in_err-heard-in-Own.result c.from_residual-in_err-heard-in-Own.ensures.1 in
+    let p = err_from_is_err_and c.from_residual.result c.from_residual.ensures.1 in
     rw (p.1, p.2) (up_where c.in_err-heard-in-Own.field-0.0 _ c.in_err-heard-in-Own.ensures.up)
 
 pub returns-in_err-take_next-in-Other-clause-still : goal.returns-in_err-take_next-in-Other-clause-still

@@ -1,4 +1,5 @@
-use Rattle.line_steps.proofs.Names.{sym, ap, ◌∙◌, is_some, err_from_is_err_and}
+use Rattle.line_steps.proofs.Names.{sym, ap, ◌∙◌, is_some, err_from_is_err_and, Err, Bool, arith}
+use Rattle.line_steps.proofs.RoomLaws.{room_behind}
 use Rattle.line_steps.proofs.HaltedLaws.{halted_behind}
 use Rattle.line_steps.proofs.CarryingLaws.{same_refl, same_trans, taken-turn, taken-settled}
 use Rattle.line_steps.proofs.TakingLaws.{some_waits, waits_not}
@@ -14,6 +15,7 @@ loop-wire-init c = (
   λ was. was,
   λ talk talks. talks,
   λ was. was,
+  omega arith,
 )
 
 pub returns-then-is_none-clause-turn : goal.returns-then-is_none-clause-turn
@@ -34,6 +36,7 @@ loop-wire-preserved c =
       λ was. c.step.ensures.recorded (c.loop-wire.invariant.4 was),
       λ talk talks. step.talks talk (c.loop-wire.invariant.5 talk talks),
       λ was. c.step.ensures.counted (c.loop-wire.invariant.6 was),
+      omega (arith, c.loop-wire.invariant.7, c.step.ensures.room.0),
     )
 
 pub returns-in_err-step-clause-recorded : goal.returns-in_err-step-clause-recorded
@@ -46,3 +49,11 @@ returns-in_err-step-clause-halted c =
 
 pub returns-in_err-step-clause-counted : goal.returns-in_err-step-clause-counted
 returns-in_err-step-clause-counted c = λ was. c.step.ensures.counted (c.loop-wire.invariant.6 was)
+
+pub returns-in_err-step-clause-room : goal.returns-in_err-step-clause-room
+returns-in_err-step-clause-room c =
+    let p = err_from_is_err_and c.from_residual.result c.from_residual.ensures.1 in
+    rw (p.1, p.2) (room_behind {A = Bool} (Err c.in_err-step.field-0.0) c.args.wire.now.frames c.loop-wire.wire.frames c.step.new.wire.frames c.loop-wire.invariant.7 c.in_err-step.ensures.room)
+
+pub returns-then-is_none-clause-room : goal.returns-then-is_none-clause-room
+returns-then-is_none-clause-room c = (c.loop-wire.invariant.7, tt)

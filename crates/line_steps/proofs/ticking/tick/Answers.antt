@@ -1,5 +1,6 @@
 use Rattle.line_steps.proofs.Names.{◌≡◌, length, arith, sym, ap, ◌∙◌, is_some, on_ok_weaker, err_from_is_err_and, fate_value}
 use Rattle.line_steps.proofs.TakingLaws.{some_waits, waits_not}
+use Rattle.line_steps.proofs.RoomLaws.{room_behind}
 use Rattle.line_steps.proofs.WorkLaws.{other_waits, tick_one-less, tick_other-less, tick_two-less}
 use Rattle.line_steps.proofs.UnderwayLaws.{tick_one-underway, tick_other-underway, tick_two-underway}
 use Rattle.line_steps.proofs.AddingLaws.{adds_two, first_again, first_two}
@@ -108,3 +109,8 @@ returns-then-is_none-2-clause-first c waits = first_again c.in_ok-send_again.ens
 
 pub returns-clause-first : goal.returns-clause-first
 returns-clause-first c waits = first_two c.in_ok-send_again.ensures.again c.send_again-3.ensures.adds
+
+pub returns-clause-room : goal.returns-clause-room
+returns-clause-room c =
+    room_behind c.send_again-3.result c.args.wire.now.frames c.send_again-2.new.wire.frames c.send_again-3.new.wire.frames
+    c.send_again-2.ensures.room.0 c.send_again-3.ensures.room
