@@ -6,6 +6,7 @@ pub mod CopyLaws
 pub mod GreetLaws
 pub mod GrowLaws
 pub mod IdListLaws
+pub mod LastLaws
 pub mod LentLaws
 pub mod ListLaws
 pub mod ListOrderLaws

@@ -41,9 +41,8 @@ greeted users add first second =
     (said_in no_more (reply_at 0x2E second))
 
 -- A greeting answered the fault of the link, or what both replies say. Where the link has no fault,
--- the first reply is the
--- device's to ReadUserInfo, and the second, which is asked for where the user has a slot, its reply
--- to OpenConduit.
+-- the first reply is the device's to ReadUserInfo, and the second, which is asked for where the
+-- user has a slot, its reply to OpenConduit.
 pub record Greeted (users : List ℕ) (add : Bool) (talk : Option Talk) (fault : Option LinkFault)
     (answer : Result UserInfo SessionFault) : Type 0 where
   pub first : List ℕ

@@ -3,6 +3,7 @@ pub mod Answers
 pub mod Ends
 pub mod Faults
 pub mod Greetings
+pub mod Lasts
 pub mod Lent
 pub mod Lists
 pub mod Opens

@@ -110,9 +110,8 @@ IsNotMissing other = Unit {0}
 -- ---- what a list of the databases did
 
 -- Requests went out in order, each but the first where the reply before it said that more follow,
--- and at most 65,536. Where it was
--- done, each was answered, the heads are those in the replies, and the last one said that no more
--- follow, unless it was the 65,536th.
+-- and at most 65,536. Where it was done, each was answered, the heads are those in the replies, and
+-- the last one said that no more follow, unless it was the 65,536th.
 pub record Lists {L : Type 0} (talk : L → Option Talk) (since : L → L → Type 0)
     (fault : L → Option LinkFault) (downs : L → ℕ) (old new : L)
     (answer : Result (List DbHead) SessionFault) : Type 0 where

@@ -94,9 +94,8 @@ pub record TakesResource (kind : List ℕ) (id : ℕ) (base : Base) : Type 0 whe
   pub room : has_room kind id base.database.resources ≡ true
 
 -- A request of a session may be asked of this device: what it names is as it has to be. Whole
--- blocks, records and resources are
--- read, the databases are listed one by one, one record is taken away. A session has no call for
--- the other functions.
+-- blocks, records and resources are read, the databases are listed one by one, one record is taken
+-- away. A session has no call for the other functions.
 abbrev pub CanAsk : Device → (f : Form) → Fields (kinds_of f) → Type 0
 CanAsk device form.ReadUserInfo none = Unit {0}
 CanAsk device form.WriteUserInfo (user, (viewer, (pc, (date, (bits, (name_len, (name, end))))))) =

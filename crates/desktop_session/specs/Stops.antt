@@ -9,9 +9,8 @@ use Rattle.desktop_session.specs.Says.{Begins, answered, grown, saying, sent}
 use Rattle.desktop_session.specs.Sessions.{SessionValue}
 
 -- Of a link: what went out begins what should have gone out, no fewer requests were answered, and a
--- device that was told is told
--- still; the link's own relation holds; and it is down only where its count rose or it was down
--- before.
+-- device that was told is told still; the link's own relation holds; and it is down only where its
+-- count rose or it was down before.
 pub record Stops {L : Type 0} (talk : L → Option Talk) (since : L → L → Type 0)
     (fault : L → Option LinkFault) (downs : L → ℕ)
     (requests : List (List ℕ)) (old new : L) : Type 0 where
@@ -27,8 +26,7 @@ pub record Does {L : Type 0} (talk : L → Option Talk) (acts : List Act) (old n
   pub sent : sent (talk new) ≡ grown (sent (talk old)) (map text acts)
 
 -- A session asked for one act: nothing else went out; where the link has no fault the act was done,
--- and the last reply is the
--- device's to it; the user is as before, and nothing was abandoned.
+-- and the last reply is the device's to it; the user is as before, and nothing was abandoned.
 pub record Asked {L : Type 0} (talk : L → Option Talk) (since : L → L → Type 0)
     (fault : L → Option LinkFault) (downs : L → ℕ) (one : Act)
     (old new : SessionValue L) : Type 0 where

@@ -1,9 +1,10 @@
 // How a session begins.
-ghost use Rattle.std.specs.Prelude.{◌≡◌, ◌≤◌, ◌∷◌, ◌⊎◌, [], OnOk, length};
+ghost use Rattle.std.specs.Prelude.{◌≡◌, ◌≤◌, ◌∷◌, ◌⊎◌, [], IfErr, OnOk, length};
 ghost use Rattle.dlp_replies.specs.ReplyReading.{reply_at};
 ghost use Rattle.desktop_session.specs.Acts.{text};
 ghost use Rattle.desktop_session.specs.Answers.{answer_by, no_more, said_in, user_of};
 ghost use Rattle.desktop_session.specs.Greetings.{AsksUser, Greeted, HasSlot, user_by, user_with};
+ghost use Rattle.desktop_session.specs.Lasts.{IsByLastReply};
 ghost use Rattle.desktop_session.specs.Requests.{beginning, reading_user};
 ghost use Rattle.desktop_session.specs.Stops.{Asked, Does, Stops};
 ghost use Rattle.pdb_values.specs.Slots.{slot_for as slot_of};
@@ -23,6 +24,7 @@ impl<L: Link> Linked<L> {
         ensures asked { Asked L.talk L.since L.fault L.downs reading_user self.old self.new }
         ensures answer { result ≡ answer_by (L.fault self.new.link)
             (user_by users.now add (said_in user_of (reply_at 0x10 self.new.reply))) }
+        ensures last { IfErr result (IsByLastReply (L.talk self.new.link)) }
     {
         self.ask(&Request::ReadUserInfo)?;
         let user = user_in(self.reply())?;
@@ -35,6 +37,7 @@ impl<L: Link> Linked<L> {
         ensures asked { Asked L.talk L.since L.fault L.downs beginning self.old self.new }
         ensures answer { result ≡ answer_by (L.fault self.new.link)
             (said_in no_more (reply_at 0x2E self.new.reply)) }
+        ensures last { IfErr result (IsByLastReply (L.talk self.new.link)) }
     {
         self.ask(&Request::OpenConduit)?;
         done_in(0x2E, self.reply())
@@ -71,6 +74,7 @@ impl<L: Link> Linked<L> {
             self.new.link) result }
         ensures unseated { AsksUser L.talk L.since L.fault L.downs self.old.link self.new.link
             ⊎ HasSlot users.now add (L.talk self.old.link) }
+        ensures last { IfErr result (IsByLastReply (L.talk self.new.link)) }
         ensures abandoned { self.new.abandoned ≡ self.old.abandoned }
     {
         let user = self.ask_user(users, add)?;

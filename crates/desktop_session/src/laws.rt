@@ -1,10 +1,11 @@
 // What holds of what a session says.
-ghost use Rattle.std.specs.Prelude.{◌≡◌, ◌++◌, ◌+◌, ◌-◌, ◌^◌, ◌<◌, ◌≤◌, ◌⊎◌, ℕ, List, Ok, Some, false, length, map, max, slice_get, true};
+ghost use Rattle.std.specs.Prelude.{◌≡◌, ◌++◌, ◌+◌, ◌-◌, ◌^◌, ◌<◌, ◌≤◌, ◌⊎◌, ℕ, List, Err, Ok, Some, false, length, map, max, slice_get, true};
 ghost use Rattle.pdb_values.specs.declared.head.DbHead.{DbHead};
 ghost use Rattle.pdb_values.specs.declared.record.Record.{Record};
 ghost use Rattle.pdb_values.specs.declared.resource.Resource.{Resource};
 ghost use Rattle.dlp_replies.specs.ReplyReading.{reply_at};
 ghost use Rattle.dlp_replies.specs.ReplyValues as reply;
+ghost use Rattle.dlp_replies.specs.ReplyValues.{ReplyValue};
 ghost use Rattle.palm_device.specs.Devices.{Device};
 ghost use Rattle.palm_device.specs.Handles.{Base, base_at, no_handles};
 ghost use Rattle.palm_device.specs.Records.{next_changed, place_of_id};
@@ -14,13 +15,19 @@ ghost use Rattle.dlp_commands.specs.DatabaseFunctions.{listed};
 ghost use Rattle.dlp_commands.specs.Holding.{on_records, on_resources};
 ghost use Rattle.dlp_commands.specs.Talks.{Talk};
 ghost use Rattle.desktop_session.specs.Acts.{Act, acted};
-ghost use Rattle.desktop_session.specs.Answers.{record_of, resource_of, said_in};
+ghost use Rattle.desktop_session.specs.Answers.{answer_by, no_more, or_false, or_none, record_of, resource_of, said_in};
+ghost use Rattle.desktop_session.specs.Lasts.{IsByLastReply};
 ghost use Rattle.desktop_session.specs.Lent.{record_lent, resource_lent};
 ghost use Rattle.desktop_session.specs.Lists.{has_more, heads_listed, id_parts, ids_listed, list_reply};
 ghost use Rattle.desktop_session.specs.Opens.{IsOpenAs, LeavesOpen};
 ghost use Rattle.desktop_session.specs.Requests.{closing, making, opening_in, reading_at, reading_next, reading_of, reading_resource};
 ghost use Rattle.desktop_session.specs.Says.{said};
+ghost use Rattle.desktop_session.specs.Sessions.{SessionValue};
+ghost use Rattle.desktop_session.specs.Stops.{Asked};
 ghost use Rattle.desktop_session.specs.Tellings.{AreSayable, IsProper, IsSayable, device_after, exchanges, number_of, told};
+
+use crate::fault::SessionFault;
+use dlp_commands::Link;
 
 /// Over a device whose values keep their bounds the reply to an act is read as what the table says:
 /// `BadReply` never comes, and
@@ -40,6 +47,27 @@ pub fn acts_are_steps()
         ≡ talk.exchanges ++ exchanges acts talk.device }
     ensures proper { (acts : List Act) (device : Device) → IsProper device → AreSayable acts device
         → IsProper (device_after acts device) }
+{}
+
+/// Over any link a call that stops for a refusal, or for a reply that can't be read, stops for what the
+/// last reply of the link's talk says, read as one to the function of its request: whatever the call
+/// takes from the reply, and also where error 5 has an answer of its own.
+pub fn refusals_are_the_last_reply<L: Link, A>()
+    ensures said { (one : Act) (old new : SessionValue L) (take : ReplyValue → A)
+        (cause : SessionFault) → Asked L.talk L.since L.fault L.downs one old new
+        → Err cause ≡ answer_by (L.fault new.link)
+        (said_in take (reply_at (number_of one) new.reply))
+        → IsByLastReply (L.talk new.link) cause }
+    ensures found { (one : Act) (old new : SessionValue L) (take : ReplyValue → A)
+        (cause : SessionFault) → Asked L.talk L.since L.fault L.downs one old new
+        → Err cause ≡ answer_by (L.fault new.link)
+        (or_none (said_in take (reply_at (number_of one) new.reply)))
+        → IsByLastReply (L.talk new.link) cause }
+    ensures removed { (one : Act) (old new : SessionValue L) (cause : SessionFault)
+        → Asked L.talk L.since L.fault L.downs one old new
+        → Err cause ≡ answer_by (L.fault new.link)
+        (or_false (said_in no_more (reply_at (number_of one) new.reply)))
+        → IsByLastReply (L.talk new.link) cause }
 {}
 
 /// A database that is opened where nothing is open gets handle 1.

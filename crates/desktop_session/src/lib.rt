@@ -28,7 +28,7 @@ pub use fault::SessionFault;
 pub use idle::Idle;
 pub use laws::{
     acts_are_steps, first_handle_is_one, lent_ones_are_the_devices, lists_are_whole,
-    open_ones_stay_open, replies_tell,
+    open_ones_stay_open, refusals_are_the_last_reply, replies_tell,
 };
 pub use lent::{RecordLent, ResourceLent};
 pub use linked::Linked;

@@ -3,6 +3,7 @@ ghost use Rattle.std.specs.Prelude.{◌≡◌, ◌++◌, ◌*◌, IfErr, IfOk, I
 ghost use Rattle.dlp_replies.specs.ReplyReading.{reply_at};
 ghost use Rattle.desktop_session.specs.Acts.{text};
 ghost use Rattle.desktop_session.specs.Answers.{mapped};
+ghost use Rattle.desktop_session.specs.Lasts.{IsByLastReply};
 ghost use Rattle.desktop_session.specs.Lists.{HasCause, IsByReplyTo, IsNotMissing, Lists, has_more, heads_in};
 ghost use Rattle.desktop_session.specs.Lists.{id_listings, id_parts, ids_in, ids_listed};
 ghost use Rattle.desktop_session.specs.Requests.{listing, listing_ids};
@@ -27,6 +28,7 @@ impl<L: Link> Linked<L> {
         ensures more { IfOk result (λ more. more ≡ has_more (reply_at 0x16 self.new.reply)) }
         ensures cause { IfErr result (HasCause (L.fault self.new.link) (reply_at 0x16
             self.new.reply)) }
+        ensures last { IfErr result (IsByLastReply (L.talk self.new.link)) }
         ensures others { IfErr result IsNotMissing }
     {
         self.ask(&Request::ReadDbList {
@@ -52,6 +54,7 @@ impl<L: Link> Linked<L> {
             self.new.reply)) }
         ensures cause { IfErr result (HasCause (L.fault self.new.link) (reply_at 0x31
             self.new.reply)) }
+        ensures last { IfErr result (IsByLastReply (L.talk self.new.link)) }
     {
         self.ask(&Request::ReadRecordIdList {
             handle,
@@ -73,6 +76,7 @@ impl<L: Link> Linked<L> {
             (mapped (λ heads. heads.items) result) }
         ensures cause { IfErr result (HasCause (L.fault self.new.link) (reply_at 0x16
             self.new.reply)) }
+        ensures last { IfErr result (IsByLastReply (L.talk self.new.link)) }
         ensures others { IfErr result IsNotMissing }
         ensures replied { OnErr result
             (IsByReplyTo L.talk L.fault 65536 listing self.old self.new) }
@@ -108,6 +112,7 @@ impl<L: Link> Linked<L> {
             (λ talk. ids.items ≡ ids_listed talk.device handle (id_parts count))) }
         ensures cause { IfErr result (HasCause (L.fault self.new.link) (reply_at 0x31
             self.new.reply)) }
+        ensures last { IfErr result (IsByLastReply (L.talk self.new.link)) }
         ensures replied { OnErr result (IsByReplyTo L.talk L.fault (id_parts count)
             (λ part. listing_ids handle (8000 * part)) self.old self.new) }
         ensures rest { (self.new.user ≡ self.old.user) × (self.new.abandoned ≡ self.old.abandoned) }
@@ -135,6 +140,7 @@ impl<'s, L: Link> OpenDb<'s, L> {
             (λ talk. ids.items ≡ ids_listed talk.device self.old.handle (id_parts count))) }
         ensures cause { IfErr result (HasCause (L.fault self.new.linked.now.link)
             (reply_at 0x31 self.new.linked.now.reply)) }
+        ensures last { IfErr result (IsByLastReply (L.talk self.new.linked.now.link)) }
         ensures replied { OnErr result (IsByReplyTo L.talk L.fault (id_parts count)
             (λ part. listing_ids self.old.handle (8000 * part))
             self.old.linked.now self.new.linked.now) }

@@ -1,6 +1,5 @@
 -- A fast reading of an open database: the number of its entries, the ids of its records, each
--- changed record, and by its id each
--- other record that the base has no row of.
+-- changed record, and by its id each other record that the base has no row of.
 use Rattle.std.specs.Prelude.{ℕ, zero, suc, Bool, true, false, List, [], ◌∷◌, ◌++◌, length, map, Option, None, Some, filter, replicate, if◌then◌else◌}
 use Rattle.pdb_values.specs.declared.record.Record.{Record}
 use Rattle.dlp_replies.specs.ReplyReading.{reply_at}

@@ -2,6 +2,7 @@
 ghost use Rattle.std.specs.Prelude.{◌≡◌, ◌<◌, IfErr, IfOk, IfSome, None, OnOk, option_to_list};
 ghost use Rattle.dlp_replies.specs.ReplyReading.{reply_at};
 ghost use Rattle.conduit_rules.specs.ById.{id_bound};
+ghost use Rattle.desktop_session.specs.Lasts.{IsByLastReply};
 ghost use Rattle.desktop_session.specs.Lists.{HasCause};
 ghost use Rattle.desktop_session.specs.Requests.{reading_next};
 ghost use Rattle.desktop_session.specs.Stops.{Asked};
@@ -56,6 +57,7 @@ pub(crate) fn read_changed<L: Link>(
     ensures none { OnOk result (0 < most → L.fault db.new.linked.now.link ≡ None) }
     ensures cause { IfErr result (HasCause (L.fault db.new.linked.now.link)
         (reply_at 0x1F db.new.linked.now.reply)) }
+    ensures last { IfErr result (IsByLastReply (L.talk db.new.linked.now.link)) }
 {
     let mut seen = Vec::new(alloc);
     for _request in 0..most {

@@ -7,6 +7,7 @@ ghost use Rattle.dlp_replies.specs.ReplyReading.{reply_at};
 ghost use Rattle.palm_device.specs.Records.{place_of_id};
 ghost use Rattle.conduit_rules.specs.ById.{id_bound};
 ghost use Rattle.conduit_rules.specs.declared.view.Seen.{Seen};
+ghost use Rattle.desktop_session.specs.Lasts.{IsByLastReply};
 ghost use Rattle.desktop_session.specs.Lists.{HasCause};
 ghost use Rattle.desktop_session.specs.Requests.{reading_of};
 ghost use Rattle.desktop_session.specs.Stops.{Asked};
@@ -112,6 +113,7 @@ fn filled<L: Link>(
     ensures own { IfOk result (IsOf entry.id) }
     ensures cause { IfErr result (HasCause (L.fault db.new.linked.now.link)
         (reply_at 0x20 db.new.linked.now.reply)) }
+    ensures last { IfErr result (IsByLastReply (L.talk db.new.linked.now.link)) }
 {
     if !matches!(&entry.state, SeenState::Unread) {
         return Ok(Some(entry));
@@ -150,6 +152,7 @@ fn fill<L: Link>(
     ensures adds { OnOk result (Adds entry.id seen.old.items seen.new.items) }
     ensures cause { IfErr result (HasCause (L.fault db.new.linked.now.link)
         (reply_at 0x20 db.new.linked.now.reply)) }
+    ensures last { IfErr result (IsByLastReply (L.talk db.new.linked.now.link)) }
 {
     let found = filled(alloc, db, base, places, entry)?;
     if let Some(entry) = found {
@@ -178,6 +181,7 @@ pub(crate) fn fill_all<L: Link>(
     ensures fills { IfOk result (λ view. Fills entries.items view.seen.items) }
     ensures cause { IfErr result (HasCause (L.fault db.new.linked.now.link)
         (reply_at 0x20 db.new.linked.now.reply)) }
+    ensures last { IfErr result (IsByLastReply (L.talk db.new.linked.now.link)) }
 {
     let mut seen = Vec::new(alloc);
     for entry in entries {

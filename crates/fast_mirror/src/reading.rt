@@ -3,6 +3,7 @@ ghost use Rattle.std.specs.Prelude.{◌≡◌, ◌⊎◌, IfErr, IfOk, IfSome, N
 ghost use Rattle.dlp_replies.specs.ReplyReading.{reply_at};
 ghost use Rattle.conduit_rules.specs.ById.{each_id};
 ghost use Rattle.desktop_session.specs.Acts.{text};
+ghost use Rattle.desktop_session.specs.Lasts.{IsByLastReply};
 ghost use Rattle.desktop_session.specs.Lists.{HasCause};
 ghost use Rattle.desktop_session.specs.Stops.{Does, Stops};
 ghost use Rattle.slow_mirror.specs.Asks.{Asks};
@@ -39,6 +40,7 @@ fn read_ids<L: Link>(alloc: Global, db: &mut OpenDb<'_, L>) -> Result<Vec<Record
         HasCause (L.fault db.new.linked.now.link) (reply_at 0x2B db.new.linked.now.reply) cause
         ⊎ HasCause (L.fault db.new.linked.now.link) (reply_at 0x31 db.new.linked.now.reply)
         cause) }
+    ensures last { IfErr result (IsByLastReply (L.talk db.new.linked.now.link)) }
 {
     let count = db.count()?;
     db.ids(alloc, count)
@@ -66,6 +68,7 @@ fn read_others<L: Link>(
     ensures rising { IfOk result (λ view. ordered view.seen.items ≡ view.seen.items) }
     ensures cause { IfErr result (HasCause (L.fault db.new.linked.now.link)
         (reply_at 0x20 db.new.linked.now.reply)) }
+    ensures last { IfErr result (IsByLastReply (L.talk db.new.linked.now.link)) }
 {
     let mut seen = seen;
     add_shells(alloc, ids, &mut seen)?;
@@ -101,6 +104,7 @@ pub fn read_side<L: Link>(
         ⊎ (HasCause (L.fault db.new.linked.now.link) (reply_at 0x1F db.new.linked.now.reply) cause
         ⊎ HasCause (L.fault db.new.linked.now.link) (reply_at 0x20 db.new.linked.now.reply)
         cause))) }
+    ensures last { IfErr result (IsByLastReply (L.talk db.new.linked.now.link)) }
 {
     let ids = read_ids(alloc, db)?;
     let seen = read_changed(alloc, db, ids.len() + 1)?;

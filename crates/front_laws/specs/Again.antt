@@ -34,9 +34,8 @@ pub record RunsAgain (meeting next : Meeting) (writes : ℕ) (given : List ℕ) 
   pub number : 0 < (slot_of meeting).marks.pc
 
 -- Of a database: the first session read all of it, or what it passed over was honest; no id that
--- one of the sessions gave was that of a base
--- row, gone or not, that it had then; and where both sides agreed, no record had the id of a gone
--- row.
+-- one of the sessions gave was that of a base row, gone or not, that it had then; and where both
+-- sides agreed, no record had the id of a gone row.
 pub record IsFresh (meeting next : Meeting) (given later : List ℕ) (name : List ℕ) : Type 0 where
   pub honest : is_fast meeting (task_of meeting name) ≡ true
       → IsHonest (base_rows (task_of meeting name)) (records_of (task_of meeting name).handheld)
@@ -89,9 +88,8 @@ ids_of_all meeting (e ∷ es) later name =
     ids_at meeting e.given name ++ ids_of_all e.next es later name
 
 -- The last session leaves of a database the merge of what the first one found, but for gone rows of
--- the base, under ids of which each was free at
--- its turn and nothing had one. They are all that were given, in order, unless it goes by the
--- desktop, where those given before the commit are
+-- the base, under ids of which each was free at its turn and nothing had one. They are all that
+-- were given, in order, unless it goes by the desktop, where those given before the commit are
 -- purged again.
 pub record EndsAtMerge (meeting : Meeting) (es : List Later) (later name : List ℕ) : Type 0 where
   pub ids : List ℕ

@@ -42,8 +42,8 @@ HasBegun meeting device =
     ⊎ ((device.user ≡ meeting.device.user) × (device.databases ≡ meeting.device.databases))
 
 -- Up to the desktop's commit: each database has so many of its replacements and adds, under the ids
--- that are dealt out to it, of which no
--- record had any at its turn, and none is left. What the session skips or hasn't is as before.
+-- that are dealt out to it, of which no record had any at its turn, and none is left. What the
+-- session skips or hasn't is as before.
 pub record StandsAmongNews (meeting : Meeting) (given : List ℕ) (device : Device) : Type 0 where
   pub count : List ℕ → ℕ
   pub each : (name : List ℕ)
@@ -68,8 +68,7 @@ HasEnded meeting given device =
     × (device.databases ≡ (merged_device meeting given).databases))
 
 -- Behind the commit: each database has all of these, with the ids that are dealt out to it, and so
--- many of its purges, the clean up and
--- the reset.
+-- many of its purges, the clean up and the reset.
 pub record StandsBehindCommit (meeting : Meeting) (given : List ℕ) (device : Device) : Type 0 where
   pub count : List ℕ → ℕ
   pub each : (name : List ℕ) → IsActive meeting name

@@ -39,7 +39,8 @@ use Rattle.session_parts.specs.Stretches.{AreFirst, EachSays, each_acts}
 use Rattle.session_parts.specs.declared.meeting.Met.{Met}
 use Rattle.session_parts.specs.declared.stop.Stop.{Stop}
 use Rattle.session_parts.specs.declared.stop.Stop.TheVariants as stop
-use Rattle.session_parts.proofs.CauseLaws.{later_by, later_refused}
+use Rattle.desktop_session.specs.Lasts.{IsByLastReply}
+use Rattle.session_parts.proofs.CauseLaws.{later_by, later_said}
 use Rattle.session_parts.proofs.LinkWords.{Act, Does, Halted, LinkFault, SessionFault, Stops, Talk, ending, saying, text}
 use Rattle.session_parts.proofs.RestLaws.{after-append, greeting_same, listings_same}
 use Rattle.session_parts.proofs.StretchLaws.{Leads, Tells, first_is, tells_on}
@@ -61,26 +62,29 @@ retype : {A B : Type 0} (fault : Option LinkFault) (f cause : SessionFault) → 
 retype None f cause is = let same : cause ≡ f = cc in ap (λ c. Err c) same
 retype (Some x) f cause is = let same : cause ≡ fault_of x = cc in ap (λ c. Err c) same
 
-unbegun : (fault : Option LinkFault) (read : Result ReplyValue ReplyFault) (user : UserInfo) (cause : SessionFault) (second : Result (Unit {0}) SessionFault)
-    → said_in no_more read ≡ second → Err cause ≡ answer_by fault (begun_by (Ok user) second) → IsLater fault cause
-unbegun fault read user cause (Err f) said is = later_refused fault no_more read cause (retype fault f cause is ∙ ap (answer_by fault) (sym said))
-unbegun None read user cause (Ok done) said is = absurd cc
-unbegun (Some x) read user cause (Ok done) said is =
+unbegun : (talk : Option Talk) (fault : Option LinkFault) (read : Result ReplyValue ReplyFault) (user : UserInfo) (cause : SessionFault) (second : Result (Unit {0}) SessionFault)
+    → said_in no_more read ≡ second → Err cause ≡ answer_by fault (begun_by (Ok user) second) → IsByLastReply talk cause → IsLater talk fault cause
+unbegun talk fault read user cause (Err f) said is last =
+    later_said talk fault no_more read cause (retype fault f cause is ∙ ap (answer_by fault) (sym said)) last
+unbegun talk None read user cause (Ok done) said is last = absurd cc
+unbegun talk (Some x) read user cause (Ok done) said is last =
     let same : cause ≡ fault_of x = cc in
-    later_refused (Some x) no_more read cause (ap (λ c. Err c) same)
+    later_said talk (Some x) no_more read cause (ap (λ c. Err c) same) last
 
-greeted_by : (fault : Option LinkFault) (one two : Result ReplyValue ReplyFault) (cause : SessionFault) (first : Result UserInfo SessionFault)
-    → said_in user_of one ≡ first → Err cause ≡ answer_by fault (begun_by (user_by (0 ∷ []) false first) (said_in no_more two)) → IsLater fault cause
-greeted_by fault one two cause (Err f) said is = later_refused fault user_of one cause (is ∙ ap (answer_by fault) (sym said))
-greeted_by fault one two cause (Ok user) said is =
-    unbegun fault two user cause (said_in no_more two) refl
-    (is ∙ ap (λ s. answer_by fault (begun_by (user_with (0 ∷ []) user s) (said_in no_more two))) (zero_slot user.user))
+greeted_by : (talk : Option Talk) (fault : Option LinkFault) (one two : Result ReplyValue ReplyFault) (cause : SessionFault) (first : Result UserInfo SessionFault)
+    → said_in user_of one ≡ first → Err cause ≡ answer_by fault (begun_by (user_by (0 ∷ []) false first) (said_in no_more two))
+    → IsByLastReply talk cause → IsLater talk fault cause
+greeted_by talk fault one two cause (Err f) said is last = later_said talk fault user_of one cause (is ∙ ap (answer_by fault) (sym said)) last
+greeted_by talk fault one two cause (Ok user) said is last =
+    unbegun talk fault two user cause (said_in no_more two) refl
+    (is ∙ ap (λ s. answer_by fault (begun_by (user_with (0 ∷ []) user s) (said_in no_more two))) (zero_slot user.user)) last
 
-pub unmet_later : (told : Option Talk) (fault : Option LinkFault) (cause : SessionFault)
-    → Greeted (0 ∷ []) false told fault (Err cause) ⊎ IsUnlisted (0 ∷ []) false told fault cause → IsLater fault cause
-unmet_later told fault cause (inl said) =
-    greeted_by fault (reply_at 0x10 said.first) (reply_at 0x2E said.second) cause (said_in user_of (reply_at 0x10 said.first)) refl said.is
-unmet_later told fault cause (inr said) = later_by fault (reply_at 0x16 said.reply) cause said.is
+pub unmet_later : (told talk : Option Talk) (fault : Option LinkFault) (cause : SessionFault)
+    → Greeted (0 ∷ []) false told fault (Err cause) ⊎ IsUnlisted (0 ∷ []) false told fault cause → IsByLastReply talk cause
+    → IsLater talk fault cause
+unmet_later told talk fault cause (inl said) last =
+    greeted_by talk fault (reply_at 0x10 said.first) (reply_at 0x2E said.second) cause (said_in user_of (reply_at 0x10 said.first)) refl said.is last
+unmet_later told talk fault cause (inr said) last = later_by talk fault (reply_at 0x16 said.reply) cause said.is last
 
 -- ---- lists
 
@@ -160,7 +164,7 @@ module _ {L F : Type 0} {talk : L → Option Talk} {since : L → L → Type 0} 
     (since_itself : (a : L) → since a a) (since_more : (a b c : L) → since a b → since b c → since a c) {told : Talk} {old : L} {folder : F}
     (is : talk old ≡ Some told) (rests : IsAtRest told.device) where
   none_ends : {new : L} {cause : SessionFault} → Stops talk since fault downs (map text (backup_front told.device ++ next_of told.device.databases)) old new
-      → IsLater (fault new) cause → BackupEnds talk since fault downs contents moments told.device old new folder folder (Err (stop.Session cause))
+      → IsLater (talk new) (fault new) cause → BackupEnds talk since fault downs contents moments told.device old new folder folder (Err (stop.Session cause))
   none_ends {new} stops later = record {
     kept = [];
     later = told.device.databases;
@@ -177,16 +181,17 @@ module _ {L F : Type 0} {talk : L → Option Talk} {since : L → L → Type 0} 
 
   -- both sides did not meet
   pub unmet_ends : {halted : Halted L} → MeetsOrNot talk since fault downs (0 ∷ []) false old (Err halted)
+      → IsByLastReply (talk halted.link) halted.cause
       → BackupEnds talk since fault downs contents moments told.device old halted.link folder folder (Err (stop.Session halted.cause))
-  unmet_ends {halted} (inl meets) =
+  unmet_ends {halted} (inl meets) last =
       let more = told_behind (λ d. (k : ℕ) → k + 1 < meets.count → has_more (list_reply d k) ≡ true) told.device (talk old) (tells_it is) meets.more in
       let all : ℕ = max 1 (length told.device.databases) in
       let lead = listings_lead meets.count all (few_lists told.device meets.count rests.proper meets.few more) in
       none_ends
       (lead_stops talk since fault downs {xs = meeting_acts meets.count} (next_of told.device.databases) old halted.link
       (record { rest = lead.rest; is = append_assoc greeting (listings meets.count) lead.rest ∙ ap (λ zs. greeting ++ zs) lead.is }) meets.stops)
-      (unmet_later (talk old) (fault halted.link) halted.cause meets.cause)
-  unmet_ends {halted} (inr lost) =
+      (unmet_later (talk old) (talk halted.link) (fault halted.link) halted.cause meets.cause last)
+  unmet_ends {halted} (inr lost) last =
       rw lost.1 (none_ends {cause = session.NoMemory}
       (stops_none talk since fault downs (map text (backup_front told.device ++ next_of told.device.databases)) old halted.link (ap talk lost.0)
       (rw lost.0 (since_itself old)) (rw lost.0 (fell_none fault downs old))) tt)
@@ -313,7 +318,7 @@ module _ {L F : Type 0} {talk : L → Option Talk} {since : L → L → Type 0} 
         → (IsErrOf answer stop.DeskFault → (split.later ≢ []) × Does talk (next_of split.later) some.now new)
         → IfOk answer (λ moved. (split.later ≡ [])
         × (Does talk (backup_acts told.device) old new × (moved.items ≡ map (λ (d : DatabaseValue). kept_moved (read_of told.device d)) told.device.databases)))
-        → IfErr answer (IsBackupCause fault new) → BackupEnds talk since fault downs contents moments told.device old new folder left.folder answer
+        → IfErr answer (IsBackupCause talk fault new) → BackupEnds talk since fault downs contents moments told.device old new folder left.folder answer
     ends answer new stops unkept ended cause = record {
       kept = split.kept;
       later = split.later;
@@ -334,7 +339,7 @@ module _ {L F : Type 0} {talk : L → Option Talk} {since : L → L → Type 0} 
 
     unended : (why : Stop) (new : L) → new ≡ went.now.link
         → (IsErrOf {T = Vec Moved} (Err why) stop.DeskFault → (some.rest ≢ []) × Does talk (next_acts (talk some.now) some.rest some.next) some.now went.now.link)
-        → IsBackupCause fault went.now.link why
+        → IsBackupCause talk fault went.now.link why
         → BackupEnds talk since fault downs contents moments told.device old new folder left.folder (Err why)
     unended why new same unkept cause =
         rw same (ends (Err why) went.now.link
@@ -345,7 +350,7 @@ module _ {L F : Type 0} {talk : L → Option Talk} {since : L → L → Type 0} 
     by : (answer told_end : Result (Vec Moved) Stop)
         → (IsErrOf answer stop.DeskFault → (some.rest ≢ []) × Does talk (next_acts (talk some.now) some.rest some.next) some.now went.now.link)
         → OnOk answer ((some.rest ≡ []) × (went.now.link ≡ some.now))
-        → IfOk answer (λ moved. moved.items ≡ map kept_moved some.wholes) → IfErr answer (IsBackupCause fault went.now.link)
+        → IfOk answer (λ moved. moved.items ≡ map kept_moved some.wholes) → IfErr answer (IsBackupCause talk fault went.now.link)
         → Finishes talk since fault downs went.now.link left.link answer told_end
         → BackupEnds talk since fault downs contents moments told.device old left.link folder left.folder told_end
     unfolding backup_acts

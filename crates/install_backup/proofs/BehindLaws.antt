@@ -11,7 +11,10 @@ use Rattle.slow_mirror.proofs.AskLaws.{asked_part, one_said}
 use Rattle.session_parts.specs.Causes.{IsLater}
 use Rattle.session_parts.specs.Rests.{IsFirst}
 use Rattle.session_parts.specs.Spans.{Spans}
-use Rattle.session_parts.proofs.CauseLaws.{later_refused}
+use Rattle.desktop_session.specs.Lasts.{IsByLastReply}
+use Rattle.desktop_session.specs.Tellings.{number_of}
+use Rattle.desktop_session.proofs.LastLaws.{last_removed}
+use Rattle.session_parts.proofs.CauseLaws.{later_said}
 use Rattle.session_parts.proofs.HandleLaws.{one_first}
 use Rattle.session_parts.proofs.LinkWords.{LinkFault, Talk, SessionFault, Act, acted, answer_by, no_more, said_in, text, saying, SessionValue, Asked, Does}
 
@@ -42,7 +45,7 @@ module _ {L A : Type 0} {talk : L → Option Talk} {since : L → L → Type 0} 
 
   -- the act was refused
   pub span_refused : {first : Act} (acts : ℕ → List ℕ → List Act) {old new : SessionValue L} {cause : SessionFault}
-      → Asked talk since fault downs first old new → IsLater (fault new.link) cause
+      → Asked talk since fault downs first old new → IsLater (talk new.link) (fault new.link) cause
       → Spans talk since fault downs (λ handle given. first ∷ acts handle given) says old new (Err cause)
   span_refused {first} acts {old} {new} {cause} asked later =
       let part = asked_part {A = A} talk since fault downs first (acts 1 []) old new cause asked in
@@ -126,23 +129,3 @@ module _ {L A B : Type 0} {talk : L → Option Talk} {since : L → L → Type 0
     cause = tt;
     said = each spans.handle spans.given;
   }
-
--- error 5 is no refusal of a removal
-removed_said : (said : Result (Unit {0}) SessionFault) (cause : SessionFault) → ◌≡◌ {A = Result Bool SessionFault} (Err cause) (or_false said) → said ≡ Err cause
-removed_said (Ok done) cause is = absurd cc
-removed_said (Err (session.Refused code)) cause is = by (code.0 == 5) is
-  where
-    by : (b : Bool) → ◌≡◌ {A = Result Bool SessionFault} (Err cause) (cond b (Ok false) (Err (session.Refused code)))
-        → ◌≡◌ {A = Result (Unit {0}) SessionFault} (Err (session.Refused code)) (Err cause)
-    by true is = absurd cc
-    by false is = let same : cause ≡ session.Refused code = cc in ap (λ c. Err c) (sym same)
-removed_said (Err session.Down) cause is = let same : cause ≡ session.Down = cc in ap (λ c. Err c) (sym same)
-removed_said (Err (session.OtherUser one two)) cause is = let same : cause ≡ session.OtherUser one two = cc in ap (λ c. Err c) (sym same)
-removed_said (Err (session.BadReply broken)) cause is = let same : cause ≡ session.BadReply broken = cc in ap (λ c. Err c) (sym same)
-removed_said (Err session.TooManyUsers) cause is = let same : cause ≡ session.TooManyUsers = cc in ap (λ c. Err c) (sym same)
-removed_said (Err session.NoMemory) cause is = let same : cause ≡ session.NoMemory = cc in ap (λ c. Err c) (sym same)
-
-pub later_removed : (fault : Option LinkFault) (read : Result ReplyValue ReplyFault) (cause : SessionFault)
-    → ◌≡◌ {A = Result Bool SessionFault} (Err cause) (answer_by fault (or_false (said_in no_more read))) → IsLater fault cause
-later_removed None read cause is = later_refused {A = Unit {0}} None no_more read cause (sym (removed_said (said_in no_more read) cause is))
-later_removed (Some now) read cause is = later_refused {A = Bool} (Some now) (λ value. true) read cause is

@@ -60,7 +60,7 @@ module _ {L : Type 0} {talk : L → Option Talk} {since : L → L → Type 0} {f
     (since_more : (a b c : L) → since a b → since b c → since a c) {databases : List DatabaseValue} {told : Talk} {old : L}
     (is : talk old ≡ Some told) (rests : IsAtRest told.device) (bounded : AllByRecursion IsBoundedDatabase databases) where
   -- it was not greeted
-  pub ungreeted_ends : {new : L} {cause : SessionFault} → Stops talk since fault downs (map text greeting) old new → IsLater (fault new) cause
+  pub ungreeted_ends : {new : L} {cause : SessionFault} → Stops talk since fault downs (map text greeting) old new → IsLater (talk new) (fault new) cause
       → InstallEnds talk since fault downs databases told.device old new (Err (stop.Session cause))
   unfolding install_acts
   ungreeted_ends {new} {cause} stops later = record {

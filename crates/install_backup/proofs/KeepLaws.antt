@@ -199,7 +199,7 @@ module _ {L F : Type 0} {talk : L → Option Talk} {since : L → L → Type 0} 
         read_whole (Ok whole) kept does is = (λ none. cc, does)
         read_whole (Err cause) kept does is = absurd (faulted cause kept.1 is)
 
-        unkept : (why : Stop) → IsUnkept why → IsBackupCause fault new.link why
+        unkept : (why : Stop) → IsUnkept why → IsBackupCause talk fault new.link why
         unkept stop.DeskFault is = tt
         unkept (stop.Session session.NoMemory) is = tt
         unkept (stop.Session session.Down) is = absurd is
@@ -211,9 +211,9 @@ module _ {L F : Type 0} {talk : L → Option Talk} {since : L → L → Type 0} 
         unkept (stop.NewHandheld name) is = absurd is
 
         cause_of : (why : Stop) (read : Result DatabaseValue SessionFault) → IsKept read (contents here) (contents after) (Err why)
-            → IfErr read (IsLater (fault new.link)) → IsBackupCause fault new.link why
+            → IfErr read (IsLater (talk new.link) (fault new.link)) → IsBackupCause talk fault new.link why
         cause_of why (Ok whole) kept later = unkept why kept.1
-        cause_of why (Err cause) kept later = subst (IsBackupCause fault new.link) (sym kept.1) later
+        cause_of why (Err cause) kept later = subst (IsBackupCause talk fault new.link) (sym kept.1) later
 
   module _ {heads : List DbHead} {k : ℕ} {head : DbHead} (split : SplitAt heads k head) {new : SessionValue L} {after : F} where
     -- memory ran out behind it

@@ -21,7 +21,7 @@ module _ {L F : Type 0} {talk : L → Option Talk} {since : L → L → Type 0} 
   met_ended {moved} new keeps stops does = record { answer = Ok moved; now = now; keeps = keeps; finishes = (stops, (does, refl)) }
 
   pub met_unended : {moved : Vec Moved} {cause : SessionFault} (new : L) → KeepsSome talk since fault downs contents moments heads old now folder after (Ok moved)
-      → Stops talk since fault downs (text ending ∷ []) now.link new → IsLater (fault new) cause
+      → Stops talk since fault downs (text ending ∷ []) now.link new → IsLater (talk new) (fault new) cause
       → BackupWent talk since fault downs contents moments heads old folder (record { link = new; folder = after; end = Err (stop.Session cause) })
   met_unended {moved} new keeps stops later = record { answer = Ok moved; now = now; keeps = keeps; finishes = (stops, later) }
 

@@ -22,7 +22,7 @@ use Rattle.dlp_commands.proofs.TriedLaws.{Keeps}
 use Rattle.desktop_session.specs.declared.fault.SessionFault.TheVariants as session
 use Rattle.desktop_session.proofs.TellLaws.{IfDone, Opens, done_then, read_again}
 use Rattle.session_parts.specs.declared.stop.Stop.TheVariants as stop
-use Rattle.session_parts.proofs.CauseLaws.{later_refused}
+use Rattle.desktop_session.proofs.LastLaws.{cause_answered}
 use Rattle.session_parts.proofs.HandleLaws.{make_done}
 use Rattle.session_parts.proofs.LinkWords.{LinkFault, Talk, SessionFault, acted, answer_by, handle_of, said_in, making, SessionValue, Asked}
 use Rattle.install_backup.specs.Rooms.{IsUnmade, Judges, fault_of, has_room, stop_at}
@@ -169,7 +169,7 @@ module _ {L : Type 0} {talk : L → Option Talk} {since : L → L → Type 0} {f
   unmade_judged (session.Refused code) is = by (code.0 == limit) refl
     where
       none : fault new.link ≡ None
-      none = later_refused (fault new.link) handle_of (reply_at 0x18 new.reply) (session.Refused code) is
+      none = (cause_answered (fault new.link) handle_of (reply_at 0x18 new.reply) (session.Refused code) is).0
 
       at : (o : Option Talk) → IfSome o (λ talk. new.reply ≡ (acted (making head) talk.device).0) → (code.0 == limit) ≡ true
           → said_in handle_of (reply_at 0x18 new.reply) ≡ Err (session.Refused code) → Judges IsClosed false head.name o

@@ -17,7 +17,7 @@ use Rattle.install_backup.specs.Installs.{IsLimit, SaysMoved}
 use Rattle.install_backup.specs.Rooms.{fault_of}
 
 cause_of : {L : Type 0} (talk : L → Option Talk) (fault : L → Option LinkFault) (databases : List DatabaseValue) (old : SessionValue L) (new : L) (why : Stop)
-    → IsLater (fault new) (fault_of why) → IsLimit talk databases old new why → IsInstallCause talk fault databases old new why
+    → IsLater (talk new) (fault new) (fault_of why) → IsLimit talk databases old new why → IsInstallCause talk fault databases old new why
 cause_of talk fault databases old new (stop.Session cause) later limit = later
 cause_of talk fault databases old new (stop.Limit name) later limit = limit
 cause_of talk fault databases old new (stop.NewHandheld name) later limit = absurd limit
@@ -53,7 +53,7 @@ module _ {L : Type 0} {talk : L → Option Talk} {since : L → L → Type 0} {f
     }
 
     -- and the session was not ended
-    pub went_unended : {F : Type 0} (folder : F) (new : L) {cause : SessionFault} → Stops talk since fault downs (text ending ∷ []) now.link new → IsLater (fault new) cause
+    pub went_unended : {F : Type 0} (folder : F) (new : L) {cause : SessionFault} → Stops talk since fault downs (text ending ∷ []) now.link new → IsLater (talk new) (fault new) cause
         → InstallWent talk since fault downs databases old (record { link = new; folder = folder; end = Err (stop.Session cause) })
     went_unended folder new stops later = record {
       stretches = spans.stretches;

@@ -23,8 +23,8 @@ pub record IsUnmarkedHead (head : DbHead) : Type 0 where
   pub closed : has_bit 0x8000 head.attributes ≡ false
 
 -- A file's database of which an install leaves nothing out: an unmarked head, no block that is
--- there without a byte, records that are live and
--- unchanged, each idle and under an id of its own, and no two resources of one type and id.
+-- there without a byte, records that are live and unchanged, each idle and under an id of its own,
+-- and no two resources of one type and id.
 pub record IsUnmarked (database : DatabaseValue) : Type 0 where
   pub head : IsUnmarkedHead database.head
   pub app : ¬ (database.app ≡ Some [])

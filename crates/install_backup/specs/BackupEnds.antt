@@ -37,7 +37,7 @@ Finishes talk since fault downs now new (Ok moved) (Ok told) =
     Stops talk since fault downs (text ending ∷ []) now new
     × (Does talk (ending ∷ []) now new × (told ≡ moved))
 Finishes talk since fault downs now new (Ok moved) (Err (stop.Session cause)) =
-    Stops talk since fault downs (text ending ∷ []) now new × IsLater (fault new) cause
+    Stops talk since fault downs (text ending ∷ []) now new × IsLater (talk new) (fault new) cause
 Finishes talk since fault downs now new (Ok moved) (Err other) = ⊥
 Finishes talk since fault downs now new (Err why) told = (new ≡ now) × (told ≡ Err why)
 
@@ -88,11 +88,10 @@ next_of [] = ending ∷ []
 next_of (database ∷ databases) = backup_of database
 
 -- A backup of a handheld: the files of the first of its databases are as they were read, and no
--- others, and at each moment on the way those
--- of a beginning of them; each of these was read whole and closed, and of the next one no more was
--- asked for than its reading. Where the folder
--- refused a file its database was read whole and closed. Once all are kept the session is ended,
--- and else it stopped.
+-- others, and at each moment on the way those of a beginning of them; each of these was read whole
+-- and closed, and of the next one no more was asked for than its reading. Where the folder refused
+-- a file its database was read whole and closed. Once all are kept the session is ended, and else
+-- it stopped.
 pub record BackupEnds {L F : Type 0} (talk : L → Option Talk) (since : L → L → Type 0)
     (fault : L → Option LinkFault) (downs : L → ℕ)
     (contents : F → Option FileMap) (moments : F → Moments) (device : Device) (old new : L)
@@ -119,4 +118,4 @@ pub record BackupEnds {L F : Type 0} (talk : L → Option Talk) (since : L → L
       × (Does talk (backup_acts device) old new
       × (moved.items
       ≡ map (λ (d : DatabaseValue). kept_moved (read_of device d)) device.databases)))
-  pub cause : IfErr answer (IsBackupCause fault new)
+  pub cause : IfErr answer (IsBackupCause talk fault new)

@@ -97,16 +97,16 @@ next_acts told [] one = []
 next_acts told (head ∷ heads) one = backups_under told head one.handle one.given
 
 -- why a backup stopped
-abbrev pub IsBackupCause : {L : Type 0} → (L → Option LinkFault) → L → Stop → Type 0
-IsBackupCause fault new (stop.Session cause) = IsLater (fault new) cause
-IsBackupCause fault new stop.DeskFault = Unit {0}
-IsBackupCause fault new other = ⊥
+abbrev pub IsBackupCause : {L : Type 0} → (L → Option Talk) → (L → Option LinkFault) → L → Stop
+    → Type 0
+IsBackupCause talk fault new (stop.Session cause) = IsLater (talk new) (fault new) cause
+IsBackupCause talk fault new stop.DeskFault = Unit {0}
+IsBackupCause talk fault new other = ⊥
 
 -- The first of these databases were read whole and closed, one after another, and their files are
--- kept, and no others; of the next one no
--- more was asked for than its reading, and where its file was refused it was read whole. Where it
--- did not stop, these are all. At each moment
--- the files of a beginning of them were kept.
+-- kept, and no others; of the next one no more was asked for than its reading, and where its file
+-- was refused it was read whole. Where it did not stop, these are all. At each moment the files of
+-- a beginning of them were kept.
 pub record KeepsSome {L F : Type 0} (talk : L → Option Talk) (since : L → L → Type 0)
     (fault : L → Option LinkFault) (downs : L → ℕ)
     (contents : F → Option FileMap) (moments : F → Moments) (heads : List DbHead)
@@ -133,5 +133,5 @@ pub record KeepsSome {L F : Type 0} (talk : L → Option Talk) (since : L → L 
       → (rest ≢ []) × Does talk (next_acts (talk now) rest next) now new.link
   pub all : OnOk answer ((rest ≡ []) × (new.link ≡ now))
   pub told : IfOk answer (λ moved. moved.items ≡ map kept_moved wholes)
-  pub cause : IfErr answer (IsBackupCause fault new.link)
+  pub cause : IfErr answer (IsBackupCause talk fault new.link)
   pub closed : OnOk answer (new.abandoned ≡ old.abandoned)

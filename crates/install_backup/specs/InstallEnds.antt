@@ -26,7 +26,7 @@ use Rattle.install_backup.specs.Rooms.{has_room}
 -- why an install stopped behind the greeting
 abbrev pub IsInstallCause : {L : Type 0} → (L → Option Talk) → (L → Option LinkFault)
     → List DatabaseValue → SessionValue L → L → Stop → Type 0
-IsInstallCause talk fault databases old new (stop.Session cause) = IsLater (fault new) cause
+IsInstallCause talk fault databases old new (stop.Session cause) = IsLater (talk new) (fault new) cause
 IsInstallCause talk fault databases old new (stop.Limit name) = StopsAt talk databases name old new
 IsInstallCause talk fault databases old new other = ⊥
 
@@ -87,7 +87,7 @@ pub record IsFull {L : Type 0} (talk : L → Option Talk) (databases : List Data
 -- be read, or memory was wanted; or it is a limit.
 abbrev pub IsInstallStop : {L : Type 0} → (L → Option Talk) → (L → Option LinkFault)
     → List DatabaseValue → Device → L → L → Stop → Type 0
-IsInstallStop talk fault databases device old new (stop.Session cause) = IsLater (fault new) cause
+IsInstallStop talk fault databases device old new (stop.Session cause) = IsLater (talk new) (fault new) cause
 IsInstallStop talk fault databases device old new (stop.Limit name) =
     IsFull talk databases device old new name
 IsInstallStop talk fault databases device old new other = ⊥

@@ -10,8 +10,7 @@ use Rattle.install_backup.specs.Installed.{installed_block, installed_head, inst
 use Rattle.install_backup.specs.Puts.{put_each}
 
 -- A database of a file as far as it was written: under its head, each block there or not yet, and
--- the first of its entries, of which records
--- may still count as changed.
+-- the first of its entries, of which records may still count as changed.
 pub record IsBegun (database made : DatabaseValue) : Type 0 where
   pub head : made.head ≡ installed_head database.head
   pub app : (made.app ≡ None) ⊎ (made.app ≡ installed_block database.app)

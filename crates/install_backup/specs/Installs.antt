@@ -24,8 +24,7 @@ abbrev pub making_acts : DatabaseValue → List Act
 making_acts database = deleting database.head.name ∷ making (installed_head database.head) ∷ []
 
 -- An install stopped at one of these databases, which it names, for want of room: those before it
--- were installed or passed over, and no
--- more was asked for than that it be made.
+-- were installed or passed over, and no more was asked for than that it be made.
 pub record StopsAt {L : Type 0} (talk : L → Option Talk) (databases : List DatabaseValue)
     (name : List ℕ) (old : SessionValue L) (new : L) : Type 0 where
   pub before : List DatabaseValue

@@ -56,9 +56,8 @@ fault_in (Ok x) = Ok x
 fault_in (Err why) = Err (fault_of why)
 
 -- A stop for a limit names the database that was to be made by these acts, which were all that was
--- asked for. Where a device is told for
--- which this holds, it has no room for it. It stops for nothing else but what its link, a reply or
--- its memory is the cause of.
+-- asked for. Where a device is told for which this holds, it has no room for it. It stops for
+-- nothing else but what its link, a reply or its memory is the cause of.
 abbrev pub IsUnmade : {L : Type 0} → (L → Option Talk) → (Device → Type 0) → List Act → List ℕ → L
     → L → Stop → Type 0
 IsUnmade talk Holds acts name old new (stop.Session cause) = Unit {0}

@@ -71,7 +71,8 @@ fn read_record<L: Link>(
     ensures none { OnOk result (L.fault db.new.linked.now.link ≡ None) }
     ensures told { IfOk result (λ item. records_in (reply_at 0x20 db.new.linked.now.reply)
         ≡ item ∷ []) }
-    ensures cause { IfErr result (IsLater (L.fault db.new.linked.now.link)) }
+    ensures cause { IfErr result (IsLater (L.talk db.new.linked.now.link)
+        (L.fault db.new.linked.now.link)) }
 {
     match db.at(index) {
         Ok(lent) => Ok(record_from(alloc, &lent)?),
@@ -92,7 +93,8 @@ fn read_resource<L: Link>(
     ensures none { OnOk result (L.fault db.new.linked.now.link ≡ None) }
     ensures told { IfOk result (λ resource. resources_in (reply_at 0x23 db.new.linked.now.reply)
         ≡ resource ∷ []) }
-    ensures cause { IfErr result (IsLater (L.fault db.new.linked.now.link)) }
+    ensures cause { IfErr result (IsLater (L.talk db.new.linked.now.link)
+        (L.fault db.new.linked.now.link)) }
 {
     match db.resource_at(index) {
         Ok(lent) => Ok(resource_from(alloc, &lent)?),
@@ -141,7 +143,8 @@ fn read_records<L: Link>(
         db.old.linked.now db.new.linked.now result }
     ensures told { IfOk result (λ whole. IfSome (L.talk db.old.linked.now.link) (λ talk.
         whole ≡ record made { records = records_told talk.device db.old.handle count })) }
-    ensures cause { IfErr result (IsLater (L.fault db.new.linked.now.link)) }
+    ensures cause { IfErr result (IsLater (L.talk db.new.linked.now.link)
+        (L.fault db.new.linked.now.link)) }
 {
     let mut made = made;
     for index in 0..count {
@@ -167,7 +170,8 @@ fn read_resources<L: Link>(
         db.old.linked.now db.new.linked.now result }
     ensures told { IfOk result (λ whole. IfSome (L.talk db.old.linked.now.link) (λ talk.
         whole ≡ record made { resources = resources_told talk.device db.old.handle count })) }
-    ensures cause { IfErr result (IsLater (L.fault db.new.linked.now.link)) }
+    ensures cause { IfErr result (IsLater (L.talk db.new.linked.now.link)
+        (L.fault db.new.linked.now.link)) }
 {
     let mut made = made;
     for index in 0..count {
@@ -214,7 +218,8 @@ fn read_entries<L: Link>(
         db.old.linked.now db.new.linked.now result }
     ensures told { IfOk result (λ whole. IfSome (L.talk db.old.linked.now.link) (λ talk.
         whole ≡ copies.with_entries made talk.device db.old.handle count)) }
-    ensures cause { IfErr result (IsLater (L.fault db.new.linked.now.link)) }
+    ensures cause { IfErr result (IsLater (L.talk db.new.linked.now.link)
+        (L.fault db.new.linked.now.link)) }
 {
     if made.head().holds_resources() {
         read_resources(alloc, db, count, made)
@@ -237,7 +242,8 @@ pub(crate) fn read_whole<L: Link>(
         db.old.linked.now db.new.linked.now result }
     ensures told { IfOk result (λ whole. IfSome (L.talk db.old.linked.now.link) (λ talk.
         whole ≡ copied head.now db.old.handle talk.device)) }
-    ensures cause { IfErr result (IsLater (L.fault db.new.linked.now.link)) }
+    ensures cause { IfErr result (IsLater (L.talk db.new.linked.now.link)
+        (L.fault db.new.linked.now.link)) }
 {
     let count = db.count()?;
     let app = db.read_app(alloc)?;

@@ -25,7 +25,8 @@ pub(crate) fn write_app<L: Link>(
     ensures asks { Asks L.talk L.since L.fault L.downs
         (block_acts writing_app db.old.handle (option_copied block.entry))
         db.old.linked.now db.new.linked.now result }
-    ensures cause { IfErr result (IsLater (L.fault db.new.linked.now.link)) }
+    ensures cause { IfErr result (IsLater (L.talk db.new.linked.now.link)
+        (L.fault db.new.linked.now.link)) }
 {
     let Some(bytes) = block else {
         return Ok(());
@@ -47,7 +48,8 @@ pub(crate) fn write_sort<L: Link>(
     ensures asks { Asks L.talk L.since L.fault L.downs
         (block_acts writing_sort db.old.handle (option_copied block.entry))
         db.old.linked.now db.new.linked.now result }
-    ensures cause { IfErr result (IsLater (L.fault db.new.linked.now.link)) }
+    ensures cause { IfErr result (IsLater (L.talk db.new.linked.now.link)
+        (L.fault db.new.linked.now.link)) }
 {
     let Some(bytes) = block else {
         return Ok(());
@@ -66,7 +68,8 @@ fn put_records<L: Link>(db: &mut OpenDb<'_, L>, records: &[Record]) -> Result<()
     ensures asks { Asks L.talk L.since L.fault L.downs
         (map (acts.put_record db.old.handle) records.now)
         db.old.linked.now db.new.linked.now result }
-    ensures cause { IfErr result (IsLater (L.fault db.new.linked.now.link)) }
+    ensures cause { IfErr result (IsLater (L.talk db.new.linked.now.link)
+        (L.fault db.new.linked.now.link)) }
 {
     for item in records {
         db.put(item.id, &item.content)?;
@@ -84,7 +87,8 @@ pub(crate) fn write_records<L: Link>(
     ensures same_handle { db.new.handle ≡ db.old.handle }
     ensures asks { Asks L.talk L.since L.fault L.downs (record_acts db.old.handle records.now)
         db.old.linked.now db.new.linked.now result }
-    ensures cause { IfErr result (IsLater (L.fault db.new.linked.now.link)) }
+    ensures cause { IfErr result (IsLater (L.talk db.new.linked.now.link)
+        (L.fault db.new.linked.now.link)) }
 {
     put_records(db, records)?;
     db.reset_flags()
@@ -101,7 +105,8 @@ pub(crate) fn write_resources<L: Link>(
     ensures asks { Asks L.talk L.since L.fault L.downs
         (map (acts.put_resource db.old.handle) resources.now)
         db.old.linked.now db.new.linked.now result }
-    ensures cause { IfErr result (IsLater (L.fault db.new.linked.now.link)) }
+    ensures cause { IfErr result (IsLater (L.talk db.new.linked.now.link)
+        (L.fault db.new.linked.now.link)) }
 {
     for resource in resources {
         db.put_resource(resource)?;

@@ -17,7 +17,8 @@ pub(crate) fn greet<L: Link>(alloc: Global, link: L) -> Result<Linked<L>, Halted
         (link_begun result) }
     ensures does { IfOk result (λ linked. Does L.talk greeting link linked.link) }
     ensures open { IfOk result (λ linked. linked.abandoned ≡ false) }
-    ensures cause { IfErr result (λ halted. IsLater (L.fault halted.link) halted.cause) }
+    ensures cause { IfErr result (λ halted. IsLater (L.talk halted.link) (L.fault halted.link)
+        halted.cause) }
 {
     match Idle::new(alloc, link) {
         Ok(idle) => idle.hello(&[0], false),

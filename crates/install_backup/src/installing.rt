@@ -34,7 +34,8 @@ fn write_entries<L: Link>(
     ensures same_handle { db.new.handle ≡ db.old.handle }
     ensures asks { Asks L.talk L.since L.fault L.downs (entry_acts db.old.handle database.now)
         db.old.linked.now db.new.linked.now result }
-    ensures cause { IfErr result (IsLater (L.fault db.new.linked.now.link)) }
+    ensures cause { IfErr result (IsLater (L.talk db.new.linked.now.link)
+        (L.fault db.new.linked.now.link)) }
 {
     if database.head().holds_resources() {
         write_resources(db, database.resources())
@@ -54,7 +55,8 @@ fn fill<L: Link>(
     ensures same_handle { db.new.handle ≡ db.old.handle }
     ensures asks { Asks L.talk L.since L.fault L.downs (fill_acts database.now db.old.handle [])
         db.old.linked.now db.new.linked.now result }
-    ensures cause { IfErr result (IsLater (L.fault db.new.linked.now.link)) }
+    ensures cause { IfErr result (IsLater (L.talk db.new.linked.now.link)
+        (L.fault db.new.linked.now.link)) }
 {
     write_app(db, database.app())?;
     write_sort(db, database.sort())?;

@@ -49,8 +49,8 @@ pub record IsUnderWay (next : Meeting) : Type 0 where
   pub desktop : 0 < (slot_of next).marks.pc
 
 -- what the next meeting finds where a session stopped before the desktop's commit: of each database
--- the handheld has so many of the
--- replacements and adds, with the ids that these got, and the desktop is as it was
+-- the handheld has so many of the replacements and adds, with the ids that these got, and the
+-- desktop is as it was
 pub record LeftAmongNews (meeting next : Meeting) (given : List ℕ → List ℕ)
     (count : List ℕ → ℕ) : Type 0 where
   pub asks : AsksTheSame meeting next
@@ -68,8 +68,7 @@ pub record IsMergedAt (next : Meeting) (name : List ℕ) (end : Ended) : Type 0 
   pub archive : entries_of (records_of (task_of next name).archive) ≡ end.archive
 
 -- what it finds behind the commit: of each database the handheld has what it was given, and so many
--- of the purges, the clean up and the
--- reset, and the desktop is merged
+-- of the purges, the clean up and the reset, and the desktop is merged
 pub record LeftBehindCommit (meeting next : Meeting) (given : List ℕ → List ℕ) (count : List ℕ → ℕ)
     (name : List ℕ) : Type 0 where
   pub asks : AsksTheSame meeting next
@@ -168,8 +167,7 @@ IsLikeFirst None (Some head) (Some now) = IsLike now head
 IsLikeFirst None None (Some now) = ⊥
 
 -- what the next meeting finds under a name: such heads, a side that had the database still has it,
--- and base rows only where there were some
--- or both sides have it
+-- and base rows only where there were some or both sides have it
 pub record StandsLike (meeting next : Meeting) (name : List ℕ) : Type 0 where
   pub action : (task_of next name).action ≡ (task_of meeting name).action
   pub handheld : IsLikeFirst (head_of (task_of meeting name).handheld)

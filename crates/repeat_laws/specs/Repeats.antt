@@ -17,8 +17,7 @@ use Rattle.record_merge.specs.Writes.{Write, replace, add, purge, clean_up, rese
 -- ---- one session
 
 -- one database as a session finds it: the view of the handheld's records, these, the desktop's
--- rows, base rows and archive, and whether
--- gone base rows count
+-- rows, base rows and archive, and whether gone base rows count
 pub record Found : Type 0 where
   pub view : List Seen
   pub records : List Record
@@ -80,8 +79,7 @@ given_by (clean_up ∷ ws) = given_by ws
 given_by (reset ∷ ws) = given_by ws
 
 -- what the next session finds: the handheld has these writes, and the desktop is as it was. Both
--- sides don't agree, so that all records
--- are read, and gone rows count
+-- sides don't agree, so that all records are read, and gone rows count
 abbrev pub left_among_news : Action → Found → List ℕ → ℕ → Found
 left_among_news a x given n =
     let records = after (news_done a x given n) x.records in
@@ -106,8 +104,8 @@ NoneUnderGone true base records = Unit {0}
 NoneUnderGone false base records = (i : ℕ) → NothingIfGone (base_at base true i) (held records i)
 
 -- These are the ids that a stopped session's new records got: all of them, each free at its turn,
--- and no id of a base row, gone or not.
--- And no record had the id of a gone row, where these didn't count.
+-- and no id of a base row, gone or not. And no record had the id of a gone row, where these didn't
+-- count.
 pub record StopsAmongNews (a : Action) (x : Found) (given : List ℕ) (n : ℕ) : Type 0 where
   pub read : IsRead x
   pub all : given_by (news_done a x given n) ≡ given
@@ -160,9 +158,8 @@ pub record EndAlike (e f : Ended) : Type 0 where
 -- ---- sessions that stop, one after another
 
 -- where a session stopped in a database: before anything was written; or after so many of its
--- replacements and adds, or of its purges, the
--- clean up and the reset, or behind all of it, with the ids that its new records got, and in the
--- last case how the next one reads
+-- replacements and adds, or of its purges, the clean up and the reset, or behind all of it, with
+-- the ids that its new records got, and in the last case how the next one reads
 pub data Place : Type 0 where
   before_mark : Place
   among_news : List ℕ → ℕ → Place
@@ -214,8 +211,8 @@ AreStops a x [] = Unit {0}
 AreStops a x (place ∷ places) = MayStop a x place × AreStops a (left a x place) places
 
 -- the ids that stand in the end, where these stand that are given later: those that were given
--- before them too. But what a session added
--- that goes by the desktop and stopped before its commit doesn't stand
+-- before them too. But what a session added that goes by the desktop and stopped before its commit
+-- doesn't stand
 abbrev pub ids_with : Action → Place → List ℕ → List ℕ
 ids_with Sync place later = ids_given place ++ later
 ids_with Handheld place later = ids_given place ++ later

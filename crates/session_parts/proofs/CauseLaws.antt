@@ -1,71 +1,102 @@
 -- Why a session stops once both sides have met.
-use Rattle.std.proofs.Common.{◌≡◌, refl, inl, inr, ◌⊎◌, Option, Some, None, IfErr, Result, Ok, Err}
-use Rattle.dlp_replies.specs.declared.error_code.ErrorCode.{ErrorCode}
+use Rattle.std.proofs.Common.{◌≡◌, inl, inr, ◌⊎◌, subst, sym, ℕ, Bool, List, Option, Some, None, IfErr, Result, Ok, Err}
 use Rattle.dlp_replies.specs.declared.fault.ReplyFault.{ReplyFault}
-use Rattle.dlp_replies.specs.ReplyValues as reply
+use Rattle.dlp_replies.specs.ReplyReading.{reply_at}
 use Rattle.dlp_replies.specs.ReplyValues.{ReplyValue}
-use Rattle.session_parts.proofs.LinkWords.{LinkFault, SessionFault, Ended, Halted, answer_by, no_more, said_in, end_of, link_ended}
-use Rattle.dlp_commands.specs.declared.link.LinkFault.TheVariants as link
+use Rattle.session_parts.proofs.LinkWords.{LinkFault, Talk, SessionFault, Act, SessionValue, Asked, Ended, Halted, answer_by, no_more, said_in, end_of, link_ended}
 use Rattle.desktop_session.specs.declared.fault.SessionFault.TheVariants as session
-use Rattle.desktop_session.specs.Faults.{fault_of}
+use Rattle.desktop_session.specs.Answers.{IsCopy, block_of, or_false, or_none}
+use Rattle.desktop_session.specs.Lasts.{IsByLastReply}
 use Rattle.desktop_session.specs.Lists.{HasCause}
+use Rattle.desktop_session.specs.Tellings.{number_of}
+use Rattle.desktop_session.proofs.LastLaws.{by_found, by_removed, cause_answered, last_refused}
 use Rattle.session_parts.specs.Causes.{IsLater}
 
--- by the cause of a refusal
-pub later_by : (fault : Option LinkFault) (read : Result ReplyValue ReplyFault) (cause : SessionFault) → HasCause fault read cause → IsLater fault cause
-later_by fault read session.Down is = is
-later_by fault read (session.Refused code) is = is.0
-later_by fault read (session.BadReply broken) is = is.0
-later_by fault read session.NoMemory is = tt
-later_by fault read other is = absurd is
+-- by the cause of a refusal, and the last reply
+pub later_by : (talk : Option Talk) (fault : Option LinkFault) (read : Result ReplyValue ReplyFault) (cause : SessionFault) → HasCause fault read cause
+    → IsByLastReply talk cause → IsLater talk fault cause
+later_by talk fault read session.Down is last = is
+later_by talk fault read (session.Refused code) is last = (is.0, last)
+later_by talk fault read (session.BadReply broken) is last = (is.0, last)
+later_by talk fault read session.NoMemory is last = tt
+later_by talk fault read other is last = absurd is
 
-pub later_by_two : (fault : Option LinkFault) (one two : Result ReplyValue ReplyFault) (cause : SessionFault)
-    → HasCause fault one cause ⊎ HasCause fault two cause → IsLater fault cause
-later_by_two fault one two cause (inl is) = later_by fault one cause is
-later_by_two fault one two cause (inr is) = later_by fault two cause is
+pub later_by_two : (talk : Option Talk) (fault : Option LinkFault) (one two : Result ReplyValue ReplyFault) (cause : SessionFault)
+    → HasCause fault one cause ⊎ HasCause fault two cause → IsByLastReply talk cause → IsLater talk fault cause
+later_by_two talk fault one two cause (inl is) last = later_by talk fault one cause is last
+later_by_two talk fault one two cause (inr is) last = later_by talk fault two cause is last
 
-pub later_by_three : (fault : Option LinkFault) (one two three : Result ReplyValue ReplyFault) (cause : SessionFault)
-    → HasCause fault one cause ⊎ (HasCause fault two cause ⊎ HasCause fault three cause) → IsLater fault cause
-later_by_three fault one two three cause (inl is) = later_by fault one cause is
-later_by_three fault one two three cause (inr is) = later_by_two fault two three cause is
+pub later_by_three : (talk : Option Talk) (fault : Option LinkFault) (one two three : Result ReplyValue ReplyFault) (cause : SessionFault)
+    → HasCause fault one cause ⊎ (HasCause fault two cause ⊎ HasCause fault three cause) → IsByLastReply talk cause → IsLater talk fault cause
+later_by_three talk fault one two three cause (inl is) last = later_by talk fault one cause is last
+later_by_three talk fault one two three cause (inr is) last = later_by_two talk fault two three cause is last
 
-pub later_by_four : (fault : Option LinkFault) (one two three four : Result ReplyValue ReplyFault) (cause : SessionFault)
-    → HasCause fault one cause ⊎ (HasCause fault two cause ⊎ (HasCause fault three cause ⊎ HasCause fault four cause)) → IsLater fault cause
-later_by_four fault one two three four cause (inl is) = later_by fault one cause is
-later_by_four fault one two three four cause (inr is) = later_by_three fault two three four cause is
+pub later_by_four : (talk : Option Talk) (fault : Option LinkFault) (one two three four : Result ReplyValue ReplyFault) (cause : SessionFault)
+    → HasCause fault one cause ⊎ (HasCause fault two cause ⊎ (HasCause fault three cause ⊎ HasCause fault four cause)) → IsByLastReply talk cause
+    → IsLater talk fault cause
+later_by_four talk fault one two three four cause (inl is) last = later_by talk fault one cause is last
+later_by_four talk fault one two three four cause (inr is) last = later_by_three talk fault two three four cause is last
 
--- by an answer
-later_fault : {A : Type 0} (now : LinkFault) (cause : SessionFault) → ◌≡◌ {A = Result A SessionFault} (Err cause) (Err (fault_of now))
-    → IsLater (Some now) cause
-later_fault link.Down cause is = let same : cause ≡ session.Down = cc in rw same refl
-later_fault link.NoMemory cause is = let same : cause ≡ session.NoMemory = cc in rw same tt
+-- by an answer, and the last reply
+pub later_said : {A : Type 0} (talk : Option Talk) (fault : Option LinkFault) (take : ReplyValue → A) (read : Result ReplyValue ReplyFault)
+    (cause : SessionFault) → Err cause ≡ answer_by fault (said_in take read) → IsByLastReply talk cause → IsLater talk fault cause
+later_said talk fault take read cause is last = later_by talk fault read cause (cause_answered fault take read cause is) last
 
-later_said : {A : Type 0} (take : ReplyValue → A) (read : Result ReplyValue ReplyFault) (cause : SessionFault) → Err cause ≡ said_in take read
-    → IsLater None cause
-later_said take (Err broken) cause is = let same : cause ≡ session.BadReply broken = cc in rw same refl
-later_said take (Ok (reply.Refused number code)) cause is =
-    let other : ErrorCode = record { 0 = code } in
-    let same : cause ≡ session.Refused other = cc in rw same refl
-later_said take (Ok value) cause is = absurd cc
+module _ {L A : Type 0} {talk : L → Option Talk} {since : L → L → Type 0} {fault : L → Option LinkFault} {downs : L → ℕ} {one : Act} {old new : SessionValue L} where
+  -- by the answer to one act
+  pub later_refused : (take : ReplyValue → A) (cause : SessionFault) → Asked talk since fault downs one old new
+      → Err cause ≡ answer_by (fault new.link) (said_in take (reply_at (number_of one) new.reply)) → IsLater (talk new.link) (fault new.link) cause
+  later_refused take cause asked is =
+      later_said (talk new.link) (fault new.link) take (reply_at (number_of one) new.reply) cause is (last_refused take cause asked is)
 
-pub later_refused : {A : Type 0} (fault : Option LinkFault) (take : ReplyValue → A) (read : Result ReplyValue ReplyFault) (cause : SessionFault)
-    → Err cause ≡ answer_by fault (said_in take read) → IsLater fault cause
-later_refused None take read cause is = later_said take read cause is
-later_refused {A} (Some now) take read cause is = later_fault {A = A} now cause is
+  pub later_answer : (take : ReplyValue → A) (answer : Result A SessionFault) → Asked talk since fault downs one old new
+      → answer ≡ answer_by (fault new.link) (said_in take (reply_at (number_of one) new.reply)) → IfErr answer (IsLater (talk new.link) (fault new.link))
+  later_answer take (Ok x) asked is = tt
+  later_answer take (Err cause) asked is = later_refused take cause asked is
 
-pub later_answer : {A : Type 0} (fault : Option LinkFault) (take : ReplyValue → A) (read : Result ReplyValue ReplyFault) (answer : Result A SessionFault)
-    → answer ≡ answer_by fault (said_in take read) → IfErr answer (IsLater fault)
-later_answer fault take read (Ok x) is = tt
-later_answer fault take read (Err cause) is = later_refused fault take read cause is
+  -- the same where error 5 has an answer of its own
+  pub later_found : (take : ReplyValue → A) (cause : SessionFault) → Asked talk since fault downs one old new
+      → ◌≡◌ {A = Result (Option A) SessionFault} (Err cause) (answer_by (fault new.link) (or_none (said_in take (reply_at (number_of one) new.reply))))
+      → IsLater (talk new.link) (fault new.link) cause
+  later_found take cause asked is =
+      later_refused take cause asked (by_found (fault new.link) (said_in take (reply_at (number_of one) new.reply)) cause is)
 
--- a database that was not opened
-pub later_unopened : {A B : Type 0} (fault : Option LinkFault) (take : ReplyValue → B) (read : Result ReplyValue ReplyFault) (r : Result A SessionFault)
-    (cause : SessionFault) → r ≡ Err cause → IfErr r (λ cause. Err cause ≡ answer_by fault (said_in take read)) → IsLater fault cause
-later_unopened {A} {B} fault take read r cause is held =
-    later_refused fault take read cause (rw is at held)
+  -- a database that was not opened
+  pub later_unopened : {B : Type 0} (number : ℕ) (take : ReplyValue → A) (r : Result B SessionFault) (cause : SessionFault)
+      → number ≡ number_of one → Asked talk since fault downs one old new → r ≡ Err cause
+      → IfErr r (λ cause. Err cause ≡ answer_by (fault new.link) (said_in take (reply_at number new.reply)))
+      → IsLater (talk new.link) (fault new.link) cause
+  later_unopened number take r cause own asked is held =
+      later_refused take cause asked
+      (subst (λ n. Err cause ≡ answer_by (fault new.link) (said_in take (reply_at n new.reply))) own (rw is at held))
+
+pub later_removed : {L : Type 0} {talk : L → Option Talk} {since : L → L → Type 0} {fault : L → Option LinkFault} {downs : L → ℕ} {one : Act}
+    {old new : SessionValue L} (cause : SessionFault) → Asked talk since fault downs one old new
+    → ◌≡◌ {A = Result Bool SessionFault} (Err cause) (answer_by (fault new.link) (or_false (said_in no_more (reply_at (number_of one) new.reply))))
+    → IsLater (talk new.link) (fault new.link) cause
+later_removed {fault} {one} {new} cause asked is =
+    later_refused no_more cause asked (by_removed (fault new.link) (said_in no_more (reply_at (number_of one) new.reply)) cause is)
 
 -- an ending
-pub later_ended : {L : Type 0} (fault : L → Option LinkFault) (read : Result ReplyValue ReplyFault) (answer : Result (Ended L) (Halted L))
-    → end_of answer ≡ answer_by (fault (link_ended answer)) (said_in no_more read) → IfErr answer (λ halted. IsLater (fault halted.link) halted.cause)
-later_ended fault read (Ok ended) is = tt
-later_ended fault read (Err halted) is = later_refused (fault halted.link) no_more read halted.cause is
+pub later_ended : {L : Type 0} (talk : L → Option Talk) (fault : L → Option LinkFault) (read : Result ReplyValue ReplyFault)
+    (answer : Result (Ended L) (Halted L))
+    → end_of answer ≡ answer_by (fault (link_ended answer)) (said_in no_more read) → IfErr answer (λ halted. IsByLastReply (talk halted.link) halted.cause)
+    → IfErr answer (λ halted. IsLater (talk halted.link) (fault halted.link) halted.cause)
+later_ended talk fault read (Ok ended) is last = tt
+later_ended talk fault read (Err halted) is last = later_said (talk halted.link) (fault halted.link) no_more read halted.cause is last
+
+-- a block that was not had: memory ran out for its copy, or it was refused
+not_had : {A : Type 0} (bytes : A → List ℕ) (cause : SessionFault) (said : Result (Option (List ℕ)) SessionFault) → IsCopy bytes (Err cause) said
+    → (cause ≡ session.NoMemory) ⊎ (said ≡ Err cause)
+not_had bytes cause (Ok (Some found)) is = inl is
+not_had bytes cause (Ok None) is = inr is
+not_had bytes cause (Err other) is = inr is
+
+module _ {L A : Type 0} {talk : L → Option Talk} {since : L → L → Type 0} {fault : L → Option LinkFault} {downs : L → ℕ} {one : Act} {old new : SessionValue L} where
+  pub later_copy : (bytes : A → List ℕ) (cause : SessionFault) → Asked talk since fault downs one old new
+      → IsCopy bytes (Err cause) (answer_by (fault new.link) (or_none (said_in block_of (reply_at (number_of one) new.reply))))
+      → IsLater (talk new.link) (fault new.link) cause
+  later_copy bytes cause asked copy = elim (not_had bytes cause _ copy) [
+    | inl none ↦ rw none tt
+    | inr is ↦ later_found block_of cause asked (sym is)
+  ]

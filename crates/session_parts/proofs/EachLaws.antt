@@ -97,7 +97,7 @@ module _ {L J A : Type 0} {talk : L → Option Talk} {since : L → L → Type 0
 
   -- so far all was done, and then no more
   each_part : {B : Type 0} {done : List J} (rest : List J) {jobs : List J} {xs : List A} {each : B → List A} {old new : SessionValue L} {cause : SessionFault}
-      → done ++ rest ≡ jobs → EachSoFar talk since fault downs acts says done xs old new → IsLater (fault new.link) cause
+      → done ++ rest ≡ jobs → EachSoFar talk since fault downs acts says done xs old new → IsLater (talk new.link) (fault new.link) cause
       → SpansEach talk since fault downs acts says jobs each old new (Err cause)
   each_part {done} rest {xs} {old} split before later =
       let said : List Act = each_acts acts (talk old.link) done before.stretches in
@@ -119,13 +119,13 @@ module _ {L J A : Type 0} {talk : L → Option Talk} {since : L → L → Type 0
 
   -- nothing was asked for
   pub spans_none : {B : Type 0} (itself : (a : L) → since a a) {jobs : List J} {each : B → List A} {old : SessionValue L} {cause : SessionFault}
-      → IsLater (fault old.link) cause → SpansEach talk since fault downs acts says jobs each old old (Err cause)
+      → IsLater (talk old.link) (fault old.link) cause → SpansEach talk since fault downs acts says jobs each old old (Err cause)
   spans_none itself {jobs} {old} later = each_part jobs refl (each_none itself {old = old}) later
 
   module _ {jobs : List J} {k : ℕ} {job : J} (split : SplitAt jobs k job) where
     -- one more was done, and then no more
     pub each_lost : {B : Type 0} {xs : List A} {each : B → List A} {old new : SessionValue L} {cause : SessionFault}
-        → EachSoFar talk since fault downs acts says (take (k + 1) jobs) xs old new → IsLater (fault new.link) cause
+        → EachSoFar talk since fault downs acts says (take (k + 1) jobs) xs old new → IsLater (talk new.link) (fault new.link) cause
         → SpansEach talk since fault downs acts says jobs each old new (Err cause)
     each_lost before later =
         each_part split.rest (ap (λ js. js ++ split.rest) split.next ∙ append_assoc (take k jobs) (job ∷ []) split.rest ∙ split.is) before later
@@ -206,7 +206,7 @@ behind_closed z (Err cause) before closed = tt
 module _ {L J A B : Type 0} {talk : L → Option Talk} {since : L → L → Type 0} {fault : L → Option LinkFault} {downs : L → ℕ} {first : Act}
     {acts : Option Talk → J → ℕ → List ℕ → List Act} {says : Option Talk → J → ℕ → List ℕ → A → Type 0} {jobs : List J} {each : B → List A} where
   -- it was refused
-  pub behind_none : {old new : SessionValue L} {cause : SessionFault} → Asked talk since fault downs first old new → IsLater (fault new.link) cause
+  pub behind_none : {old new : SessionValue L} {cause : SessionFault} → Asked talk since fault downs first old new → IsLater (talk new.link) (fault new.link) cause
       → SpansBehind talk since fault downs first acts says jobs each old new (Err cause)
   behind_none {old} {new} {cause} asked later =
       let told : Option Talk = saying (first ∷ []) (talk old.link) in

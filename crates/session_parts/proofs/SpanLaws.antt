@@ -4,6 +4,7 @@ use Rattle.dlp_replies.specs.ReplyReading.{reply_at}
 use Rattle.session_parts.proofs.LinkWords.{LinkFault, Talk, SessionFault, Act, answer_by, handle_of, mapped, no_more, said_in, closing, SessionValue, Asked}
 use Rattle.slow_mirror.specs.Asks.{Asks}
 use Rattle.slow_mirror.proofs.AskLaws.{all_said, asked_answer, asked_part, asks_part, asks_then, none_said, one_said}
+use Rattle.desktop_session.specs.Tellings.{number_of}
 use Rattle.session_parts.specs.Causes.{IsLater}
 use Rattle.session_parts.specs.Spans.{nothing, Spans, within}
 use Rattle.session_parts.proofs.CauseLaws.{later_refused, later_unopened}
@@ -48,10 +49,10 @@ module _ {L A : Type 0} {talk : L → Option Talk} {since : L → L → Type 0} 
 
   -- it was not opened
   pub span_unopened : {C : Type 0} (number : ℕ) {first : Act} (acts : ℕ → List ℕ → List Act) {says : ℕ → List ℕ → A → Type 0} {old new : SessionValue L}
-      {cause : SessionFault} (r : Result C SessionFault) → r ≡ Err cause → OnErr r (Asked talk since fault downs first old new
+      {cause : SessionFault} (r : Result C SessionFault) → number ≡ number_of first → r ≡ Err cause → OnErr r (Asked talk since fault downs first old new
       × IfErr r (λ why. ◌≡◌ {A = Result ℕ SessionFault} (Err why) (answer_by (fault new.link) (said_in handle_of (reply_at number new.reply)))))
       → Spans talk since fault downs (within first acts) says old new (Err cause)
-  span_unopened number acts {old} {new} {cause} r was held =
+  span_unopened number acts {old} {new} {cause} r own was held =
       let both = err_case _ r cause was held in
       let asks = asked_part {A = A} talk since fault downs _ (acts 1 [] ++ closing 1 ∷ []) old new cause both.0 in
       record {
@@ -63,7 +64,7 @@ module _ {L A : Type 0} {talk : L → Option Talk} {since : L → L → Type 0} 
         clear = tt;
         user = asks.user;
         closed = tt;
-        cause = later_unopened _ handle_of (reply_at number new.reply) r cause was both.1;
+        cause = later_unopened number handle_of r cause own both.0 was both.1;
         said = tt;
       }
 
@@ -79,7 +80,7 @@ module _ {L A : Type 0} {talk : L → Option Talk} {since : L → L → Type 0} 
     -- it was opened, and what was to be done stopped; then it was left
     pub span_stopped : {B : Type 0} {says : ℕ → List ℕ → B → Type 0} {handle : ℕ} (given : List ℕ) {old now new left : SessionValue L} {cause : SessionFault}
         → IsOpened talk since fault downs first handle old now → Asks {A = A} talk since fault downs (acts handle given) now new (Err cause)
-        → IsLater (fault new.link) cause → left ≡ record new { abandoned = true }
+        → IsLater (talk new.link) (fault new.link) cause → left ≡ record new { abandoned = true }
         → Spans talk since fault downs (within first acts) says old left (Err cause)
     span_stopped {B} {handle} given {old} {new} {cause} opened asks later same =
         let whole = asks_part {A = A} {B = B} talk since fault downs (first ∷ acts handle given) (closing handle ∷ []) old new cause cause
@@ -102,7 +103,7 @@ module _ {L A : Type 0} {talk : L → Option Talk} {since : L → L → Type 0} 
         (told : Result B SessionFault) {answer : Result B SessionFault}
         → IsOpened talk since fault downs first handle old now → Asks {A = A} talk since fault downs (acts handle given) now done (Ok x) → last ≡ handle
         → Asked talk since fault downs (closing last) done new → answer ≡ answer_by (fault new.link) told
-        → IfErr answer (IsLater (fault new.link)) → IfOk answer (says handle given) → left ≡ new
+        → IfErr answer (IsLater (talk new.link) (fault new.link)) → IfOk answer (says handle given) → left ≡ new
         → Spans talk since fault downs (within first acts) says old left answer
     span_closed {handle} given {old} {done} {new} {x} told {answer} opened asks same closes answered later says_so goes =
         let before = all_said talk since fault downs (first ∷ acts handle given) old done x (opened_then given opened asks) in
@@ -129,7 +130,7 @@ module _ {L A : Type 0} {talk : L → Option Talk} {since : L → L → Type 0} 
           → ◌≡◌ {A = Result (Unit {0}) SessionFault} (Err cause) (answer_by (fault new.link) (said_in no_more (reply_at 0x19 new.reply))) → left ≡ new
           → Spans talk since fault downs (within first acts) says old left (Err cause)
       span_unclosed {cause} is goes =
-          span_closed given _ opened asks same closes (answer_behind _ _ (Err cause) x is) (later_refused _ no_more (reply_at 0x19 new.reply) cause is) tt goes
+          span_closed given _ opened asks same closes (answer_behind _ _ (Err cause) x is) (later_refused no_more cause closes is) tt goes
 
       pub span_done : {end : Unit {0}} → Ok end ≡ answer_by (fault new.link) (said_in no_more (reply_at 0x19 new.reply)) → says handle given x → left ≡ new
           → Spans talk since fault downs (within first acts) says old left (Ok x)

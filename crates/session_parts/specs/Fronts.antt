@@ -6,8 +6,8 @@ use Rattle.dlp_commands.specs.Changes.{changes, given_in}
 use Rattle.dlp_commands.specs.DeviceRuns.{DeviceRun, Exchange, exchanged}
 
 -- the handheld has the databases and the user of a device that a beginning of the requests that are
--- asked for leads to, which holds
--- exactly the first so many writes, and whose new records got these ids
+-- asked for leads to, which holds exactly the first so many writes, and whose new records got these
+-- ids
 pub record Front (device : Device) (asked : List (List ℕ)) (writes : ℕ) (given : List ℕ)
     (after : Device) : Type 0 where
   pub count : ℕ

@@ -44,12 +44,11 @@ pub record IsUnlisted (users : List ℕ) (add : Bool) (talk : Option Talk) (faul
       → IfSome (saying greeting talk) (λ talk. HasReplied 65536 listing talk.device reply)
 
 -- Nothing went out but a greeting and then a list, as far as the answers go, each request of the
--- list but the first where the reply before
--- it said that more follow. Where both sides met, each request was answered, the user has a slot,
--- the heads are those that the device lists
--- behind the greeting, in so many replies, and the last of these said that no more follow, unless
--- it was the 65,536th. Else the greeting or
--- the list was refused. A user without a slot is all that is asked for.
+-- list but the first where the reply before it said that more follow. Where both sides met, each
+-- request was answered, the user has a slot, the heads are those that the device lists behind the
+-- greeting, in so many replies, and the last of these said that no more follow, unless it was the
+-- 65,536th. Else the greeting or the list was refused. A user without a slot is all that is asked
+-- for.
 pub record Meets {L : Type 0} (talk : L → Option Talk) (since : L → L → Type 0)
     (fault : L → Option LinkFault) (downs : L → ℕ)
     (users : List ℕ) (add : Bool) (old : L) (answer : Result (Met L) (Halted L)) : Type 0 where

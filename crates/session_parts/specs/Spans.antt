@@ -19,10 +19,9 @@ abbrev pub within : Act → (ℕ → List ℕ → List Act) → ℕ → List ℕ
 within first acts handle given = first ∷ (acts handle given ++ closing handle ∷ [])
 
 -- A session asked for these acts, in order, and for nothing else, where they name some handle, and
--- its new records got some ids. With Ok
--- each was answered, and the answer says this of the handle and the ids; with a refusal a beginning
--- of them went out. The handle is the
--- first where nothing was open. The user is as before, and with Ok no open database was left.
+-- its new records got some ids. With Ok each was answered, and the answer says this of the handle
+-- and the ids; with a refusal a beginning of them went out. The handle is the first where nothing
+-- was open. The user is as before, and with Ok no open database was left.
 pub record Spans {L A : Type 0} (talk : L → Option Talk) (since : L → L → Type 0)
     (fault : L → Option LinkFault) (downs : L → ℕ)
     (acts : ℕ → List ℕ → List Act) (says : ℕ → List ℕ → A → Type 0) (old new : SessionValue L)
@@ -35,5 +34,5 @@ pub record Spans {L A : Type 0} (talk : L → Option Talk) (since : L → L → 
   pub clear : OnOk answer (fault old.link ≡ None → fault new.link ≡ None)
   pub user : new.user ≡ old.user
   pub closed : OnOk answer (new.abandoned ≡ old.abandoned)
-  pub cause : IfErr answer (IsLater (fault new.link))
+  pub cause : IfErr answer (IsLater (talk new.link) (fault new.link))
   pub said : IfOk answer (says handle given)

@@ -45,9 +45,8 @@ AreFirst acts told (job ∷ jobs) (one ∷ more) =
     × AreFirst acts (saying (acts told job one.handle one.given) told) jobs more
 
 -- A session asked for these stretches, in order, and for nothing else. With Ok each was answered,
--- and each answer says this; with a
--- refusal a beginning of them went out. The user is as before, and with Ok no open database was
--- left.
+-- and each answer says this; with a refusal a beginning of them went out. The user is as before,
+-- and with Ok no open database was left.
 pub record SpansEach {L J A B : Type 0} (talk : L → Option Talk) (since : L → L → Type 0)
     (fault : L → Option LinkFault) (downs : L → ℕ)
     (acts : Option Talk → J → ℕ → List ℕ → List Act)
@@ -62,7 +61,7 @@ pub record SpansEach {L J A B : Type 0} (talk : L → Option Talk) (since : L �
   pub clear : OnOk answer (fault old.link ≡ None → fault new.link ≡ None)
   pub user : new.user ≡ old.user
   pub closed : OnOk answer (new.abandoned ≡ old.abandoned)
-  pub cause : IfErr answer (IsLater (fault new.link))
+  pub cause : IfErr answer (IsLater (talk new.link) (fault new.link))
   pub said : IfOk answer (λ made. EachSays acts says (talk old.link) jobs stretches (each made))
 
 -- nothing is answered but that each was done
@@ -90,6 +89,6 @@ pub record SpansBehind {L J A B : Type 0} (talk : L → Option Talk) (since : L 
   pub clear : OnOk answer (fault old.link ≡ None → fault new.link ≡ None)
   pub user : new.user ≡ old.user
   pub closed : OnOk answer (new.abandoned ≡ old.abandoned)
-  pub cause : IfErr answer (IsLater (fault new.link))
+  pub cause : IfErr answer (IsLater (talk new.link) (fault new.link))
   pub said : IfOk answer
       (λ made. EachSays acts says (saying (first ∷ []) (talk old.link)) jobs stretches (each made))

@@ -10,6 +10,6 @@ mod stop;
 
 pub use meeting::{Met, meet, meet_over};
 pub use outcome::Outcome;
-pub use report::{Counts, DbReport, Did};
+pub use report::{Counts, DbReport, Did, FiledCounts};
 pub use skip::Skip;
 pub use stop::Stop;

@@ -1,5 +1,6 @@
 // How both sides of a session meet.
-ghost use Rattle.std.specs.Prelude.{◌≡◌, ◌≤◌, false, length};
+ghost use Rattle.std.specs.Prelude.{◌≡◌, ◌≤◌, IfErr, false, length};
+ghost use Rattle.desktop_session.specs.Lasts.{IsByLastReply};
 ghost use Rattle.session_parts.specs.Meets.{Meets, MeetsOrNot};
 
 use desktop_session::{Halted, Idle, Linked};
@@ -28,6 +29,7 @@ pub fn meet<L: Link>(
     requires some { 1 ≤ length users.now }
     requires room { length users.now ≤ 16 }
     ensures meets { Meets L.talk L.since L.fault L.downs users.now add idle.link result }
+    ensures last { IfErr result (λ halted. IsByLastReply (L.talk halted.link) halted.cause) }
 {
     let mut linked = match idle.hello(users, add) {
         Ok(linked) => linked,
@@ -49,7 +51,8 @@ pub fn meet_over<L: Link>(
     requires begun { L.begun link ≡ false }
     requires some { 1 ≤ length users.now }
     requires room { length users.now ≤ 16 }
-    ensures { MeetsOrNot L.talk L.since L.fault L.downs users.now add link result }
+    ensures meets { MeetsOrNot L.talk L.since L.fault L.downs users.now add link result }
+    ensures last { IfErr result (λ halted. IsByLastReply (L.talk halted.link) halted.cause) }
 {
     match Idle::new(alloc, link) {
         Ok(idle) => meet(alloc, idle, users, add),

@@ -22,6 +22,8 @@ pub enum Did {
     Installed(u32),
     /// Its file has it, of so many entries.
     BackedUp(u32),
+    /// Both sides have one table of its categories.
+    Filed(FiledCounts),
 }
 
 /// How a database was synchronised, in numbers of records.
@@ -43,4 +45,13 @@ pub struct Counts {
     pub twice: u32,
     /// The desktop's rows now.
     pub rows: u32,
+}
+
+/// How the categories of a database were brought together, in numbers.
+#[derive(Clone, Copy, PartialEq, Eq)]
+pub struct FiledCounts {
+    /// The categories that are used then.
+    pub used: u32,
+    /// The desktop's rows whose category has another number then.
+    pub moved: u32,
 }

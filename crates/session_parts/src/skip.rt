@@ -15,4 +15,6 @@ pub enum Skip {
     Differs,
     /// The side that its action goes by lacks it, or the handheld lost what an earlier session left on both.
     Missing,
+    /// Its categories are to be brought together, and the app block of a side begins with no table of them.
+    Blocks,
 }

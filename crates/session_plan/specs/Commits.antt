@@ -14,11 +14,10 @@ use Rattle.desk_store.specs.declared.fault.CommitFault.{CommitFault}
 use Rattle.desk_store.specs.declared.fault.CommitFault.TheVariants.{DeskFault}
 
 -- With Ok the desktop has these slots, its folder holds these files over all others, and stands for
--- the slots. Whatever the answer, the folder
--- stands for what it stood for, or for all of the change. It is as it was, or with these files it
--- is that of a desktop with these slots.
--- From the first moment at which anything changed on, it stands for the change.
--- The folder's failure is answered where its count rose.
+-- the slots. Whatever the answer, the folder stands for what it stood for, or for all of the
+-- change. It is as it was, or with these files it is that of a desktop with these slots. From the
+-- first moment at which anything changed on, it stands for the change. The folder's failure is
+-- answered where its count rose.
 pub record Commits {F : Type 0} (contents : F → Option FileMap) (moments : F → Moments)
     (paths : F → Option (List (List ℕ))) (faults : F → ℕ)
     (taken : List SlotValue) (entries : List EntryValue) (desk : DeskValue F)

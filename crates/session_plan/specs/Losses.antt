@@ -1,6 +1,5 @@
 -- Whether a handheld that never ended a session would cost a desktop that did some of its rows, and
--- of which database first: it is refused
--- before anything is written.
+-- of which database first: it is refused before anything is written.
 use Rattle.std.specs.Prelude.{ℕ, Bool, not, ◌==◌, ◌&&◌, ◌||◌, List, find, if◌then◌else◌, Option, None}
 use Rattle.std.specs.List.{list_any}
 use Rattle.std.specs.Option.{option_map}

@@ -8,8 +8,8 @@ use Rattle.desktop_session.specs.Sessions.{SessionValue}
 use Rattle.desktop_session.specs.Stops.{Does, Stops}
 
 -- A session asked for these acts, in order, and for nothing else. With Ok each was answered; with a
--- refusal a beginning of them went
--- out. A link without a fault has none then, the user is as before, and nothing was abandoned.
+-- refusal a beginning of them went out. A link without a fault has none then, the user is as
+-- before, and nothing was abandoned.
 pub record Asks {L A : Type 0} (talk : L → Option Talk) (since : L → L → Type 0)
     (fault : L → Option LinkFault) (downs : L → ℕ) (acts : List Act)
     (old new : SessionValue L) (answer : Result A SessionFault) : Type 0 where

@@ -1,6 +1,5 @@
 -- A plan, carried out on an open database: what both sides keep and the handheld lacks is put, and,
--- once the desktop has committed,
--- what goes is taken away.
+-- once the desktop has committed, what goes is taken away.
 use Rattle.std.specs.Prelude.{◌≡◌, ◌<◌, ◌≤◌, ℕ, List, [], ◌∷◌, ◌++◌, length, map, Option, Some, IfErr, IfOk, IfSome, OnOk, Result}
 use Rattle.std.specs.List.{AllByRecursion}
 use Rattle.pdb_values.specs.Contents.{ContentValue}
@@ -62,8 +61,8 @@ AreFreeFor handle (entry ∷ entries) (id ∷ given) device =
     × AreFreeFor handle entries given (acted (putting id handle entry.0 entry.1) device).1
 
 -- A session put these, in order, and nothing else; each new one got an id that was free at its
--- turn, and the answer says this of the
--- ids. It stopped where a reply to WriteRecord did not come or was a refusal.
+-- turn, and the answer says this of the ids. It stopped where a reply to WriteRecord did not come
+-- or was a refusal.
 pub record PutsAll {L A : Type 0} (talk : L → Option Talk) (since : L → L → Type 0)
     (fault : L → Option LinkFault) (downs : L → ℕ) (handle : ℕ)
     (entries : List (ℕ × ContentValue)) (says : List ℕ → A → Type 0) (old new : SessionValue L)

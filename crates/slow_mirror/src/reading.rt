@@ -2,6 +2,7 @@
 ghost use Rattle.std.specs.Prelude.{◌≡◌, ◌<◌, ◌∷◌, ◌⊎◌, [], IfErr, IfOk, IfSome, None, OnOk};
 ghost use Rattle.dlp_replies.specs.ReplyReading.{reply_at};
 ghost use Rattle.conduit_rules.specs.ById.{id_bound};
+ghost use Rattle.desktop_session.specs.Lasts.{IsByLastReply};
 ghost use Rattle.desktop_session.specs.Lists.{HasCause};
 ghost use Rattle.desktop_session.specs.Requests.{reading_at};
 ghost use Rattle.desktop_session.specs.Stops.{Asked};
@@ -51,6 +52,7 @@ fn read_all<L: Link>(
     ensures bounded { IfOk result (λ seen. AreBounded seen.items) }
     ensures cause { IfErr result (HasCause (L.fault db.new.linked.now.link)
         (reply_at 0x20 db.new.linked.now.reply)) }
+    ensures last { IfErr result (IsByLastReply (L.talk db.new.linked.now.link)) }
 {
     let mut seen = Vec::new(alloc);
     for index in 0..count {
@@ -78,6 +80,7 @@ pub fn read_side<L: Link>(alloc: Global, db: &mut OpenDb<'_, L>) -> Result<View,
         HasCause (L.fault db.new.linked.now.link) (reply_at 0x2B db.new.linked.now.reply) cause
         ⊎ HasCause (L.fault db.new.linked.now.link) (reply_at 0x20 db.new.linked.now.reply)
         cause) }
+    ensures last { IfErr result (IsByLastReply (L.talk db.new.linked.now.link)) }
 {
     let count = db.count()?;
     let seen = read_all(alloc, db, count)?;

@@ -1,6 +1,7 @@
 // A plan, carried out on an open database.
 ghost use Rattle.std.specs.Prelude.{◌≡◌, ◌⊎◌, IfErr, drop, length, map};
 ghost use Rattle.dlp_replies.specs.ReplyReading.{reply_at};
+ghost use Rattle.desktop_session.specs.Lasts.{IsByLastReply};
 ghost use Rattle.desktop_session.specs.Lists.{HasCause};
 ghost use Rattle.desktop_session.specs.Requests.{removing};
 ghost use Rattle.slow_mirror.specs.Asks.{Asks};
@@ -22,6 +23,7 @@ fn replace_all<L: Link>(
     ensures same_handle { db.new.handle ≡ db.old.handle }
     ensures puts { PutsAll L.talk L.since L.fault L.downs db.old.handle entries.now
         (λ given done. Unit {0}) db.old.linked.now db.new.linked.now result }
+    ensures last { IfErr result (IsByLastReply (L.talk db.new.linked.now.link)) }
 {
     for entry in entries {
         db.put(entry.0, &entry.1)?;
@@ -39,6 +41,7 @@ fn add_all<L: Link>(
     ensures same_handle { db.new.handle ≡ db.old.handle }
     ensures puts { PutsAll L.talk L.since L.fault L.downs db.old.handle (as_new contents.now)
         (λ given ids. ids.items ≡ given) db.old.linked.now db.new.linked.now result }
+    ensures last { IfErr result (IsByLastReply (L.talk db.new.linked.now.link)) }
 {
     let mut ids = Vec::new(alloc);
     for content in contents {
@@ -70,6 +73,7 @@ pub fn send_news<L: Link>(
     ensures puts { PutsAll L.talk L.since L.fault L.downs db.old.handle (news_of plan.now)
         (λ given ids. ids.items ≡ drop (length plan.now.replace.items) given)
         db.old.linked.now db.new.linked.now result }
+    ensures last { IfErr result (IsByLastReply (L.talk db.new.linked.now.link)) }
 {
     replace_all(db, &plan.replace)?;
     add_all(alloc, db, &plan.adds)
@@ -83,6 +87,7 @@ fn remove_all<L: Link>(db: &mut OpenDb<'_, L>, ids: &[RecordId]) -> Result<(), S
         db.old.linked.now db.new.linked.now result }
     ensures cause { IfErr result (HasCause (L.fault db.new.linked.now.link)
         (reply_at 0x22 db.new.linked.now.reply)) }
+    ensures last { IfErr result (IsByLastReply (L.talk db.new.linked.now.link)) }
 {
     for id in ids {
         db.remove(*id)?;
@@ -103,6 +108,7 @@ pub fn purge_side<L: Link>(db: &mut OpenDb<'_, L>, plan: &Plan) -> Result<(), Se
         ⊎ (HasCause (L.fault db.new.linked.now.link) (reply_at 0x26 db.new.linked.now.reply) cause
         ⊎ HasCause (L.fault db.new.linked.now.link) (reply_at 0x27 db.new.linked.now.reply)
         cause)) }
+    ensures last { IfErr result (IsByLastReply (L.talk db.new.linked.now.link)) }
 {
     remove_all(db, &plan.purge)?;
     db.clean_up()?;

@@ -72,7 +72,7 @@ module _ {L : Type 0} {talk : L → Option Talk} {since : L → L → Type 0} {f
   pub ends_then : (since_more : (a b c : L) → since a b → since b c → since a c) {answer : Result (Ended L) (Halted L)}
       → SpansEach {B = Unit {0}} talk since fault downs purges_under says_nothing planned (done_each planned) old now (Ok tt)
       → Stops talk since fault downs (map text last) now.link (link_ended answer) → IfOk answer (λ ended. Does talk last now.link ended.link)
-      → IfErr answer (λ halted. IsLater (fault halted.link) halted.cause) → Ends talk since fault downs planned last old answer
+      → IfErr answer (λ halted. IsLater (talk halted.link) (fault halted.link) halted.cause) → Ends talk since fault downs planned last old answer
   ends_then since_more {answer} purges stops does later =
       let acts : List Act = each_acts purges_under (talk old.link) planned purges.stretches in
       record {

@@ -68,7 +68,7 @@ moments_merged slots made old new desk each =
 -- ---- why
 
 pub later_stop : {L : Type 0} (talk : L → Option Talk) (fault : L → Option LinkFault) (meeting : Meeting) (old new : L) (cause : SessionFault)
-    → IsLater (fault new) cause → IsStopOf talk fault meeting old new (stop.Session cause)
+    → IsLater (talk new) (fault new) cause → IsStopOf talk fault meeting old new (stop.Session cause)
 later_stop talk fault meeting old new session.Down later = later
 later_stop talk fault meeting old new (session.Refused code) later = later
 later_stop talk fault meeting old new (session.BadReply broken) later = later

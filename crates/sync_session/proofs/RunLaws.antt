@@ -1,6 +1,6 @@
 -- How a session over a link that tells its device ends: from its beginning up to what it writes, and the whole.
 use Rattle.std.proofs.Common.{◌≡◌, ◌∙◌, refl, ap, sym, inl, inr, ℕ, List, [], ◌∷◌, ◌++◌, length, map}
-use Rattle.std.specs.Prelude.{◌⊎◌, Option, None, Some, IsOk, Ok, Err, Result, slice_index}
+use Rattle.std.specs.Prelude.{◌⊎◌, Option, None, Some, IfErr, IsOk, Ok, Err, Result, slice_index}
 use Rattle.std.specs.Global.{Vec}
 use Rattle.hs_folders.specs.FileMaps.{FileMap}
 use Rattle.hs_folders.specs.Moments.{Moments}
@@ -40,7 +40,8 @@ use Rattle.sync_session.specs.Outcomes.{IsStopOf, StopsFor, seat_of, slot_in}
 use Rattle.sync_session.specs.Stopping.{Judges}
 use Rattle.sync_session.proofs.SessionJoins.{Reached, ReadsReach, meets_stop, met_reaches, reads_reach, reads_stop}
 use Rattle.session_parts.proofs.StretchLaws.{Tells}
-use Rattle.session_parts.proofs.CauseLaws.{later_by, later_refused}
+use Rattle.desktop_session.specs.Lasts.{IsByLastReply}
+use Rattle.session_parts.proofs.CauseLaws.{later_by, later_said}
 use Rattle.sync_session.proofs.MeetJoins.{jobs_meet, meets_join, user_read, user_told}
 use Rattle.session_parts.proofs.MeetLaws.{greeted_slot}
 use Rattle.sync_session.proofs.LossLaws.{loss_is_first_loss}
@@ -91,11 +92,12 @@ seat_told : (meeting : Meeting) (told : Option Talk) → IsProper meeting.device
     → HasSlot (users_in meeting) meeting.wishes.add_user told → IsOk (seat_of meeting)
 seat_told meeting told proper tells slot = rw (tells.is, tells.same, user_told meeting.device proper) at slot
 
-begun_why : (user : UserInfo) (second : Result (Unit {0}) SessionFault) (read : Result ReplyValue ReplyFault) (cause : SessionFault)
-    → second ≡ said_in no_more read → Err cause ≡ begun_by (Ok user) second → IsLater None cause
-begun_why user (Ok done) read cause same is = absurd cc
-begun_why user (Err other) read cause same is =
-    let here : ◌≡◌ {A = Result (Unit {0}) SessionFault} (Err cause) (said_in no_more read) = cc in later_refused None no_more read cause here
+begun_why : (talk : Option Talk) (user : UserInfo) (second : Result (Unit {0}) SessionFault) (read : Result ReplyValue ReplyFault) (cause : SessionFault)
+    → second ≡ said_in no_more read → Err cause ≡ begun_by (Ok user) second → IsByLastReply talk cause
+    → IsLater talk None cause
+begun_why talk user (Ok done) read cause same is last = absurd cc
+begun_why talk user (Err other) read cause same is last =
+    let here : ◌≡◌ {A = Result (Unit {0}) SessionFault} (Err cause) (said_in no_more read) = cc in later_said talk None no_more read cause here last
 
 module _ (meeting : Meeting) {told : Option Talk} (proper : IsProper meeting.device) (tells : Tells meeting.device told) where
   -- a greeting that was answered is of a user with a slot
@@ -231,15 +233,15 @@ module _ {L F : Type 0} (talk : L → Option Talk) (since : L → L → Type 0) 
 
     -- a greeting stopped for its link, for a reply, or for a user without a slot, of which alone it had asked
     module _ {new : L} (cause : SessionFault) (alone : (why : SessionFault) → seat_of meeting ≡ Err why → fault new ≡ None
-        → Does talk (reading_user ∷ []) old new) where
+        → Does talk (reading_user ∷ []) old new) (last : IsByLastReply (talk new) cause) where
       slot_stop : (found : Slot) (second : Result (Unit {0}) SessionFault) (read : Result ReplyValue ReplyFault) → slot_in meeting ≡ found
           → second ≡ said_in no_more read
           → Err cause ≡ begun_by (user_with (users_in meeting) meeting.device.user found) second → fault new ≡ None
           → IsStopOf talk fault meeting old new (stop.Session cause)
       slot_stop (slot.Old place) second read found same is none =
-          later_stop talk fault meeting old new cause (rw none (begun_why meeting.device.user second read cause same is))
+          later_stop talk fault meeting old new cause (rw none (begun_why (talk new) meeting.device.user second read cause same is last))
       slot_stop slot.New second read found same is none =
-          later_stop talk fault meeting old new cause (rw none (begun_why meeting.device.user second read cause same is))
+          later_stop talk fault meeting old new cause (rw none (begun_why (talk new) meeting.device.user second read cause same is last))
       slot_stop slot.Refused second read found same is none =
           let why : SessionFault = session.OtherUser meeting.device.user.user (slice_index (users_in meeting) 0) in
           let cause_is : cause ≡ why = cc in
@@ -254,7 +256,7 @@ module _ {L F : Type 0} (talk : L → Option Talk) (since : L → L → Type 0) 
           → IsStopOf talk fault meeting old new (stop.Session cause)
       greeted_stop (Some now) is said =
           later_stop talk fault meeting old new cause
-          (rw is (later_refused {A = UserInfo} (Some now) user_of (reply_at 0x10 said.first) cause said.is))
+          (rw is (later_said {A = UserInfo} (talk new) (Some now) user_of (reply_at 0x10 said.first) cause said.is last))
       greeted_stop None none said =
           let second : Result (Unit {0}) SessionFault = said_in no_more (reply_at 0x2E said.second) in
           slot_stop (slot_in meeting) second (reply_at 0x2E said.second) refl refl
@@ -265,22 +267,23 @@ module _ {L F : Type 0} (talk : L → Option Talk) (since : L → L → Type 0) 
         → AsksUser talk since fault downs old new ⊎ HasSlot (users_in meeting) meeting.wishes.add_user (talk old)
         → Greeted (users_in meeting) meeting.wishes.add_user (talk old) (fault new) (Err cause)
         ⊎ IsUnlisted (users_in meeting) meeting.wishes.add_user (talk old) (fault new) cause
-        → IsStopOf talk fault meeting old new (stop.Session cause)
-    met_stop {new} cause asks (inl said) = greeted_stop cause (λ why is none. (asks_alone is asks).does none) (fault new) refl said
-    met_stop {new} cause asks (inr unlisted) =
-        later_stop talk fault meeting old new cause (later_by (fault new) (reply_at 0x16 unlisted.reply) cause unlisted.is)
+        → IsByLastReply (talk new) cause → IsStopOf talk fault meeting old new (stop.Session cause)
+    met_stop {new} cause asks (inl said) last = greeted_stop cause (λ why is none. (asks_alone is asks).does none) last (fault new) refl said
+    met_stop {new} cause asks (inr unlisted) last =
+        later_stop talk fault meeting old new cause (later_by (talk new) (fault new) (reply_at 0x16 unlisted.reply) cause unlisted.is last)
 
     unmet_ends : (desk : DeskValue F) (halted : Halted L) {left : Outcome L F}
         → MeetsOrNot talk since fault downs (users_in meeting) meeting.wishes.add_user old (Err halted)
+        → IsByLastReply (talk halted.link) halted.cause
         → left ≡ stopped halted.link desk.folder (stop.Session halted.cause) → Ends desk.folder left
-    unmet_ends desk halted (inl meets) is =
+    unmet_ends desk halted (inl meets) last is =
         ends_unwritten talk since fault downs contents moments meeting old is (meets_stop meeting rests tells meets)
-        (met_stop halted.cause meets.unseated meets.cause)
+        (met_stop halted.cause meets.unseated meets.cause last)
         (λ why unseated. (
           (asks_alone unseated meets.unseated).stops,
           unmet_for meeting rests.proper tells halted.cause unseated (fault halted.link) meets.cause,
         )) (cause_says meeting halted.cause)
-    unmet_ends desk halted (inr none) is =
+    unmet_ends desk halted (inr none) last is =
         ends_unwritten talk since fault downs contents moments meeting old is (nothing (map text (before_writes meeting)))
         (later_stop talk fault meeting old halted.link halted.cause (rw none.1 tt))
         (λ why unseated. (nothing (text reading_user ∷ []), inr (inr (ap stop.Session none.1)))) (cause_says meeting halted.cause)
@@ -320,14 +323,15 @@ pub runs_end : {L F : Type 0} {talk : L → Option Talk} {since : L → L → Ty
     → AreInOrder desk.slots → talk old ≡ Some told → IsAtRest told.device → Runs talk since fault downs contents moments paths faults wishes old desk left
     → EndsSo talk since fault downs contents moments (meeting_of told.device desk.slots wishes) old desk.folder left
 runs_end {L} {F} {talk} {since} {fault} {downs} {contents} {moments} {paths} {faults} itself since_more {wishes} {old} {desk} {left} {told} ordered is
-    rests runs = step runs.answer runs.meets runs.goes
+    rests runs = step runs.answer runs.meets runs.last runs.goes
   where
     step : (answer : Result (Met L) (Halted L)) → MeetsOrNot talk since fault downs (users_of (marks_of desk.slots)) wishes.add_user old answer
+        → IfErr answer (λ halted. IsByLastReply (talk halted.link) halted.cause)
         → AfterMeeting talk since fault downs contents moments paths faults (users_of (marks_of desk.slots)) wishes desk answer left
         → EndsSo talk since fault downs contents moments (meeting_of told.device desk.slots wishes) old desk.folder left
-    step (Ok met) meets goes =
+    step (Ok met) meets last goes =
         met_ends talk since fault downs contents moments paths faults itself since_more (meeting_of told.device desk.slots wishes) old rests
         (record { talk = told; is = is; same = refl }) desk ordered refl refl meets goes
-    step (Err halted) meets goes =
+    step (Err halted) meets last goes =
         unmet_ends talk since fault downs contents moments paths faults itself since_more (meeting_of told.device desk.slots wishes) old rests
-        (record { talk = told; is = is; same = refl }) desk halted meets goes
+        (record { talk = told; is = is; same = refl }) desk halted meets last goes

@@ -1,6 +1,6 @@
 -- How a session went over any link, call by call: each record tells what one call answered, and how
 -- it went on then.
-use Rattle.std.specs.Prelude.{◌≡◌, ◌⊎◌, ℕ, Bool, List, [], ◌∷◌, length, map, Option, IfOk, Result, Ok, Err}
+use Rattle.std.specs.Prelude.{◌≡◌, ◌⊎◌, ℕ, Bool, List, [], ◌∷◌, length, map, Option, IfErr, IfOk, Result, Ok, Err}
 use Rattle.std.specs.Global.{Vec}
 use Rattle.std.specs.Result.{IsErrAnd}
 use Rattle.hs_folders.specs.FileMaps.{FileMap}
@@ -25,6 +25,7 @@ use Rattle.desktop_session.specs.declared.fault.SessionFault.{SessionFault}
 use Rattle.desktop_session.specs.declared.fault.SessionFault.TheVariants as session
 use Rattle.desktop_session.specs.Acts.{Act}
 use Rattle.desktop_session.specs.Requests.{ending, marking}
+use Rattle.desktop_session.specs.Lasts.{IsByLastReply}
 use Rattle.desktop_session.specs.Sessions.{SessionValue}
 use Rattle.fast_mirror.specs.Agreements.{agreed}
 use Rattle.session_plan.specs.declared.job.Job.{Job}
@@ -229,5 +230,6 @@ pub record Runs {L F : Type 0} (talk : L → Option Talk) (since : L → L → T
   pub answer : Result (Met L) (Halted L)
   pub meets : MeetsOrNot talk since fault downs
       (users_of (marks_of desk.slots)) wishes.add_user old answer
+  pub last : IfErr answer (λ halted. IsByLastReply (talk halted.link) halted.cause)
   pub goes : AfterMeeting talk since fault downs contents moments paths faults
       (users_of (marks_of desk.slots)) wishes desk answer left

@@ -15,8 +15,7 @@ use Rattle.sync_session.specs.Phases.{purges_under}
 use Rattle.session_parts.specs.Stretches.{AreFirst, EachSays, Stretch, done_each, each_acts, says_nothing}
 
 -- Nothing was asked for but that each of these databases is purged, unless it is skipped, and then
--- these last acts, as far as the answers
--- go. Where the session ended, each act was answered.
+-- these last acts, as far as the answers go. Where the session ended, each act was answered.
 pub record Ends {L : Type 0} (talk : L → Option Talk) (since : L → L → Type 0)
     (fault : L → Option LinkFault) (downs : L → ℕ) (planned : List Planned)
     (last : List Act) (old : SessionValue L) (answer : Result (Ended L) (Halted L)) : Type 0 where
@@ -25,7 +24,8 @@ pub record Ends {L : Type 0} (talk : L → Option Talk) (since : L → L → Typ
   pub stops : Stops talk since fault downs
       (map text (each_acts purges_under (talk old.link) planned stretches ++ last)) old.link
       (link_ended answer)
-  pub cause : IfErr answer (λ halted. IsLater (fault halted.link) halted.cause)
+  pub cause : IfErr answer
+      (λ halted. IsLater (talk halted.link) (fault halted.link) halted.cause)
   pub does : IfOk answer
       (λ ended. Does talk
       (each_acts purges_under (talk old.link) planned stretches ++ last) old.link ended.link)

@@ -5,8 +5,7 @@ use Rattle.conduit_rules.specs.declared.planned.Plan.{Plan}
 use Rattle.slow_mirror.specs.News.{AreFreeFor, AreIdsOf, news_of}
 
 -- These are the ids of a plan's adds: those that were given behind its replacements, each to a
--- record of its own, and, where a device is
--- told, to none that had one at its turn.
+-- record of its own, and, where a device is told, to none that had one at its turn.
 pub record AreGained (talk : Option Talk) (plan : Plan) (handle : ℕ)
     (given ids : List ℕ) : Type 0 where
   pub behind : ids ≡ drop (length plan.replace.items) given

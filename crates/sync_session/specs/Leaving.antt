@@ -27,9 +27,8 @@ abbrev pub IsSlotsFile : ℕ → List ℕ → Type 0
 IsSlotsFile place file = (file ≡ desktop_info_file) ⊎ IsDatabaseFile place file
 
 -- With these files put over the others, all of one slot or the information file, the folder has
--- what an ended session leaves. One that
--- stopped left it standing for what it stood for, or for that. At each moment since it stood for
--- that. Its failure is told exactly where its count rose.
+-- what an ended session leaves. One that stopped left it standing for what it stood for, or for
+-- that. At each moment since it stood for that. Its failure is told exactly where its count rose.
 pub record LeavesFolder {L F : Type 0} (contents : F → Option FileMap) (moments : F → Moments)
     (paths : F → Option (List (List ℕ))) (faults : F → ℕ)
     (folder : F) (left : Outcome L F) : Type 0 where

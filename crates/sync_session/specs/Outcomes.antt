@@ -1,5 +1,5 @@
 -- How a session over a link that tells its device ends, and what it leaves of both sides.
-use Rattle.std.specs.Prelude.{◌≡◌, ◌⊎◌, ℕ, List, [], ◌∷◌, length, map, replicate, slice_index, Option, None, Some, IfErr, IfOk, IsSome, OnErr, OnOk, Result}
+use Rattle.std.specs.Prelude.{◌≡◌, ◌⊎◌, ℕ, List, [], ◌∷◌, length, map, replicate, slice_index, Option, None, Some, IfErr, IfOk, IfSome, IsSome, OnErr, OnOk, Result}
 use Rattle.std.specs.Prelude.{Ok, Err, is_none, true}
 use Rattle.std.specs.List.{AllByRecursion, list_any}
 use Rattle.std.specs.Option.{option_map}
@@ -26,6 +26,8 @@ use Rattle.desktop_session.specs.declared.fault.SessionFault.{SessionFault}
 use Rattle.desktop_session.specs.declared.fault.SessionFault.TheVariants as session
 use Rattle.desktop_session.specs.Acts.{text}
 use Rattle.desktop_session.specs.Greetings.{user_with}
+use Rattle.desktop_session.specs.Lasts.{LastSays}
+use Rattle.desktop_session.specs.Lists.{Refuses}
 use Rattle.desktop_session.specs.Requests.{reading_user}
 use Rattle.desktop_session.specs.Stops.{Does, Stops}
 use Rattle.session_parts.specs.declared.report.DbReport.{DbReport}
@@ -80,8 +82,8 @@ abbrev pub IsCommitFile : Meeting → List ℕ → Type 0
 IsCommitFile meeting file = (file ≡ desktop_info_file) ⊎ IsTaskFile meeting file
 
 -- The folder was changed by one commit at most. Where the session ended it has these files over
--- those that it had; where it stopped it
--- stands for what it stood for, or for that, and so it did at each moment that passed.
+-- those that it had; where it stopped it stands for what it stood for, or for that, and so it did
+-- at each moment that passed.
 pub record ChangesDesk (meeting : Meeting) (folder : Tellings)
     (answer : Result (Vec DbReport) Stop) : Type 0 where
   pub entries : List EntryValue
@@ -96,9 +98,8 @@ pub record ChangesDesk (meeting : Meeting) (folder : Tellings)
 -- ---- a session that ended
 
 -- All of the session's requests went out and were answered, and each new record got an id that was
--- free at its turn. The folder is that
--- of a desktop with the merge under these ids, without a journal, and what was done with each
--- database is told in order.
+-- free at its turn. The folder is that of a desktop with the merge under these ids, without a
+-- journal, and what was done with each database is told in order.
 pub record IsEnded {L : Type 0} (talk : L → Option Talk) (meeting : Meeting) (old new : L)
     (folder : Tellings) (reports : List DbReport) : Type 0 where
   pub given : List ℕ
@@ -165,8 +166,7 @@ pub record IsLimit {L : Type 0} (talk : L → Option Talk) (meeting : Meeting) (
   pub does : Does talk (before_writes meeting) old new
 
 -- no limit would be passed, the handheld never ended a session, the slot of its user did, and this
--- database would lose live rows of the
--- desktop first; all is read and nothing written
+-- database would lose live rows of the desktop first; all is read and nothing written
 pub record IsNewHandheld {L : Type 0} (talk : L → Option Talk) (meeting : Meeting) (old new : L)
     (name : List ℕ) : Type 0 where
   pub within : first_over meeting ≡ None
@@ -182,15 +182,17 @@ pub record IsAtCommit {L : Type 0} (talk : L → Option Talk) (meeting : Meeting
   pub free : GetFreeIds (before_commit meeting given) meeting.device
   pub does : Does talk (before_commit meeting given) old new
 
--- The cause of a stop. A reply is refused only where the link has no fault; for its user a session
--- stops where nothing else was asked for;
--- the folder tells its own failure by its count, and it fails at the commit alone; want of memory
--- is free.
+-- The cause of a stop. A refusal is the error in the last reply of the talk, and a reply that can't
+-- be read is this one, where the link has no fault; for its user a session stops where nothing else
+-- was asked for; the folder tells its own failure by its count, and it fails at the commit alone;
+-- want of memory is free.
 abbrev pub IsStopOf : {L : Type 0} → (L → Option Talk) → (L → Option LinkFault) → Meeting → L → L
     → Stop → Type 0
 IsStopOf talk fault meeting old new (stop.Session session.Down) = fault new ≡ Some Down
-IsStopOf talk fault meeting old new (stop.Session (session.Refused code)) = fault new ≡ None
-IsStopOf talk fault meeting old new (stop.Session (session.BadReply broken)) = fault new ≡ None
+IsStopOf talk fault meeting old new (stop.Session (session.Refused code)) =
+    (fault new ≡ None) × IfSome (talk new) (LastSays (Refuses code.0))
+IsStopOf talk fault meeting old new (stop.Session (session.BadReply broken)) =
+    (fault new ≡ None) × IfSome (talk new) (LastSays (λ read. read ≡ Err broken))
 IsStopOf talk fault meeting old new (stop.Session (session.OtherUser handheld desktop)) =
     IsOtherUser meeting handheld desktop × Does talk (reading_user ∷ []) old new
 IsStopOf talk fault meeting old new (stop.Session session.TooManyUsers) =
@@ -226,10 +228,9 @@ StopsAtLoss name (Err other) = ⊥
 -- ---- both
 
 -- A session of these two sides ended, or it stopped: before the desktop's commit or behind it, and
--- by its cause. Where the handheld's user
--- has no slot, nothing but the user is asked for, and it stops for that; where a limit would be
--- passed, nothing is written, and it stops for
--- that or before; and else where a new handheld would cost the desktop live rows.
+-- by its cause. Where the handheld's user has no slot, nothing but the user is asked for, and it
+-- stops for that; where a limit would be passed, nothing is written, and it stops for that or
+-- before; and else where a new handheld would cost the desktop live rows.
 pub record SessionEnds {L : Type 0} (talk : L → Option Talk) (since : L → L → Type 0)
     (fault : L → Option LinkFault) (downs : L → ℕ)
     (meeting : Meeting) (old new : L) (folder : Tellings)

@@ -16,9 +16,8 @@ refusal_by None (Some name) = Some (stop.NewHandheld name)
 refusal_by None None = None
 
 -- what is told where the limits were looked at, and then what a new handheld would cost the
--- desktop: the name of the first database that
--- would pass a limit; else of the first one that would lose live rows; else the reports; unless
--- memory ran out
+-- desktop: the name of the first database that would pass a limit; else of the first one that would
+-- lose live rows; else the reports; unless memory ran out
 abbrev pub Judges : Option (List ℕ) → Option (List ℕ) → List DbReport
     → Result (Vec DbReport) Stop → Type 0
 Judges over loss reports (Ok made) = (over ≡ None) × (loss ≡ None) × (made.items ≡ reports)

@@ -40,7 +40,8 @@ pub fn finish<L: Link>(
     ensures does { IfOk result (λ ended. Does L.talk
         (marking (users.done_user date linked.user slot.now) 0xF0 ∷ ending ∷ [])
         linked.link ended.link) }
-    ensures cause { IfErr result (λ halted. IsLater (L.fault halted.link) halted.cause) }
+    ensures cause { IfErr result (λ halted. IsLater (L.talk halted.link) (L.fault halted.link)
+        halted.cause) }
 {
     let mut linked = linked;
     let user = done_user(date, linked.user(), slot);

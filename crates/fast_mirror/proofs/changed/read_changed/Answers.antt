@@ -8,6 +8,7 @@ use Rattle.conduit_rules.specs.declared.view.Seen.{Seen}
 use Rattle.slow_mirror.specs.Entries.{AreBounded}
 use Rattle.fast_mirror.specs.Shells.{AreRead, IsRead}
 use Rattle.fast_mirror.proofs.ChangedLaws.{changed_all, changed_ends, changed_none, changed_on, changed_stop, changed_whole, read_more, shown_all}
+use Rattle.desktop_session.proofs.LastLaws.{last_by}
 use Rattle.fast_mirror.proofs.changed.read_changed.Goals as goal
 
 pub loop-request-init : goal.loop-request-init
@@ -85,3 +86,13 @@ returns-clause-seen g c =
     shown_all
     (changed_whole
     all before.said)
+
+pub returns-in_err-entry-clause-last : goal.returns-in_err-entry-clause-last
+returns-in_err-entry-clause-last g c =
+    let p = err_from_is_err_and c.from_residual.result c.from_residual.ensures.1 in
+    rw (p.1, p.2) (last_by _ c.in_err-entry.ensures.asked c.in_err-entry.ensures.cause)
+
+pub returns-in_err-push-clause-last : goal.returns-in_err-push-clause-last
+returns-in_err-push-clause-last g c =
+    let p = err_from_is_err_and c.from_residual-in_err-push.result c.from_residual-in_err-push.ensures.1 in
+    rw (p.1, p.2) (rw c.in_err-push.ensures.memory tt)

@@ -1,5 +1,6 @@
 -- A database is read whole.
-use Rattle.std.proofs.Common.{◌≡◌, ◌∷◌, refl}
+use Rattle.std.proofs.Common.{◌≡◌, ◌∷◌, ℕ, refl}
+use Rattle.std.specs.Global.{Vec}
 use Rattle.std.proofs.lemmas.Result.{err_from_is_err_and}
 use Rattle.pdb_values.specs.Blocks.{block_of}
 use Rattle.pdb_values.specs.Databases.{DatabaseValue}
@@ -14,6 +15,8 @@ use Rattle.slow_mirror.proofs.ReadLaws.{count_from, count_told}
 use Rattle.install_backup.specs.BackupActs.{entry_reads}
 use Rattle.install_backup.specs.Copies.{blocked, with_entries}
 use Rattle.install_backup.proofs.CopyLaws.{app_same, asks_behind, block_said, copied_by, count_same, counted_asks, if_ok, sort_same, told_before}
+use Rattle.session_parts.proofs.CauseLaws.{later_copy, later_refused}
+use Rattle.desktop_session.specs.Answers.{count_of}
 use Rattle.install_backup.proofs.copying.read_whole.Goals as goal
 
 pub returns-in_err-count-clause-asks : goal.returns-in_err-count-clause-asks
@@ -133,3 +136,18 @@ returns-clause-told g c =
     (told_before (R whole) (counting handle) (count_same handle) (g.L.Link.talk old.link) counts
     (told_before (R whole) (reading_app handle) (app_same handle) (g.L.Link.talk first.link) apps
     (told_before (R whole) (reading_sort handle) (sort_same handle) (g.L.Link.talk second.link) sorts is))))
+
+pub returns-in_err-count-clause-cause : goal.returns-in_err-count-clause-cause
+returns-in_err-count-clause-cause g c =
+    let p = err_from_is_err_and c.from_residual.result c.from_residual.ensures.1 in
+    rw (p.1, p.2) (later_refused count_of _ c.in_err-count.ensures.asked c.in_err-count.ensures.answer)
+
+pub returns-in_err-app-clause-cause : goal.returns-in_err-app-clause-cause
+returns-in_err-app-clause-cause g c =
+    let p = err_from_is_err_and c.from_residual-in_err-app.result c.from_residual-in_err-app.ensures.1 in
+    rw (p.1, p.2) (later_copy {A = Vec ℕ} (λ copy. copy.items) _ c.in_err-app.ensures.asked c.in_err-app.ensures.answer)
+
+pub returns-in_err-sort-clause-cause : goal.returns-in_err-sort-clause-cause
+returns-in_err-sort-clause-cause g c =
+    let p = err_from_is_err_and c.from_residual-in_err-sort.result c.from_residual-in_err-sort.ensures.1 in
+    rw (p.1, p.2) (later_copy {A = Vec ℕ} (λ copy. copy.items) _ c.in_err-sort.ensures.asked c.in_err-sort.ensures.answer)

@@ -7,6 +7,8 @@ use Rattle.slow_mirror.proofs.NewsLaws.{split_at}
 use Rattle.install_backup.specs.InstallActs.{put_record}
 use Rattle.install_backup.proofs.AskWords.{all_at, put_asked}
 use Rattle.install_backup.proofs.EachAct.{each_none, each_on, each_stop}
+use Rattle.session_parts.proofs.CauseLaws.{later_refused}
+use Rattle.desktop_session.specs.Answers.{id_of}
 use Rattle.install_backup.proofs.entries.put_records.Goals as goal
 
 pub loop-item-init : goal.loop-item-init
@@ -35,3 +37,8 @@ returns-in_err-put-clause-asks g c =
     rw (p.1, p.2)
     (each_stop (put_record c.args.db.now.handle) g.met.L.Link.since_more _ split before.said
     (put_asked c.item-item.result before.handle (all_at (λ (item : Record). 0 < item.id) _ _ _ c.requires split) c.in_err-put.ensures.puts))
+
+pub returns-in_err-put-clause-cause : goal.returns-in_err-put-clause-cause
+returns-in_err-put-clause-cause g c =
+    let p = err_from_is_err_and c.from_residual.result c.from_residual.ensures.1 in
+    rw (p.1, p.2) (later_refused id_of _ c.in_err-put.ensures.puts.asked c.in_err-put.ensures.answer)

@@ -4,6 +4,8 @@ use Rattle.std.proofs.lemmas.Result.{err_from_is_err_and}
 use Rattle.session_parts.proofs.LinkWords.{resetting}
 use Rattle.slow_mirror.proofs.AskLaws.{all_said, asked_answer, asks_part, asks_then}
 use Rattle.install_backup.specs.InstallActs.{put_record}
+use Rattle.session_parts.proofs.CauseLaws.{later_answer}
+use Rattle.desktop_session.specs.Answers.{no_more}
 use Rattle.install_backup.proofs.entries.write_records.Goals as goal
 
 pub returns-in_err-put_records-clause-asks : goal.returns-in_err-put_records-clause-asks
@@ -22,3 +24,6 @@ returns-clause-asks g c =
     (all_said g.L.Link.talk g.L.Link.since g.L.Link.fault g.L.Link.downs _ _ _ _ c.in_ok-put_records.ensures.asks)
     (asked_answer g.L.Link.talk g.L.Link.since g.L.Link.fault g.L.Link.downs (resetting handle) _ _ _ _ c.reset_flags.ensures.answer
     (rw c.in_ok-put_records.ensures.same_handle at c.reset_flags.ensures.asked))
+
+pub returns-clause-cause : goal.returns-clause-cause
+returns-clause-cause g c = later_answer no_more c.reset_flags.result c.reset_flags.ensures.asked c.reset_flags.ensures.answer

@@ -5,6 +5,8 @@ use Rattle.slow_mirror.proofs.AskLaws.{answered_none}
 use Rattle.slow_mirror.proofs.NewsLaws.{split_at}
 use Rattle.install_backup.specs.InstallActs.{put_resource}
 use Rattle.install_backup.proofs.EachAct.{each_none, each_on, each_stop}
+use Rattle.session_parts.proofs.CauseLaws.{later_refused}
+use Rattle.desktop_session.specs.Answers.{no_more}
 use Rattle.install_backup.proofs.entries.write_resources.Goals as goal
 
 pub loop-resource-init : goal.loop-resource-init
@@ -33,3 +35,8 @@ returns-in_err-put_resource-clause-asks g c =
     (each_stop (put_resource c.args.db.now.handle) g.met.L.Link.since_more _
     (split_at c.args.resources.now c.loop-resource.resource-index c.resource-item.result c.loop-resource-test.true c.resource-item.is) before.said
     (rw before.handle at c.in_err-put_resource.ensures.asked))
+
+pub returns-in_err-put_resource-clause-cause : goal.returns-in_err-put_resource-clause-cause
+returns-in_err-put_resource-clause-cause g c =
+    let p = err_from_is_err_and c.from_residual.result c.from_residual.ensures.1 in
+    rw (p.1, p.2) (later_refused no_more _ c.in_err-put_resource.ensures.asked c.in_err-put_resource.ensures.answer)

@@ -6,7 +6,8 @@ use Rattle.desktop_session.specs.Requests.{making}
 use Rattle.session_parts.specs.Spans.{within}
 use Rattle.install_backup.specs.Installed.{installed_head}
 use Rattle.install_backup.specs.InstallActs.{fill_acts, install_one}
-use Rattle.install_backup.proofs.BehindLaws.{later_removed, span_answered, span_behind, span_failed, span_refused, span_wanting}
+use Rattle.session_parts.proofs.CauseLaws.{later_removed}
+use Rattle.install_backup.proofs.BehindLaws.{span_answered, span_behind, span_failed, span_refused, span_wanting}
 use Rattle.install_backup.proofs.GoneLaws.{deleting_keeps, judged_before, unmade_before}
 use Rattle.install_backup.proofs.installing.install_one.Goals as goal
 
@@ -21,7 +22,7 @@ returns-in_err-delete-clause-spans g c =
     let p = err_from_is_err_and c.from_residual-in_err-delete.result c.from_residual-in_err-delete.ensures.1 in
     let asked = rw c.head.ensures.head at c.in_err-delete.ensures.asked in
     rw (p.1, p.2) (span_refused (within (making (installed_head c.args.database.now.head)) (fill_acts c.args.database.now)) asked
-    (later_removed _ (reply_at 0x1A c.delete.new.self.reply) _ c.in_err-delete.ensures.answer))
+    (later_removed _ c.in_err-delete.ensures.asked c.in_err-delete.ensures.answer))
 
 pub returns-in_err-make-clause-spans : goal.returns-in_err-make-clause-spans
 unfolding install_one

@@ -3,11 +3,11 @@ use Rattle.install_backup.proofs.BackLaws.{over_ends, over_leaves, unmet_ends}
 use Rattle.install_backup.proofs.whole_backup.backup_session.Goals as goal
 
 pub returns-in-Ok-clause-link : goal.returns-in-Ok-clause-link
-returns-in-Ok-clause-link g c = over_leaves g.met.L.Link.since_more c.in-Ok.ensures c.backup_met.ensures.went
+returns-in-Ok-clause-link g c = over_leaves g.met.L.Link.since_more c.in-Ok.ensures.meets c.backup_met.ensures.went
 
 pub returns-in-Ok-clause-ends : goal.returns-in-Ok-clause-ends
 returns-in-Ok-clause-ends g c = λ told is rests.
-    over_ends g.met.L.Link.since_itself g.met.L.Link.since_more is rests c.in-Ok.ensures c.backup_met.ensures.went
+    over_ends g.met.L.Link.since_itself g.met.L.Link.since_more is rests c.in-Ok.ensures.meets c.backup_met.ensures.went
 
 pub returns-in-Err-clause-ends : goal.returns-in-Err-clause-ends
-returns-in-Err-clause-ends g c = λ told is rests. unmet_ends g.met.L.Link.since_itself g.met.L.Link.since_more is rests c.in-Err.ensures
+returns-in-Err-clause-ends g c = λ told is rests. unmet_ends g.met.L.Link.since_itself g.met.L.Link.since_more is rests c.in-Err.ensures.meets c.in-Err.ensures.last

@@ -1,6 +1,6 @@
 -- The databases are installed, and the session is ended.
 use Rattle.dlp_replies.specs.ReplyReading.{reply_at}
-use Rattle.session_parts.proofs.CauseLaws.{later_refused}
+use Rattle.session_parts.proofs.CauseLaws.{later_said}
 use Rattle.session_parts.proofs.LinkWords.{no_more}
 use Rattle.install_backup.proofs.WentLaws.{went_ended, went_stopped, went_unended}
 use Rattle.install_backup.proofs.whole_install.install_greeted.Goals as goal
@@ -12,7 +12,7 @@ returns-in-Ok-finish g c =
 pub returns-in-Err-finish : goal.returns-in-Err-finish
 returns-in-Err-finish g c =
     rw c.stopped.ensures (went_unended g.met.L.Link.since_more c.in-Ok.ensures.installs tt _ c.in-Err-finish.ensures.stops
-    (later_refused _ no_more (reply_at 0x2F c.in-Err-finish.ensures.answer.reply) _ c.in-Err-finish.ensures.answer.is))
+    (later_said _ _ no_more (reply_at 0x2F c.in-Err-finish.ensures.answer.reply) _ c.in-Err-finish.ensures.answer.is c.in-Err-finish.ensures.last))
 
 pub returns-in-Err : goal.returns-in-Err
 returns-in-Err g c =

@@ -5,6 +5,8 @@ use Rattle.desktop_session.specs.Requests.{counting}
 use Rattle.slow_mirror.specs.Reads.{entries_of, reads}
 use Rattle.slow_mirror.proofs.AskLaws.{asked_part, asks_other, asks_refused}
 use Rattle.slow_mirror.proofs.ReadLaws.{count_from, count_told, shown_from, whole_asked}
+use Rattle.desktop_session.specs.Answers.{count_of}
+use Rattle.desktop_session.proofs.LastLaws.{last_refused}
 use Rattle.slow_mirror.proofs.reading.read_side.Goals as goal
 
 pub returns-in_err-count-clause-asks : goal.returns-in_err-count-clause-asks
@@ -54,3 +56,8 @@ returns-clause-view g c =
     c.in_ok-count.ensures.same_handle (c.in_ok-count.ensures.asked.does from.0).said
     (count_told (g.L.Link.talk old.link) handle counted.reply (c.in_ok-count.ensures.asked.told from.0) from.1)
     c.in_ok-seen.ensures.seen c.in_ok-in_order.ensures.ordered
+
+pub returns-in_err-count-clause-last : goal.returns-in_err-count-clause-last
+returns-in_err-count-clause-last g c =
+    let p = err_from_is_err_and c.from_residual.result c.from_residual.ensures.1 in
+    rw (p.1, p.2) (last_refused count_of _ c.in_err-count.ensures.asked c.in_err-count.ensures.answer)

@@ -5,6 +5,7 @@ use Rattle.desktop_session.specs.Answers.{id_of}
 use Rattle.slow_mirror.proofs.EntryLaws.{cause_by}
 use Rattle.slow_mirror.proofs.AskLaws.{answered_none}
 use Rattle.slow_mirror.proofs.NewsLaws.{new_none, new_on, new_part, new_stop, split_at}
+use Rattle.desktop_session.proofs.LastLaws.{last_refused}
 use Rattle.slow_mirror.proofs.writing.add_all.Goals as goal
 
 pub loop-content-init : goal.loop-content-init
@@ -52,3 +53,13 @@ returns-in_err-push-clause-puts g c =
     before.handle c.new_id.ensures split (answered_none _ _ _ c.in_ok-id.ensures.answer)
     before.puts c.in_ok-id.ensures.puts refl)
     (rw c.in_err-push.ensures.memory tt))
+
+pub returns-in_err-id-clause-last : goal.returns-in_err-id-clause-last
+returns-in_err-id-clause-last g c =
+    let p = err_from_is_err_and c.from_residual.result c.from_residual.ensures.1 in
+    rw (p.1, p.2) (last_refused id_of _ c.in_err-id.ensures.puts.asked c.in_err-id.ensures.answer)
+
+pub returns-in_err-push-clause-last : goal.returns-in_err-push-clause-last
+returns-in_err-push-clause-last g c =
+    let p = err_from_is_err_and c.from_residual-in_err-push.result c.from_residual-in_err-push.ensures.1 in
+    rw (p.1, p.2) (rw c.in_err-push.ensures.memory tt)

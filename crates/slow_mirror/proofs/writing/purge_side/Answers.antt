@@ -5,6 +5,7 @@ use Rattle.desktop_session.specs.Answers.{no_more}
 use Rattle.desktop_session.specs.Lists.{HasCause}
 use Rattle.slow_mirror.proofs.AskLaws.{answered_none}
 use Rattle.slow_mirror.proofs.NewsLaws.{cleaned_stop, last_cause, purged, purged_stop}
+use Rattle.desktop_session.proofs.LastLaws.{last_answered, last_refused}
 use Rattle.slow_mirror.proofs.writing.purge_side.Goals as goal
 
 pub returns-in_err-remove_all-clause-asks : goal.returns-in_err-remove_all-clause-asks
@@ -34,3 +35,11 @@ returns-clause-cause g c =
     let last = c.reset_flags.new.self.linked.now in
     last_cause (HasCause (g.L.Link.fault last.link) (reply_at 0x22 last.reply)) (HasCause (g.L.Link.fault last.link) (reply_at 0x26 last.reply)) no_more
     (g.L.Link.fault last.link) (reply_at 0x27 last.reply) c.reset_flags.result c.reset_flags.ensures.answer
+
+pub returns-in_err-clean_up-clause-last : goal.returns-in_err-clean_up-clause-last
+returns-in_err-clean_up-clause-last g c =
+    let p = err_from_is_err_and c.from_residual-in_err-clean_up.result c.from_residual-in_err-clean_up.ensures.1 in
+    rw (p.1, p.2) (last_refused no_more _ c.in_err-clean_up.ensures.asked c.in_err-clean_up.ensures.answer)
+
+pub returns-clause-last : goal.returns-clause-last
+returns-clause-last g c = last_answered no_more c.reset_flags.result c.reset_flags.ensures.asked c.reset_flags.ensures.answer

@@ -3,6 +3,7 @@ use Rattle.std.proofs.Common.{refl, arith}
 use Rattle.std.proofs.lemmas.Result.{err_from_is_err_and}
 use Rattle.slow_mirror.proofs.AskLaws.{answered_none}
 use Rattle.slow_mirror.proofs.NewsLaws.{remove_done, remove_none, remove_on, remove_stop, split_at}
+use Rattle.desktop_session.proofs.LastLaws.{last_removed}
 use Rattle.slow_mirror.proofs.writing.remove_all.Goals as goal
 
 pub loop-id-init : goal.loop-id-init
@@ -37,3 +38,8 @@ pub returns-clause-asks : goal.returns-clause-asks
 returns-clause-asks g c =
     remove_done c.args.db.now.handle c.loop-id.id-index c.args.ids.now
     (omega arith) c.loop-id.invariant.said
+
+pub returns-in_err-remove-clause-last : goal.returns-in_err-remove-clause-last
+returns-in_err-remove-clause-last g c =
+    let p = err_from_is_err_and c.from_residual.result c.from_residual.ensures.1 in
+    rw (p.1, p.2) (last_removed _ c.in_err-remove.ensures.asked c.in_err-remove.ensures.answer)

@@ -5,6 +5,7 @@ use Rattle.desktop_session.specs.Answers.{id_of}
 use Rattle.slow_mirror.proofs.EntryLaws.{cause_by}
 use Rattle.slow_mirror.proofs.AskLaws.{answered_none}
 use Rattle.slow_mirror.proofs.NewsLaws.{some_done, some_none, some_on, some_stop, split_at}
+use Rattle.desktop_session.proofs.LastLaws.{last_refused}
 use Rattle.slow_mirror.proofs.writing.replace_all.Goals as goal
 
 pub loop-entry-init : goal.loop-entry-init
@@ -40,3 +41,8 @@ pub returns-clause-puts : goal.returns-clause-puts
 returns-clause-puts g c =
     some_done c.loop-entry.entry-index
     (omega arith) (λ given. tt) c.loop-entry.invariant.puts
+
+pub returns-in_err-put-clause-last : goal.returns-in_err-put-clause-last
+returns-in_err-put-clause-last g c =
+    let p = err_from_is_err_and c.from_residual.result c.from_residual.ensures.1 in
+    rw (p.1, p.2) (last_refused id_of _ c.in_err-put.ensures.puts.asked c.in_err-put.ensures.answer)

@@ -1,5 +1,5 @@
 -- A database is opened, given its news, and closed.
-use Rattle.std.proofs.Common.{rules}
+use Rattle.std.proofs.Common.{refl, rules}
 use Rattle.std.proofs.lemmas.Result.{err_from_is_err_and}
 use Rattle.dlp_replies.specs.ReplyReading.{reply_at}
 use Rattle.session_parts.proofs.CauseLaws.{later_by}
@@ -10,7 +10,7 @@ use Rattle.sync_session.proofs.giving.give_one.Goals as goal
 pub returns-in_err-opened : goal.returns-in_err-opened
 returns-in_err-opened g c =
     let p = err_from_is_err_and c.from_residual.result c.from_residual.ensures.1 in
-    record { spans = rw (p.1, p.2) (span_unopened 0x17 _ _ c.in_err-opened.was c.open.follows.holds-at-none) }
+    record { spans = rw (p.1, p.2) (span_unopened 0x17 _ _ refl c.in_err-opened.was c.open.follows.holds-at-none) }
 
 pub returns-in-Err : goal.returns-in-Err
 returns-in-Err g c =
@@ -18,7 +18,7 @@ returns-in-Err g c =
     let puts = c.in-Err.ensures.puts in
     record {
       spans = span_stopped g.met.L.Link.since_more _ puts.given opened puts.asks
-          (later_by _ (reply_at 0x21 c.send_news.new.db.linked.now.reply) _ puts.cause) (search rules);
+          (later_by _ _ (reply_at 0x21 c.send_news.new.db.linked.now.reply) _ puts.cause c.in-Err.ensures.last) (search rules);
     }
 
 pub returns-in_err-close : goal.returns-in_err-close

@@ -12,7 +12,7 @@ returns-in_err-begin g c =
     let p = err_from_is_err_and c.from_residual.result c.from_residual.ensures.1 in
     record {
       sends = rw (p.1, p.2) (behind_none c.in_err-begin.ensures.asked
-          (later_refused _ no_more (reply_at 0x11 c.begin.new.linked.reply) _ c.in_err-begin.ensures.answer));
+          (later_refused no_more _ c.in_err-begin.ensures.asked c.in_err-begin.ensures.answer));
     }
 
 pub returns : goal.returns

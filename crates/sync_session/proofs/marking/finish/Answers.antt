@@ -4,7 +4,7 @@ use Rattle.dlp_replies.specs.ReplyReading.{reply_at}
 use Rattle.session_parts.proofs.LinkWords.{text, no_more, said_in, ending}
 use Rattle.desktop_session.proofs.GreetLaws.{no_fault_said}
 use Rattle.desktop_session.proofs.StopLaws.{stops_more, stops_then}
-use Rattle.session_parts.proofs.CauseLaws.{later_ended}
+use Rattle.session_parts.proofs.CauseLaws.{later_ended, later_refused}
 use Rattle.sync_session.proofs.EndLaws.{does_before}
 use Rattle.sync_session.proofs.marking.finish.Goals as goal
 
@@ -27,4 +27,8 @@ returns-in-Err-clause-stops g c =
 
 pub returns-in-Ok-clause-cause : goal.returns-in-Ok-clause-cause
 returns-in-Ok-clause-cause g c =
-    later_ended g.L.Link.fault (reply_at 0x2F c.finish.ensures.answer.reply) c.finish.result c.finish.ensures.answer.is
+    later_ended g.L.Link.talk g.L.Link.fault (reply_at 0x2F c.finish.ensures.answer.reply) c.finish.result c.finish.ensures.answer.is c.finish.ensures.last
+
+pub returns-in-Err-clause-cause : goal.returns-in-Err-clause-cause
+returns-in-Err-clause-cause g c =
+    rw (c.halt.ensures.link, c.halt.ensures.cause) (later_refused no_more _ c.in-Err.ensures.asked c.in-Err.ensures.answer)

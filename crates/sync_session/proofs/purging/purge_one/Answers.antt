@@ -1,5 +1,5 @@
 -- A database is opened, purged, and closed.
-use Rattle.std.proofs.Common.{[], rules}
+use Rattle.std.proofs.Common.{[], refl, rules}
 use Rattle.std.proofs.lemmas.Result.{err_from_is_err_and}
 use Rattle.dlp_replies.specs.ReplyReading.{reply_at}
 use Rattle.desktop_session.specs.Answers.{no_more}
@@ -11,7 +11,7 @@ use Rattle.sync_session.proofs.purging.purge_one.Goals as goal
 pub returns-in_err-opened : goal.returns-in_err-opened
 returns-in_err-opened g c =
     let p = err_from_is_err_and c.from_residual.result c.from_residual.ensures.1 in
-    record { spans = rw (p.1, p.2) (span_unopened 0x17 _ _ c.in_err-opened.was c.open.follows.holds-at-none) }
+    record { spans = rw (p.1, p.2) (span_unopened 0x17 _ _ refl c.in_err-opened.was c.open.follows.holds-at-none) }
 
 pub returns-in-Err : goal.returns-in-Err
 returns-in-Err g c =
@@ -19,7 +19,7 @@ returns-in-Err g c =
     let reply = c.purge_side.new.db.linked.now.reply in
     record {
       spans = span_stopped g.met.L.Link.since_more _ [] opened c.in-Err.ensures.asks
-          (later_by_three _ (reply_at 0x22 reply) (reply_at 0x26 reply) (reply_at 0x27 reply) _ c.in-Err.ensures.cause) (search rules);
+          (later_by_three _ _ (reply_at 0x22 reply) (reply_at 0x26 reply) (reply_at 0x27 reply) _ c.in-Err.ensures.cause c.in-Err.ensures.last) (search rules);
     }
 
 pub returns : goal.returns
@@ -28,5 +28,5 @@ returns g c =
     let closed = c.close.ensures in
     record {
       spans = span_closed g.met.L.Link.since_more _ [] _ opened c.in-Ok.ensures.asks c.in-Ok.ensures.same_handle closed.asked closed.answer
-          (later_answer _ no_more (reply_at 0x19 _) c.close.result closed.answer) (any_answer c.close.result) (search rules);
+          (later_answer no_more c.close.result closed.asked closed.answer) (any_answer c.close.result) (search rules);
     }

@@ -1,5 +1,5 @@
 -- A database is opened, its changes are read, and it is closed.
-use Rattle.std.proofs.Common.{[], rules}
+use Rattle.std.proofs.Common.{[], refl, rules}
 use Rattle.std.proofs.lemmas.Result.{err_from_is_err_and}
 use Rattle.dlp_replies.specs.ReplyReading.{reply_at}
 use Rattle.session_parts.proofs.CauseLaws.{later_by_four}
@@ -10,7 +10,7 @@ use Rattle.sync_session.proofs.reading.read_changed.Goals as goal
 pub returns-in_err-opened : goal.returns-in_err-opened
 returns-in_err-opened g c =
     let p = err_from_is_err_and c.from_residual.result c.from_residual.ensures.1 in
-    record { spans = rw (p.1, p.2) (span_unopened 0x17 _ _ c.in_err-opened.was c.open.follows.holds-at-none) }
+    record { spans = rw (p.1, p.2) (span_unopened 0x17 _ _ refl c.in_err-opened.was c.open.follows.holds-at-none) }
 
 pub returns-in-Err : goal.returns-in-Err
 returns-in-Err g c =
@@ -18,7 +18,7 @@ returns-in-Err g c =
     let reply = c.read_side.new.db.linked.now.reply in
     record {
       spans = span_stopped g.met.L.Link.since_more _ [] opened (rw opened.told at c.in-Err.ensures.asks)
-          (later_by_four _ (reply_at 0x2B reply) (reply_at 0x31 reply) (reply_at 0x1F reply) (reply_at 0x20 reply) _ c.in-Err.ensures.cause) (search rules);
+          (later_by_four _ _ (reply_at 0x2B reply) (reply_at 0x31 reply) (reply_at 0x1F reply) (reply_at 0x20 reply) _ c.in-Err.ensures.cause c.in-Err.ensures.last) (search rules);
     }
 
 pub returns-in_err-close : goal.returns-in_err-close

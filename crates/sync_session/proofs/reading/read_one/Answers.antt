@@ -1,5 +1,5 @@
 -- A database is opened, read, and closed.
-use Rattle.std.proofs.Common.{[], ◌∷◌, rules}
+use Rattle.std.proofs.Common.{[], ◌∷◌, refl, rules}
 use Rattle.std.proofs.lemmas.Result.{err_from_is_err_and}
 use Rattle.dlp_replies.specs.ReplyReading.{reply_at}
 use Rattle.session_parts.proofs.LinkWords.{opening, saying}
@@ -15,7 +15,7 @@ returns-in_err-opened g c =
     let told = saying (opening c.args.name.now ∷ []) (g.L.Link.talk c.args.linked.now.link) in
     record {
       spans = rw (p.1, p.2) (span_unopened 0x17 (λ handle given. slow_reads handle (entries_of told handle)) _
-          c.in_err-opened.was c.open.follows.holds-at-none);
+          refl c.in_err-opened.was c.open.follows.holds-at-none);
     }
 
 pub returns-in-Err : goal.returns-in-Err
@@ -25,7 +25,7 @@ returns-in-Err g c =
     let reply = c.read_side.new.db.linked.now.reply in
     record {
       spans = span_stopped g.met.L.Link.since_more (λ handle given. slow_reads handle (entries_of told handle)) [] opened
-          (rw opened.told at c.in-Err.ensures.asks) (later_by_two _ (reply_at 0x2B reply) (reply_at 0x20 reply) _ c.in-Err.ensures.cause) (search rules);
+          (rw opened.told at c.in-Err.ensures.asks) (later_by_two _ _ (reply_at 0x2B reply) (reply_at 0x20 reply) _ c.in-Err.ensures.cause c.in-Err.ensures.last) (search rules);
     }
 
 pub returns-in_err-close : goal.returns-in_err-close
