@@ -46,7 +46,7 @@ module _ (handheld desktop : TableValue) (one : IsRead handheld) (other : IsRead
   abbrev merged : TableValue
   merged = merged_table handheld desktop
 
-  merged_whole : length (table_text merged) ≡ 276
+  pub merged_whole : length (table_text merged) ≡ 276
   merged_whole =
       length-text merged (merged_labels handheld desktop one.labels other.labels) (merged_is_table handheld desktop one.table_is other.table_is).whole
 

@@ -17,19 +17,19 @@ use Rattle.category_mirror.specs.declared.job.FilingJob.{FilingJob}
 use Rattle.category_mirror.specs.Blocks.{MergeValue}
 use Rattle.category_mirror.specs.Changes.{change_filed, change_for, changes_filed, cleared_archive, copied_database, copied_record, is_changed}
 use Rattle.category_mirror.specs.Courses.{did_of, report_filed, reports_filed}
-use Rattle.category_mirror.specs.declared.report.Filed.{Filed}
-use Rattle.category_mirror.specs.declared.report.FiledReport.{FiledReport}
+use Rattle.session_parts.specs.declared.report.Did.{Did}
+use Rattle.session_parts.specs.declared.report.DbReport.{DbReport}
 use Rattle.slow_mirror.proofs.NewsLaws.{SplitAt}
 use Rattle.category_mirror.specs.Jobs.{names_filed}
 use Rattle.category_mirror.specs.Refiled.{refiled_rows}
 
 -- a change of the database of a name, such as a desktop takes
-record IsChangeOf (name : List ℕ) (change : DbChange) : Type 0 where
+pub record IsChangeOf (name : List ℕ) (change : DbChange) : Type 0 where
   pub named : change.rows.head.name ≡ name
   pub fits : IsDbChange change
 
 -- none, or one of this name
-abbrev IsOneOf : List ℕ → List DbChange → Type 0
+abbrev pub IsOneOf : List ℕ → List DbChange → Type 0
 IsOneOf name [] = Unit {0}
 IsOneOf name (change ∷ []) = IsChangeOf name change
 IsOneOf name (change ∷ more ∷ changes) = ⊥
@@ -87,7 +87,7 @@ named_of : (name : List ℕ) (databases : List DatabaseValue) (o : Option Databa
 named_of name databases None is = tt
 named_of name databases (Some found) is = database_of-name name databases found is
 
-one_filed : (shelves : ShelvesValue) (name : List ℕ) (merge : Option MergeValue) → IsOneOf name (change_filed shelves name merge)
+pub one_filed : (shelves : ShelvesValue) (name : List ℕ) (merge : Option MergeValue) → IsOneOf name (change_filed shelves name merge)
 unfolding change_filed
 one_filed shelves name merge =
     one_for name merge _ _ _ (named_of name shelves.rows _ refl) (named_of name shelves.bases _ refl) (named_of name shelves.archives _ refl)
@@ -175,7 +175,7 @@ module _ (shelves : ShelvesValue) where
         ∙ sym (changes-next (take k jobs) (take k merges) job merge (takes_same jobs merges k same))
         ∙ ap (λ js. changes_filed shelves js (take k merges ++ merge ∷ [])) (sym one.next) ∙ ap (changes_filed shelves (take (k + 1) jobs)) (sym other.next)
 
-    pub reports-step : {before now : List FiledReport} {report : FiledReport} → before ≡ reports_filed shelves (take k jobs) (take k merges)
+    pub reports-step : {before now : List DbReport} {report : DbReport} → before ≡ reports_filed shelves (take k jobs) (take k merges)
         → now ≡ before ++ report ∷ [] → report ≡ report_filed shelves job merge
         → now ≡ reports_filed shelves (take (k + 1) jobs) (take (k + 1) merges)
     reports-step {before} before_is put is =
@@ -183,6 +183,6 @@ module _ (shelves : ShelvesValue) where
         ∙ sym (reports-next (take k jobs) (take k merges) job merge (takes_same jobs merges k same))
         ∙ ap (λ js. reports_filed shelves js (take k merges ++ merge ∷ [])) (sym one.next) ∙ ap (reports_filed shelves (take (k + 1) jobs)) (sym other.next)
 
-  pub report_is : (job : FilingJob) (merge : Option MergeValue) {name : List ℕ} {did : Filed} → name ≡ job.name
+  pub report_is : (job : FilingJob) (merge : Option MergeValue) {name : List ℕ} {did : Did} → name ≡ job.name
       → did ≡ did_of job.skip merge (database_of job.name shelves.rows) → record { name = name; did = did } ≡ report_filed shelves job merge
   report_is job merge named is = λ k. record { name = named k; did = is k }

@@ -25,8 +25,8 @@ use Rattle.session_parts.specs.declared.stop.Stop.{Stop}
 use Rattle.session_parts.specs.declared.stop.Stop.TheVariants as stop
 use Rattle.session_parts.proofs.SpanLaws.{on_ok}
 use Rattle.category_mirror.specs.declared.job.FilingJob.{FilingJob}
-use Rattle.category_mirror.specs.declared.report.FiledReport.{FiledReport}
-use Rattle.category_mirror.specs.declared.report.FilingOutcome.{FilingOutcome}
+use Rattle.session_parts.specs.declared.report.DbReport.{DbReport}
+use Rattle.session_parts.specs.declared.outcome.Outcome.{Outcome}
 use Rattle.category_mirror.specs.Blocks.{MergeValue}
 use Rattle.category_mirror.specs.Changes.{CommitsFiled, changes_filed, entries_filed}
 use Rattle.category_mirror.specs.Courses.{AfterCommit, AfterFiling, AfterMeeting, FilingRan, closed, picked_for, stopped}
@@ -35,18 +35,18 @@ use Rattle.category_mirror.specs.Leaving.{LeavesFolder}
 
 -- ---- causes
 
-refused_cause : (fault : CommitFault) → IsErrOf {T = Vec FiledReport} (Err (stop_of fault)) stop.DeskFault → fault ≡ commit.DeskFault
+refused_cause : (fault : CommitFault) → IsErrOf {T = Vec DbReport} (Err (stop_of fault)) stop.DeskFault → fault ≡ commit.DeskFault
 refused_cause commit.DeskFault is = refl
 refused_cause commit.NoMemory is = absurd cc
 
-cause_refused : (fault : CommitFault) → fault ≡ commit.DeskFault → IsErrOf {T = Vec FiledReport} (Err (stop_of fault)) stop.DeskFault
+cause_refused : (fault : CommitFault) → fault ≡ commit.DeskFault → IsErrOf {T = Vec DbReport} (Err (stop_of fault)) stop.DeskFault
 cause_refused commit.DeskFault is = refl
 cause_refused commit.NoMemory is = absurd cc
 
 module _ {L F : Type 0} (talk : L → Option Talk) (since : L → L → Type 0) (fault : L → Option LinkFault) (downs : L → ℕ)
     (contents : F → Option FileMap) (moments : F → Moments) (paths : F → Option (List (List ℕ))) (faults : F → ℕ) where
   -- what went out begins some requests, and this is left of the folder
-  record LeavesBoth (old : L) (folder : F) (left : FilingOutcome L F) : Type 0 where
+  record LeavesBoth (old : L) (folder : F) (left : Outcome L F) : Type 0 where
     requests : List (List ℕ)
     stops : Stops talk since fault downs requests old left.link
     desk : LeavesFolder contents moments paths faults folder left
@@ -56,7 +56,7 @@ module _ {L F : Type 0} (talk : L → Option Talk) (since : L → L → Type 0) 
   none_put (Some held) = refl
 
   -- the folder was not touched
-  untouched : {link : L} (folder : F) (end : Result (Vec FiledReport) Stop) → (IsErrOf end stop.DeskFault → ⊥)
+  untouched : {link : L} (folder : F) (end : Result (Vec DbReport) Stop) → (IsErrOf end stop.DeskFault → ⊥)
       → LeavesFolder contents moments paths faults folder (record { link = link; folder = folder; end = end })
   untouched folder end other = record {
     entries = [];
@@ -67,7 +67,7 @@ module _ {L F : Type 0} (talk : L → Option Talk) (since : L → L → Type 0) 
     same_paths = refl;
   }
 
-  both_stopped : {requests : List (List ℕ)} {old new : L} {folder : F} {cause : Stop} {left : FilingOutcome L F} → Stops talk since fault downs requests old new
+  both_stopped : {requests : List (List ℕ)} {old new : L} {folder : F} {cause : Stop} {left : Outcome L F} → Stops talk since fault downs requests old new
       → left ≡ stopped new folder cause → (cause ≡ stop.DeskFault → ⊥) → LeavesBoth old folder left
   both_stopped {requests} {folder = folder} {cause = cause} stops is other = rw is (record {
     requests = requests;
@@ -75,7 +75,7 @@ module _ {L F : Type 0} (talk : L → Option Talk) (since : L → L → Type 0) 
     desk = untouched folder (Err cause) (λ is. let same : cause ≡ stop.DeskFault = cc in other same);
   })
 
-  committed : {taken : List SlotValue} {entries : List EntryValue} {desk after : DeskValue F} {link : L} (end : Result (Vec FiledReport) Stop)
+  committed : {taken : List SlotValue} {entries : List EntryValue} {desk after : DeskValue F} {link : L} (end : Result (Vec DbReport) Stop)
       → Commits contents moments paths faults taken entries desk (Ok after) → (IsErrOf end stop.DeskFault → ⊥)
       → LeavesFolder contents moments paths faults desk.folder (record { link = link; folder = after.folder; end = end })
   committed {entries = entries} {desk = desk} {after = after} end commits other = record {
@@ -88,8 +88,8 @@ module _ {L F : Type 0} (talk : L → Option Talk) (since : L → L → Type 0) 
   }
 
   -- it was ended, or it stopped at its end
-  finished_link : {folder : F} (after : F) (reports : Vec FiledReport) (answer : Result (Ended L) (Halted L))
-      → ((link : L) (end : Result (Vec FiledReport) Stop) → (IsErrOf end stop.DeskFault → ⊥)
+  finished_link : {folder : F} (after : F) (reports : Vec DbReport) (answer : Result (Ended L) (Halted L))
+      → ((link : L) (end : Result (Vec DbReport) Stop) → (IsErrOf end stop.DeskFault → ⊥)
       → LeavesFolder contents moments paths faults folder (record { link = link; folder = after; end = end }))
       → {requests : List (List ℕ)} {old : L} → Stops talk since fault downs requests old (link_ended answer) → LeavesBoth old folder (closed after reports answer)
   finished_link after reports (Ok ended) leaves {requests} stops = record { requests = requests; stops = stops; desk = leaves ended.link (Ok reports) (λ is. cc) }
@@ -100,8 +100,8 @@ module _ {L F : Type 0} (talk : L → Option Talk) (since : L → L → Type 0) 
     nothing_said : {old new : L} → new ≡ old → Stops talk since fault downs [] old new
     nothing_said {old} same = rw same (stops_none talk since fault downs [] old old refl (itself old) (fell_none fault downs old))
 
-    after_commit : (changes : List DbChange) (reports : Vec FiledReport) (old : SessionValue L) (desk : DeskValue F) (answer : Result (DeskValue F) (CommitFault × F))
-        {left : FilingOutcome L F} → CommitsFiled contents moments paths faults changes desk answer
+    after_commit : (changes : List DbChange) (reports : Vec DbReport) (old : SessionValue L) (desk : DeskValue F) (answer : Result (DeskValue F) (CommitFault × F))
+        {left : Outcome L F} → CommitsFiled contents moments paths faults changes desk answer
         → AfterCommit talk since fault downs reports old answer left → LeavesBoth old.link desk.folder left
     after_commit [] reports old desk (Ok after) commits goes =
         let same : after ≡ desk = cc in
@@ -127,7 +127,7 @@ module _ {L F : Type 0} (talk : L → Option Talk) (since : L → L → Type 0) 
     })
 
     module _ (since_more : (a b c : L) → since a b → since b c → since a c) where
-      both_behind : {acts : List Act} {old mid : L} {folder : F} {left : FilingOutcome L F} → Stops talk since fault downs (map text acts) old mid
+      both_behind : {acts : List Act} {old mid : L} {folder : F} {left : Outcome L F} → Stops talk since fault downs (map text acts) old mid
           → Does talk acts old mid → LeavesBoth mid folder left → LeavesBoth old folder left
       both_behind {acts} {old} {mid} {left = left} stops does both = record {
         requests = map text acts ++ both.requests;
@@ -136,7 +136,7 @@ module _ {L F : Type 0} (talk : L → Option Talk) (since : L → L → Type 0) 
       }
 
       after_filing : (jobs : List FilingJob) {old now : SessionValue L} (desk : DeskValue F) (answer : Result (Vec (Option MergeValue)) SessionFault)
-          {left : FilingOutcome L F}
+          {left : Outcome L F}
           → SpansEach talk since fault downs (files_under (shelves_in desk)) (SaysFiled (shelves_in desk)) jobs (λ (made : Vec (Option MergeValue)). made.items) old now answer
           → AfterFiling talk since fault downs contents moments paths faults jobs now desk answer left → LeavesBoth old.link desk.folder left
       after_filing jobs {now = now} desk (Ok merges) files (inl turns) =
@@ -145,7 +145,7 @@ module _ {L F : Type 0} (talk : L → Option Talk) (since : L → L → Type 0) 
       after_filing jobs desk (Ok merges) files (inr is) = both_stopped files.stops is (λ other. cc)
       after_filing jobs desk (Err cause) files is = both_stopped files.stops is (λ other. cc)
 
-      after_meeting : (users : List ℕ) {old : L} (desk : DeskValue F) (answer : Result (Met L) (Halted L)) {left : FilingOutcome L F}
+      after_meeting : (users : List ℕ) {old : L} (desk : DeskValue F) (answer : Result (Met L) (Halted L)) {left : Outcome L F}
           → MeetsOrNot talk since fault downs users false old answer
           → AfterMeeting talk since fault downs contents moments paths faults users desk answer left → LeavesBoth old desk.folder left
       after_meeting users desk (Ok met) (inl meets) goes =
@@ -158,7 +158,7 @@ module _ {L F : Type 0} (talk : L → Option Talk) (since : L → L → Type 0) 
 
 module _ {L F : Type 0} {talk : L → Option Talk} {since : L → L → Type 0} {fault : L → Option LinkFault} {downs : L → ℕ}
     {contents : F → Option FileMap} {moments : F → Moments} {paths : F → Option (List (List ℕ))} {faults : F → ℕ} (itself : (a : L) → since a a)
-    (since_more : (a b c : L) → since a b → since b c → since a c) {old : L} {desk : DeskValue F} {left : FilingOutcome L F}
+    (since_more : (a b c : L) → since a b → since b c → since a c) {old : L} {desk : DeskValue F} {left : Outcome L F}
     (ran : FilingRan talk since fault downs contents moments paths faults old desk left) where
   ran_both : LeavesBoth talk since fault downs contents moments paths faults old desk.folder left
   ran_both =

@@ -21,11 +21,14 @@ use Rattle.desktop_session.specs.declared.fault.SessionFault.{SessionFault}
 use Rattle.desktop_session.specs.declared.fault.SessionFault.TheVariants as session
 use Rattle.desktop_session.specs.Acts.{text}
 use Rattle.desktop_session.specs.Ends.{link_ended}
+use Rattle.desktop_session.specs.Lasts.{IsByLastReply}
 use Rattle.desktop_session.specs.Requests.{ending}
 use Rattle.desktop_session.specs.Sessions.{SessionValue}
 use Rattle.desktop_session.specs.Stops.{Does, Stops}
 use Rattle.session_parts.specs.declared.meeting.Met.{Met}
+use Rattle.session_parts.specs.declared.report.Did.{Did}
 use Rattle.session_parts.specs.declared.skip.Skip.{Skip}
+use Rattle.session_parts.specs.declared.skip.Skip.TheVariants as skip
 use Rattle.session_parts.specs.declared.stop.Stop.{Stop}
 use Rattle.session_parts.specs.declared.stop.Stop.TheVariants as stop
 use Rattle.session_parts.specs.Causes.{IsLater}
@@ -34,10 +37,10 @@ use Rattle.session_parts.specs.Stopping.{stop_of}
 use Rattle.session_parts.specs.Stretches.{SpansEach}
 use Rattle.session_plan.specs.Tasks.{records_of}
 use Rattle.category_mirror.specs.declared.job.FilingJob.{FilingJob}
-use Rattle.category_mirror.specs.declared.report.Filed.{Filed}
-use Rattle.category_mirror.specs.declared.report.Filed.TheVariants.{Skipped, Blocks, Merged}
-use Rattle.category_mirror.specs.declared.report.FiledReport.{FiledReport}
-use Rattle.category_mirror.specs.declared.report.FilingOutcome.{FilingOutcome}
+use Rattle.session_parts.specs.declared.report.Did.{Did}
+use Rattle.session_parts.specs.declared.report.Did.TheVariants.{Skipped, Filed}
+use Rattle.session_parts.specs.declared.report.DbReport.{DbReport}
+use Rattle.session_parts.specs.declared.outcome.Outcome.{Outcome}
 use Rattle.category_mirror.specs.Blocks.{MergeValue}
 use Rattle.category_mirror.specs.Changes.{CommitsFiled, changes_filed}
 use Rattle.category_mirror.specs.FilingActs.{SaysFiled, files_under}
@@ -47,22 +50,22 @@ use Rattle.category_mirror.specs.Refiled.{moved_count, used_count}
 -- ---- what is told
 
 -- why it was skipped, or that a block is no table, or how many categories and moved rows there are
-abbrev pub did_of : Option Skip → Option MergeValue → Option DatabaseValue → Filed
+abbrev pub did_of : Option Skip → Option MergeValue → Option DatabaseValue → Did
 did_of (Some skip) merge rows = Skipped skip
-did_of None None rows = Blocks
-did_of None (Some merge) rows = Merged (record {
+did_of None None rows = Skipped skip.Blocks
+did_of None (Some merge) rows = Filed (record {
   used = used_count merge.table;
   moved = moved_count merge.numbers (records_of rows);
 })
 
-abbrev pub report_filed : ShelvesValue → FilingJob → Option MergeValue → FiledReport
+abbrev pub report_filed : ShelvesValue → FilingJob → Option MergeValue → DbReport
 report_filed shelves job merge = record {
   name = job.name;
   did = did_of job.skip merge (database_of job.name shelves.rows);
 }
 
 unfoldable pub reports_filed : ShelvesValue → List FilingJob → List (Option MergeValue)
-    → List FiledReport
+    → List DbReport
 reports_filed shelves [] merges = []
 reports_filed shelves (job ∷ jobs) [] = []
 reports_filed shelves (job ∷ jobs) (merge ∷ merges) =
@@ -71,12 +74,12 @@ reports_filed shelves (job ∷ jobs) (merge ∷ merges) =
 -- ---- what is left
 
 -- a session that stopped
-abbrev pub stopped : {L F : Type 0} → L → F → Stop → FilingOutcome L F
+abbrev pub stopped : {L F : Type 0} → L → F → Stop → Outcome L F
 stopped link folder cause = record { link = link; folder = folder; end = Err cause }
 
 -- one that both sides ended, or that stopped at its end
-abbrev pub closed : {L F : Type 0} → F → Vec FiledReport → Result (Ended L) (Halted L)
-    → FilingOutcome L F
+abbrev pub closed : {L F : Type 0} → F → Vec DbReport → Result (Ended L) (Halted L)
+    → Outcome L F
 closed folder reports (Ok ended) = record { link = ended.link; folder = folder; end = Ok reports }
 closed folder reports (Err halted) = stopped halted.link folder (stop.Session halted.cause)
 
@@ -85,19 +88,20 @@ closed folder reports (Err halted) = stopped halted.link folder (stop.Session ha
 -- the end was told, as far as it went
 pub record Finishes {L F : Type 0} (talk : L → Option Talk) (since : L → L → Type 0)
     (fault : L → Option LinkFault) (downs : L → ℕ)
-    (reports : Vec FiledReport) (old : SessionValue L) (folder : F)
-    (left : FilingOutcome L F) : Type 0 where
+    (reports : Vec DbReport) (old : SessionValue L) (folder : F)
+    (left : Outcome L F) : Type 0 where
   pub answer : Result (Ended L) (Halted L)
   pub stops : Stops talk since fault downs (text ending ∷ []) old.link (link_ended answer)
   pub does : IfOk answer (λ ended. Does talk (ending ∷ []) old.link ended.link)
-  pub cause : IfErr answer (λ halted. IsLater (fault halted.link) halted.cause)
+  pub cause : IfErr answer
+      (λ halted. IsLater (talk halted.link) (fault halted.link) halted.cause)
   pub is : left ≡ closed folder reports answer
 
 -- the desktop has committed, or it didn't
 abbrev pub AfterCommit : {L F : Type 0} → (L → Option Talk) → (L → L → Type 0)
     → (L → Option LinkFault) → (L → ℕ)
-    → Vec FiledReport → SessionValue L → Result (DeskValue F) (CommitFault × F)
-    → FilingOutcome L F → Type 0
+    → Vec DbReport → SessionValue L → Result (DeskValue F) (CommitFault × F)
+    → Outcome L F → Type 0
 AfterCommit talk since fault downs reports old (Ok desk) left =
     Finishes talk since fault downs reports old desk.folder left
 AfterCommit talk since fault downs reports old (Err refusal) left =
@@ -108,8 +112,8 @@ pub record Carries {L F : Type 0} (talk : L → Option Talk) (since : L → L �
     (fault : L → Option LinkFault) (downs : L → ℕ)
     (contents : F → Option FileMap) (moments : F → Moments) (paths : F → Option (List (List ℕ)))
     (faults : F → ℕ)
-    (changes : List DbChange) (reports : Vec FiledReport) (old : SessionValue L)
-    (desk : DeskValue F) (left : FilingOutcome L F) : Type 0 where
+    (changes : List DbChange) (reports : Vec DbReport) (old : SessionValue L)
+    (desk : DeskValue F) (left : Outcome L F) : Type 0 where
   pub answer : Result (DeskValue F) (CommitFault × F)
   pub commits : CommitsFiled contents moments paths faults changes desk answer
   pub goes : AfterCommit talk since fault downs reports old answer left
@@ -120,8 +124,8 @@ pub record Turns {L F : Type 0} (talk : L → Option Talk) (since : L → L → 
     (contents : F → Option FileMap) (moments : F → Moments) (paths : F → Option (List (List ℕ)))
     (faults : F → ℕ)
     (jobs : List FilingJob) (merges : List (Option MergeValue)) (old : SessionValue L)
-    (desk : DeskValue F) (left : FilingOutcome L F) : Type 0 where
-  pub reports : Vec FiledReport
+    (desk : DeskValue F) (left : Outcome L F) : Type 0 where
+  pub reports : Vec DbReport
   pub told : reports.items ≡ reports_filed (shelves_in desk) jobs merges
   pub carries : Carries talk since fault downs contents moments paths faults
       (changes_filed (shelves_in desk) jobs merges) reports old desk left
@@ -132,7 +136,7 @@ abbrev pub AfterFiling : {L F : Type 0} → (L → Option Talk) → (L → L →
     → (L → Option LinkFault) → (L → ℕ) → (F → Option FileMap) → (F → Moments) →
     (F → Option (List (List ℕ))) → (F → ℕ) → List FilingJob → SessionValue L → DeskValue F
     → Result (Vec (Option MergeValue)) SessionFault
-    → FilingOutcome L F → Type 0
+    → Outcome L F → Type 0
 AfterFiling talk since fault downs contents moments paths faults jobs now desk (Ok merges) left =
     Turns talk since fault downs contents moments paths faults jobs merges.items now desk left
     ⊎ (left ≡ stopped now.link desk.folder (stop.Session session.NoMemory))
@@ -152,7 +156,7 @@ pub record Files {L F : Type 0} (talk : L → Option Talk) (since : L → L → 
     (fault : L → Option LinkFault) (downs : L → ℕ)
     (contents : F → Option FileMap) (moments : F → Moments) (paths : F → Option (List (List ℕ)))
     (faults : F → ℕ)
-    (met : Met L) (desk : DeskValue F) (left : FilingOutcome L F) : Type 0 where
+    (met : Met L) (desk : DeskValue F) (left : Outcome L F) : Type 0 where
   pub now : SessionValue L
   pub answer : Result (Vec (Option MergeValue)) SessionFault
   pub files : SpansEach talk since fault downs (files_under (shelves_in desk))
@@ -165,7 +169,7 @@ pub record Files {L F : Type 0} (talk : L → Option Talk) (since : L → L → 
 abbrev pub AfterMeeting : {L F : Type 0} → (L → Option Talk) → (L → L → Type 0)
     → (L → Option LinkFault) → (L → ℕ) → (F → Option FileMap) → (F → Moments) →
     (F → Option (List (List ℕ))) → (F → ℕ) → List ℕ → DeskValue F → Result (Met L) (Halted L)
-    → FilingOutcome L F → Type 0
+    → Outcome L F → Type 0
 AfterMeeting talk since fault downs contents moments paths faults users desk (Ok met) left =
     Files talk since fault downs contents moments paths faults met
     (picked_for users met.linked.user.user desk) left
@@ -177,8 +181,9 @@ pub record FilingRan {L F : Type 0} (talk : L → Option Talk) (since : L → L 
     (fault : L → Option LinkFault) (downs : L → ℕ)
     (contents : F → Option FileMap) (moments : F → Moments) (paths : F → Option (List (List ℕ)))
     (faults : F → ℕ)
-    (old : L) (desk : DeskValue F) (left : FilingOutcome L F) : Type 0 where
+    (old : L) (desk : DeskValue F) (left : Outcome L F) : Type 0 where
   pub answer : Result (Met L) (Halted L)
   pub meets : MeetsOrNot talk since fault downs (users_of (marks_of desk.slots)) false old answer
+  pub last : IfErr answer (λ halted. IsByLastReply (talk halted.link) halted.cause)
   pub goes : AfterMeeting talk since fault downs contents moments paths faults
       (users_of (marks_of desk.slots)) desk answer left

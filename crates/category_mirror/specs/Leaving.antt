@@ -7,15 +7,14 @@ use Rattle.hs_folders.specs.Moments.{EachMomentSince, Moments}
 use Rattle.desk_journal.specs.Entries.{EntryValue}
 use Rattle.desk_journal.specs.Overlays.{FinishesAs, put_all}
 use Rattle.session_parts.specs.declared.stop.Stop.TheVariants as stop
-use Rattle.category_mirror.specs.declared.report.FilingOutcome.{FilingOutcome}
+use Rattle.session_parts.specs.declared.outcome.Outcome.{Outcome}
 
 -- With these files put over the others the folder has what an ended session leaves. One that
--- stopped left it standing for what it stood
--- for, or for that. At each moment since it stood for that. Its failure is told exactly where its
--- count rose.
+-- stopped left it standing for what it stood for, or for that. At each moment since it stood for
+-- that. Its failure is told exactly where its count rose.
 pub record LeavesFolder {L F : Type 0} (contents : F → Option FileMap) (moments : F → Moments)
     (paths : F → Option (List (List ℕ))) (faults : F → ℕ)
-    (folder : F) (left : FilingOutcome L F) : Type 0 where
+    (folder : F) (left : Outcome L F) : Type 0 where
   pub entries : List EntryValue
   pub written : OnOk left.end
       (contents left.folder ≡ option_map (put_all entries) (contents folder))

@@ -2,7 +2,9 @@ pub mod Blocks
 pub mod Changes
 pub mod Courses
 pub mod FilingActs
+pub mod FilingEnds
 pub mod Filings
 pub mod Jobs
 pub mod Leaving
 pub mod Refiled
+pub mod Sides

@@ -29,7 +29,8 @@ fn write_where<L: Link>(db: &mut OpenDb<'_, L>, block: Option<&[u8]>) -> Result<
     ensures asks { Asks L.talk L.since L.fault L.downs
         (writes_where db.old.handle (option_copied block.entry))
         db.old.linked.now db.new.linked.now result }
-    ensures cause { IfErr result (IsLater (L.fault db.new.linked.now.link)) }
+    ensures cause { IfErr result (IsLater (L.talk db.new.linked.now.link)
+        (L.fault db.new.linked.now.link)) }
 {
     let Some(bytes) = block else {
         return Ok(());
@@ -53,7 +54,8 @@ fn file_open<L: Link>(
         db.old.linked.now db.new.linked.now result }
     ensures told { IfOk result (IsMergeTold (option_copied rows_app.entry)
         (L.talk db.old.linked.now.link) db.old.handle) }
-    ensures cause { IfErr result (IsLater (L.fault db.new.linked.now.link)) }
+    ensures cause { IfErr result (IsLater (L.talk db.new.linked.now.link)
+        (L.fault db.new.linked.now.link)) }
 {
     let app = db.read_app(alloc)?;
     let merge = blocks_merge(app.as_deref(), rows_app);

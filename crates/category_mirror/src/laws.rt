@@ -1,14 +1,23 @@
 // What holds of categories that were brought together. Each function here does nothing: its contract is the law.
-ghost use Rattle.std.specs.Prelude.{◌≡◌, ◌<◌, ℕ, IsSome, List, None, Option, Some, false, map, true};
+ghost use Rattle.std.specs.Prelude.{◌≡◌, ◌<◌, ℕ, IsSome, List, [], None, Option, Some, false, map, true};
 ghost use Rattle.std.specs.List.{AllByRecursion};
 ghost use Rattle.pdb_values.specs.Databases.{DatabaseValue};
 ghost use Rattle.pdb_values.specs.declared.record.Record.{Record};
+ghost use Rattle.palm_device.specs.Devices.{Device};
+ghost use Rattle.desktop_session.specs.Acts.{text};
+ghost use Rattle.desktop_session.specs.Orders.{AreInOrder};
+ghost use Rattle.desktop_session.specs.Tellings.{device_after};
+ghost use Rattle.session_parts.specs.Fronts.{Front};
+ghost use Rattle.session_parts.specs.Rests.{IsAtRest};
 ghost use Rattle.category_tables.specs.Tables.{IsTable, TableValue, is_used};
 ghost use Rattle.category_tables.specs.Merges.{places_of};
 ghost use Rattle.category_tables.specs.Swaps.{IsSwapOf};
 ghost use Rattle.category_mirror.specs.Blocks.{MergeValue, begins_with, blocks_merge, merged_block, written_block};
 ghost use Rattle.category_mirror.specs.Filings.{AreOfCategories, filed_block, filed_rows, swapped_record};
 ghost use Rattle.category_mirror.specs.Refiled.{is_refiled, refiled_record, refiled_rows};
+ghost use Rattle.category_mirror.specs.Sides.{Filing, StandsBehind, block_writes, device_among, filed_device, filed_slots, filing_acts, filing_changes, filing_of};
+ghost use Rattle.category_mirror.specs.FilingEnds.{IsFileable};
+ghost use Rattle.desk_store.specs.Shelves.{SlotValue};
 
 /// Where a session stopped once the handheld had its merged block, and the next one ends, both sides have what the first would have left:
 /// before the desktop's commit, and behind it.
@@ -55,4 +64,50 @@ pub fn what_does_not_change_stays()
         → merged_block table block ≡ block }
     ensures rows { (merge : MergeValue) (rows : DatabaseValue) → IsSome rows.app
         → is_refiled merge rows ≡ false → refiled_rows merge rows ≡ rows }
+{}
+
+/// On a handheld on which nothing is open each request of a session may be asked at its turn, and behind them all each of its databases has
+/// its merged table, and all else is as it was.
+pub fn filings_arrive()
+    ensures order { (filing : Filing) → IsAtRest filing.device
+        → AreInOrder (filing_acts filing) filing.device }
+    ensures device { (filing : Filing) → IsAtRest filing.device
+        → device_after (filing_acts filing) filing.device ≡ filed_device filing }
+{}
+
+/// Wherever a session stops, the first databases of it have their merged tables on a handheld on which nothing was open, as many as blocks
+/// were written, and the others and its user are as they were.
+pub fn blocks_are_written_in_turn()
+    ensures { (filing : Filing) (after : Device) (writes : ℕ) (given : List ℕ)
+        → IsAtRest filing.device
+        → Front filing.device (map text (filing_acts filing)) writes given after
+        → StandsBehind filing writes after }
+{}
+
+/// Where a session stopped before the desktop's commit, whichever of the handheld's databases had their merged tables by then, and the next
+/// one ends, both sides have what the first would have left.
+pub fn sessions_that_stopped_are_made_up_for()
+    ensures handheld { (device : Device) (slots : List SlotValue) (done : List (List ℕ))
+        → filed_device (filing_of (device_among (filing_of device slots) done) slots)
+        ≡ filed_device (filing_of device slots) }
+    ensures desktop { (device : Device) (slots : List SlotValue) (done : List (List ℕ))
+        → filed_slots (filing_of (device_among (filing_of device slots) done) slots)
+        ≡ filed_slots (filing_of device slots) }
+{}
+
+/// A session behind one that ended, or that stopped behind the desktop's commit, writes no block, commits nothing, and leaves both sides as
+/// they are.
+pub fn a_session_behind_another_changes_nothing()
+    ensures handheld { (device : Device) (slots : List SlotValue) → IsFileable device slots
+        → let first = filing_of device slots in
+        filed_device (filing_of (filed_device first) (filed_slots first)) ≡ filed_device first }
+    ensures desktop { (device : Device) (slots : List SlotValue) → IsFileable device slots
+        → let first = filing_of device slots in
+        filed_slots (filing_of (filed_device first) (filed_slots first)) ≡ filed_slots first }
+    ensures commit { (device : Device) (slots : List SlotValue) → IsFileable device slots
+        → let first = filing_of device slots in
+        filing_changes (filing_of (filed_device first) (filed_slots first)) ≡ [] }
+    ensures writes { (device : Device) (slots : List SlotValue) → IsFileable device slots
+        → let first = filing_of device slots in
+        block_writes (filing_of (filed_device first) (filed_slots first)) ≡ 0 }
 {}

@@ -11,17 +11,16 @@ mod job;
 mod laws;
 mod merge;
 mod refiling;
-mod report;
 mod session;
 mod telling;
 
 pub use filing::{file_all, file_one};
 pub use job::{FilingJob, filing_jobs};
 pub use laws::{
-    a_second_session_changes_nothing, a_stopped_session_is_made_up_for, a_swap_is_undone,
-    what_does_not_change_stays,
+    a_second_session_changes_nothing, a_session_behind_another_changes_nothing,
+    a_stopped_session_is_made_up_for, a_swap_is_undone, blocks_are_written_in_turn, filings_arrive,
+    sessions_that_stopped_are_made_up_for, what_does_not_change_stays,
 };
 pub use merge::Merge;
 pub use refiling::{is_refiled, refiled};
-pub use report::{Filed, FiledCounts, FiledReport, FilingOutcome};
 pub use session::file_session;

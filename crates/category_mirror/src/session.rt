@@ -1,38 +1,42 @@
 // A session that brings the categories of both sides together, from the greeting to the end.
-ghost use Rattle.std.specs.Prelude.{◌≡◌, ◌≤◌, ◌⊎◌, IfOk, false, length};
+ghost use Rattle.std.specs.Prelude.{◌≡◌, ◌≤◌, ◌⊎◌, IfOk, Some, false, length};
+ghost use Rattle.dlp_commands.specs.Talks.{Talk};
+ghost use Rattle.desk_store.specs.Desks.{IsDesk};
 ghost use Rattle.desk_store.specs.Views.{shelves_in};
 ghost use Rattle.pdb_values.specs.Slots.{slot_for as slot_of};
 ghost use Rattle.desktop_session.specs.declared.fault.SessionFault.TheVariants as session;
 ghost use Rattle.session_parts.specs.declared.stop.Stop.TheVariants as stops;
 ghost use Rattle.session_parts.specs.Leaving.{Leaves};
 ghost use Rattle.session_parts.specs.Meets.{IsSeated};
+ghost use Rattle.session_parts.specs.Rests.{IsAtRest};
 ghost use Rattle.session_plan.specs.Fits.{Rise};
 ghost use Rattle.category_mirror.specs.Changes.{AreCommittable, changes_filed as changes_of};
 ghost use Rattle.category_mirror.specs.Courses.{Carries, Files, FilingRan, Finishes, Turns, picked_for};
 ghost use Rattle.category_mirror.specs.Courses.{reports_filed as reports_of, stopped as left_by};
+ghost use Rattle.category_mirror.specs.FilingEnds.{FilingEnds};
 ghost use Rattle.category_mirror.specs.Jobs.{names_filed};
 ghost use Rattle.category_mirror.specs.Leaving.{LeavesFolder};
+ghost use Rattle.category_mirror.specs.Sides.{filing_of};
 
 use crate::changing::changes_filed;
 use crate::committing::{commit_filed, may_commit};
 use crate::filing::file_all;
 use crate::job::{FilingJob, filing_jobs};
 use crate::merge::Merge;
-use crate::report::{FiledReport, FilingOutcome};
 use crate::telling::reports_filed;
 use desk_store::{DbChange, Desk};
 use desktop_session::{Halted, Linked, SessionFault};
 use dlp_commands::Link;
 use hs_folders::Folder;
 use pdb_values::slot_for;
-use session_parts::{Met, Stop, meet_over};
+use session_parts::{DbReport, Met, Outcome, Stop, meet_over};
 use std::alloc::{AllocError, Global};
 
 // A session that stopped, and the desktop as it is.
-fn stopped<L: Link, D: Folder>(link: L, desk: Desk<D>, stop: Stop) -> FilingOutcome<L, D>
+fn stopped<L: Link, D: Folder>(link: L, desk: Desk<D>, stop: Stop) -> Outcome<L, D>
     ensures { result ≡ left_by link desk.folder stop }
 {
-    FilingOutcome {
+    Outcome {
         link,
         folder: desk.into_folder(),
         end: Err(stop),
@@ -51,13 +55,13 @@ fn link_of<L: Link>(linked: Linked<L>) -> L
 fn finish<L: Link, D: Folder>(
     linked: Linked<L>,
     desk: Desk<D>,
-    reports: Vec<FiledReport>,
-) -> FilingOutcome<L, D>
+    reports: Vec<DbReport>,
+) -> Outcome<L, D>
     requires { linked.abandoned ≡ false }
     ensures { Finishes L.talk L.since L.fault L.downs reports linked desk.folder result }
 {
     match linked.finish() {
-        Ok(ended) => FilingOutcome {
+        Ok(ended) => Outcome {
             link: ended.link,
             folder: desk.into_folder(),
             end: Ok(reports),
@@ -69,7 +73,7 @@ fn finish<L: Link, D: Folder>(
 // What the desktop gets, and what is told of it.
 struct Prepared {
     changes: Vec<DbChange>,
-    reports: Vec<FiledReport>,
+    reports: Vec<DbReport>,
 }
 
 // What changes on the desktop by these merges, and what is told of each database. What the desktop would not take counts as if there were
@@ -97,11 +101,7 @@ fn prepare<D: Folder>(
 }
 
 // The desktop commits what changes, and then the session is ended.
-fn commit<L: Link, D: Folder>(
-    linked: Linked<L>,
-    desk: Desk<D>,
-    prepared: Prepared,
-) -> FilingOutcome<L, D>
+fn commit<L: Link, D: Folder>(linked: Linked<L>, desk: Desk<D>, prepared: Prepared) -> Outcome<L, D>
     requires open { linked.abandoned ≡ false }
     requires fit { AreCommittable prepared.changes.items desk }
     ensures { Carries L.talk L.since L.fault L.downs D.contents D.moments D.paths D.faults
@@ -110,7 +110,7 @@ fn commit<L: Link, D: Folder>(
     let Prepared { changes, reports } = prepared;
     match commit_filed(desk, changes) {
         Ok(desk) => finish(linked, desk, reports),
-        Err((fault, folder)) => FilingOutcome {
+        Err((fault, folder)) => Outcome {
             link: link_of(linked),
             folder,
             end: Err(Stop::from(fault)),
@@ -125,7 +125,7 @@ fn turn<L: Link, D: Folder>(
     desk: Desk<D>,
     jobs: &[FilingJob],
     merges: &[Option<Merge>],
-) -> FilingOutcome<L, D>
+) -> Outcome<L, D>
     requires open { linked.abandoned ≡ false }
     requires rise { Rise (names_filed jobs.now) }
     requires count { length merges.now ≡ length jobs.now }
@@ -145,7 +145,7 @@ fn file_met<L: Link, D: Folder>(
     met: Met<L>,
     desk: Desk<D>,
     users: &[u32],
-) -> FilingOutcome<L, D>
+) -> Outcome<L, D>
     requires open { met.linked.abandoned ≡ false }
     requires some { 1 ≤ length users.now }
     requires room { length users.now ≤ 16 }
@@ -168,7 +168,7 @@ fn file_met<L: Link, D: Folder>(
 }
 
 // A session from its beginning.
-fn run<L: Link, D: Folder>(alloc: Global, link: L, desk: Desk<D>) -> FilingOutcome<L, D>
+fn run<L: Link, D: Folder>(alloc: Global, link: L, desk: Desk<D>) -> Outcome<L, D>
     requires { L.begun link ≡ false }
     ensures { FilingRan L.talk L.since L.fault L.downs D.contents D.moments D.paths D.faults
         link desk result }
@@ -187,16 +187,18 @@ fn run<L: Link, D: Folder>(alloc: Global, link: L, desk: Desk<D>) -> FilingOutco
 /// commits what changes of the picked slot, its marks as they are, and nothing where nothing changes.
 ///
 /// The link and the desktop's folder come back however it ended. The desktop's folder changes only behind all writes of the handheld.
-pub fn file_session<L: Link, D: Folder>(
-    alloc: Global,
-    link: L,
-    desk: Desk<D>,
-) -> FilingOutcome<L, D>
+/// Over a link that tells its handheld the session ends with both sides filed, or it stops before the desktop's commit or behind it, and
+/// says why.
+pub fn file_session<L: Link, D: Folder>(alloc: Global, link: L, desk: Desk<D>) -> Outcome<L, D>
     requires { L.begun link ≡ false }
     ensures link { Leaves L.since L.fault L.downs link result.link }
     ensures folder { LeavesFolder D.contents D.moments D.paths D.faults desk.folder result }
     ensures ran { FilingRan L.talk L.since L.fault L.downs D.contents D.moments D.paths D.faults
         link desk result }
+    // Over a link that tells a handheld on which nothing is open.
+    ensures ends { (told : Talk) → IsDesk (D.contents desk.folder) desk.slots
+        → L.talk link ≡ Some told → IsAtRest told.device → FilingEnds L.talk L.since L.fault L.downs D.contents D.moments
+        (filing_of told.device desk.slots) link desk.folder result }
 {
     run(alloc, link, desk)
 }

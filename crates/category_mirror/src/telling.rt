@@ -8,10 +8,10 @@ ghost use Rattle.category_mirror.specs.Courses as courses;
 use crate::job::FilingJob;
 use crate::merge::Merge;
 use crate::refiling::moved_count;
-use crate::report::{Filed, FiledCounts, FiledReport};
 use desk_store::Desk;
 use hs_folders::Folder;
 use pdb_values::{Database, Record};
+use session_parts::{DbReport, Did, FiledCounts, Skip};
 use std::alloc::{AllocError, Global};
 
 // The records of a database that may not be there.
@@ -26,18 +26,18 @@ fn records_of(database: Option<&Database>) -> &[Record]
 }
 
 // What was done with a database.
-fn did_of(job: &FilingJob, merge: &Option<Merge>, rows: Option<&Database>) -> Filed
+fn did_of(job: &FilingJob, merge: &Option<Merge>, rows: Option<&Database>) -> Did
     ensures { result ≡ courses.did_of job.now.skip merge.now (option_copied rows.entry) }
 {
     if let Some(skip) = job.skip {
-        return Filed::Skipped(skip);
+        return Did::Skipped(skip);
     }
     match merge {
-        Some(merge) => Filed::Merged(FiledCounts {
+        Some(merge) => Did::Filed(FiledCounts {
             used: merge.used_count(),
             moved: moved_count(merge, records_of(rows)) as u32,
         }),
-        None => Filed::Blocks,
+        None => Did::Skipped(Skip::Blocks),
     }
 }
 
@@ -47,14 +47,14 @@ pub(crate) fn reports_filed<D: Folder>(
     desk: &Desk<D>,
     jobs: &[FilingJob],
     merges: &[Option<Merge>],
-) -> Result<Vec<FiledReport>, AllocError>
+) -> Result<Vec<DbReport>, AllocError>
     requires { length merges.now ≡ length jobs.now }
     ensures { IfOk result (λ made. made.items
         ≡ courses.reports_filed (shelves_in desk.now) jobs.now merges.now) }
 {
     let mut made = Vec::new(alloc);
     for (index, job) in jobs.iter().enumerate() {
-        made.push(FiledReport {
+        made.push(DbReport {
             name: job.name.copy(),
             did: did_of(job, &merges[index], desk.rows(&job.name)),
         })?;

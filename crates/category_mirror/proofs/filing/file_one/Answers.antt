@@ -1,5 +1,5 @@
 -- A database is opened, its categories are brought together, and it is closed.
-use Rattle.std.proofs.Common.{[], ◌∷◌, rules}
+use Rattle.std.proofs.Common.{[], ◌∷◌, refl, rules}
 use Rattle.std.proofs.lemmas.Result.{err_from_is_err_and}
 use Rattle.std.specs.Option.{option_copied}
 use Rattle.session_parts.proofs.LinkWords.{opening, saying}
@@ -14,7 +14,7 @@ returns-in_err-opened g c =
     let told = saying (opening c.args.name.now ∷ []) (g.L.Link.talk c.args.linked.now.link) in
     record {
       spans = rw (p.1, p.2) (span_unopened 0x17 (λ handle given. filed_under (option_copied c.args.rows_app) told handle) _
-          c.in_err-opened.was c.open.follows.holds-at-none);
+          refl c.in_err-opened.was c.open.follows.holds-at-none);
     }
 
 pub returns-in-Err : goal.returns-in-Err

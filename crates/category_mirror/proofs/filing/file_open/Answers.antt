@@ -9,6 +9,8 @@ use Rattle.desktop_session.specs.Requests.{reading_app}
 use Rattle.slow_mirror.proofs.AskLaws.{asks_other, asks_refused}
 use Rattle.category_mirror.specs.Blocks.{MergeValue, blocks_merge, written_block}
 use Rattle.category_mirror.proofs.FileLaws.{app_is, asked_only, asks_behind, block_said, filed_asks, unread_asks}
+use Rattle.std.specs.Global.{Vec}
+use Rattle.session_parts.proofs.CauseLaws.{later_copy}
 use Rattle.category_mirror.proofs.filing.file_open.Goals as goal
 
 pub returns-in_err-app-clause-asks : goal.returns-in_err-app-clause-asks
@@ -70,3 +72,8 @@ returns-clause-asks g c =
     let asks = rw (c.in_ok-app.ensures.same_handle, written) at c.in_ok-write_where.ensures.asks in
     filed_asks rows_app block handle (g.L.Link.talk old.link) refl told
     (asks_behind g.met.L.Link.since_more (reading_app handle) _ app.0 c.in_ok-app.ensures.asked (asks_other (Ok c.blocks_merge-merge.result) asks))
+
+pub returns-in_err-app-clause-cause : goal.returns-in_err-app-clause-cause
+returns-in_err-app-clause-cause g c =
+    let p = err_from_is_err_and c.from_residual.result c.from_residual.ensures.1 in
+    rw (p.1, p.2) (later_copy {A = Vec ℕ} (λ copy. copy.items) _ c.in_err-app.ensures.asked c.in_err-app.ensures.answer)

@@ -1,7 +1,7 @@
 -- The session is ended.
 use Rattle.std.proofs.Common.{Ok, Err}
 use Rattle.dlp_replies.specs.ReplyReading.{reply_at}
-use Rattle.session_parts.proofs.CauseLaws.{later_refused}
+use Rattle.session_parts.proofs.CauseLaws.{later_said}
 use Rattle.session_parts.proofs.LinkWords.{no_more}
 use Rattle.category_mirror.proofs.session.finish.Goals as goal
 
@@ -19,6 +19,6 @@ returns-in-Err g c = record {
   answer = Err c.in-Err.field-0;
   stops = c.in-Err.ensures.stops;
   does = tt;
-  cause = later_refused _ no_more (reply_at 0x2F c.in-Err.ensures.answer.reply) _ c.in-Err.ensures.answer.is;
+  cause = later_said _ _ no_more (reply_at 0x2F c.in-Err.ensures.answer.reply) _ c.in-Err.ensures.answer.is c.in-Err.ensures.last;
   is = c.stopped.ensures;
 }

@@ -6,19 +6,21 @@ use Rattle.category_mirror.proofs.session.run.Goals as goal
 
 pub file_met-requires-clause-seated : goal.file_met-requires-clause-seated
 file_met-requires-clause-seated g c =
-    rw c.deref-in-Ok-meet_over.ensures.value (rw c.deref.ensures.value at (met_seated _ _ _ _ _ _ _ _ c.in-Ok-meet_over.ensures))
+    rw c.deref-in-Ok-meet_over.ensures.value (rw c.deref.ensures.value at (met_seated _ _ _ _ _ _ _ _ c.in-Ok-meet_over.ensures.meets))
 
 pub returns-in-Ok-meet_over : goal.returns-in-Ok-meet_over
 returns-in-Ok-meet_over g c = record {
   answer = Ok c.in-Ok-meet_over.met;
-  meets = rw (c.deref.ensures.value, c.in-Ok.ensures.users) at c.in-Ok-meet_over.ensures;
+  meets = rw (c.deref.ensures.value, c.in-Ok.ensures.users) at c.in-Ok-meet_over.ensures.meets;
+  last = tt;
   goes = rw (c.deref-in-Ok-meet_over.ensures.value, c.in-Ok.ensures.users) at c.file_met.ensures;
 }
 
 pub returns-in-Ok : goal.returns-in-Ok
 returns-in-Ok g c = record {
   answer = Err c.in-Err-meet_over.field-0;
-  meets = rw (c.deref.ensures.value, c.in-Ok.ensures.users) at c.in-Err-meet_over.ensures;
+  meets = rw (c.deref.ensures.value, c.in-Ok.ensures.users) at c.in-Err-meet_over.ensures.meets;
+  last = c.in-Err-meet_over.ensures.last;
   goes = c.stopped.ensures;
 }
 
@@ -26,5 +28,6 @@ pub returns : goal.returns
 returns g c = record {
   answer = Err (record { link = c.args.link; cause = session.NoMemory });
   meets = inr (refl, refl);
+  last = tt;
   goes = c.stopped-in-Err.ensures;
 }

@@ -1,0 +1,262 @@
+-- How both sides meet whose handheld is told, and why they do not.
+use Rattle.std.proofs.lemmas.List.{append-nil}
+use Rattle.std.proofs.lemmas.List.Quantifiers.{position-Some}
+use Rattle.std.proofs.Common.{arith, ltb-true, inl, inr, ◌⊎◌, ◌≡◌, ◌∙◌, ◌<◌, ◌≤◌, ◌+◌, ◌-◌, ap, append_assoc, refl, sym, subst, ℕ, zero, suc, Bool, true, false, List, [], ◌∷◌, ◌++◌, length}
+use Rattle.std.specs.Prelude.{Option, Some, None, IfSome, IsOk, Result, Ok, Err, max, position, slice_index, ◌==◌, if◌then◌else◌}
+use Rattle.pdb_values.specs.Slots.{slot_at, slot_for}
+use Rattle.pdb_values.specs.declared.slot.Slot.{Slot}
+use Rattle.pdb_values.specs.declared.slot.Slot.TheVariants as slot
+use Rattle.pdb_values.specs.declared.user.UserInfo.{UserInfo}
+use Rattle.dlp_commands.specs.DeviceSteps.{tried}
+use Rattle.dlp_commands.specs.declared.link.LinkFault.TheVariants as link
+use Rattle.dlp_replies.specs.ReplyReading.{reply_at}
+use Rattle.dlp_replies.specs.ReplyValues.{ReplyValue}
+use Rattle.dlp_replies.specs.declared.fault.ReplyFault.{ReplyFault}
+use Rattle.palm_device.specs.Devices.{Device}
+use Rattle.pdb_values.specs.declared.head.DbHead.{DbHead}
+use Rattle.desk_store.specs.Desks.{place_of}
+use Rattle.desktop_session.specs.Greetings.{AsksUser, Greeted, HasSlot, begun_by, user_by, user_with}
+use Rattle.desktop_session.specs.Lasts.{IsByLastReply}
+use Rattle.desktop_session.specs.Lists.{has_more, heads_listed, list_reply, listings}
+use Rattle.desktop_session.specs.declared.fault.SessionFault.TheVariants as session
+use Rattle.desktop_session.proofs.RequestFits.{user_fits}
+use Rattle.desktop_session.proofs.TellLaws.{act_sayable, acted_reads}
+use Rattle.desktop_session.proofs.WholeListLaws.{count_is, heads_are, more_is}
+use Rattle.session_parts.specs.Causes.{IsLater}
+use Rattle.session_parts.specs.Meets.{IsSeated, IsUnlisted, Meets, greeting, meeting_acts}
+use Rattle.session_parts.specs.Rests.{IsAtRest}
+use Rattle.session_parts.specs.declared.meeting.Met.{Met}
+use Rattle.session_parts.specs.declared.stop.Stop.TheVariants as stop
+use Rattle.session_parts.proofs.CauseLaws.{later_by, later_said}
+use Rattle.session_parts.proofs.LinkWords.{Act, Does, Halted, IsProper, LinkFault, SessionFault, Stops, Talk, acted, device_after, listing, no_more, reading_user, said_in, saying, text, told, user_of}
+use Rattle.session_parts.proofs.MeetLaws.{greeted_slot, seated_with}
+use Rattle.session_parts.proofs.RestLaws.{after-append, greeting_same, listings_same}
+use Rattle.session_parts.proofs.StretchLaws.{Leads, Tells, tells_on}
+use Rattle.category_mirror.specs.FilingEnds.{IsFilingStop, StopsFor, seat_of, users_in}
+use Rattle.category_mirror.specs.Sides.{Filing, heads_of}
+
+-- ---- lists
+
+listings-more : (count more : ℕ) → Leads (listings count) (listings (count + more))
+unfolding listings
+listings-more count zero = record { rest = []; is = append-nil (listings count) ∙ ap listings (let same : count ≡ count + zero = omega arith in same) }
+listings-more count (suc more) =
+    let before = listings-more count more in
+    record {
+      rest = before.rest ++ listing (count + more) ∷ [];
+      is = sym (append_assoc (listings count) before.rest (listing (count + more) ∷ [])) ∙ ap (λ zs. zs ++ listing (count + more) ∷ []) before.is
+          ∙ ap listings (let same : suc (count + more) ≡ count + suc more = omega arith in same);
+    }
+
+listings_lead : (count all : ℕ) → count ≤ all → Leads (listings count) (listings all)
+listings_lead count all few =
+    subst (λ n. Leads (listings count) (listings n)) (let same : count + (all - count) ≡ all = omega arith in same) (listings-more count (all - count))
+
+-- no more requests than databases, or one
+few_lists : (device : Device) (count : ℕ) → IsProper device → count ≤ 65536
+    → ((k : ℕ) → k + 1 < count → has_more (list_reply device k) ≡ true) → count ≤ max 1 (length device.databases)
+few_lists device zero proper few more = omega arith
+few_lists device (suc zero) proper few more = omega arith
+few_lists device (suc (suc k)) proper few more =
+    let before : k + 1 < length device.databases = ltb-true _ _ (sym (more_is device k proper (omega arith)) ∙ more k (omega arith)) in
+    omega arith
+
+-- what holds behind the greeting
+told_behind : (P : Device → Type 0) (device : Device) (told : Option Talk) → Tells device told → IfSome (saying greeting told) (λ talk. P talk.device)
+    → P device
+told_behind P device told tells holds =
+    let after = tells_on device device greeting told tells (greeting_same device) in
+    rw (after.is, after.same) at holds
+
+-- ---- the user
+
+user_told : (device : Device) → IsProper device → said_in user_of (reply_at 0x10 (acted reading_user device).0) ≡ Ok device.user
+unfolding told tried
+user_told device proper = ap (said_in user_of) (acted_reads reading_user device proper (act_sayable reading_user.asks device user_fits refl))
+
+user_read : (users : List ℕ) (device : Device) (told : Option Talk) (answer : Result UserInfo SessionFault) → IsProper device
+    → Tells device told → (said : Greeted users false told None answer) → said_in user_of (reply_at 0x10 said.first) ≡ Ok device.user
+user_read users device told answer proper tells said =
+    let here : IfSome (Some tells.talk) (λ talk. said.first ≡ (acted reading_user talk.device).0) = rw tells.is at (said.told refl) in
+    ap (λ b. said_in user_of (reply_at 0x10 b)) (here ∙ ap (λ d. (acted reading_user d).0) tells.same) ∙ user_told device proper
+
+greeted_user : (users : List ℕ) (device : Device) (told : Option Talk) (known : UserInfo) → IsProper device → Tells device told
+    → Greeted users false told None (Ok known) → known ≡ device.user
+greeted_user users device told known proper tells said =
+    let second : Result (Unit {0}) SessionFault = said_in no_more (reply_at 0x2E said.second) in
+    (seated_with users device.user known (slot_for users device.user.user false) second
+    (said.is ∙ ap (λ r. begun_by (user_by users false r) second) (user_read users device told (Ok known) proper tells said))).1
+
+-- a slot that a user has without being added is there
+pub seat_within : (users : List ℕ) (user count : ℕ) → 0 < length users → IsSeated (slot_for users user false)
+    → place_of count (slot_for users user false) < length users
+seat_within users user count some seated = by (user == 0) (position (λ other. other == user) users) refl seated
+  where
+    chosen : (b : Bool) → IsSeated (if b then slot.Old 0 else slot.Refused) → place_of count (if b then slot.Old 0 else slot.Refused) < length users
+    chosen true seated = some
+    chosen false seated = absurd seated
+
+    by : (b : Bool) (o : Option ℕ) → position (λ other. other == user) users ≡ o → IsSeated (if b then slot.Old 0 else slot_at o users false)
+        → place_of count (if b then slot.Old 0 else slot_at o users false) < length users
+    by true o is seated = some
+    by false (Some place) is seated = let at = position-Some (λ other. other == user) users place 0 is in omega (arith, at)
+    by false None is seated = chosen (slice_index users 0 == 0) seated
+
+not_full : (users : List ℕ) (user : ℕ) → slot_for users user false ≡ slot.Full → ⊥
+not_full users user full = by (user == 0) (position (λ other. other == user) users) full
+  where
+    chosen : (b : Bool) → (if b then slot.Old 0 else slot.Refused) ≡ slot.Full → ⊥
+    chosen true full = cc
+    chosen false full = cc
+
+    by : (b : Bool) (o : Option ℕ) → (if b then slot.Old 0 else slot_at o users false) ≡ slot.Full → ⊥
+    by true o full = cc
+    by false (Some place) full = cc
+    by false None full = chosen (slice_index users 0 == 0) full
+
+-- ---- why it stopped
+
+pub later_stop : {L : Type 0} (talk : L → Option Talk) (fault : L → Option LinkFault) (filing : Filing) (old new : L) (cause : SessionFault)
+    → IsLater (talk new) (fault new) cause → IsFilingStop talk fault filing old new (stop.Session cause)
+later_stop talk fault filing old new session.Down later = later
+later_stop talk fault filing old new (session.Refused code) later = later
+later_stop talk fault filing old new (session.BadReply broken) later = later
+later_stop talk fault filing old new session.NoMemory later = tt
+later_stop talk fault filing old new session.TooManyUsers later = absurd later
+later_stop talk fault filing old new (session.OtherUser handheld desktop) later = absurd later
+
+begun_why : (talk : Option Talk) (user : UserInfo) (second : Result (Unit {0}) SessionFault) (read : Result ReplyValue ReplyFault) (cause : SessionFault)
+    → second ≡ said_in no_more read → Err cause ≡ begun_by (Ok user) second → IsByLastReply talk cause → IsLater talk None cause
+begun_why talk user (Ok done) read cause same is last = absurd cc
+begun_why talk user (Err other) read cause same is last =
+    let here : ◌≡◌ {A = Result (Unit {0}) SessionFault} (Err cause) (said_in no_more read) = cc in later_said talk None no_more read cause here last
+
+-- ---- both sides met
+
+module _ (filing : Filing) where
+  abbrev list_count : ℕ
+  list_count = max 1 (length filing.device.databases)
+
+  -- what both sides say when they meet
+  abbrev pub meeting_front : List Act
+  meeting_front = greeting ++ listings list_count
+
+  front_same : device_after meeting_front filing.device ≡ filing.device
+  front_same =
+      after-append greeting (listings list_count) filing.device ∙ ap (device_after (listings list_count)) (greeting_same filing.device)
+      ∙ listings_same list_count filing.device
+
+  -- what was said and learnt
+  pub record Joins (told : Option Talk) (count : ℕ) (known : UserInfo) (listed_heads : List DbHead) : Type 0 where
+    pub acts : meeting_acts count ≡ meeting_front
+    pub tells : Tells filing.device (saying meeting_front told)
+    pub user : known ≡ filing.device.user
+    pub heads : listed_heads ≡ heads_of filing.device.databases
+
+  pub seated_says : (P : Type 0) (why : SessionFault) → IsOk (seat_of filing) → seat_of filing ≡ Err why → P
+  seated_says P why seated is = absurd (let no : IsOk {T = UserInfo} (Err why) = subst IsOk is seated in let never : ⊥ = cc in never)
+
+  module _ {told : Option Talk} (proper : IsProper filing.device) (tells : Tells filing.device told) where
+    seat_told : HasSlot (users_in filing) false told → IsOk (seat_of filing)
+    seat_told slot = rw (tells.is, tells.same, user_told filing.device proper) at slot
+
+    pub seat_greeted : {user : UserInfo} → Greeted (users_in filing) false told None (Ok user) → IsOk (seat_of filing)
+    seat_greeted {user} said = seat_told (greeted_slot (users_in filing) false told user said)
+
+    module _ (cause : SessionFault) {why : SessionFault} (unseated : seat_of filing ≡ Err why) where
+      -- a user without a slot is the cause, unless the link has a fault
+      greeted_for : (fault_now : Option LinkFault) → Greeted (users_in filing) false told fault_now (Err cause) → StopsFor why (Err (stop.Session cause))
+      greeted_for (Some link.Down) said = inr (inl (ap stop.Session (let same : cause ≡ session.Down = let is = said.is in cc in same)))
+      greeted_for (Some link.NoMemory) said = inr (inr (ap stop.Session (let same : cause ≡ session.NoMemory = let is = said.is in cc in same)))
+      greeted_for None said =
+          let second : Result (Unit {0}) SessionFault = said_in no_more (reply_at 0x2E said.second) in
+          let found : ◌≡◌ {A = Result UserInfo SessionFault} (Err cause) (begun_by (Err why) second)
+          = said.is ∙ ap (λ r. begun_by (user_by (users_in filing) false r) second)
+          (user_read (users_in filing) filing.device told (Err cause) proper tells said)
+          ∙ ap (λ r. begun_by r second) unseated in
+          inl (ap stop.Session (let same : cause ≡ why = cc in same))
+
+      unmet_for : (fault_now : Option LinkFault) → Greeted (users_in filing) false told fault_now (Err cause)
+          ⊎ IsUnlisted (users_in filing) false told fault_now cause
+          → StopsFor why (Err (stop.Session cause))
+      unmet_for fault_now (inl said) = greeted_for fault_now said
+      unmet_for fault_now (inr unlisted) = seated_says _ why (seat_greeted unlisted.greeted) unseated
+
+  module _ {L : Type 0} (talk : L → Option Talk) (fault : L → Option LinkFault) (old new : L) (rests : IsAtRest filing.device)
+      (tells : Tells filing.device (talk old)) (cause : SessionFault)
+      (alone : (why : SessionFault) → seat_of filing ≡ Err why → fault new ≡ None → Does talk (reading_user ∷ []) old new)
+      (last : IsByLastReply (talk new) cause) where
+    slot_stop : (found : Slot) (second : Result (Unit {0}) SessionFault) (read : Result ReplyValue ReplyFault)
+        → slot_for (users_in filing) filing.device.user.user false ≡ found → second ≡ said_in no_more read
+        → Err cause ≡ begun_by (user_with (users_in filing) filing.device.user found) second → fault new ≡ None
+        → IsFilingStop talk fault filing old new (stop.Session cause)
+    slot_stop (slot.Old place) second read found same is none =
+        later_stop talk fault filing old new cause (rw none (begun_why (talk new) filing.device.user second read cause same is last))
+    slot_stop slot.New second read found same is none =
+        later_stop talk fault filing old new cause (rw none (begun_why (talk new) filing.device.user second read cause same is last))
+    slot_stop slot.Refused second read found same is none =
+        let why : SessionFault = session.OtherUser filing.device.user.user (slice_index (users_in filing) 0) in
+        let cause_is : cause ≡ why = cc in
+        let seat : seat_of filing ≡ Err why = ap (user_with (users_in filing) filing.device.user) found in
+        rw cause_is (seat, alone why seat none)
+    slot_stop slot.Full second read found same is none = absurd (not_full (users_in filing) filing.device.user.user found)
+
+    greeted_stop : (fault_now : Option LinkFault) → fault new ≡ fault_now → Greeted (users_in filing) false (talk old) fault_now (Err cause)
+        → IsFilingStop talk fault filing old new (stop.Session cause)
+    greeted_stop (Some now) is said =
+        later_stop talk fault filing old new cause
+        (rw is (later_said {A = UserInfo} (talk new) (Some now) user_of (reply_at 0x10 said.first) cause said.is last))
+    greeted_stop None none said =
+        let second : Result (Unit {0}) SessionFault = said_in no_more (reply_at 0x2E said.second) in
+        slot_stop (slot_for (users_in filing) filing.device.user.user false) second (reply_at 0x2E said.second) refl refl
+        (said.is ∙ ap (λ r. begun_by (user_by (users_in filing) false r) second)
+        (user_read (users_in filing) filing.device (talk old) (Err cause) rests.proper tells said)) none
+
+  module _ {L : Type 0} {talk : L → Option Talk} {since : L → L → Type 0} {fault : L → Option LinkFault} {downs : L → ℕ} {old : L}
+      (rests : IsAtRest filing.device) (tells : Tells filing.device (talk old)) where
+    pub meets_join : {met : Met L} → (meets : Meets talk since fault downs (users_in filing) false old (Ok met))
+        → Joins (talk old) meets.count met.linked.user met.heads.items
+    meets_join {met} meets =
+        let device = filing.device in
+        let proper = rests.proper in
+        let more = told_behind (λ d. (k : ℕ) → k + 1 < meets.count → has_more (list_reply d k) ≡ true) device (talk old) tells meets.more in
+        let last = told_behind (λ d. (meets.count ≡ 65536) ⊎ (has_more (list_reply d (meets.count - 1)) ≡ false)) device (talk old) tells meets.last in
+        let heads = told_behind (λ d. met.heads.items ≡ heads_listed d meets.count) device (talk old) tells meets.heads in
+        let all : meets.count ≡ max 1 (length device.databases) = count_is device meets.count proper meets.some meets.few more last in
+        record {
+          acts = ap meeting_acts all;
+          tells = tells_on device device meeting_front (talk old) tells front_same;
+          user = greeted_user (users_in filing) device (talk old) met.linked.user proper tells meets.user;
+          heads = heads ∙ heads_are device meets.count proper (omega arith) meets.few;
+        }
+
+    -- it was asked for no more than that
+    pub meets_lead : {answer : Result (Met L) (Halted L)} → (meets : Meets talk since fault downs (users_in filing) false old answer)
+        → Leads (meeting_acts meets.count) meeting_front
+    meets_lead meets =
+        let device = filing.device in
+        let more = told_behind (λ d. (k : ℕ) → k + 1 < meets.count → has_more (list_reply d k) ≡ true) device (talk old) tells meets.more in
+        let lead = listings_lead meets.count list_count (few_lists device meets.count rests.proper meets.few more) in
+        record { rest = lead.rest; is = append_assoc greeting (listings meets.count) lead.rest ∙ ap (λ zs. greeting ++ zs) lead.is }
+
+    -- where the user has no slot, it was all that was asked for
+    pub asks_alone : {new : L} {why : SessionFault} → seat_of filing ≡ Err why
+        → AsksUser talk since fault downs old new ⊎ HasSlot (users_in filing) false (talk old) → AsksUser talk since fault downs old new
+    asks_alone unseated (inl asks) = asks
+    asks_alone {why} unseated (inr slot) = seated_says _ why (seat_told rests.proper tells slot) unseated
+
+    pub met_stop : {new : L} (cause : SessionFault) → AsksUser talk since fault downs old new ⊎ HasSlot (users_in filing) false (talk old)
+        → Greeted (users_in filing) false (talk old) (fault new) (Err cause) ⊎ IsUnlisted (users_in filing) false (talk old) (fault new) cause
+        → IsByLastReply (talk new) cause → IsFilingStop talk fault filing old new (stop.Session cause)
+    met_stop {new} cause asks (inl said) last =
+        greeted_stop talk fault old new rests tells cause (λ why is none. (asks_alone is asks).does none) last (fault new) refl said
+    met_stop {new} cause asks (inr unlisted) last =
+        later_stop talk fault filing old new cause (later_by (talk new) (fault new) (reply_at 0x16 unlisted.reply) cause unlisted.is last)
+
+    -- and what it stops for then
+    pub unmet_stops : {new : L} (cause : SessionFault) (why : SessionFault) → seat_of filing ≡ Err why
+        → AsksUser talk since fault downs old new ⊎ HasSlot (users_in filing) false (talk old)
+        → Greeted (users_in filing) false (talk old) (fault new) (Err cause) ⊎ IsUnlisted (users_in filing) false (talk old) (fault new) cause
+        → Stops talk since fault downs (text reading_user ∷ []) old new × StopsFor why (Err (stop.Session cause))
+    unmet_stops {new} cause why unseated asks by =
+        ((asks_alone unseated asks).stops, unmet_for rests.proper tells cause unseated (fault new) by)

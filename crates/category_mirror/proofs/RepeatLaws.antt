@@ -1,0 +1,613 @@
+-- Sessions that are run again, over all databases of both sides.
+use Rattle.std.proofs.lemmas.List.{length-map, length-set, set-set}
+use Rattle.std.proofs.Math.Seq.{map-set_same}
+use Rattle.std.proofs.lemmas.Simd.{map-map}
+use Rattle.std.proofs.Common.{arith, ◌≡◌, ◌∙◌, ◌<◌, ◌+◌, ap, refl, sym, subst, ℕ, zero, suc, Bool, true, false, cond, List, [], ◌∷◌, ◌++◌, length, map}
+use Rattle.std.specs.Prelude.{IsOk, Option, Some, None, flat_map, max, not, option_and_then, slice_set, ◌&&◌, if◌then◌else◌}
+use Rattle.std.specs.List.{AllByRecursion}
+use Rattle.std.specs.Option.{option_map}
+use Rattle.pdb_values.specs.Databases.{DatabaseValue}
+use Rattle.pdb_values.specs.NamedDatabases.{NamesRise, database_of}
+use Rattle.pdb_values.specs.declared.head.DbHead.{DbHead}
+use Rattle.pdb_values.specs.declared.record.Record.{Record}
+use Rattle.pdb_values.proofs.NamedLaws.{AllByRecursion-database_of, database_of-name, database_of-same}
+use Rattle.palm_device.specs.Bounds.{IsBoundedDatabase, IsBoundedRecord}
+use Rattle.palm_device.specs.Devices.{Device}
+use Rattle.folder_files.specs.Slots.{users_of}
+use Rattle.pdb_values.specs.Slots.{slot_for}
+use Rattle.pdb_values.specs.declared.slot.Slot.{Slot}
+use Rattle.pdb_values.specs.declared.slot.Slot.TheVariants as slot
+use Rattle.pdb_values.specs.declared.user.UserInfo.{UserInfo}
+use Rattle.desk_store.specs.Desks.{place_of}
+use Rattle.desk_store.specs.Shelves.{AreOrdered, ShelvesValue, SlotValue, marks_of, new_slot, number_of, slot_at}
+use Rattle.desk_store.proofs.BoundLaws.{bounded_at}
+use Rattle.desk_store.specs.declared.change.DbChange.{DbChange}
+use Rattle.desk_store.proofs.SlotListLaws.{marks-length, ordered_at, slot_at-set_same}
+use Rattle.desktop_session.specs.Greetings.{user_with}
+use Rattle.session_parts.specs.Meets.{IsSeated, greeting}
+use Rattle.category_mirror.specs.FilingEnds.{IsFileable, users_in}
+use Rattle.category_mirror.proofs.MeetLaws.{seat_within}
+use Rattle.desktop_session.specs.Acts.{Act}
+use Rattle.desktop_session.specs.Lists.{listings}
+use Rattle.desktop_session.specs.Requests.{listing}
+use Rattle.session_parts.specs.declared.skip.Skip.{Skip}
+use Rattle.session_plan.specs.Skips.{head_of}
+use Rattle.category_mirror.specs.declared.job.FilingJob.{FilingJob}
+use Rattle.category_mirror.specs.Blocks.{MergeValue, block_table, blocks_merge, merged_block, tables_merge, written_block}
+use Rattle.pdb_values.specs.Heads.{holds_resources}
+use Rattle.session_plan.specs.Jobs.{head_named}
+use Rattle.category_mirror.specs.Changes.{change_filed, change_for, cleared_archive, copied_database}
+use Rattle.category_mirror.specs.FilingActs.{rows_app}
+use Rattle.category_mirror.specs.Filings as one
+use Rattle.category_mirror.specs.Filings.{AreOfCategories, block_by, rows_by}
+use Rattle.category_mirror.specs.Jobs.{filing_job, filing_reason}
+use Rattle.category_mirror.specs.Refiled.{is_refiled, refiled_rows}
+use Rattle.category_mirror.specs.Sides.{Filing, app_named, archive_by, before_end, block_writes, change_by, device_among, filed_archive, filed_database, filed_device, filed_rows, filed_shelves, filed_slots, filed_where, filing_changes, filing_of, heads_of, is_among, job_acts, job_named, jobs, merge_named, merge_of, merge_unless, names, shelves_of, slot_of, with_merge, write_count}
+use Rattle.category_mirror.proofs.AgainLaws.{IsMade, IsStill, again_before, block_read, made, merged_read, merged_same, still}
+use Rattle.category_mirror.proofs.AlongLaws.{count-append, count-is, count_of}
+use Rattle.category_mirror.proofs.OneLaws.{acts_with}
+use Rattle.category_mirror.proofs.EvolveLaws.{acts_are, acts_none, jobs_named, merge_none, own_written, skipped_same, whole}
+use Rattle.category_mirror.proofs.NamedMaps.{KeepsNames, NamesRise-map, database_of-map}
+use Rattle.category_mirror.proofs.WholeLaws.{IsWhole}
+use Rattle.category_mirror.proofs.WrittenLaws.{tables_both}
+
+-- ---- a merge that is made again
+
+-- where the handheld has the merged block, both come together as before
+merges_again : (block rows : Option (List ℕ)) → blocks_merge (block_by block (blocks_merge block rows)) rows ≡ blocks_merge block rows
+unfolding blocks_merge
+merges_again block rows = by block (tables_merge (block_table block) (block_table rows)) refl
+  where
+    by : (b : Option (List ℕ)) (m : Option MergeValue) → tables_merge (block_table b) (block_table rows) ≡ m
+        → tables_merge (block_table (block_by b m)) (block_table rows) ≡ m
+    by None m is = is
+    by (Some bytes) None is = is
+    by (Some bytes) (Some merge) is =
+        let both = tables_both (block_table (Some bytes)) (block_table rows) merge is in
+        let first = block_read (Some bytes) both.0 both.2 in
+        let other = block_read rows both.1 both.3 in
+        ap (λ (m : MergeValue). tables_merge (block_table (Some (merged_block m.table bytes))) (block_table rows)) both.4
+        ∙ ap (λ t. tables_merge t (block_table rows)) (merged_read both.0 both.1 first other bytes)
+        ∙ ap (tables_merge (Some _)) both.3
+        ∙ again_before both.0 both.1 first other ∙ ap (λ (m : MergeValue). Some m) (sym both.4)
+
+-- the merged table is put at the head of a block once
+block_twice : (block other rows : Option (List ℕ)) (merge : Option MergeValue) → merge ≡ blocks_merge other rows
+    → block_by (block_by block merge) merge ≡ block_by block merge
+unfolding blocks_merge
+block_twice None other rows merge is = refl
+block_twice (Some bytes) other rows None is = refl
+block_twice (Some bytes) other rows (Some merge) is =
+    let both = tables_both (block_table other) (block_table rows) merge (sym is) in
+    let first = block_read other both.0 both.2 in
+    let second = block_read rows both.1 both.3 in
+    ap (λ (m : MergeValue). let b : Option (List ℕ) = Some (merged_block m.table (merged_block m.table bytes)) in b) both.4
+    ∙ ap (λ (b : List ℕ). Some b) (merged_same both.0 both.1 first second bytes)
+    ∙ ap (λ (m : MergeValue). let b : Option (List ℕ) = Some (merged_block m.table bytes) in b) (sym both.4)
+
+map-same : {A B : Type 0} (f g : A → B) (xs : List A) → ((x : A) → f x ≡ g x) → map f xs ≡ map g xs
+map-same f g xs each = λ k. map (λ x. each x k) xs
+
+heads-map : (f : DatabaseValue → DatabaseValue) (xs : List DatabaseValue) → ((d : DatabaseValue) → (f d).head ≡ d.head) → heads_of (map f xs) ≡ heads_of xs
+heads-map f [] keeps = refl
+heads-map f (x ∷ xs) keeps = λ k. (record (keeps x k) { seed = 0 }) ∷ heads-map f xs keeps k
+
+-- how the categories of a database come together that is not skipped
+merge_kept : (filing : Filing) (n : List ℕ) → (job_named filing n).skip ≡ None
+    → merge_named filing n ≡ blocks_merge (app_named n filing.device.databases) (rows_app (shelves_of filing) n)
+unfolding merge_of
+merge_kept filing n kept =
+    ap (λ (s : Option Skip). merge_unless s (blocks_merge (app_named n filing.device.databases) (rows_app (shelves_of filing) n))) kept
+
+-- a merge is none, or that of two blocks
+merge_from : (filing : Filing) (n : List ℕ) → (block : Option (List ℕ)) × (rows : Option (List ℕ)) × (merge_named filing n ≡ blocks_merge block rows)
+unfolding blocks_merge block_table
+merge_from filing n = by (job_named filing n).skip refl
+  where
+    by : (skip : Option Skip) → (job_named filing n).skip ≡ skip
+        → (block : Option (List ℕ)) × (rows : Option (List ℕ)) × (merge_named filing n ≡ blocks_merge block rows)
+    by None kept = (app_named n filing.device.databases, rows_app (shelves_of filing) n, merge_kept filing n kept)
+    by (Some skip) is = (None, None, merge_none filing n is)
+
+-- ---- before the commit: some of the databases have their merged tables
+
+module _ (filing : Filing) (done : List (List ℕ)) where
+  abbrev held : List DatabaseValue
+  held = filing.device.databases
+
+  abbrev pub next : Filing
+  next = record { device = device_among filing done; slots = filing.slots; picked = filing.picked }
+
+  where_head : (d : DatabaseValue) → (filed_where filing done d).head ≡ d.head
+  where_head d = by (is_among d.head.name done)
+    where
+      by : (b : Bool) → (cond b (filed_database filing d) d).head ≡ d.head
+      by true = refl
+      by false = refl
+
+  next_heads : heads_of next.device.databases ≡ heads_of held
+  unfolding device_among
+  next_heads = heads-map (filed_where filing done) held where_head
+
+  next_job : (n : List ℕ) → job_named next n ≡ job_named filing n
+  next_job n = ap (λ (heads : List DbHead). filing_job heads (shelves_of filing) n) next_heads
+
+  where_keeps : KeepsNames (filed_where filing done)
+  where_keeps = record { at = λ d. ap (λ (h : DbHead). h.name) (where_head d) }
+
+  next_app : (n : List ℕ) → (o : Option DatabaseValue) → database_of n held ≡ o
+      → app_named n next.device.databases ≡ option_and_then (λ (d : DatabaseValue). d.app) (option_map (filed_where filing done) o)
+  unfolding device_among
+  next_app n o is =
+      ap (λ (found : Option DatabaseValue). option_and_then (λ (d : DatabaseValue). d.app) found)
+      (database_of-map where_keeps n held ∙ ap (option_map (filed_where filing done)) is)
+
+  next_merge : (n : List ℕ) → merge_named next n ≡ merge_named filing n
+  next_merge n = by (job_named filing n).skip refl
+    where
+      by : (skip : Option Skip) → (job_named filing n).skip ≡ skip → merge_named next n ≡ merge_named filing n
+      by (Some skip) is =
+          merge_none next n (ap (λ (j : FilingJob). j.skip) (next_job n) ∙ is) ∙ sym (merge_none filing n is)
+      by None kept =
+          let own = whole filing n kept in
+          let rows : Option (List ℕ) = rows_app (shelves_of filing) n in
+          let named : own.handheld.head.name ≡ n = database_of-name n held own.handheld own.there in
+          let here : app_named n held ≡ own.handheld.app = ap (λ (o : Option DatabaseValue). option_and_then (λ (d : DatabaseValue). d.app) o) own.there in
+          let merge : merge_named filing n ≡ blocks_merge own.handheld.app rows = merge_kept filing n kept ∙ ap (λ app. blocks_merge app rows) here in
+          merge_kept next n (ap (λ (j : FilingJob). j.skip) (next_job n) ∙ kept)
+          ∙ ap (λ app. blocks_merge app rows) (next_app n (Some own.handheld) own.there)
+          ∙ chosen own.handheld rows merge named (is_among own.handheld.head.name done) ∙ sym merge
+        where
+          chosen : (d : DatabaseValue) (rows : Option (List ℕ)) → merge_named filing n ≡ blocks_merge d.app rows → d.head.name ≡ n → (b : Bool)
+              → blocks_merge (cond b (filed_database filing d) d).app rows ≡ blocks_merge d.app rows
+          chosen d rows merge named false = refl
+          chosen d rows merge named true =
+              ap (λ (m : Option MergeValue). blocks_merge (block_by d.app m) rows) (ap (λ name. merge_named filing name) named ∙ merge)
+              ∙ merges_again d.app rows
+
+  next_database : (d : DatabaseValue) → filed_database next (filed_where filing done d) ≡ filed_database filing d
+  next_database d =
+      ap (λ name. with_merge (merge_named next name) (filed_where filing done d)) (ap (λ (h : DbHead). h.name) (where_head d))
+      ∙ ap (λ (m : Option MergeValue). with_merge m (filed_where filing done d)) (next_merge d.head.name)
+      ∙ by (is_among d.head.name done)
+    where
+      by : (b : Bool) → with_merge (merge_named filing d.head.name) (cond b (filed_database filing d) d) ≡ filed_database filing d
+      by false = refl
+      by true =
+          let from = merge_from filing d.head.name in
+          λ k. record d { app = block_twice d.app from.0 from.1 (merge_named filing d.head.name) from.2 k }
+
+  pub next_device : filed_device next ≡ filed_device filing
+  unfolding filed_device device_among
+  next_device =
+      ap (λ (ds : List DatabaseValue). record filing.device { databases = ds })
+      (map-map (filed_database next) (filed_where filing done) held
+      ∙ map-same (λ d. filed_database next (filed_where filing done d)) (filed_database filing) held next_database)
+
+  pub next_slots : filed_slots next ≡ filed_slots filing
+  unfolding filed_slots filed_shelves
+  next_slots = λ k. slice_set filing.slots filing.picked (record {
+    marks = (slot_of filing).marks;
+    shelves = record {
+      rows = map (λ (rows : DatabaseValue). rows_by (next_merge rows.head.name k) rows) (shelves_of filing).rows;
+      bases = (shelves_of filing).bases;
+      archives = map (λ (archive : DatabaseValue). archive_by (change_by (next_merge archive.head.name k)
+          (database_of archive.head.name (shelves_of filing).rows)) archive) (shelves_of filing).archives;
+    };
+  })
+
+-- ---- behind the commit: both sides have the merged tables
+
+-- the rows of each database of the picked slot are of categories
+abbrev pub AreFileable : List DatabaseValue → Type 0
+AreFileable rows = AllByRecursion (λ (d : DatabaseValue). AreOfCategories d.records) rows
+
+rows_head : (m : Option MergeValue) (d : DatabaseValue) → (rows_by m d).head ≡ d.head
+unfolding refiled_rows
+rows_head None d = refl
+rows_head (Some merge) d = refl
+
+some_same : {x y : DatabaseValue} → ◌≡◌ {A = Option DatabaseValue} (Some x) (Some y) → x ≡ y
+some_same {x} {y} eq = let same : x ≡ y = cc in same
+
+-- the laws of one database, in their parts
+block_again : (block : Option (List ℕ)) (rows : DatabaseValue)
+    → one.filed_block (one.filed_block block rows) (one.filed_rows block rows) ≡ one.filed_block block rows
+    → block_by (one.filed_block block rows) (blocks_merge (one.filed_block block rows) (one.filed_rows block rows).app) ≡ one.filed_block block rows
+unfolding one.filed_block
+block_again block rows is = is
+
+rows_again : (block : Option (List ℕ)) (rows : DatabaseValue)
+    → one.filed_rows (one.filed_block block rows) (one.filed_rows block rows) ≡ one.filed_rows block rows
+    → rows_by (blocks_merge (one.filed_block block rows) (one.filed_rows block rows).app) (one.filed_rows block rows) ≡ one.filed_rows block rows
+unfolding one.filed_rows
+rows_again block rows is = is
+
+still_by : (block : Option (List ℕ)) (rows : DatabaseValue) → IsStill block rows → (m : Option MergeValue)
+    → m ≡ blocks_merge (one.filed_block block rows) (one.filed_rows block rows).app → change_by m (Some (one.filed_rows block rows)) ≡ false
+still_by block rows is None same = refl
+still_by block rows is (Some merge) same = is.rows_too merge (sym same)
+
+-- where no row changes there is no change
+none_for : (m : Option MergeValue) (rows base archive : Option DatabaseValue) → change_by m rows ≡ false → change_for m rows base archive ≡ []
+none_for None rows base archive none = refl
+none_for (Some merge) None base archive none = refl
+none_for (Some merge) (Some rows) None archive none = refl
+none_for (Some merge) (Some rows) (Some base) archive none =
+    by (holds_resources rows.head.attributes) (holds_resources base.head.attributes) (is_refiled merge rows) none (record {
+      rows = refiled_rows merge rows;
+      base = copied_database false base;
+      archive = cleared_archive archive;
+    })
+  where
+    by : (a b c : Bool) → c ≡ false → (change : DbChange) → (if not a && (not b && c) then change ∷ [] else []) ≡ []
+    by true b c none change = refl
+    by false true c none change = refl
+    by false false true none change = absurd cc
+    by false false false none change = refl
+
+listings_quiet : (count : ℕ) → write_count (listings count) ≡ 0
+unfolding listings
+listings_quiet zero = refl
+listings_quiet (suc count) =
+    let both = count-append (listings count) (listing count ∷ []) in
+    let last = count-is (listing count ∷ []) in
+    let rest = listings_quiet count in omega (arith, both, last, rest)
+
+module _ (filing : Filing) (within : filing.picked < length filing.slots) where
+  abbrev pub behind : Filing
+  behind = record { device = filed_device filing; slots = filed_slots filing; picked = filing.picked }
+
+  abbrev own_rows : List DatabaseValue
+  own_rows = (shelves_of filing).rows
+
+  behind_slot : slot_at (filed_slots filing) filing.picked ≡ record { marks = (slot_of filing).marks; shelves = filed_shelves filing }
+  unfolding filed_slots
+  behind_slot = slot_at-set_same filing.slots filing.picked (record { marks = (slot_of filing).marks; shelves = filed_shelves filing }) within
+
+  behind_shelves : shelves_of behind ≡ filed_shelves filing
+  behind_shelves = ap (λ (s : SlotValue). s.shelves) behind_slot
+
+  rows_are : (shelves_of behind).rows ≡ map (filed_rows filing) own_rows
+  unfolding filed_shelves
+  rows_are = ap (λ (s : ShelvesValue). s.rows) behind_shelves
+
+  bases_are : (shelves_of behind).bases ≡ (shelves_of filing).bases
+  unfolding filed_shelves
+  bases_are = ap (λ (s : ShelvesValue). s.bases) behind_shelves
+
+  archives_are : (shelves_of behind).archives ≡ map (filed_archive filing) (shelves_of filing).archives
+  unfolding filed_shelves
+  archives_are = ap (λ (s : ShelvesValue). s.archives) behind_shelves
+
+  rows_keep : KeepsNames (filed_rows filing)
+  rows_keep = record { at = λ d. ap (λ (h : DbHead). h.name) (rows_head (merge_named filing d.head.name) d) }
+
+  filed_keeps : KeepsNames (filed_database filing)
+  filed_keeps = record { at = λ d. refl }
+
+  behind_keeps : KeepsNames (filed_database behind)
+  behind_keeps = record { at = λ d. refl }
+
+  behind_rows_keep : KeepsNames (filed_rows behind)
+  behind_rows_keep = record { at = λ d. ap (λ (h : DbHead). h.name) (rows_head (merge_named behind d.head.name) d) }
+
+  behind_heads : heads_of behind.device.databases ≡ heads_of filing.device.databases
+  unfolding filed_device
+  behind_heads = heads-map (filed_database filing) filing.device.databases (λ d. refl)
+
+  found_rows : (n : List ℕ) → database_of n (shelves_of behind).rows ≡ option_map (filed_rows filing) (database_of n own_rows)
+  found_rows n = ap (database_of n) rows_are ∙ database_of-map rows_keep n own_rows
+
+  found_held : (n : List ℕ) → database_of n behind.device.databases ≡ option_map (filed_database filing) (database_of n filing.device.databases)
+  unfolding filed_device
+  found_held n = database_of-map filed_keeps n filing.device.databases
+
+  head_same : (o : Option DatabaseValue) → head_of (option_map (filed_rows filing) o) ≡ head_of o
+  head_same None = refl
+  head_same (Some d) = ap (λ (h : DbHead). Some h) (rows_head (merge_named filing d.head.name) d)
+
+  behind_job : (n : List ℕ) → (job_named behind n).skip ≡ (job_named filing n).skip
+  behind_job n =
+      ap (λ (heads : List DbHead). (filing_job heads (shelves_of behind) n).skip) behind_heads
+      ∙ ap (λ (h : Option DbHead). filing_reason (head_named n (heads_of filing.device.databases)) h (database_of n (shelves_of behind).bases))
+      (ap head_of (found_rows n) ∙ head_same (database_of n own_rows))
+      ∙ ap (λ (bases : List DatabaseValue). filing_reason (head_named n (heads_of filing.device.databases)) (head_of (database_of n own_rows)) (database_of n bases))
+      bases_are
+
+  -- ---- under each name
+
+  module _ (n : List ℕ) (kept : (job_named filing n).skip ≡ None) where
+    abbrev both : IsWhole filing.device.databases (shelves_of filing) n
+    both = whole filing n kept
+
+    abbrev block : Option (List ℕ)
+    block = both.handheld.app
+
+    first_merge : merge_named filing n ≡ blocks_merge block both.rows.app
+    first_merge =
+        merge_kept filing n kept
+        ∙ ap (λ (o : Option DatabaseValue). blocks_merge (option_and_then (λ (d : DatabaseValue). d.app) o) (rows_app (shelves_of filing) n)) both.there
+        ∙ ap (λ (o : Option DatabaseValue). blocks_merge block (option_and_then (λ (d : DatabaseValue). d.app) o)) both.rows_there
+
+    block_is : (filed_database filing both.handheld).app ≡ one.filed_block block both.rows
+    unfolding one.filed_block
+    block_is =
+        ap (λ name. block_by block (merge_named filing name)) (database_of-name n filing.device.databases both.handheld both.there)
+        ∙ ap (block_by block) first_merge
+
+    rows_is : filed_rows filing both.rows ≡ one.filed_rows block both.rows
+    unfolding one.filed_rows
+    rows_is =
+        ap (λ name. rows_by (merge_named filing name) both.rows) (database_of-name n own_rows both.rows both.rows_there)
+        ∙ ap (λ (m : Option MergeValue). rows_by m both.rows) first_merge
+
+    found_both : database_of n behind.device.databases ≡ Some (filed_database filing both.handheld)
+    found_both = found_held n ∙ ap (option_map (filed_database filing)) both.there
+
+    found_filed : database_of n (shelves_of behind).rows ≡ Some (one.filed_rows block both.rows)
+    found_filed = found_rows n ∙ ap (option_map (filed_rows filing)) both.rows_there ∙ ap (λ (d : DatabaseValue). Some d) rows_is
+
+    second_merge : merge_named behind n ≡ blocks_merge (one.filed_block block both.rows) (one.filed_rows block both.rows).app
+    second_merge =
+        merge_kept behind n (behind_job n ∙ kept)
+        ∙ ap (λ (o : Option DatabaseValue). blocks_merge (option_and_then (λ (d : DatabaseValue). d.app) o) (rows_app (shelves_of behind) n)) found_both
+        ∙ ap (λ (app : Option (List ℕ)). blocks_merge app (rows_app (shelves_of behind) n)) block_is
+        ∙ ap (λ (o : Option DatabaseValue). blocks_merge (one.filed_block block both.rows) (option_and_then (λ (d : DatabaseValue). d.app) o)) found_filed
+
+  module _ (fileable : AreFileable own_rows) where
+    categories : (n : List ℕ) (kept : (job_named filing n).skip ≡ None) → AreOfCategories (both n kept).rows.records
+    categories n kept =
+        AllByRecursion-database_of (λ (d : DatabaseValue). AreOfCategories d.records) n own_rows (both n kept).rows fileable (both n kept).rows_there
+
+    own_made : (n : List ℕ) (kept : (job_named filing n).skip ≡ None) → IsMade (block n kept) (both n kept).rows
+    own_made n kept = made (block n kept) (both n kept).rows
+
+    own_still : (n : List ℕ) (kept : (job_named filing n).skip ≡ None) → IsStill (block n kept) (both n kept).rows
+    own_still n kept = still (block n kept) (both n kept).rows (categories n kept)
+
+    -- ---- the handheld
+
+    app_again : (n : List ℕ) (kept : (job_named filing n).skip ≡ None)
+        → block_by (filed_database filing (both n kept).handheld).app (merge_named behind n) ≡ (filed_database filing (both n kept).handheld).app
+    app_again n kept =
+        ap (λ (app : Option (List ℕ)). block_by app (merge_named behind n)) (block_is n kept)
+        ∙ ap (block_by (one.filed_block (block n kept) (both n kept).rows)) (second_merge n kept)
+        ∙ again (own_made n kept) ∙ sym (block_is n kept)
+      where
+        again : IsMade (block n kept) (both n kept).rows
+            → block_by (one.filed_block (block n kept) (both n kept).rows)
+            (blocks_merge (one.filed_block (block n kept) (both n kept).rows) (one.filed_rows (block n kept) (both n kept).rows).app)
+            ≡ one.filed_block (block n kept) (both n kept).rows
+        again is = block_again (block n kept) (both n kept).rows (is.behind_block (categories n kept))
+
+    kept_again : (n : List ℕ) (kept : (job_named filing n).skip ≡ None) (d : DatabaseValue) → (both n kept).handheld ≡ d
+        → with_merge (merge_named behind n) (filed_database filing d) ≡ filed_database filing d
+    kept_again n kept d same =
+        subst (λ (x : DatabaseValue). with_merge (merge_named behind n) (filed_database filing x) ≡ filed_database filing x) same
+        (λ k. record (both n kept).handheld { app = app_again n kept k })
+
+    database_again : (n : List ℕ) (d : DatabaseValue) → database_of n filing.device.databases ≡ Some d
+        → filed_database behind (filed_database filing d) ≡ filed_database filing d
+    database_again n d is =
+        ap (λ name. with_merge (merge_named behind name) (filed_database filing d)) (database_of-name n filing.device.databases d is)
+        ∙ by (job_named filing n).skip refl
+      where
+        by : (skip : Option Skip) → (job_named filing n).skip ≡ skip → with_merge (merge_named behind n) (filed_database filing d) ≡ filed_database filing d
+        by (Some skip) un =
+            ap (λ (m : Option MergeValue). with_merge m (filed_database filing d)) (merge_none behind n (behind_job n ∙ un))
+            ∙ (λ k. record d { app = skipped_same (filed_database filing d).app k })
+        by None kept = kept_again n kept d (some_same (sym (both n kept).there ∙ is))
+
+    pub device_again : NamesRise filing.device.databases → filed_device behind ≡ filed_device filing
+    unfolding filed_device
+    device_again rise =
+        let first : List DatabaseValue = map (filed_database filing) filing.device.databases in
+        let first_rise = NamesRise-map filed_keeps filing.device.databases rise in
+        ap (λ (ds : List DatabaseValue). record filing.device { databases = ds })
+        (database_of-same (map (filed_database behind) first) first (NamesRise-map behind_keeps first first_rise) first_rise (λ n.
+        database_of-map behind_keeps n first ∙ ap (option_map (filed_database behind)) (database_of-map filed_keeps n filing.device.databases)
+        ∙ by n (database_of n filing.device.databases) refl ∙ sym (database_of-map filed_keeps n filing.device.databases)))
+      where
+        by : (n : List ℕ) (o : Option DatabaseValue) → database_of n filing.device.databases ≡ o
+            → option_map (filed_database behind) (option_map (filed_database filing) o) ≡ option_map (filed_database filing) o
+        by n None is = refl
+        by n (Some d) is = ap (λ (x : DatabaseValue). Some x) (database_again n d is)
+
+    -- ---- the desktop
+
+    filed_again : (n : List ℕ) (kept : (job_named filing n).skip ≡ None)
+        → rows_by (merge_named behind n) (one.filed_rows (block n kept) (both n kept).rows) ≡ one.filed_rows (block n kept) (both n kept).rows
+    filed_again n kept =
+        ap (λ (m : Option MergeValue). rows_by m (one.filed_rows (block n kept) (both n kept).rows)) (second_merge n kept)
+        ∙ rows_again (block n kept) (both n kept).rows ((own_made n kept).behind_rows (categories n kept))
+
+    kept_rows : (n : List ℕ) (kept : (job_named filing n).skip ≡ None) (d : DatabaseValue) → (both n kept).rows ≡ d
+        → rows_by (merge_named behind n) (filed_rows filing d) ≡ filed_rows filing d
+    kept_rows n kept d same =
+        subst (λ (x : DatabaseValue). rows_by (merge_named behind n) (filed_rows filing x) ≡ filed_rows filing x) same
+        (ap (rows_by (merge_named behind n)) (rows_is n kept) ∙ filed_again n kept ∙ sym (rows_is n kept))
+
+    rows_same : (n : List ℕ) (d : DatabaseValue) → database_of n own_rows ≡ Some d → filed_rows behind (filed_rows filing d) ≡ filed_rows filing d
+    rows_same n d is =
+        ap (λ name. rows_by (merge_named behind name) (filed_rows filing d))
+        (ap (λ (h : DbHead). h.name) (rows_head (merge_named filing d.head.name) d) ∙ database_of-name n own_rows d is)
+        ∙ by (job_named filing n).skip refl
+      where
+        by : (skip : Option Skip) → (job_named filing n).skip ≡ skip → rows_by (merge_named behind n) (filed_rows filing d) ≡ filed_rows filing d
+        by (Some skip) un = ap (λ (m : Option MergeValue). rows_by m (filed_rows filing d)) (merge_none behind n (behind_job n ∙ un))
+        by None kept = kept_rows n kept d (some_same (sym (both n kept).rows_there ∙ is))
+
+    -- no row changes any more
+    no_change : (n : List ℕ) → change_by (merge_named behind n) (database_of n (shelves_of behind).rows) ≡ false
+    no_change n = by (job_named filing n).skip refl
+      where
+        by : (skip : Option Skip) → (job_named filing n).skip ≡ skip → change_by (merge_named behind n) (database_of n (shelves_of behind).rows) ≡ false
+        by (Some skip) un =
+            ap (λ (m : Option MergeValue). change_by m (database_of n (shelves_of behind).rows)) (merge_none behind n (behind_job n ∙ un))
+        by None kept =
+            ap (change_by (merge_named behind n)) (found_filed n kept)
+            ∙ still_by (block n kept) (both n kept).rows (own_still n kept) (merge_named behind n) (second_merge n kept)
+
+    archive_again : (d : DatabaseValue) → filed_archive behind (filed_archive filing d) ≡ filed_archive filing d
+    archive_again d = ap (λ b. archive_by b (filed_archive filing d)) (no_change (filed_archive filing d).head.name)
+
+    rows_again_all : NamesRise own_rows → map (filed_rows behind) (map (filed_rows filing) own_rows) ≡ map (filed_rows filing) own_rows
+    rows_again_all rise =
+        let first : List DatabaseValue = map (filed_rows filing) own_rows in
+        let first_rise = NamesRise-map rows_keep own_rows rise in
+        database_of-same (map (filed_rows behind) first) first (NamesRise-map behind_rows_keep first first_rise) first_rise (λ n.
+        database_of-map behind_rows_keep n first ∙ ap (option_map (filed_rows behind)) (database_of-map rows_keep n own_rows)
+        ∙ by n (database_of n own_rows) refl ∙ sym (database_of-map rows_keep n own_rows))
+      where
+        by : (n : List ℕ) (o : Option DatabaseValue) → database_of n own_rows ≡ o
+            → option_map (filed_rows behind) (option_map (filed_rows filing) o) ≡ option_map (filed_rows filing) o
+        by n None is = refl
+        by n (Some d) is = ap (λ (x : DatabaseValue). Some x) (rows_same n d is)
+
+    shelves_again : NamesRise own_rows → filed_shelves behind ≡ filed_shelves filing
+    unfolding filed_shelves
+    shelves_again rise = λ k. record {
+      rows = (ap (map (filed_rows behind)) rows_are ∙ rows_again_all rise) k;
+      bases = bases_are k;
+      archives = (ap (map (filed_archive behind)) archives_are
+          ∙ map-map (filed_archive behind) (filed_archive filing) (shelves_of filing).archives
+          ∙ map-same (λ (d : DatabaseValue). filed_archive behind (filed_archive filing d)) (filed_archive filing) (shelves_of filing).archives archive_again) k;
+    }
+
+    pub slots_again : NamesRise own_rows → filed_slots behind ≡ filed_slots filing
+    unfolding filed_slots
+    slots_again rise =
+        (λ k. slice_set (filed_slots filing) filing.picked (record { marks = (behind_slot k).marks; shelves = shelves_again rise k }))
+        ∙ set-set filing.slots filing.picked (record { marks = (slot_of filing).marks; shelves = filed_shelves filing })
+        (record { marks = (slot_of filing).marks; shelves = filed_shelves filing })
+
+    -- ---- what is said and committed
+
+    none_filed : (n : List ℕ) → change_filed (shelves_of behind) n (merge_named behind n) ≡ []
+    unfolding change_filed
+    none_filed n =
+        none_for (merge_named behind n) (database_of n (shelves_of behind).rows) (database_of n (shelves_of behind).bases)
+        (database_of n (shelves_of behind).archives) (no_change n)
+
+    none_changes : (ns : List (List ℕ)) → flat_map (λ name. change_filed (shelves_of behind) name (merge_named behind name)) ns ≡ []
+    none_changes [] = refl
+    none_changes (n ∷ ns) =
+        ap (λ (cs : List DbChange). cs ++ flat_map (λ name. change_filed (shelves_of behind) name (merge_named behind name)) ns) (none_filed n)
+        ∙ none_changes ns
+
+    pub changes_none : filing_changes behind ≡ []
+    unfolding filing_changes
+    changes_none = none_changes (names behind)
+
+    written_none : (n : List ℕ) (kept : (job_named behind n).skip ≡ None) → own_written behind n kept ≡ None
+    written_none n kept =
+        let first : (job_named filing n).skip ≡ None = sym (behind_job n) ∙ kept in
+        let same : (whole behind n kept).handheld ≡ filed_database filing (both n first).handheld =
+        some_same (sym (whole behind n kept).there ∙ found_both n first) in
+        ap (λ (d : DatabaseValue). written_block d.app (merge_named behind n)) same
+        ∙ ap (λ (app : Option (List ℕ)). written_block app (merge_named behind n)) (block_is n first)
+        ∙ ap (written_block (one.filed_block (block n first) (both n first).rows)) (second_merge n first) ∙ (own_still n first).block
+
+    job_quiet : (n : List ℕ) → write_count (job_acts behind (job_named behind n)) ≡ 0
+    job_quiet n = by (job_named behind n).skip refl
+      where
+        by : (skip : Option Skip) → (job_named behind n).skip ≡ skip → write_count (job_acts behind (job_named behind n)) ≡ 0
+        by (Some skip) is = ap write_count (acts_none behind n is)
+        by None kept =
+            ap write_count (acts_are behind n kept) ∙ count-is (acts_with n (own_written behind n kept))
+            ∙ ap (λ (b : Option (List ℕ)). count_of (acts_with n b)) (written_none n kept)
+
+    jobs_quiet : (ns : List (List ℕ)) → write_count (flat_map (job_acts behind) (jobs_named behind ns)) ≡ 0
+    jobs_quiet [] = refl
+    jobs_quiet (n ∷ ns) =
+        count-append (job_acts behind (job_named behind n)) (flat_map (job_acts behind) (jobs_named behind ns))
+        ∙ (let one_none = job_quiet n in let rest_none = jobs_quiet ns in
+        let same : write_count (job_acts behind (job_named behind n)) + write_count (flat_map (job_acts behind) (jobs_named behind ns)) ≡ 0 =
+        omega (arith, one_none, rest_none) in same)
+
+    pub writes_none : block_writes behind ≡ 0
+    unfolding before_end jobs
+    writes_none =
+        let lists : List Act = listings (max 1 (length behind.device.databases)) in
+        let files : List Act = flat_map (job_acts behind) (jobs_named behind (names behind)) in
+        let first = count-append greeting (lists ++ files) in
+        let second = count-append lists files in
+        let one_none = count-is greeting in
+        let two_none = listings_quiet (max 1 (length behind.device.databases)) in
+        let three_none = jobs_quiet (names behind) in
+        omega (arith, first, second, one_none, two_none, three_none)
+
+-- ---- two sessions of the same sides
+
+seat_ok : (users : List ℕ) (user : UserInfo) (found : Slot) → IsOk (user_with users user found) → IsSeated found
+seat_ok users user (slot.Old place) is = tt
+seat_ok users user slot.New is = tt
+seat_ok users user slot.Refused is = absurd (let never : ⊥ = cc in never)
+seat_ok users user slot.Full is = absurd (let never : ⊥ = cc in never)
+
+module _ (device : Device) (slots : List SlotValue) where
+  pub stopped_device : (done : List (List ℕ))
+      → filed_device (filing_of (device_among (filing_of device slots) done) slots) ≡ filed_device (filing_of device slots)
+  unfolding device_among
+  stopped_device done = next_device (filing_of device slots) done
+
+  pub stopped_slots : (done : List (List ℕ))
+      → filed_slots (filing_of (device_among (filing_of device slots) done) slots) ≡ filed_slots (filing_of device slots)
+  unfolding device_among
+  stopped_slots done = next_slots (filing_of device slots) done
+
+  module _ (may : IsFileable device slots) where
+    abbrev first : Filing
+    first = filing_of device slots
+
+    picked_within : first.picked < length slots
+    picked_within =
+        let count : length (users_in first) ≡ length slots = length-map (marks_of slots) (λ marks. marks.user) ∙ marks-length slots in
+        let more = may.formed.some in
+        let marks = marks-length slots in
+        let below = seat_within (users_in first) device.user.user (length slots) (omega (arith, count, more, marks))
+        (seat_ok (users_in first) device.user (slot_for (users_in first) device.user.user false) may.seated) in
+        omega (arith, count, below)
+
+    marks_same : marks_of (filed_slots first) ≡ marks_of slots
+    unfolding filed_slots
+    marks_same = map-set_same (λ (s : SlotValue). s.marks) slots first.picked _ (new_slot (number_of slots)) refl
+
+    count_same : length (filed_slots first) ≡ length slots
+    unfolding filed_slots
+    count_same = length-set slots first.picked _
+
+    picked_same : place_of (length (filed_slots first)) (slot_for (users_of (marks_of (filed_slots first))) (filed_device first).user.user false)
+        ≡ first.picked
+    unfolding filed_device
+    picked_same = λ k. place_of (count_same k) (slot_for (users_of (marks_same k)) device.user.user false)
+
+    second_is : filing_of (filed_device first) (filed_slots first) ≡ behind first picked_within
+    second_is = λ k. record { device = filed_device first; slots = filed_slots first; picked = picked_same k }
+
+    own_ordered : AreOrdered (shelves_of first)
+    own_ordered = ordered_at slots first.picked may.ordered
+
+    own_fileable : AreFileable (shelves_of first).rows
+    own_fileable = all_rows (shelves_of first).rows (bounded_at slots first.picked may.bounded).shelves.rows
+      where
+        all_records : (items : List Record) → AllByRecursion IsBoundedRecord items → AreOfCategories items
+        all_records [] bounded = tt
+        all_records (item ∷ items) bounded = (let small = bounded.0.category in omega (arith, small), all_records items bounded.1)
+
+        all_rows : (rows : List DatabaseValue) → AllByRecursion IsBoundedDatabase rows → AreFileable rows
+        all_rows [] bounded = tt
+        all_rows (d ∷ rows) bounded = (all_records d.records bounded.0.records, all_rows rows bounded.1)
+
+    pub second_device : filed_device (filing_of (filed_device first) (filed_slots first)) ≡ filed_device first
+    second_device = ap filed_device second_is ∙ device_again first picked_within own_fileable may.rests.proper.sound.names
+
+    pub second_slots : filed_slots (filing_of (filed_device first) (filed_slots first)) ≡ filed_slots first
+    second_slots = ap filed_slots second_is ∙ slots_again first picked_within own_fileable own_ordered.rows
+
+    pub second_changes : filing_changes (filing_of (filed_device first) (filed_slots first)) ≡ []
+    second_changes = ap filing_changes second_is ∙ changes_none first picked_within own_fileable
+
+    pub second_writes : block_writes (filing_of (filed_device first) (filed_slots first)) ≡ 0
+    second_writes = ap (λ (filing : Filing). block_writes filing) second_is ∙ writes_none first picked_within own_fileable

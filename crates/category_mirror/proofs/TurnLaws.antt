@@ -1,0 +1,210 @@
+-- Where a handheld stands behind some of a session's requests.
+use Rattle.std.proofs.lemmas.Grind.{flat_map-append}
+use Rattle.std.proofs.lemmas.List.{map-append}
+use Rattle.std.proofs.Math.Seq.{take-append_seam}
+use Rattle.std.proofs.Common.{arith, ◌≡◌, ◌∙◌, ◌+◌, ap, append_assoc, append-nil, refl, sym, subst, ℕ, zero, suc, false, List, [], ◌∷◌, ◌++◌, length, map, take}
+use Rattle.std.specs.Prelude.{Option, Some, None, filter, flat_map}
+use Rattle.dlp_commands.specs.Changes.{changes}
+use Rattle.std.proofs.lemmas.List.{take-map}
+use Rattle.std.specs.List.{AllByRecursion}
+use Rattle.pdb_values.specs.Databases.{DatabaseValue}
+use Rattle.pdb_values.specs.Heads.{is_read_only}
+use Rattle.pdb_values.specs.NamedDatabases.{database_of}
+use Rattle.palm_device.specs.Devices.{Device}
+use Rattle.dlp_commands.specs.DeviceSteps.{tried}
+use Rattle.category_mirror.specs.declared.job.FilingJob.{FilingJob}
+use Rattle.desktop_session.specs.Acts.{Act, acted, text}
+use Rattle.desktop_session.specs.Lists.{listings}
+use Rattle.desktop_session.specs.Requests.{closing, ending, listing, opening, reading_app, writing_app}
+use Rattle.desktop_session.specs.Tellings.{device_after}
+use Rattle.session_parts.specs.Fronts.{Front}
+use Rattle.session_parts.specs.Meets.{greeting}
+use Rattle.session_parts.specs.Rests.{IsAtRest}
+use Rattle.session_parts.specs.declared.skip.Skip.{Skip}
+use Rattle.session_parts.proofs.RestLaws.{all-append, closes_does, greeting_same, listing_same, listings_same}
+use Rattle.session_plan.specs.Fits.{Rise}
+use Rattle.category_mirror.specs.Sides.{Filing, StandsBehind, before_end, device_among, filed_device, filing_acts, is_among, job_acts, job_named, jobs, names, write_count}
+use Rattle.category_mirror.proofs.AlongLaws.{Along, IsStill, all_plain, along_last, still_along, still_count, along_on, along_take, along_then, count-append, count-is, count_of, run_is, take-texts}
+use Rattle.category_mirror.proofs.DoneLaws.{among_are, before_goes, end_goes, filed_closed, list_count, names_rise, session_goes}
+use Rattle.category_mirror.proofs.EvolveLaws.{AreFree, IsBehind, acts_are, acts_none, behind_next, behind_none, free_next, free_none, jobs_named, own_there, own_written, turn, whole}
+use Rattle.category_mirror.proofs.OneLaws.{acts_with, changed, closed_same, opens, read_same, wrote}
+
+module _ (filing : Filing) (rests : IsAtRest filing.device) where
+  -- some of the databases are done, as many blocks were written, and the others are as they were
+  pub record Passed (writes : ℕ) (device : Device) : Type 0 where
+    pub first : List (List ℕ)
+    pub rest : List (List ℕ)
+    pub parts : first ++ rest ≡ names filing
+    pub databases : device.databases ≡ (device_among filing first).databases
+    pub user : device.user ≡ filing.device.user
+    pub written : writes ≡ write_count (flat_map (job_acts filing) (jobs_named filing first))
+
+  passed_same : {writes : ℕ} {one other : Device} → other.databases ≡ one.databases → other.user ≡ one.user → Passed writes one → Passed writes other
+  passed_same databases user passed = record {
+    first = passed.first;
+    rest = passed.rest;
+    parts = passed.parts;
+    databases = databases ∙ passed.databases;
+    user = user ∙ passed.user;
+    written = passed.written;
+  }
+
+  passed_at : (done later : List (List ℕ)) (device : Device) (writes : ℕ) → done ++ later ≡ names filing → IsBehind filing done device
+      → writes ≡ write_count (flat_map (job_acts filing) (jobs_named filing done)) → Passed writes device
+  passed_at done later device writes parts behind written = record {
+    first = done;
+    rest = later;
+    parts = parts;
+    databases = among_are filing rests done device behind;
+    user = behind.user;
+    written = written;
+  }
+
+  abbrev acts_for : List (List ℕ) → List Act
+  acts_for done = flat_map (job_acts filing) (jobs_named filing done)
+
+  acts_more : (done : List (List ℕ)) (n : List ℕ) → acts_for done ++ job_acts filing (job_named filing n) ≡ acts_for (done ++ n ∷ [])
+  acts_more done n =
+      ap (λ (acts : List Act). acts_for done ++ acts) (sym (append-nil (job_acts filing (job_named filing n))))
+      ∙ sym (flat_map-append (job_acts filing) (jobs_named filing done) (jobs_named filing (n ∷ [])))
+      ∙ ap (flat_map (job_acts filing)) (sym (map-append (job_named filing) done (n ∷ [])))
+
+  more_written : (done : List (List ℕ)) (n : List ℕ) (writes : ℕ) → writes ≡ write_count (acts_for done)
+      → writes + count_of (job_acts filing (job_named filing n)) ≡ write_count (acts_for (done ++ n ∷ []))
+  more_written done n writes is =
+      ap (λ k. k + count_of (job_acts filing (job_named filing n))) is
+      ∙ ap (λ k. write_count (acts_for done) + k) (sym (count-is (job_acts filing (job_named filing n))))
+      ∙ sym (count-append (acts_for done) (job_acts filing (job_named filing n)))
+      ∙ ap write_count (acts_more done n)
+
+  -- ---- one database
+
+  module _ (done later : List (List ℕ)) (n : List ℕ) (device : Device) (writes : ℕ) (parts : done ++ n ∷ later ≡ names filing)
+      (behind : IsBehind filing done device) (written : writes ≡ write_count (acts_for done)) where
+    here : Passed writes device
+    here = passed_at done (n ∷ later) device writes parts behind written
+
+    module _ (kept : (job_named filing n).skip ≡ None) (free : is_among n done ≡ false) where
+      abbrev own : DatabaseValue
+      own = (whole filing n kept).handheld
+
+      own_here : database_of n device.databases ≡ Some own
+      own_here = own_there filing n kept done device behind free
+
+      may : is_read_only own.head.attributes ≡ false
+      may = (whole filing n kept).writable
+
+      block_along : (block : Option (List ℕ)) → own_written filing n kept ≡ block → Along Passed writes (acts_with n block) device
+      block_along None is =
+          along_on Passed writes (opening n) (reading_app 1 ∷ closing 1 ∷ []) here (opens device behind.rests n own own_here may)
+          (along_on Passed writes (reading_app 1) (closing 1 ∷ []) (passed_same refl refl here) (read_same device behind.rests n own own_here may)
+          (along_on Passed writes (closing 1) [] (passed_same refl refl here) (closes_does device n 0xD0 0 behind.rests.closed) here))
+      block_along (Some bytes) is =
+          let count : count_of (job_acts filing (job_named filing n)) ≡ 1 =
+          ap count_of (acts_are filing n kept ∙ ap (acts_with n) is) in
+          let more = more_written done n writes written in
+          let after : Passed (writes + 1) (changed device behind.rests n own own_here may (Some bytes)) =
+          subst (λ (b : Option (List ℕ)). Passed (writes + 1) (changed device behind.rests n own own_here may b)) is
+          (passed_at (done ++ n ∷ []) later (changed device behind.rests n own own_here may (own_written filing n kept)) (writes + 1)
+          (append_assoc done (n ∷ []) later ∙ parts) (behind_next filing n kept done device behind free)
+          (ap (λ k. writes + k) (sym count) ∙ more)) in
+          along_on Passed writes (opening n) (reading_app 1 ∷ writing_app 1 bytes ∷ closing 1 ∷ []) here (opens device behind.rests n own own_here may)
+          (along_on Passed writes (reading_app 1) (writing_app 1 bytes ∷ closing 1 ∷ []) (passed_same refl refl here)
+          (read_same device behind.rests n own own_here may)
+          (along_on Passed writes (writing_app 1 bytes) (closing 1 ∷ []) (passed_same refl refl here) (wrote device behind.rests n own own_here may bytes)
+          (along_on Passed (writes + 1) (closing 1) [] (passed_same refl refl after) (closed_same device behind.rests n own own_here may (Some bytes)) after)))
+
+      kept_along : Along Passed writes (job_acts filing (job_named filing n)) device
+      kept_along =
+          subst (λ (acts : List Act). Along Passed writes acts device) (sym (acts_are filing n kept)) (block_along (own_written filing n kept) refl)
+
+    job_along : is_among n done ≡ false → Along Passed writes (job_acts filing (job_named filing n)) device
+    job_along free = by (job_named filing n).skip refl
+      where
+        by : (skip : Option Skip) → (job_named filing n).skip ≡ skip → Along Passed writes (job_acts filing (job_named filing n)) device
+        by None kept = kept_along kept free
+        by (Some skip) is = subst (λ (acts : List Act). Along Passed writes acts device) (sym (acts_none filing n is)) here
+
+  -- ---- several
+
+  jobs_along : (ns done : List (List ℕ)) (device : Device) (writes : ℕ) → done ++ ns ≡ names filing → IsBehind filing done device → Rise ns
+      → AreFree done ns → writes ≡ write_count (acts_for done) → Along Passed writes (acts_for ns) device
+  jobs_along [] done device writes parts behind rise free written = passed_at done [] device writes parts behind written
+  jobs_along (n ∷ ns) done device writes parts behind rise free written =
+      let now = turn filing n done device behind free.0 in
+      along_then Passed writes (job_acts filing (job_named filing n)) (acts_for ns) device (job_along done ns n device writes parts behind written free.0)
+      now.goes.after
+      (jobs_along ns (done ++ n ∷ []) now.after (writes + count_of (job_acts filing (job_named filing n)))
+      (append_assoc done (n ∷ []) ns ∙ parts) now.behind rise.1 (free_next done n ns rise.0 free.1) (more_written done n writes written))
+
+  -- ---- the whole
+
+  greeting_still : AllByRecursion (IsStill filing.device) greeting
+  unfolding acted tried
+  greeting_still = (record { quiet = refl; same = refl }, (record { quiet = refl; same = refl }, tt))
+
+  listings_still : (count : ℕ) → AllByRecursion (IsStill filing.device) (listings count)
+  unfolding listings
+  listings_still zero = tt
+  listings_still (suc count) =
+      all-append (IsStill filing.device) (listings count) (listing count ∷ []) (listings_still count)
+      (record { quiet = refl; same = listing_same filing.device count }, tt)
+
+  abbrev listed : List Act
+  listed = listings (list_count filing rests)
+
+  first_passed : Passed 0 filing.device
+  first_passed = passed_at [] (names filing) filing.device 0 refl (behind_none filing rests) refl
+
+  before_along : Along Passed 0 (before_end filing) filing.device
+  unfolding before_end jobs
+  before_along =
+      along_then Passed 0 greeting (listed ++ acts_for (names filing)) filing.device (still_along Passed 0 greeting filing.device greeting_still first_passed)
+      (greeting_same filing.device)
+      (along_then Passed 0 listed (acts_for (names filing)) filing.device
+      (still_along Passed 0 listed filing.device (listings_still (list_count filing rests)) first_passed)
+      (listings_same (list_count filing rests) filing.device)
+      (subst (λ k. Along Passed (0 + k) (acts_for (names filing)) filing.device)
+      (sym (still_count listed filing.device (listings_still (list_count filing rests))))
+      (jobs_along (names filing) [] filing.device 0 refl (behind_none filing rests) (names_rise filing) (free_none (names filing)) refl)))
+
+  all_along : Along Passed 0 (filing_acts filing) filing.device
+  unfolding filing_acts
+  all_along =
+      let goes = before_goes filing rests in
+      let last = along_last Passed 0 (before_end filing) filing.device before_along in
+      let here : Passed (0 + count_of (before_end filing)) (filed_device filing) =
+      subst (Passed (0 + count_of (before_end filing))) goes.after last in
+      along_then Passed 0 (before_end filing) (ending ∷ []) filing.device before_along goes.after
+      (along_on Passed (0 + count_of (before_end filing)) ending [] here (end_goes (filed_device filing) (filed_closed filing rests)).after here)
+
+  pub front_passed : (writes : ℕ) (given : List ℕ) (after : Device) → (front : Front filing.device (map text (filing_acts filing)) writes given after)
+      → Passed writes front.reached
+  front_passed writes given after front =
+      let goes = session_goes filing rests in
+      let reached : front.reached ≡ device_after (take front.count (filing_acts filing)) filing.device =
+      run_is front.count (filing_acts filing) filing.device front.reached front.replies
+      (all_plain (filing_acts filing) filing.device goes.sayable goes.fixed) front.run.same front.run.ran in
+      let count : 0 + count_of (take front.count (filing_acts filing)) ≡ writes =
+      (let same : 0 + count_of (take front.count (filing_acts filing)) ≡ count_of (take front.count (filing_acts filing)) = omega arith in same)
+      ∙ sym (count-is (take front.count (filing_acts filing)))
+      ∙ ap (λ (requests : List (List ℕ)). length (filter changes requests)) (sym (take-texts front.count (filing_acts filing))) ∙ front.holds in
+      subst (λ (d : Device). Passed writes d) (sym reached)
+      (subst (λ k. Passed k (device_after (take front.count (filing_acts filing)) filing.device)) count
+      (along_take Passed front.count 0 (filing_acts filing) filing.device all_along))
+
+  pub front_stands : (writes : ℕ) (given : List ℕ) (after : Device) → Front filing.device (map text (filing_acts filing)) writes given after
+      → StandsBehind filing writes after
+  unfolding jobs
+  front_stands writes given after front =
+      let passed = front_passed writes given after front in
+      let taken : take (length passed.first) (names filing) ≡ passed.first =
+      ap (take (length passed.first)) (sym passed.parts) ∙ take-append_seam passed.first passed.rest in
+      record {
+        count = length passed.first;
+        databases = front.databases ∙ passed.databases ∙ ap (λ (ns : List (List ℕ)). (device_among filing ns).databases) (sym taken);
+        user = front.user ∙ passed.user;
+        written = passed.written
+            ∙ ap (λ (js : List FilingJob). write_count (flat_map (job_acts filing) js))
+            (ap (map (job_named filing)) (sym taken) ∙ sym (take-map (job_named filing) (length passed.first) (names filing)));
+      }

@@ -1,0 +1,6 @@
+-- A session behind one that stopped.
+use Rattle.category_mirror.proofs.RepeatLaws.{stopped_device, stopped_slots}
+use Rattle.category_mirror.proofs.laws.sessions_that_stopped_are_made_up_for.Goals as goal
+
+pub returns : goal.returns
+returns c = record { handheld = stopped_device; desktop = stopped_slots }
