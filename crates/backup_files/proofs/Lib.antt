@@ -1,0 +1,5 @@
+mod AddLaws
+pub mod BackupLaws
+pub mod FileBounds
+mod NameLaws
+mod ReadLaws

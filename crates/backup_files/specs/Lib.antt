@@ -1,0 +1,3 @@
+pub mod BackupFolders
+pub mod BackupNames
+pub mod FoundFiles
