@@ -1,5 +1,4 @@
 pub mod ExportLaws
-pub mod FileBounds
 pub mod InstallLaws
 pub mod LookLaws
 pub mod PrintedLaws

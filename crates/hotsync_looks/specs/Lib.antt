@@ -10,4 +10,5 @@ pub mod Opening
 pub mod Printed
 pub mod PrintedNames
 pub mod Scans
+pub mod Served
 pub mod Told

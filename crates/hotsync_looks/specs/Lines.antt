@@ -18,11 +18,13 @@ use Rattle.hotsync_looks.specs.declared.status.Surplus.TheVariants as surplus
 use Rattle.hotsync_looks.specs.declared.status.Status.{Status}
 use Rattle.hotsync_looks.specs.declared.status.Status.TheVariants.{Done, Usage, BadScript, TooLong, BadFile, TooMany, HandheldFolder, DesktopFolder, SourceRead}
 use Rattle.hotsync_looks.specs.declared.status.Status.TheVariants.{TraceWrite, OutWrite, NoMemory, LineDown, Unplugged, Aborted, Undetected, OtherUser}
-use Rattle.hotsync_looks.specs.declared.status.Status.TheVariants.{TooManyUsers, Limit, NewHandheld, WrongSide, InUse, CannotExport, BadRecord, BadText, Overfull, BadTrace, NotProper, CannotInstall, NotBackupFolder}
+use Rattle.hotsync_looks.specs.declared.status.Status.TheVariants.{TooManyUsers, Limit, NewHandheld, WrongSide, InUse, CannotExport, BadRecord, BadText, Overfull, BadTrace, NotProper, CannotInstall, NotBackupFolder, SameDatabase}
+use Rattle.hotsync_looks.specs.declared.status.Status.TheVariants.{StreamEnded, StreamAborted, BadHello}
 use Rattle.session_parts.specs.declared.report.Counts.{Counts}
 use Rattle.session_parts.specs.declared.report.DbReport.{DbReport}
 use Rattle.session_parts.specs.declared.report.Did.{Did}
-use Rattle.session_parts.specs.declared.report.Did.TheVariants.{Synced, Skipped, Installed, BackedUp}
+use Rattle.session_parts.specs.declared.report.FiledCounts.{FiledCounts}
+use Rattle.session_parts.specs.declared.report.Did.TheVariants.{Synced, Skipped, Installed, BackedUp, Filed}
 use Rattle.session_parts.specs.declared.skip.Skip.{Skip}
 use Rattle.session_parts.specs.declared.skip.Skip.TheVariants as skip
 use Rattle.trace_check.specs.declared.rule.Rule.{Rule}
@@ -100,6 +102,12 @@ unfoldable pub record_line : ℕ → ℕ → List ℕ
 record_line index place =
     codes "bad record " ++ (decimal index ++ (codes " " ++ (decimal place ++ line_feed)))
 
+-- `same database FILE and FILE`
+unfoldable pub same_line : List ℕ → List ℕ → List ℕ
+same_line first second =
+    codes "same database "
+    ++ (printed_name first ++ (codes " and " ++ (printed_name second ++ line_feed)))
+
 -- what a text has too many of
 abbrev pub surplus_word : Surplus → List ℕ
 surplus_word surplus.Categories = codes "categories"
@@ -148,6 +156,11 @@ refusal_line (Limit name) = word_line (codes "limit ") (stem_of name)
 refusal_line (NewHandheld name) = word_line (codes "new handheld ") (stem_of name)
 refusal_line (CannotInstall name) = word_line (codes "cannot install ") (stem_of name)
 refusal_line NotBackupFolder = codes "not a backup folder" ++ line_feed
+refusal_line (SameDatabase first second) =
+    same_line (string_bytes {Z = Global} first) (string_bytes {Z = Global} second)
+refusal_line StreamEnded = codes "stream ended" ++ line_feed
+refusal_line StreamAborted = codes "stream aborted" ++ line_feed
+refusal_line BadHello = codes "bad hello" ++ line_feed
 
 -- how the handheld's database was read
 abbrev pub mode_word : Bool → List ℕ
@@ -165,6 +178,7 @@ skip_word skip.ReadOnly = codes "read-only"
 skip_word skip.Stream = codes "stream"
 skip_word skip.Differs = codes "differs"
 skip_word skip.Missing = codes "missing"
+skip_word skip.Blocks = codes "blocks"
 
 -- ` MODE read R replaced P added A purged D archived V rows N`
 unfoldable pub counts_text : Counts → List ℕ
@@ -175,12 +189,19 @@ counts_text counts =
     ++ count_text (codes " purged ") counts.purged
     ++ count_text (codes " archived ") counts.archived ++ count_text (codes " rows ") counts.rows
 
--- this, or ` skipped REASON`, or ` installed entries N`, or ` backed up entries N`
+-- ` categories N moved M`
+abbrev pub filed_text : FiledCounts → List ℕ
+filed_text counts =
+    count_text (codes " categories ") counts.used ++ count_text (codes " moved ") counts.moved
+
+-- the counts of a run, or ` skipped REASON`, or ` installed entries N`, or ` backed up entries N`, or
+-- those of categories
 abbrev pub did_text : Did → List ℕ
 did_text (Synced counts) = counts_text counts
 did_text (Skipped reason) = codes " skipped " ++ skip_word reason
 did_text (Installed entries) = count_text (codes " installed entries ") entries
 did_text (BackedUp entries) = count_text (codes " backed up entries ") entries
+did_text (Filed counts) = filed_text counts
 
 -- what was done with the database of a name, behind its stem
 unfoldable pub database_line : List ℕ → Did → List ℕ

@@ -139,10 +139,8 @@ IsTextOf Verify bytes text = IsProperText bytes text
 IsTextOf Picture bytes text = IsPageText bytes text
 
 -- why a look prints nothing of the bytes of a file: they break a rule of the format of a database,
--- are a database that holds nothing of
--- the kind, or one with a record that is out of its form, are no text of memos, have a line that is
--- none of a trace, or are a trace that
--- breaks a rule
+-- are a database that holds nothing of the kind, or one with a record that is out of its form, are
+-- no text of memos, have a line that is none of a trace, or are a trace that breaks a rule
 pub data Cause : Type 0 where
   Broken : BadKind → ℕ → Cause
   Unfit : List ℕ → Cause

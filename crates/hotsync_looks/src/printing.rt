@@ -1,6 +1,6 @@
 // The lines that a call prints, and the status that stands once they are printed.
 ghost use Rattle.std.specs.Prelude.{◌≡◌, ◌≢◌, ◌⊎◌, ◌≤◌, ◌++◌, IfOk, OnOk, string_bytes};
-ghost use Rattle.hotsync_looks.specs.Lines.{bad_file_line as line_of_bad_file, count_text, counts_text as text_of_counts, database_line as line_of_database, did_text as text_of_did, done_lines as lines_of_done, end_word as word_of_end, export_line as line_of_export, form_word as word_of_form, folder_word as word_of_folder, mode_word as word_of_mode, no_memory_line, number_line as line_of_number, record_line as line_of_record, refusal_line as line_of_refusal, rule_word as word_of_rule, skip_word, surplus_word as word_of_surplus, users_line as line_of_users, word_line as line_of_word};
+ghost use Rattle.hotsync_looks.specs.Lines.{bad_file_line as line_of_bad_file, count_text, counts_text as text_of_counts, database_line as line_of_database, did_text as text_of_did, done_lines as lines_of_done, end_word as word_of_end, export_line as line_of_export, form_word as word_of_form, folder_word as word_of_folder, mode_word as word_of_mode, no_memory_line, number_line as line_of_number, record_line as line_of_record, refusal_line as line_of_refusal, same_line as line_of_same, rule_word as word_of_rule, skip_word, surplus_word as word_of_surplus, users_line as line_of_users, word_line as line_of_word};
 ghost use Rattle.hotsync_looks.specs.Printed.{IsPrinted, IsPrintedStatus, IsRefusal};
 ghost use Rattle.hs_folders.specs.Appends.{AppendsPrefix};
 
@@ -10,7 +10,7 @@ use hs_folders::{Sink, SinkFault};
 use pdb_files::BadKind;
 use pdb_values::DbName;
 use run_words::ExportForm;
-use session_parts::{Counts, DbReport, Did, Skip};
+use session_parts::{Counts, DbReport, Did, FiledCounts, Skip};
 use std::alloc::{AllocError, Global};
 use std::fmt::Write;
 use trace_check::Rule;
@@ -163,6 +163,7 @@ fn did_text(alloc: Global, did: Did) -> Result<String, AllocError>
         Did::Skipped(reason) => skip_text(alloc, reason),
         Did::Installed(entries) => installed_text(alloc, entries),
         Did::BackedUp(entries) => backed_up_text(alloc, entries),
+        Did::Filed(counts) => filed_text(alloc, counts),
     }
 }
 
@@ -208,6 +209,16 @@ fn backed_up_text(alloc: Global, entries: u32) -> Result<String, AllocError>
     Ok(text)
 }
 
+// How many categories are used, and how many rows moved.
+fn filed_text(alloc: Global, counts: FiledCounts) -> Result<String, AllocError>
+    ensures { IfOk result (λ text. string_bytes text ≡ text_of_did (Did.Filed counts)) }
+{
+    let mut text = String::new(alloc);
+    push_count(&mut text, " categories ", counts.used)?;
+    push_count(&mut text, " moved ", counts.moved)?;
+    Ok(text)
+}
+
 // The word that stands for the reason.
 fn word_of_skip(reason: Skip) -> &'static str
     ensures { result.now ≡ skip_word reason }
@@ -219,6 +230,7 @@ fn word_of_skip(reason: Skip) -> &'static str
         Skip::Stream => "stream",
         Skip::Differs => "differs",
         Skip::Missing => "missing",
+        Skip::Blocks => "blocks",
     }
 }
 
@@ -279,6 +291,10 @@ fn refusal_line(alloc: Global, refusal: &Status) -> Result<String, AllocError>
         Status::NewHandheld(name) => new_handheld_line(alloc, name),
         Status::CannotInstall(name) => cannot_install_line(alloc, name),
         Status::NotBackupFolder => String::from_str(alloc, "not a backup folder\n"),
+        Status::SameDatabase { first, second } => same_line(alloc, first.as_str(), second.as_str()),
+        Status::StreamEnded => String::from_str(alloc, "stream ended\n"),
+        Status::StreamAborted => String::from_str(alloc, "stream aborted\n"),
+        Status::BadHello => String::from_str(alloc, "bad hello\n"),
     }
 }
 
@@ -443,5 +459,18 @@ fn bad_file_line(
     line.push_str(" ")?;
     line.push_str(kind.word())?;
     write!(line, " {place}\n")?;
+    Ok(line)
+}
+
+// The line of two files with databases of one name.
+#[tactic(auto, unfolding(crate::specs::Lines::same_line))]
+fn same_line(alloc: Global, first: &str, second: &str) -> Result<String, AllocError>
+    ensures { IfOk result (λ line. string_bytes line ≡ line_of_same first.now second.now) }
+{
+    let mut line = String::from_str(alloc, "same database ")?;
+    push_name(&mut line, first)?;
+    line.push_str(" and ")?;
+    push_name(&mut line, second)?;
+    line.push_str("\n")?;
     Ok(line)
 }

@@ -1,8 +1,9 @@
 // How a call ended.
 ghost use Rattle.std.specs.Prelude.{◌≡◌};
-ghost use Rattle.hotsync_looks.specs.FolderFaults.{desktop_status, handheld_status};
+ghost use Rattle.hotsync_looks.specs.FolderFaults.{backup_status, desktop_status, handheld_status};
 ghost use Rattle.hotsync_looks.specs.declared.status.Status.TheVariants as status;
 
+use backup_files::BackupFault;
 use desk_store::DeskOpenFault;
 use handheld_store::OpenFault;
 use pdb_files::BadKind;
@@ -105,6 +106,17 @@ pub enum Status {
     WrongSide(End),
     /// The folder for a backup is one that is synchronised.
     NotBackupFolder,
+    /// Two files of a folder of backups hold databases of one name: the first in byte order of file names, and the one behind it.
+    SameDatabase {
+        first: String,
+        second: String,
+    },
+    /// The bytes ended before the talk was over.
+    StreamEnded,
+    /// The other end aborted the talk.
+    StreamAborted,
+    /// The first message of the other end is no init.
+    BadHello,
 }
 
 impl From<AllocError> for Status {
@@ -149,6 +161,26 @@ impl From<DeskOpenFault> for Status {
                 place,
             },
             DeskOpenFault::NoMemory => Status::NoMemory,
+        }
+    }
+}
+
+/// What it makes of a restore that its folder of backups was not read.
+impl From<BackupFault> for Status {
+    ghost from_gives = { λ fault outcome. outcome ≡ backup_status fault };
+
+    fn from(fault: BackupFault) -> Self {
+        match fault {
+            BackupFault::Failed => Status::DesktopFolder,
+            BackupFault::TooMany => Status::TooMany(End::Desktop),
+            BackupFault::BadFile { name, kind, place } => Status::BadFile {
+                side: FileSide::Desktop,
+                name,
+                kind,
+                place,
+            },
+            BackupFault::SameDatabase { first, second } => Status::SameDatabase { first, second },
+            BackupFault::NoMemory => Status::NoMemory,
         }
     }
 }
@@ -198,14 +230,18 @@ impl Status {
             Status::LineDown(_)
             | Status::Unplugged(_)
             | Status::Aborted(_)
-            | Status::Undetected(_) => 6,
+            | Status::Undetected(_)
+            | Status::StreamEnded
+            | Status::StreamAborted
+            | Status::BadHello => 6,
             Status::OtherUser { .. }
             | Status::TooManyUsers
             | Status::Limit(_)
             | Status::NewHandheld(_)
             | Status::WrongSide(_)
             | Status::CannotInstall(_)
-            | Status::NotBackupFolder => 7,
+            | Status::NotBackupFolder
+            | Status::SameDatabase { .. } => 7,
         }
     }
 }

@@ -7,7 +7,8 @@ use Rattle.clap.specs.Takes.{takes}
 use Rattle.clap.specs.Walk.{rows_of}
 use Rattle.clap.specs.declared.parser.matches.Found.{Found}
 use Rattle.run_words.specs.Betweens.{Between, between_form, between_in, between_of}
-use Rattle.run_words.specs.Commands.{Task, Sync, LookAt, Scan, Make, Install, Backup, export_form, export_of, export_task_in, file_form, file_of, hex_bytes, import_form, import_of, import_task_in, install_between, install_of, make_form, make_in, make_of, packet_form, packet_of, task_of}
+use Rattle.run_words.specs.Captures.{capture_form, capture_in, capture_of}
+use Rattle.run_words.specs.Commands.{Task, Sync, LookAt, Scan, Make, Install, Backup, Restore, Emulate, Categories, export_form, export_of, export_task_in, file_form, file_of, hex_bytes, import_form, import_of, import_task_in, install_between, install_of, make_form, make_in, make_of, packet_form, packet_of, task_of}
 use Rattle.run_words.specs.Exports.{export_in, import_in}
 use Rattle.run_words.specs.Forms.{is_of_form, plain_at}
 use Rattle.run_words.specs.Runs.{are_actions_right, run_form, run_in, run_of}
@@ -152,7 +153,28 @@ module _ (now : Option ℕ) (first : List ℕ) (rest : List (List ℕ)) {task : 
       let right = kept (is_of_form between_form rest) (between_in rest) between.1 in
       subst (IsAsked now (first ∷ rest)) between.2 (record { first = first; rest = rest; are = refl; right = right.0; asks = right.1 })
 
-  chosen : (a b c d i v p m n s k : Bool)
+  restore_asked : option_map Restore (between_of rest) ≡ Some task → IsAsked now (first ∷ rest) task
+  unfolding between_of
+  restore_asked e =
+      let between = mapped Restore (between_of rest) e in
+      let right = kept (is_of_form between_form rest) (between_in rest) between.1 in
+      subst (IsAsked now (first ∷ rest)) between.2 (record { first = first; rest = rest; are = refl; right = right.0; asks = right.1 })
+
+  device_asked : option_map Emulate (capture_of rest) ≡ Some task → IsAsked now (first ∷ rest) task
+  unfolding capture_of
+  device_asked e =
+      let capture = mapped Emulate (capture_of rest) e in
+      let right = kept (is_of_form capture_form rest) (capture_in rest) capture.1 in
+      subst (IsAsked now (first ∷ rest)) capture.2 (record { first = first; rest = rest; are = refl; right = right.0; asks = right.1 })
+
+  categories_asked : option_map Categories (between_of rest) ≡ Some task → IsAsked now (first ∷ rest) task
+  unfolding between_of
+  categories_asked e =
+      let between = mapped Categories (between_of rest) e in
+      let right = kept (is_of_form between_form rest) (between_in rest) between.1 in
+      subst (IsAsked now (first ∷ rest)) between.2 (record { first = first; rest = rest; are = refl; right = right.0; asks = right.1 })
+
+  chosen : (a b c d i v p m n s k r w g : Bool)
       → cond a (option_map Sync (run_of now rest))
       (cond b (option_map (LookAt Check) (file_of rest))
       (cond c (option_map (LookAt Show) (file_of rest))
@@ -161,21 +183,28 @@ module _ (now : Option ℕ) (first : List ℕ) (rest : List (List ℕ)) {task : 
       (cond v (option_map (LookAt Verify) (file_of rest))
       (cond p (option_map (LookAt Picture) (file_of rest))
       (cond m (option_map Scan (packet_of rest))
-      (cond n (make_of rest) (cond s (install_of rest)
-      (cond k (option_map Backup (between_of rest)) None)))))))))) ≡ Some task
+      (cond n (make_of rest)
+      (cond s (install_of rest)
+      (cond k (option_map Backup (between_of rest))
+      (cond r (option_map Restore (between_of rest))
+      (cond w (option_map Emulate (capture_of rest))
+      (cond g (option_map Categories (between_of rest)) None))))))))))))) ≡ Some task
       → IsAsked now (first ∷ rest) task
-  chosen true b c d i v p m n s k e = run_asked e
-  chosen false true c d i v p m n s k e = check_asked e
-  chosen false false true d i v p m n s k e = show_asked e
-  chosen false false false true i v p m n s k e = export_asked e
-  chosen false false false false true v p m n s k e = import_asked e
-  chosen false false false false false true p m n s k e = verify_asked e
-  chosen false false false false false false true m n s k e = picture_asked e
-  chosen false false false false false false false true n s k e = packet_asked e
-  chosen false false false false false false false false true s k e = make_asked e
-  chosen false false false false false false false false false true k e = install_asked e
-  chosen false false false false false false false false false false true e = backup_asked e
-  chosen false false false false false false false false false false false e = cc
+  chosen true b c d i v p m n s k r w g e = run_asked e
+  chosen false true c d i v p m n s k r w g e = check_asked e
+  chosen false false true d i v p m n s k r w g e = show_asked e
+  chosen false false false true i v p m n s k r w g e = export_asked e
+  chosen false false false false true v p m n s k r w g e = import_asked e
+  chosen false false false false false true p m n s k r w g e = verify_asked e
+  chosen false false false false false false true m n s k r w g e = picture_asked e
+  chosen false false false false false false false true n s k r w g e = packet_asked e
+  chosen false false false false false false false false true s k r w g e = make_asked e
+  chosen false false false false false false false false false true k r w g e = install_asked e
+  chosen false false false false false false false false false false true r w g e = backup_asked e
+  chosen false false false false false false false false false false false true w g e = restore_asked e
+  chosen false false false false false false false false false false false false true g e = device_asked e
+  chosen false false false false false false false false false false false false false true e = categories_asked e
+  chosen false false false false false false false false false false false false false false e = cc
 
 words_ask : (now : Option ℕ) (words : List (List ℕ)) {task : Task} → task_of now words ≡ Some task → IsAsked now words task
 unfolding task_of
@@ -183,7 +212,7 @@ words_ask now [] e = cc
 words_ask now (first ∷ rest) e =
     chosen now first rest (bytes_eq first (codes "run")) (bytes_eq first (codes "check")) (bytes_eq first (codes "show")) (bytes_eq first (codes "export"))
     (bytes_eq first (codes "import")) (bytes_eq first (codes "verify")) (bytes_eq first (codes "picture")) (bytes_eq first (codes "packet")) (bytes_eq first (codes "make"))
-    (bytes_eq first (codes "install")) (bytes_eq first (codes "backup")) e
+    (bytes_eq first (codes "install")) (bytes_eq first (codes "backup")) (bytes_eq first (codes "restore")) (bytes_eq first (codes "device")) (bytes_eq first (codes "categories")) e
 
 -- ---- each of the forms has names that differ
 
@@ -278,6 +307,19 @@ between_proper = record {
   flag_names = refl;
 }
 
+capture_proper : Proper capture_form
+capture_proper = record {
+  few = omega arith;
+  plain = refl;
+  options = refl;
+  flags = refl;
+  plain_options = refl;
+  plain_flags = refl;
+  options_flags = refl;
+  option_names = refl;
+  flag_names = refl;
+}
+
 look_proper : (look : Look) → Proper (look_form look)
 look_proper Check = file_proper
 look_proper Show = file_proper
@@ -293,6 +335,9 @@ task_proper (Scan bytes) = packet_proper
 task_proper (Make seed count) = make_proper
 task_proper (Install between) = between_proper
 task_proper (Backup between) = between_proper
+task_proper (Restore between) = between_proper
+task_proper (Emulate capture) = capture_proper
+task_proper (Categories between) = between_proper
 
 -- ---- words in the form are taken by the command of their form, and its matches hold what they ask for
 

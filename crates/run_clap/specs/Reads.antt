@@ -4,7 +4,8 @@ use Rattle.std.specs.List.{AllByRecursion}
 use Rattle.clap.specs.Matches.{first_value, one_text}
 use Rattle.clap.specs.declared.parser.matches.Found.{Found}
 use Rattle.run_words.specs.Betweens.{between_form, between_in}
-use Rattle.run_words.specs.Commands.{Task, Sync, LookAt, Scan, Make, Install, Backup, export_form, file_form, hex_bytes, import_form, make_form, make_in, packet_form}
+use Rattle.run_words.specs.Captures.{capture_form, capture_in}
+use Rattle.run_words.specs.Commands.{Task, Sync, LookAt, Scan, Make, Install, Backup, Restore, Emulate, Categories, export_form, file_form, hex_bytes, import_form, make_form, make_in, packet_form}
 use Rattle.run_words.specs.Exports.{export_in, import_in}
 use Rattle.run_words.specs.Forms.{Form, has_flag, plain_at, value_of}
 use Rattle.run_words.specs.Runs.{run_form, run_in}
@@ -46,6 +47,9 @@ task_form (Scan bytes) = packet_form
 task_form (Make seed count) = make_form
 task_form (Install between) = between_form
 task_form (Backup between) = between_form
+task_form (Restore between) = between_form
+task_form (Emulate capture) = capture_form
+task_form (Categories between) = between_form
 
 -- what words of its form ask for is this look, at the date now
 abbrev pub AsksLook : Option ℕ → List (List ℕ) → Look → Type 0
@@ -64,6 +68,9 @@ Asks now words (Scan bytes) = option_and_then hex_bytes (plain_at 0 words) ≡ S
 Asks now words (Make seed count) = make_in words ≡ Some (Make seed count)
 Asks now words (Install between) = between_in words ≡ Some between
 Asks now words (Backup between) = between_in words ≡ Some between
+Asks now words (Restore between) = between_in words ≡ Some between
+Asks now words (Emulate capture) = capture_in words ≡ Some capture
+Asks now words (Categories between) = between_in words ≡ Some between
 
 -- the matches have what words hold that ask for this task, at the date now
 pub record HoldsTask (now : Option ℕ) (found : Found) (task : Task) : Type 0 where

@@ -6,12 +6,12 @@ ghost use Rattle.run_words.specs.Commands.{task_of};
 ghost use Rattle.run_words.specs.Views.{form_view, task_view};
 
 use crate::form::form_command;
-use crate::values::{between_in, export_in, import_in, make_in, run_in};
+use crate::values::{between_in, capture_in, export_in, import_in, make_in, run_in};
 use clap::error::ErrorKind;
 use clap::{ArgMatches, Error};
 use run_words::{
-    BETWEEN, Command, EXPORT, FILE, IMPORT, Look, LookWords, MAKE, PACKET, PacketWords, RUN,
-    WordForm, command_of,
+    BETWEEN, CAPTURE, Command, EXPORT, FILE, IMPORT, Look, LookWords, MAKE, PACKET, PacketWords,
+    RUN, WordForm, command_of,
 };
 use std::alloc::Global;
 
@@ -42,6 +42,9 @@ fn form_of(command: &Command<'_>) -> WordForm<'static>
         Command::Make(_) => MAKE,
         Command::Install(_) => BETWEEN,
         Command::Backup(_) => BETWEEN,
+        Command::Restore(_) => BETWEEN,
+        Command::Device(_) => CAPTURE,
+        Command::Categories(_) => BETWEEN,
     }
 }
 
@@ -115,6 +118,18 @@ fn command_in<'a>(
         },
         Command::Backup(_) => match between_in(matches) {
             Some(words) => Some(Command::Backup(words)),
+            None => None,
+        },
+        Command::Restore(_) => match between_in(matches) {
+            Some(words) => Some(Command::Restore(words)),
+            None => None,
+        },
+        Command::Device(_) => match capture_in(matches) {
+            Some(words) => Some(Command::Device(words)),
+            None => None,
+        },
+        Command::Categories(_) => match between_in(matches) {
+            Some(words) => Some(Command::Categories(words)),
             None => None,
         },
     }

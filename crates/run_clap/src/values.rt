@@ -3,15 +3,16 @@ ghost use Rattle.std.specs.Prelude.{◌≡◌, ℕ, List, option_copied, option_
 ghost use Rattle.clap.specs.Words.{found_of};
 ghost use Rattle.run_clap.specs.Reads.{HoldsWords};
 ghost use Rattle.run_words.specs.Betweens.{between_form, between_in as between_of_words};
+ghost use Rattle.run_words.specs.Captures.{capture_form, capture_in as capture_of_words};
 ghost use Rattle.run_words.specs.Commands.{Make, export_form, import_form, make_form, make_in as make_of_words};
 ghost use Rattle.run_words.specs.Exports.{export_in as export_of_words, import_in as import_of_words};
 ghost use Rattle.run_words.specs.Runs.{run_form, run_in as run_of_words};
-ghost use Rattle.run_words.specs.Views.{between_view, run_view};
+ghost use Rattle.run_words.specs.Views.{between_view, capture_view, run_view};
 
 use clap::ArgMatches;
 use run_words::{
-    BetweenWords, Export, ImportForm, MakeWords, RunWords, count_in, date_in, export_form_in,
-    import_form_in, number_in,
+    BetweenWords, CaptureWords, Export, ImportForm, MakeWords, RunWords, count_in, date_in,
+    export_form_in, import_form_in, number_in,
 };
 
 // The run that matches hold, at the date now.
@@ -79,5 +80,20 @@ pub fn between_in<'a>(matches: &ArgMatches<'a>) -> Option<BetweenWords<'a>>
         other,
         script,
         trace,
+    })
+}
+
+// The paths of a handheld, and of what it hears and says, that matches hold.
+pub fn capture_in<'a>(matches: &ArgMatches<'a>) -> Option<CaptureWords<'a>>
+    ensures { (words : List (List ℕ)) → HoldsWords capture_form words (found_of matches.now)
+        → option_map capture_view result ≡ capture_of_words words }
+{
+    let handheld = matches.get_str("handheld")?;
+    let input = matches.get_str("in")?;
+    let output = matches.get_str("out")?;
+    Some(CaptureWords {
+        handheld,
+        input,
+        output,
     })
 }

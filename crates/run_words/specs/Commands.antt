@@ -1,6 +1,7 @@
 -- What words ask for, by the first of them.
 use Rattle.std.specs.Prelude.{ℕ, false, true, List, [], ◌∷◌, Option, Some, None, codes, bytes_eq, is_some, option_map, option_and_then, if◌then◌else◌}
 use Rattle.run_words.specs.Betweens.{Between, between_of}
+use Rattle.run_words.specs.Captures.{Capture, capture_of}
 use Rattle.run_words.specs.declared.look.Look.{Look}
 use Rattle.run_words.specs.declared.look.Look.TheVariants.{Check, Show, Export, Import, Verify, Picture}
 use Rattle.run_words.specs.Exports.{export_in, import_in}
@@ -10,8 +11,8 @@ use Rattle.run_words.specs.Runs.{Run, run_of}
 use Rattle.run_words.specs.Words.{is_hex, bytes_of}
 
 -- a run, a look at a file, the packets in some bytes, a run over folders made of a seed and a
--- count,
--- an install of a file, or a backup into a folder
+-- count, an install of a file, a backup into a folder, a restore of one, a handheld over captured
+-- bytes, or categories that are brought together
 pub data Task : Type 0 where
   Sync : Run → Task
   LookAt : Look → List ℕ → Task
@@ -19,6 +20,9 @@ pub data Task : Type 0 where
   Make : ℕ → ℕ → Task
   Install : Between → Task
   Backup : Between → Task
+  Restore : Between → Task
+  Emulate : Capture → Task
+  Categories : Between → Task
 
 -- plain words alone, of these names
 abbrev pub plain_form : List (List ℕ) → Form
@@ -118,7 +122,10 @@ task_behind now command words =
     else (if bytes_eq command (codes "make") then make_of words
     else (if bytes_eq command (codes "install") then install_of words
     else (if bytes_eq command (codes "backup") then option_map Backup (between_of words)
-    else None))))))))))
+    else (if bytes_eq command (codes "restore") then option_map Restore (between_of words)
+    else (if bytes_eq command (codes "device") then option_map Emulate (capture_of words)
+    else (if bytes_eq command (codes "categories") then option_map Categories (between_of words)
+    else None)))))))))))))
 
 -- what these words ask for, where the date now is this, if it can be told
 unfoldable pub task_of : Option ℕ → List (List ℕ) → Option Task

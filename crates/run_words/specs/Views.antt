@@ -1,11 +1,13 @@
 -- What contracts see of words, and of what they give.
 use Rattle.std.specs.Prelude.{map, option_copied}
 use Rattle.run_words.specs.Betweens.{Between}
-use Rattle.run_words.specs.Commands.{Task, Sync, LookAt, Scan, Make, Install, Backup}
+use Rattle.run_words.specs.Captures.{Capture}
+use Rattle.run_words.specs.Commands.{Task, Sync, LookAt, Scan, Make, Install, Backup, Restore, Emulate, Categories}
 use Rattle.run_words.specs.Forms.{Form, NamedOption}
 use Rattle.run_words.specs.Runs.{Run}
 use Rattle.run_words.specs.Words.{bytes_of}
 use Rattle.run_words.specs.declared.between.BetweenWords.{BetweenWords}
+use Rattle.run_words.specs.declared.capture.CaptureWords.{CaptureWords}
 use Rattle.run_words.specs.declared.command.Command.{Command}
 use Rattle.run_words.specs.declared.command.Command.TheVariants as commands
 use Rattle.run_words.specs.declared.form.ValueOption.{ValueOption}
@@ -46,6 +48,14 @@ between_view words = record {
   trace = option_copied words.trace;
 }
 
+-- the paths of the words
+abbrev pub capture_view : CaptureWords → Capture
+capture_view words = record {
+  handheld = words.handheld.now;
+  input = words.input.now;
+  output = words.output.now;
+}
+
 -- what the words ask for
 abbrev pub task_view : Command → Task
 task_view (commands.Run run) = Sync (run_view run)
@@ -54,3 +64,6 @@ task_view (commands.Packet packet) = Scan (bytes_of packet.hex.now)
 task_view (commands.Make make) = Make make.seed make.count
 task_view (commands.Install words) = Install (between_view words)
 task_view (commands.Backup words) = Backup (between_view words)
+task_view (commands.Restore words) = Restore (between_view words)
+task_view (commands.Device words) = Emulate (capture_view words)
+task_view (commands.Categories words) = Categories (between_view words)

@@ -1,12 +1,14 @@
 // Commands.
 ghost use Rattle.std.specs.Prelude.{◌≡◌, map, string_bytes, option_map};
 ghost use Rattle.run_words.specs.Betweens.{between_of};
-ghost use Rattle.run_words.specs.Commands.{Backup, LookAt, Scan, Sync, export_of, file_of, import_of, install_of, make_of, packet_of, task_of};
+ghost use Rattle.run_words.specs.Captures.{capture_of};
+ghost use Rattle.run_words.specs.Commands.{Backup, Categories, Emulate, LookAt, Restore, Scan, Sync, export_of, file_of, import_of, install_of, make_of, packet_of, task_of};
 ghost use Rattle.run_words.specs.Exports.{export_in as export_of_words, import_in as import_of_words};
 ghost use Rattle.run_words.specs.Runs.{run_of};
 ghost use Rattle.run_words.specs.Views.{task_view};
 
 use crate::between::{BetweenWords, between_words};
+use crate::capture::{CaptureWords, capture_words};
 use crate::form::{ValueOption, WordForm, has_flag, is_of_form, plain_at, value_of};
 use crate::hexadecimal::is_hex;
 use crate::look::{Export, ImportForm, Look, LookWords, export_form_in, import_form_in};
@@ -91,6 +93,12 @@ pub enum Command<'a> {
     Install(BetweenWords<'a>),
     /// `backup`.
     Backup(BetweenWords<'a>),
+    /// `restore`.
+    Restore(BetweenWords<'a>),
+    /// `device`.
+    Device(CaptureWords<'a>),
+    /// `categories`.
+    Categories(BetweenWords<'a>),
 }
 
 /// What these words ask for, by the first of them, or `None` exactly where they are not in the form. `now` is the
@@ -114,6 +122,9 @@ pub fn command_of<'a>(now: Option<u32>, words: &'a [String]) -> Option<Command<'
         "make" => make_command(words),
         "install" => install_command(words),
         "backup" => backup_command(words),
+        "restore" => restore_command(words),
+        "device" => device_command(words),
+        "categories" => categories_command(words),
         _ => None,
     }
 }
@@ -237,6 +248,39 @@ fn backup_command<'a>(words: &'a [String]) -> Option<Command<'a>>
 {
     match between_words(words) {
         Some(between) => Some(Command::Backup(between)),
+        None => None,
+    }
+}
+
+// The handheld and the folder behind `restore`.
+fn restore_command<'a>(words: &'a [String]) -> Option<Command<'a>>
+    ensures { option_map task_view result
+        ≡ option_map Restore (between_of (map string_bytes words.entry.now)) }
+{
+    match between_words(words) {
+        Some(between) => Some(Command::Restore(between)),
+        None => None,
+    }
+}
+
+// The handheld and both files behind `device`.
+fn device_command<'a>(words: &'a [String]) -> Option<Command<'a>>
+    ensures { option_map task_view result
+        ≡ option_map Emulate (capture_of (map string_bytes words.entry.now)) }
+{
+    match capture_words(words) {
+        Some(capture) => Some(Command::Device(capture)),
+        None => None,
+    }
+}
+
+// The handheld and the desktop behind `categories`.
+fn categories_command<'a>(words: &'a [String]) -> Option<Command<'a>>
+    ensures { option_map task_view result
+        ≡ option_map Categories (between_of (map string_bytes words.entry.now)) }
+{
+    match between_words(words) {
+        Some(between) => Some(Command::Categories(between)),
         None => None,
     }
 }

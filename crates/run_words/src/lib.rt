@@ -2,14 +2,17 @@
 //!
 //! The first word is the command: `run HANDHELD DESKTOP --date=D [--script=F] [--trace=F] [--slow] [--actions=L] [--add-user]`,
 //! `check FILE`, `show FILE`, `export FILE --as=FORM [--date=D] [--without-private] [--keep-broken]`, `import FILE --as=txt`,
-//! `verify FILE`, `picture FILE`, `packet HEX`, `make SEED N`, `install HANDHELD FILE [--trace=F]` or `backup HANDHELD FOLDER [--script=F] [--trace=F]`. The form of the words behind
-//! it is a table, and they stand in any order. A plain word is not empty and does not begin with `-`. A date is written, or it is `now`, the date that the caller
-//! hands over. No call takes memory but for the list of actions.
+//! `verify FILE`, `picture FILE`, `packet HEX`, `make SEED N`, `install HANDHELD FILE [--trace=F]`, `backup` or
+//! `restore HANDHELD FOLDER [--script=F] [--trace=F]`, `device HANDHELD --in=F --out=F` or
+//! `categories HANDHELD DESKTOP [--script=F] [--trace=F]`. The form of the words behind it is a table, and they stand in
+//! any order. A plain word is not empty and does not begin with `-`. A date is written, or it is `now`, the date that the
+//! caller hands over. No call takes memory but for the list of actions.
 #![tactic(auto)]
 
 mod action;
 mod action_list;
 mod between;
+mod capture;
 mod command;
 mod form;
 mod hexadecimal;
@@ -22,6 +25,7 @@ mod word;
 pub use action::{ActionWord, NamedAction, Target, action_of};
 pub use action_list::{is_actions, read_actions};
 pub use between::{BETWEEN, BetweenWords};
+pub use capture::{CAPTURE, CaptureWords};
 pub use command::{
     Command, EXPORT, FILE, IMPORT, MAKE, MakeWords, PACKET, PacketWords, command_of,
 };

@@ -1,4 +1,4 @@
-use Rattle.hotsync_looks.proofs.FileBounds.{filed_database}
+use Rattle.backup_files.proofs.FileBounds.{filed_database}
 use Rattle.hotsync_looks.proofs.InstallLaws.{bad_file_known, bad_file_shows}
 use Rattle.hotsync_looks.proofs.install_file.database_in.Goals as goal
 
