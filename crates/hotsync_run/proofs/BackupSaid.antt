@@ -1,10 +1,10 @@
 -- What the answer of a session that backs a handheld up says of its requests, and of its files.
 use Rattle.std.proofs.lemmas.Grind.{common_steps}
 use Rattle.std.proofs.lemmas.Bool.{and_parts}
-use Rattle.std.proofs.Common.{◌≡◌, ◌≢◌, ◌⊎◌, ◌∙◌, ◌<◌, ◌≤◌, ap, append_assoc, arith, inl, inr, refl, subst, sym, ℕ, zero, suc, not, Bool, true, false, List, [], ◌∷◌, ◌++◌, length, take}
-use Rattle.std.specs.Prelude.{IfErr, IfOk, IsErrOf, OnOk, Option, None, Some, Result, Ok, Err, map}
+use Rattle.std.proofs.Common.{◌≡◌, ◌⊎◌, ◌∙◌, ◌≤◌, ap, arith, inl, inr, refl, subst, sym, ℕ, zero, suc, not, Bool, true, false, List, [], ◌∷◌, ◌++◌, length, take}
+use Rattle.std.specs.Prelude.{IfErr, IfOk, IsErrOf, OnOk, Option, Some, Result, Ok, Err, map}
 use Rattle.std.specs.Global.{Vec}
-use Rattle.std.specs.List.{AllByRecursion, flat_map, list_all}
+use Rattle.std.specs.List.{AllByRecursion, list_all}
 use Rattle.std.proofs.lemmas.List.{length-take}
 use Rattle.pdb_values.specs.Databases.{DatabaseValue}
 use Rattle.pdb_values.specs.declared.record.Record.{Record}
@@ -19,8 +19,7 @@ use Rattle.line_world.specs.Logs.{no_log}
 use Rattle.line_world.specs.declared.down.Down.{Down}
 use Rattle.desktop_session.specs.Acts.{Act, text}
 use Rattle.desktop_session.specs.Says.{IsPrefix, answered}
-use Rattle.desktop_session.specs.Stops.{Does, Stops}
-use Rattle.desktop_session.specs.Tellings.{exchanges}
+use Rattle.desktop_session.specs.Stops.{Does}
 use Rattle.desktop_session.specs.declared.fault.SessionFault.TheVariants as session_fault
 use Rattle.session_parts.specs.Rests.{IsAtRest}
 use Rattle.session_parts.specs.declared.report.DbReport.{DbReport}
@@ -28,8 +27,8 @@ use Rattle.session_parts.specs.declared.stop.Stop.{Stop}
 use Rattle.session_parts.specs.declared.stop.Stop.TheVariants as stop
 use Rattle.install_backup.specs.declared.moved.Moved.{Moved}
 use Rattle.install_backup.specs.BackedUp.{backed_up}
-use Rattle.install_backup.specs.BackupActs.{backup_acts, backup_of}
-use Rattle.install_backup.specs.BackupEnds.{BackupEnds, backup_front, next_of, read_of}
+use Rattle.install_backup.specs.BackupActs.{backup_acts}
+use Rattle.install_backup.specs.BackupEnds.{read_of}
 use Rattle.install_backup.specs.Backups.{IsBackupCause, file_of, kept_moved}
 use Rattle.install_backup.proofs.BackedUpLaws.{copies-are}
 use Rattle.install_backup.proofs.ReadWhole.{AreHeld, held_all}
@@ -39,7 +38,7 @@ use Rattle.hotsync_run.specs.Closings.{left_status}
 use Rattle.hotsync_run.specs.Moves.{TellsMoves, moved_report}
 use Rattle.hotsync_run.specs.declared.moved.Way.TheVariants.{ToFiles}
 use Rattle.hotsync_run.specs.Whole.{StopsAnswered}
-use Rattle.hotsync_run.proofs.BackupActLaws.{next-shorter, some-acts}
+use Rattle.hotsync_run.proofs.BackupActLaws.{some-acts}
 use Rattle.hotsync_run.proofs.EndLaws.{acts-count, exchanged-length, told_all}
 use Rattle.hotsync_run.proofs.WholeLaws.{SaidOf, SaidShort, SaidWhole}
 use Rattle.hotsync_looks.specs.declared.status.Status.{Status}
@@ -102,7 +101,7 @@ pub record ToldBackedUp {F : Type 0} (device : Device) (later : List DatabaseVal
 pub record ToldBackup {F : Type 0} (fault : WorldValue F → Option LinkFault) (device : Device) (kept later : List DatabaseValue) (old new : WorldValue F)
     (answer : Result (Vec DbReport) Stop) : Type 0 where
   pub ended : IfOk answer (λ reports. ToldBackedUp device later old new reports.items)
-  pub cause : IfErr answer (IsBackupCause fault new)
+  pub cause : IfErr answer (IsBackupCause (λ (world : WorldValue F). Some (world_talk world)) fault new)
   pub unkept : IsErrOf answer stop.DeskFault → SaidShort (map text (backup_acts device)) old new
 
 -- a folder that failed is told so
@@ -128,12 +127,12 @@ module _ {F : Type 0} (fault : WorldValue F → Option LinkFault) (device : Devi
   ended_told later (Err cause) (Ok reports) all ended told = absurd told
   ended_told later (Err cause) (Err why) all ended told = tt
 
-  pub cause_told : (end : Result (Vec Moved) Stop) (answer : Result (Vec DbReport) Stop) → IfErr end (IsBackupCause fault new)
-      → TellsMoves ToFiles end answer → IfErr answer (IsBackupCause fault new)
+  pub cause_told : (end : Result (Vec Moved) Stop) (answer : Result (Vec DbReport) Stop) → IfErr end (IsBackupCause (λ (world : WorldValue F). Some (world_talk world)) fault new)
+      → TellsMoves ToFiles end answer → IfErr answer (IsBackupCause (λ (world : WorldValue F). Some (world_talk world)) fault new)
   cause_told (Ok moved) (Ok reports) cause told = tt
-  cause_told (Ok moved) (Err why) cause told = subst (IsBackupCause fault new) (sym told) tt
+  cause_told (Ok moved) (Err why) cause told = subst (IsBackupCause (λ (world : WorldValue F). Some (world_talk world)) fault new) (sym told) tt
   cause_told (Err other) (Ok reports) cause told = absurd told
-  cause_told (Err other) (Err why) cause told = subst (IsBackupCause fault new) (sym told) cause
+  cause_told (Err other) (Err why) cause told = subst (IsBackupCause (λ (world : WorldValue F). Some (world_talk world)) fault new) (sym told) cause
 
 -- ---- what was said
 
@@ -142,7 +141,7 @@ never_down cause is = grind (arith, common_steps)
 
 module _ {F : Type 0} (fault : WorldValue F → Option LinkFault) (device : Device) (kept later : List DatabaseValue) (old new : WorldValue F)
     (cause : Option Down) where
-  stop_said : (why : Stop) → IsBackupCause fault new why
+  stop_said : (why : Stop) → IsBackupCause (λ (world : WorldValue F). Some (world_talk world)) fault new why
       → (IsErrOf {T = Vec DbReport} (Err why) stop.DeskFault → SaidShort (map text (backup_acts device)) old new)
       → StopsAnswered (stop_status cause why) → SaidShort (map text (backup_acts device)) old new
   stop_said (stop.Session session_fault.Down) stops unkept answered = absurd (never_down cause answered)
@@ -183,7 +182,7 @@ down_shows : (cause : Option Down) → BackupShows (down_status cause)
 down_shows cause = grind (arith, common_steps)
 
 module _ {F : Type 0} (fault : WorldValue F → Option LinkFault) (new : WorldValue F) (cause : Option Down) where
-  stop_shows : (why : Stop) → IsBackupCause fault new why → BackupShows (stop_status cause why)
+  stop_shows : (why : Stop) → IsBackupCause (λ (world : WorldValue F). Some (world_talk world)) fault new why → BackupShows (stop_status cause why)
   stop_shows (stop.Session session_fault.Down) stops = down_shows cause
   stop_shows (stop.Session (session_fault.OtherUser handheld desktop)) stops = absurd stops
   stop_shows (stop.Session session_fault.TooManyUsers) stops = absurd stops
@@ -194,7 +193,7 @@ module _ {F : Type 0} (fault : WorldValue F → Option LinkFault) (new : WorldVa
   stop_shows (stop.NewHandheld name) stops = absurd stops
   stop_shows stop.DeskFault stops = tt
 
-  pub backup_shows : (answer : Result (Vec DbReport) Stop) {status : Status} → IfErr answer (IsBackupCause fault new)
+  pub backup_shows : (answer : Result (Vec DbReport) Stop) {status : Status} → IfErr answer (IsBackupCause (λ (world : WorldValue F). Some (world_talk world)) fault new)
       → (status ≡ left_status cause answer) ⊎ (status ≡ NoMemory) → BackupShows status
   backup_shows answer stops (inr memory) = subst BackupShows (sym memory) tt
   backup_shows (Ok made) stops (inl left) = subst BackupShows (sym left) tt

@@ -1,5 +1,5 @@
 -- What is known of the session of a backup, by what its calls answered, and whatever is written of it.
-use Rattle.std.proofs.Common.{◌≡◌, ◌⊎◌, ◌∙◌, ap, append_assoc, inl, inr, refl, subst, sym, ℕ, List, [], ◌∷◌, ◌++◌, ◌≤◌, arith, length, take}
+use Rattle.std.proofs.Common.{◌≡◌, ◌⊎◌, ◌∙◌, ap, append_assoc, inl, inr, subst, sym, ℕ, List, [], ◌++◌, ◌≤◌, arith, length, take}
 use Rattle.std.specs.Prelude.{IfOk, IsErrOf, Option, None, Some, Result, Ok, Err, map}
 use Rattle.std.specs.Global.{Vec}
 use Rattle.std.proofs.lemmas.List.{map-append}
@@ -18,7 +18,7 @@ use Rattle.desk_journal.specs.Overlays.{put_all}
 use Rattle.dlp_commands.specs.declared.link.LinkFault.{LinkFault}
 use Rattle.line_script.specs.Rules.{RuleValue}
 use Rattle.line_world.specs.Logs.{LogValue, no_log}
-use Rattle.line_world.specs.Worlds.{IsLog, WorldSince, WorldValue, world_talk}
+use Rattle.line_world.specs.Worlds.{WorldSince, WorldValue, world_talk}
 use Rattle.desktop_session.specs.Acts.{text}
 use Rattle.desktop_session.specs.Says.{IsPrefix, answered}
 use Rattle.desktop_session.specs.Stops.{Does}
@@ -27,11 +27,10 @@ use Rattle.session_parts.specs.declared.report.DbReport.{DbReport}
 use Rattle.session_parts.specs.declared.stop.Stop.{Stop}
 use Rattle.session_parts.specs.declared.stop.Stop.TheVariants as stop
 use Rattle.install_backup.specs.declared.moved.MoveOutcome.{MoveOutcome}
-use Rattle.install_backup.specs.declared.moved.Moved.{Moved}
 use Rattle.install_backup.specs.BackupActs.{backup_acts, backup_of}
 use Rattle.install_backup.specs.BackupEnds.{BackupEnds, backup_front, next_of, read_of}
 use Rattle.install_backup.specs.Backups.{HasSome, file_of}
-use Rattle.hotsync_run.specs.Backups.{BackupLeft, BackupShows, EndedBackup, HadBackup, IsBackupTalk, KeepsFiles, KeepsHandheld, backup_file}
+use Rattle.hotsync_run.specs.Backups.{BackupShows, EndedBackup, HadBackup, IsBackupTalk, KeepsFiles, KeepsHandheld, backup_file}
 use Rattle.hotsync_run.specs.Closings.{Closes, left_databases, left_end, left_in}
 use Rattle.hotsync_run.specs.LineRuns.{log_in}
 use Rattle.hotsync_run.specs.Moves.{TellsMoves}

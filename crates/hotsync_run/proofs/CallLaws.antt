@@ -1,8 +1,8 @@
 -- A call whose words were not read for want of memory.
 use Rattle.std.proofs.lemmas.Grind.{common_steps}
 use Rattle.std.proofs.Common.{arith, ◌≡◌, ◌⊎◌, inl, inr, refl, subst, sym}
-use Rattle.std.specs.Prelude.{None, Option, Some}
-use Rattle.run_words.specs.Commands.{Backup, Install, LookAt, Make, Scan, Sync, Task}
+use Rattle.std.specs.Prelude.{None, Option, Some, length}
+use Rattle.run_words.specs.Commands.{Backup, Emulate, Categories, Install, LookAt, Make, Restore, Scan, Sync, Task}
 use Rattle.hotsync_run.specs.Calls.{IsCall}
 use Rattle.hotsync_run.specs.Causes.{ByEnd, HasBegun}
 use Rattle.hotsync_looks.proofs.PrintedLaws.{printed_weaken}
@@ -12,9 +12,13 @@ use Rattle.hotsync_looks.specs.Told.{SinkTold}
 use Rattle.hotsync_run.specs.Told.{CallTold}
 use Rattle.hotsync_run.specs.Reports.{IsNotStarted}
 use Rattle.hotsync_run.specs.Backups.{backup_command}
+use Rattle.hotsync_looks.specs.Served.{served_lines}
+use Rattle.hotsync_run.specs.Filings.{categories_command}
 use Rattle.hotsync_run.specs.Installs.{install_command}
+use Rattle.hotsync_run.specs.Restores.{restore_command}
 use Rattle.hotsync_run.specs.Runs.{run_command}
 use Rattle.hotsync_run.specs.SessionCalls.{IsSessionCall, SentNothing, SessionCommand}
+use Rattle.hotsync_run.proofs.EmulationLaws.{unread_emulation}
 use Rattle.hotsync_run.proofs.RefusedRuns.{stands_same, stays_same}
 use Rattle.hotsync_run.specs.declared.report.Report.{Report}
 use Rattle.hotsync_run.specs.declared.report.SessionEnd.{SessionEnd}
@@ -71,6 +75,14 @@ unread_call (Some (Sync run)) before is printed =
     unread_session (run_command run) before (record { stands = stands_same refl; unread = λ unread. stays_same refl }) is printed
 unread_call (Some (Install words)) before is printed = unread_session (install_command words) before refl is printed
 unread_call (Some (Backup words)) before is printed = unread_session (backup_command words) before (stays_same refl) is printed
+unread_call (Some (Restore words)) before is printed = unread_session (restore_command words) before (stays_same refl) is printed
+unread_call (Some (Emulate capture)) before {report = report} is printed = record {
+  ran = unread_emulation capture before is;
+  printed = printed_weaken (λ text. text ≡ served_lines (length report.performed.items)) (λ text no. absurd no) printed;
+  complete = λ calm. inl refl;
+}
+unread_call (Some (Categories words)) before is printed =
+    unread_session (categories_command words) before (record { stands = stands_same refl; unread = λ unread. stays_same refl }) is printed
 unread_call None before is printed = grind (arith, common_steps)
 unread_call (Some (LookAt look file)) before is printed = grind (arith, common_steps)
 unread_call (Some (Scan bytes)) before is printed = grind (arith, common_steps)

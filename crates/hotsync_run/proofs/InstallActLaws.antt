@@ -50,11 +50,11 @@ pub some-acts : (database : DatabaseValue) → is_installable database ≡ true 
 some-acts database is = let more = full-shorter database is in omega (arith, more)
 
 -- an end leaves databases and user as they are
-record StaysAtEnd (device : Device) : Type 0 where
-  databases : (device_after (ending ∷ []) device).databases ≡ device.databases
-  user : (device_after (ending ∷ []) device).user ≡ device.user
+pub record StaysAtEnd (device : Device) : Type 0 where
+  pub databases : (device_after (ending ∷ []) device).databases ≡ device.databases
+  pub user : (device_after (ending ∷ []) device).user ≡ device.user
 
-stays_at_end : (device : Device) → StaysAtEnd device
+pub stays_at_end : (device : Device) → StaysAtEnd device
 unfolding acted tried
 stays_at_end device = record { databases = refl; user = refl }
 

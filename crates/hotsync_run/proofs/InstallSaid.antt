@@ -67,7 +67,7 @@ only (x ∷ before) rest one database parts =
 -- ---- by what its calls answered
 
 -- it stopped for want of room, unless its link, a reply or its memory stopped it before
-abbrev StopsAtFull : List ℕ → Result (Vec DbReport) Stop → Type 0
+abbrev pub StopsAtFull : List ℕ → Result (Vec DbReport) Stop → Type 0
 StopsAtFull name (Ok reports) = ⊥
 StopsAtFull name (Err (stop.Session cause)) = Unit {0}
 StopsAtFull name (Err (stop.Limit other)) = other ≡ name
@@ -144,7 +144,7 @@ until_full {F} {database} {device} {old} {new} full =
     subst (λ (one : DatabaseValue). Said (greeting ++ making_acts one)) it.one_is
     (subst (λ (before : List DatabaseValue). Said (greeting ++ (installs_of before ++ making_acts full.one))) it.before_is full.does)
 
-never_down : (cause : Option Down) → StopsAnswered (down_status cause) → ⊥
+pub never_down : (cause : Option Down) → StopsAnswered (down_status cause) → ⊥
 never_down cause is = grind (arith, common_steps)
 
 module _ {F : Type 0} (fault : WorldValue F → Option LinkFault) (database : DatabaseValue) (device : Device) (old new : WorldValue F)
@@ -190,7 +190,7 @@ module _ {F : Type 0} (fault : WorldValue F → Option LinkFault) (database : Da
 down_shows : (device : Device) (database : DatabaseValue) (report : Report) (cause : Option Down) → InstallShows device database report (down_status cause)
 down_shows device database report cause = grind (arith, common_steps)
 
-down_cut : (cause : Option Down) → IsCutShort (down_status cause)
+pub down_cut : (cause : Option Down) → IsCutShort (down_status cause)
 down_cut cause = grind (arith, common_steps)
 
 module _ {F : Type 0} (fault : WorldValue F → Option LinkFault) (database : DatabaseValue) (device : Device) {old new : WorldValue F} {palm_after : FolderTold}

@@ -70,7 +70,7 @@ told_by {database = database} {device} {old} {new} (Ok reports) report told same
 told_by (Err why) report told same is ended = absurd (let both = sym is ∙ ended in cc)
 
 -- the desktop's folder is never blamed
-no_desk : {F : Type 0} (fault : WorldValue F → Option LinkFault) (databases : List DatabaseValue) (device : Device) (old new : WorldValue F)
+pub no_desk : {F : Type 0} (fault : WorldValue F → Option LinkFault) (databases : List DatabaseValue) (device : Device) (old new : WorldValue F)
     (answer : Result (Vec DbReport) Stop)
     → IfErr answer (IsInstallStop (λ (world : WorldValue F). Some (world_talk world)) fault databases device old new) → IsErrOf answer stop.DeskFault → ⊥
 no_desk {F} fault databases device old new answer stops is =

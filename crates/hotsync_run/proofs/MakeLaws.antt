@@ -39,7 +39,8 @@ use Rattle.hotsync_run.specs.declared.report.Report.{Report}
 use Rattle.hotsync_looks.specs.declared.status.Status.{Status}
 use Rattle.hotsync_looks.specs.declared.status.Status.TheVariants.{Done, Usage, BadScript, TooLong, BadFile, TooMany, HandheldFolder, DesktopFolder, SourceRead}
 use Rattle.hotsync_looks.specs.declared.status.Status.TheVariants.{TraceWrite, OutWrite, NoMemory, LineDown, Unplugged, Aborted, Undetected, OtherUser}
-use Rattle.hotsync_looks.specs.declared.status.Status.TheVariants.{TooManyUsers, Limit, NewHandheld, WrongSide, InUse, CannotExport, BadRecord, BadText, Overfull, BadTrace, NotProper, CannotInstall, NotBackupFolder}
+use Rattle.hotsync_looks.specs.declared.status.Status.TheVariants.{TooManyUsers, Limit, NewHandheld, WrongSide, InUse, CannotExport, BadRecord, BadText, Overfull, BadTrace, NotProper, CannotInstall, NotBackupFolder, SameDatabase}
+use Rattle.hotsync_looks.specs.declared.status.Status.TheVariants.{StreamEnded, StreamAborted, BadHello}
 use Rattle.hotsync_run.proofs.MadeItems.{drawn_short}
 use Rattle.hotsync_run.proofs.MadeLimits.{none_lost, none_over}
 use Rattle.hotsync_run.proofs.MadeReports.{AsksNothing, made_device, made_meeting, made_meets, made_slot, reports_are}
@@ -152,6 +153,10 @@ module _ {items : List Item} (after : SidesTold) (report : Report) (are : AreIte
   by_status (NotProper rule) asks ends unsaid up caused numbered shows palm desk = absurd ends
   by_status (CannotInstall name) asks ends unsaid up caused numbered shows palm desk = absurd ends
   by_status NotBackupFolder asks ends unsaid up caused numbered shows palm desk = absurd ends
+  by_status (SameDatabase first second) asks ends unsaid up caused numbered shows palm desk = absurd ends
+  by_status StreamEnded asks ends unsaid up caused numbered shows palm desk = absurd ends
+  by_status StreamAborted asks ends unsaid up caused numbered shows palm desk = absurd ends
+  by_status BadHello asks ends unsaid up caused numbered shows palm desk = absurd ends
   by_status HandheldFolder asks ends unsaid up caused numbered shows palm desk = absurd (no_rise (subst (Rose 0) calm (palm refl)))
   by_status DesktopFolder asks ends unsaid up caused numbered shows palm desk = absurd (no_rise (subst (Rose 0) steady (desk refl)))
   by_status TraceWrite asks ends unsaid up caused numbered shows palm desk = absurd unsaid

@@ -2,8 +2,9 @@
 use Rattle.std.proofs.lemmas.Grind.{common_steps}
 use Rattle.std.proofs.Common.{◌≡◌, ◌≤◌, ℕ, Bool, List, [], ◌∷◌, subst, arith}
 use Rattle.std.specs.Prelude.{Option, None, Some, codes, bytes_eq, cond, is_some, option_and_then, option_map}
-use Rattle.run_words.specs.Commands.{Task, Sync, LookAt, Scan, Make, Install, Backup, export_form, export_of, export_task_in, file_of, import_form, import_of, import_task_in, install_between, install_of, make_form, make_in, make_of, packet_of, task_behind, task_of}
+use Rattle.run_words.specs.Commands.{Task, Sync, LookAt, Scan, Make, Install, Backup, Restore, Emulate, Categories, export_form, export_of, export_task_in, file_of, import_form, import_of, import_task_in, install_between, install_of, make_form, make_in, make_of, packet_of, task_behind, task_of}
 use Rattle.run_words.specs.Betweens.{Between, between_of}
+use Rattle.run_words.specs.Captures.{capture_of}
 use Rattle.run_words.specs.Exports.{export_in, import_in}
 use Rattle.run_words.specs.Forms.{is_of_form, plain_at}
 use Rattle.run_words.specs.Numbers.{as_count, count_of, number_of}
@@ -20,6 +21,9 @@ IsFew (Some (Scan bytes)) = Unit {0}
 IsFew (Some (Make seed count)) = count ≤ 5000
 IsFew (Some (Install between)) = Unit {0}
 IsFew (Some (Backup between)) = Unit {0}
+IsFew (Some (Restore between)) = Unit {0}
+IsFew (Some (Emulate capture)) = Unit {0}
+IsFew (Some (Categories between)) = Unit {0}
 
 few_if : (test : Bool) (one other : Option Task) → IsFew one → IsFew other → IsFew (cond test one other)
 few_if test one other a b = grind (arith, common_steps)
@@ -73,7 +77,10 @@ few_behind now command words =
     (few_if (bytes_eq command (codes "packet")) _ _ (few_map Scan (packet_of words) (λ bytes. tt))
     (few_if (bytes_eq command (codes "make")) _ _ (few_made words)
     (few_if (bytes_eq command (codes "install")) _ _ (few_installed words)
-    (few_if (bytes_eq command (codes "backup")) _ _ (few_map Backup (between_of words) (λ between. tt)) tt))))))))))
+    (few_if (bytes_eq command (codes "backup")) _ _ (few_map Backup (between_of words) (λ between. tt))
+    (few_if (bytes_eq command (codes "restore")) _ _ (few_map Restore (between_of words) (λ between. tt))
+    (few_if (bytes_eq command (codes "device")) _ _ (few_map Emulate (capture_of words) (λ capture. tt))
+    (few_if (bytes_eq command (codes "categories")) _ _ (few_map Categories (between_of words) (λ between. tt)) tt)))))))))))))
 
 few_words : (now : Option ℕ) (words : List (List ℕ)) → IsFew (task_of now words)
 unfolding task_of

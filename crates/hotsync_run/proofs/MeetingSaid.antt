@@ -50,7 +50,7 @@ before-all meeting given =
 
 -- ---- what was answered
 
-never_down : (cause : Option Down) → StopsAnswered (down_status cause) → ⊥
+pub never_down : (cause : Option Down) → StopsAnswered (down_status cause) → ⊥
 never_down cause is = grind (arith, common_steps)
 
 module _ (meeting : Meeting) (cause : Option Down) where

@@ -2,7 +2,8 @@
 use Rattle.std.proofs.Common.{◌≡◌, Bor, refl, subst, List, ℕ}
 use Rattle.std.specs.Prelude.{None, Option, Some, option_copied}
 use Rattle.run_words.specs.Betweens.{Between}
-use Rattle.run_words.specs.Commands.{Backup, Install, LookAt, Sync, Task}
+use Rattle.run_words.specs.Captures.{Capture}
+use Rattle.run_words.specs.Commands.{Backup, Emulate, Categories, Install, LookAt, Restore, Sync, Task}
 use Rattle.run_words.specs.Runs.{Run}
 use Rattle.run_words.specs.declared.look.Look.{Look}
 use Rattle.hotsync_run.specs.Calls.{paths_of}
@@ -60,3 +61,43 @@ module _ {task : Option Task} {words : Between} (is : task ≡ Some (Backup word
 
   pub backup_trace : (paths_of task).trace ≡ None → words.trace ≡ None
   backup_trace none = subst (λ (t : Option Task). (paths_of t).trace ≡ None) is none
+
+module _ {task : Option Task} {words : Between} (is : task ≡ Some (Restore words)) where
+  -- a restore names both folders
+  pub restore_handheld : (paths_of task).handheld ≡ None → ⊥
+  restore_handheld none = some_is_none (subst (λ (t : Option Task). (paths_of t).handheld ≡ None) is none)
+
+  pub restore_desktop : (paths_of task).desktop ≡ None → ⊥
+  restore_desktop none = some_is_none (subst (λ (t : Option Task). (paths_of t).desktop ≡ None) is none)
+
+  -- and its script and its trace where the words do
+  pub restore_source : (paths_of task).source ≡ None → words.script ≡ None
+  restore_source none = subst (λ (t : Option Task). (paths_of t).source ≡ None) is none
+
+  pub restore_trace : (paths_of task).trace ≡ None → words.trace ≡ None
+  restore_trace none = subst (λ (t : Option Task). (paths_of t).trace ≡ None) is none
+
+module _ {task : Option Task} {capture : Capture} (is : task ≡ Some (Emulate capture)) where
+  -- a handheld over captured bytes has its folder and both files, and no desktop
+  pub capture_handheld : (paths_of task).handheld ≡ None → ⊥
+  capture_handheld none = some_is_none (subst (λ (t : Option Task). (paths_of t).handheld ≡ None) is none)
+
+  pub capture_source : (paths_of task).source ≡ None → ⊥
+  capture_source none = some_is_none (subst (λ (t : Option Task). (paths_of t).source ≡ None) is none)
+
+  pub capture_trace : (paths_of task).trace ≡ None → ⊥
+  capture_trace none = some_is_none (subst (λ (t : Option Task). (paths_of t).trace ≡ None) is none)
+
+module _ {task : Option Task} {words : Between} (is : task ≡ Some (Categories words)) where
+  -- so do categories
+  pub categories_handheld : (paths_of task).handheld ≡ None → ⊥
+  categories_handheld none = some_is_none (subst (λ (t : Option Task). (paths_of t).handheld ≡ None) is none)
+
+  pub categories_desktop : (paths_of task).desktop ≡ None → ⊥
+  categories_desktop none = some_is_none (subst (λ (t : Option Task). (paths_of t).desktop ≡ None) is none)
+
+  pub categories_source : (paths_of task).source ≡ None → words.script ≡ None
+  categories_source none = subst (λ (t : Option Task). (paths_of t).source ≡ None) is none
+
+  pub categories_trace : (paths_of task).trace ≡ None → words.trace ≡ None
+  categories_trace none = subst (λ (t : Option Task). (paths_of t).trace ≡ None) is none

@@ -33,7 +33,7 @@ traced_as other was_done served traced = record {
 
 -- ---- what was judged
 
-refused_not_done : (run : Run) (before : CallTold) {status : Status} → IsRefused run before status → status ≡ Done → ⊥
+pub refused_not_done : (run : Run) (before : CallTold) {status : Status} → IsRefused run before status → status ≡ Done → ⊥
 refused_not_done run before e f = grind (arith, common_steps)
 
 -- nor one that the line stopped

@@ -44,7 +44,7 @@ down_shows : (meeting : Meeting) (report : Report) (cause : Option Down) → Sta
 down_shows meeting report cause = grind (arith, common_steps)
 
 -- these acts were answered, and nothing else went out
-said_all : {F : Type 0} {acts : List Act} {old new : WorldValue F} {palm_after : FolderTold} {report : Report} → Tells old new palm_after report
+pub said_all : {F : Type 0} {acts : List Act} {old new : WorldValue F} {palm_after : FolderTold} {report : Report} → Tells old new palm_after report
     → Does (λ (world : WorldValue F). Some (world_talk world)) acts old new → SaidAll (map text acts) report
 said_all tells does = grind (arith, logged_all tells.silent tells.is_log does)
 
@@ -80,11 +80,11 @@ module _ (meeting : Meeting) {palm_after : FolderTold} {report : Report} (cause 
 
 -- ---- a session that both sides refuse
 
-down_cut : (cause : Option Down) → IsCutShort (down_status cause)
+pub down_cut : (cause : Option Down) → IsCutShort (down_status cause)
 down_cut cause = grind (arith, common_steps)
 
 -- the status of a user without a slot, whatever the line's cause is
-unseated_status : (users : List ℕ) (user : UserInfo) (found : Slot) (cause : Option Down) {why : SessionFault} → user_with users user found ≡ Err why
+pub unseated_status : (users : List ℕ) (user : UserInfo) (found : Slot) (cause : Option Down) {why : SessionFault} → user_with users user found ≡ Err why
     → fault_status cause why ≡ fault_status None why
 unseated_status users user found cause is = grind (arith, common_steps)
 

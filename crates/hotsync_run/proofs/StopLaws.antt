@@ -17,7 +17,8 @@ use Rattle.hotsync_run.specs.declared.report.SessionEnd.TheVariants.{Ended}
 use Rattle.hotsync_looks.specs.declared.status.Status.{Status}
 use Rattle.hotsync_looks.specs.declared.status.Status.TheVariants.{Done, Usage, BadScript, TooLong, BadFile, TooMany, HandheldFolder, DesktopFolder, SourceRead}
 use Rattle.hotsync_looks.specs.declared.status.Status.TheVariants.{TraceWrite, OutWrite, NoMemory, LineDown, Unplugged, Aborted, Undetected, OtherUser}
-use Rattle.hotsync_looks.specs.declared.status.Status.TheVariants.{TooManyUsers, Limit, NewHandheld, WrongSide, InUse, CannotExport, BadRecord, BadText, Overfull, BadTrace, NotProper, CannotInstall, NotBackupFolder}
+use Rattle.hotsync_looks.specs.declared.status.Status.TheVariants.{TooManyUsers, Limit, NewHandheld, WrongSide, InUse, CannotExport, BadRecord, BadText, Overfull, BadTrace, NotProper, CannotInstall, NotBackupFolder, SameDatabase}
+use Rattle.hotsync_looks.specs.declared.status.Status.TheVariants.{StreamEnded, StreamAborted, BadHello}
 
 -- all that is known of a status and the frames behind it
 pub record Spoken (asked : List (List ℕ)) (status : Status) (report : Report) (answered : ℕ) : Type 0 where
@@ -59,6 +60,10 @@ module _ {asked : List (List ℕ)} {report : Report} {answered : ℕ} where
   tells_stop (NotProper rule) it why by = absurd it.ends
   tells_stop (CannotInstall name) it why by = absurd it.ends
   tells_stop NotBackupFolder it why by = absurd it.ends
+  tells_stop (SameDatabase first second) it why by = absurd it.ends
+  tells_stop StreamEnded it why by = absurd it.ends
+  tells_stop StreamAborted it why by = absurd it.ends
+  tells_stop BadHello it why by = absurd it.ends
   tells_stop (OtherUser handheld desktop) it why by = absurd (none_answered it tt by)
   tells_stop TooManyUsers it why by = absurd (none_answered it tt by)
   tells_stop (Limit name) it why by = absurd (none_answered it tt by)

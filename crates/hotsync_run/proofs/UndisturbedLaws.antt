@@ -102,7 +102,7 @@ right_desktop : {told : Option FileMap} → IsGoodDesktop told → IfSome told (
 right_desktop good wrong = let both = subst (λ (t : Option FileMap). IfSome t (λ files. is_handheld files ≡ true)) good.is wrong in
     let right = good.side in cc
 
-judged_desktop : {told : Option FileMap} {refusal : Status} → IsGoodDesktop told → DesktopRefuses told refusal → IsDesktopFailure refusal
+pub judged_desktop : {told : Option FileMap} {refusal : Status} → IsGoodDesktop told → DesktopRefuses told refusal → IsDesktopFailure refusal
 judged_desktop good (inl failed) = failed
 judged_desktop good (inr (inl wrong)) = absurd (right_desktop good wrong.side)
 judged_desktop good (inr (inr refuses)) = elim (unshown_desktop refuses.fault good refuses.shown) [

@@ -40,7 +40,8 @@ use Rattle.hotsync_run.specs.declared.report.SessionEnd.TheVariants.{Ended}
 use Rattle.hotsync_looks.specs.declared.status.Status.{Status}
 use Rattle.hotsync_looks.specs.declared.status.Status.TheVariants.{Done, Usage, BadScript, TooLong, BadFile, TooMany, HandheldFolder, DesktopFolder, SourceRead}
 use Rattle.hotsync_looks.specs.declared.status.Status.TheVariants.{TraceWrite, OutWrite, NoMemory, LineDown, Unplugged, Aborted, Undetected, OtherUser}
-use Rattle.hotsync_looks.specs.declared.status.Status.TheVariants.{TooManyUsers, Limit, NewHandheld, WrongSide, InUse, CannotExport, BadRecord, BadText, Overfull, BadTrace, NotProper, CannotInstall, NotBackupFolder}
+use Rattle.hotsync_looks.specs.declared.status.Status.TheVariants.{TooManyUsers, Limit, NewHandheld, WrongSide, InUse, CannotExport, BadRecord, BadText, Overfull, BadTrace, NotProper, CannotInstall, NotBackupFolder, SameDatabase}
+use Rattle.hotsync_looks.specs.declared.status.Status.TheVariants.{StreamEnded, StreamAborted, BadHello}
 
 -- ---- the frames tell one story
 
@@ -193,6 +194,10 @@ module _ {asked : List (List ℕ)} where
   whole_over (NotProper rule) some over short whole = absurd over.ends
   whole_over (CannotInstall name) some over short whole = absurd over.ends
   whole_over NotBackupFolder some over short whole = absurd over.ends
+  whole_over (SameDatabase first second) some over short whole = absurd over.ends
+  whole_over StreamEnded some over short whole = absurd over.ends
+  whole_over StreamAborted some over short whole = absurd over.ends
+  whole_over BadHello some over short whole = absurd over.ends
   whole_over (OtherUser handheld desktop) some over short whole = absurd (stopped_short whole (short tt))
   whole_over TooManyUsers some over short whole = absurd (stopped_short whole (short tt))
   whole_over (Limit name) some over short whole = absurd (stopped_short whole (short tt))

@@ -81,12 +81,11 @@ pub record CanGive (meeting : Meeting) (name ids : List ℕ) : Type 0 where
   pub unknown : AreUnknown (found_of meeting name) ids
 
 -- The last of the sessions behind a first one, where it gave these ids, takes up all that came
--- before. The folders stand for its merge. It skips
--- no database that the first one didn't, and each of these ends as one whole session of the first
--- meeting would have ended it, whichever ids that
+-- before. The folders stand for its merge. It skips no database that the first one didn't, and each
+-- of these ends as one whole session of the first meeting would have ended it, whichever ids that
 -- would have given, and some it could have: at the merge of what the first one found, under the ids
--- that all of them gave. What the first one
--- skipped all of them skip, and both sides hold of it what the first one found.
+-- that all of them gave. What the first one skipped all of them skip, and both sides hold of it
+-- what the first one found.
 pub record TakesUp (meeting : Meeting) (others : List Later) (given : List ℕ)
     (after : CallTold) : Type 0 where
   pub handheld : Stands after.palm.contents
@@ -109,8 +108,8 @@ pub record TakesUp (meeting : Meeting) (others : List Later) (given : List ℕ)
       (merged_slot (last_run meeting others) given) name
 
 -- Calls of which some began a session: the first of these met the sides that the folders of the
--- first call held, each other one those that its
--- own held, and the last one took up all that came before.
+-- first call held, each other one those that its own held, and the last one took up all that came
+-- before.
 pub record EndsAsOne (call : RunCall) (later : List RunCall) : Type 0 where
   pub first : RunCall
   pub rest : List RunCall

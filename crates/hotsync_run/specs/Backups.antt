@@ -1,5 +1,5 @@
 -- What holds of every backup: all objects before it, and all of them after it.
-use Rattle.std.specs.Prelude.{◌≡◌, ◌⊎◌, ⊤, ℕ, Bool, ◌||◌, true, false, List, [], ◌++◌, length, map, Option, None, Some, IfSome, String, bytes_eq, string_bytes}
+use Rattle.std.specs.Prelude.{◌≡◌, ◌⊎◌, ⊤, Bool, ◌||◌, true, false, List, [], ◌++◌, length, map, Option, Some, IfSome, String, bytes_eq, string_bytes}
 use Rattle.std.specs.FinMap as finmap
 use Rattle.std.specs.List.{flat_map, list_any}
 use Rattle.std.specs.Option.{option_map}
@@ -66,8 +66,7 @@ abbrev pub StandsApart : Option FileMap → Type 0
 StandsApart kept = IfSome kept (λ files. is_synced files ≡ false)
 
 -- The script is judged first, then the handheld's folder, then that for the files, and last the
--- trace
--- is opened. Each is judged where all that comes before it is good.
+-- trace is opened. Each is judged where all that comes before it is good.
 abbrev pub BackupRefuses : Between → CallTold → Status → Type 0
 BackupRefuses words before refusal =
     ScriptRefuses words.script before.source.left refusal
@@ -150,8 +149,7 @@ IsBackupTalk rules device before after status report =
     IsTalk (HadBackup rules device before after) before after status report
 
 -- The script, the handheld and the folder for the files before it, all that is known of the
--- session,
--- and what the trace took.
+-- session, and what the trace took.
 pub record BackupRan (words : Between) (before after : CallTold) (status : Status)
     (report : Report) : Type 0 where
   pub rules : List RuleValue
@@ -166,8 +164,7 @@ pub record BackupRan (words : Between) (before after : CallTold) (status : Statu
 -- ---- every backup
 
 -- A good script and a kind line, good files of the handheld, a folder for the files that tells
--- those
--- of no folder that is synchronised, and no object that failed.
+-- those of no folder that is synchronised, and no object that failed.
 pub record IsCalmBackup (words : Between) (before after : CallTold) (out out_after : SinkTold)
     (report : Report) : Type 0 where
   pub script : IsGoodScript words.script before.source.left

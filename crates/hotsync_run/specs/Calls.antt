@@ -4,12 +4,15 @@ use Rattle.std.specs.declared.alloc.Global.{Global}
 use Rattle.hs_folders.specs.declared.folder.Folder.{Ghosts as FolderMembers}
 use Rattle.hs_folders.specs.declared.sink.Sink.{Ghosts as SinkMembers}
 use Rattle.hs_folders.specs.declared.source.Source.{Ghosts as SourceMembers}
-use Rattle.run_words.specs.Commands.{Task, Sync, LookAt, Scan, Make, Install, Backup, task_of}
+use Rattle.run_words.specs.Commands.{Task, Sync, LookAt, Scan, Make, Install, Backup, Restore, Emulate, Categories, task_of}
 use Rattle.hotsync_looks.specs.Looks.{IsLook}
 use Rattle.hotsync_run.specs.Backups.{IsBackup, backup_paths}
+use Rattle.hotsync_run.specs.Emulations.{IsEmulation, emulation_paths}
+use Rattle.hotsync_run.specs.Filings.{IsCategories, categories_paths}
 use Rattle.hotsync_run.specs.Installs.{IsInstall, install_paths}
 use Rattle.hotsync_run.specs.Makes.{IsMake}
 use Rattle.hotsync_looks.specs.Printed.{IsPrinted}
+use Rattle.hotsync_run.specs.Restores.{IsRestore, restore_paths}
 use Rattle.hotsync_run.specs.Runs.{IsRun, run_paths}
 use Rattle.hotsync_run.specs.SessionCalls.{Paths}
 use Rattle.hotsync_looks.specs.Scans.{IsScanned}
@@ -30,7 +33,8 @@ pub record IsNothing (out out_after : SinkTold) (status : Status) : Type 0 where
   pub printed : IsPrinted (λ text. ⊥) out out_after status
 
 -- What is known of a call: words out of the form give the usage line. Only a run sends anything, a
--- session between made folders, an install, and a backup.
+-- session between made folders, an install, a backup, a restore and categories that are brought
+-- together; a handheld over captured bytes says what it would have sent.
 abbrev pub IsCall : Option Task → CallTold → CallTold → SinkTold → SinkTold → Status
     → Report → Type 0
 IsCall None before after out out_after status report = IsNothing out out_after status
@@ -46,6 +50,12 @@ IsCall (Some (Install words)) before after out out_after status report =
     IsInstall words before after out out_after status report
 IsCall (Some (Backup words)) before after out out_after status report =
     IsBackup words before after out out_after status report
+IsCall (Some (Restore words)) before after out out_after status report =
+    IsRestore words before after out out_after status report
+IsCall (Some (Emulate capture)) before after out out_after status report =
+    IsEmulation capture before after out out_after status report
+IsCall (Some (Categories words)) before after out out_after status report =
+    IsCategories words before after out out_after status report
 
 -- a call: what its words ask for, its objects before and after it, and what it answered
 pub record Call : Type 0 where
@@ -73,24 +83,36 @@ OfCall Fact palms desks sources traces outs palm desk source trace out answer re
     (sink_told outs.taken outs.paths outs.faults out)
     (sink_told outs.taken outs.paths outs.faults said) answer.status answer.report
 
--- the words ask for a session: for a run, for one between made folders, for an install, or for a
--- backup
+-- the words ask for a session: for a run, for one between made folders, for an install, a backup, a
+-- restore or categories; or for a handheld's end of one, over captured bytes
 abbrev pub HasSession : Option Task → Type 0
 HasSession (Some (Sync run)) = ⊤
 HasSession (Some (Make seed count)) = ⊤
 HasSession (Some (Install words)) = ⊤
 HasSession (Some (Backup words)) = ⊤
+HasSession (Some (Restore words)) = ⊤
+HasSession (Some (Emulate capture)) = ⊤
+HasSession (Some (Categories words)) = ⊤
 HasSession _ = ⊥
+
+-- the words ask for something that reads the source before it touches a folder: all but a handheld
+-- over captured bytes, which hears them as it goes
+abbrev pub ReadsFirst : Option Task → Type 0
+ReadsFirst (Some (Emulate capture)) = ⊥
+ReadsFirst _ = ⊤
 
 -- no path
 abbrev pub no_paths : Paths
 no_paths = record { handheld = None; desktop = None; source = None; trace = None }
 
--- the paths that words give to each object: those of a run, of an install and of a backup, and the
--- file of a look
+-- the paths that words give to each object: those of a run, of an install, of a backup, of a
+-- restore and of categories, the file of a look, and those of a handheld over captured bytes
 abbrev pub paths_of : Option Task → Paths
 paths_of (Some (Sync run)) = run_paths run
 paths_of (Some (Install words)) = install_paths words
 paths_of (Some (Backup words)) = backup_paths words
+paths_of (Some (Restore words)) = restore_paths words
+paths_of (Some (Emulate capture)) = emulation_paths capture
+paths_of (Some (Categories words)) = categories_paths words
 paths_of (Some (LookAt look file)) = record no_paths { source = Some file }
 paths_of _ = no_paths

@@ -11,7 +11,8 @@ use Rattle.hotsync_run.specs.declared.report.SessionEnd.TheVariants.{NotStarted,
 use Rattle.hotsync_looks.specs.declared.status.Status.{Status}
 use Rattle.hotsync_looks.specs.declared.status.Status.TheVariants.{Done, Usage, BadScript, TooLong, BadFile, TooMany, HandheldFolder, DesktopFolder, SourceRead}
 use Rattle.hotsync_looks.specs.declared.status.Status.TheVariants.{TraceWrite, OutWrite, NoMemory, LineDown, Unplugged, Aborted, Undetected, OtherUser}
-use Rattle.hotsync_looks.specs.declared.status.Status.TheVariants.{TooManyUsers, Limit, NewHandheld, WrongSide, InUse, CannotExport, BadRecord, BadText, Overfull, BadTrace, NotProper, CannotInstall, NotBackupFolder}
+use Rattle.hotsync_looks.specs.declared.status.Status.TheVariants.{TooManyUsers, Limit, NewHandheld, WrongSide, InUse, CannotExport, BadRecord, BadText, Overfull, BadTrace, NotProper, CannotInstall, NotBackupFolder, SameDatabase}
+use Rattle.hotsync_looks.specs.declared.status.Status.TheVariants.{StreamEnded, StreamAborted, BadHello}
 
 -- ---- the status of a session
 
@@ -73,6 +74,10 @@ EndsAs (BadTrace _) end = ⊥
 EndsAs (NotProper _) end = ⊥
 EndsAs (CannotInstall _) end = ⊥
 EndsAs NotBackupFolder end = ⊥
+EndsAs (SameDatabase _ _) end = ⊥
+EndsAs StreamEnded end = ⊥
+EndsAs StreamAborted end = ⊥
+EndsAs BadHello end = ⊥
 EndsAs other end = end ≡ Stopped
 
 -- why the line is down, with the frames that the report names

@@ -37,8 +37,7 @@ pub record HasFile (left : Option (List ℕ)) : Type 0 where
   pub file : IfSome left (λ bytes. IsInstallFile bytes database)
 
 -- The file is judged first, then the handheld's folder, and last the trace is opened, each where
--- all
--- that comes before it is good.
+-- all that comes before it is good.
 abbrev pub InstallRefuses : Between → CallTold → Status → Type 0
 InstallRefuses words before refusal =
     FileRefuses words.other before.source.left refusal

@@ -5,8 +5,11 @@ pub mod Causes
 pub mod Clean
 pub mod Clocks
 pub mod Closings
+pub mod Emulations
 pub mod Ends
 pub mod Equal
+pub mod FilingCalls
+pub mod Filings
 pub mod Headline
 pub mod Installs
 pub mod Kept
@@ -16,6 +19,7 @@ pub mod Meetings
 pub mod Moves
 pub mod Refusals
 pub mod Reports
+pub mod Restores
 pub mod Runs
 pub mod Scripts
 pub mod SessionCalls

@@ -52,15 +52,12 @@ IsCounted X None frames = ⊥
 IsCounted X (Some tally) frames = CountsOf X tally frames
 
 -- The frames are a proper trace by the script of all that was said, and tell each end all messages
--- of the other one, or all but the last.
--- Each performed request is one that was issued, once and in order, or all but the last are
--- performed; each is one step of the handheld,
--- with its reply, and all replies but the last at most were taken. The folder stands for the
--- handheld after the last step, and at each
--- moment it stood for the handheld after some of them; its files went with the steps, each of which
--- touched one file at most. Where all that was issued was answered, the frames end with the
--- desktop's acknowledgement of the
--- last reply.
+-- of the other one, or all but the last. Each performed request is one that was issued, once and in
+-- order, or all but the last are performed; each is one step of the handheld, with its reply, and
+-- all replies but the last at most were taken. The folder stands for the handheld after the last
+-- step, and at each moment it stood for the handheld after some of them; its files went with the
+-- steps, each of which touched one file at most. Where all that was issued was answered, the frames
+-- end with the desktop's acknowledgement of the last reply.
 pub record LineRan (rules : List RuleValue) (device : Device) (before after : FolderTold)
     (report : Report) : Type 0 where
   pub proper : IsProper (fate_by rules) (said_in (log_in report)) (frames_in report)

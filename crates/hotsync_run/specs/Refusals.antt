@@ -96,8 +96,7 @@ pub record TraceRefuses (path : Option (List ℕ)) (refusal : Status) : Type 0 w
   pub is : IsTraceRefusal refusal
 
 -- The script is judged first, then the handheld's folder, then the desktop's, and last the trace is
--- opened. Each is judged where all
--- that comes before it is good.
+-- opened. Each is judged where all that comes before it is good.
 abbrev pub IsRefused : Run → CallTold → Status → Type 0
 IsRefused run before refusal =
     ScriptRefuses run.script before.source.left refusal

@@ -23,15 +23,13 @@ use Rattle.hotsync_looks.specs.declared.status.Status.{Status}
 -- ---- a run that sent nothing
 
 -- the desktop's folder stands for what it stood for, at each moment, once its journal is finished;
--- one
--- that was left may have been
+-- one that was left may have been
 pub record StandsAsItDid (before after : FolderTold) : Type 0 where
   pub stands : FinishesAs before.contents after.contents
   pub each_moment : EachMomentSince (FinishesAs before.contents) before.moments after.moments
 
 -- what a run that sent nothing keeps of the desktop's folder: what it stood for, and all of it
--- where
--- it was not read
+-- where it was not read
 pub record KeepsDesktop (before after : FolderTold) (status : Status) : Type 0 where
   pub stands : StandsAsItDid before after
   pub unread : LeavesDesktopUnread status → StaysAsItWas before after

@@ -28,8 +28,8 @@ use Rattle.hotsync_looks.specs.declared.status.Status.{Status}
 -- The desktop's folder, which is this once a journal that was left is finished, and then changed
 -- once at most: an ended session has put some files over the others, which are the information file
 -- and those of databases that it doesn't skip, in the picked slot. One that stopped left it
--- standing for what it stood for at first, or for that.
--- At each moment it stood for the one, and from some moment on for the other.
+-- standing for what it stood for at first, or for that. At each moment it stood for the one, and
+-- from some moment on for the other.
 pub record DesktopRan (meeting : Meeting) (opened : Option FileMap) (before after : FolderTold)
     (end : SessionEnd) : Type 0 where
   pub entries : List EntryValue

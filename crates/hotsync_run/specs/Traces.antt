@@ -12,8 +12,7 @@ use Rattle.hotsync_looks.specs.declared.status.Status.{Status}
 use Rattle.hotsync_looks.specs.declared.status.Status.TheVariants.{Done, TraceWrite, NoMemory}
 
 -- What a trace took: the text, wherever the run is told as done, and else unless the trace failed
--- or
--- memory ran out; or else a first part of it. Where none is named it took nothing of it.
+-- or memory ran out; or else a first part of it. Where none is named it took nothing of it.
 pub record IsTraced (path : Option (List ℕ)) (text : List ℕ) (before after : SinkTold)
     (status : Status) : Type 0 where
   pub part : AppendsPrefix before.taken after.taken text

@@ -16,8 +16,8 @@ use Rattle.hotsync_looks.specs.declared.status.Status.TheVariants.{HandheldFolde
 use Rattle.hotsync_looks.specs.declared.status.Status.TheVariants.{NewHandheld}
 
 -- Behind the greetings the frames tell the handheld the requests that it performed, or one request
--- more, and the desktop the replies that were answered, or
--- one reply more: the one more only where it was not dealt with, and no end had spent its tries.
+-- more, and the desktop the replies that were answered, or one reply more: the one more only where
+-- it was not dealt with, and no end had spent its tries.
 pub record TellsDone (status : Status) (log : LogValue) (answered : ℕ)
     (frames : List FrameValue) : Type 0 where
   pub requests :
@@ -50,10 +50,9 @@ pub record WentWhole (asked : List (List ℕ)) (report : Report) : Type 0 where
   pub acked : EndsAcknowledged (log_in report) (frames_in report)
 
 -- How far it was dealt with, by how it ended. Where the line is down or the handheld's folder
--- failed, the last request wasn't answered,
--- if one was issued; where the folder failed it wasn't performed. Only there, or where memory ran
--- out, a request was left without an answer. A
--- session ended exactly where it went over whole, unless memory ran out.
+-- failed, the last request wasn't answered, if one was issued; where the folder failed it wasn't
+-- performed. Only there, or where memory ran out, a request was left without an answer. A session
+-- ended exactly where it went over whole, unless memory ran out.
 pub record DealtWith (asked : List (List ℕ)) (status : Status) (report : Report) (answered : ℕ)
     : Type 0 where
   pub done : ((log_in report).issued ≡ [])

@@ -1,14 +1,17 @@
 // The top call.
 ghost use Rattle.std.specs.Prelude.{◌≡◌, None};
-ghost use Rattle.hotsync_run.specs.Calls.{HasSession, IsCall, OfCall, paths_of, task_in};
+ghost use Rattle.hotsync_run.specs.Calls.{HasSession, IsCall, OfCall, ReadsFirst, paths_of, task_in};
 ghost use Rattle.hotsync_run.specs.Refusals.{BlamesHandheld, BlamesSource};
 ghost use Rattle.hotsync_run.specs.Reports.{IsNotStarted};
 
 use crate::answer::Answer;
 use crate::backup::backup_folder;
+use crate::categories::file_categories;
+use crate::emulation::emulate;
 use crate::install::install_file;
 use crate::make::make;
 use crate::report::SessionEnd;
+use crate::restore::restore_folder;
 use crate::run::run_folders;
 use hotsync_looks::{Status, look_at, print_packets, print_refusal};
 use hs_folders::{Folder, Sink, Source};
@@ -37,7 +40,7 @@ pub fn hotsync<H: Folder, D: Folder, S: Source, T: Sink, O: Sink>(
     ensures report { ¬ HasSession (task_in now words.now) → IsNotStarted result.report }
 
     // What is judged later is not touched: the folders where the source is blamed, the desktop's where the handheld's is.
-    ensures source_first { BlamesSource result.status
+    ensures source_first { ReadsFirst (task_in now words.now) → BlamesSource result.status
         → (result.device ≡ device) × (result.desk ≡ desk) }
     ensures handheld_first { result.report.end ≡ SessionEnd.NotStarted
         → BlamesHandheld result.status → result.desk ≡ desk }
@@ -72,6 +75,13 @@ pub fn hotsync<H: Folder, D: Folder, S: Source, T: Sink, O: Sink>(
         }
         Ok(Command::Backup(words)) => {
             backup_folder(alloc, &words, device, desk, source, trace, out)
+        }
+        Ok(Command::Restore(words)) => {
+            restore_folder(alloc, &words, device, desk, source, trace, out)
+        }
+        Ok(Command::Device(words)) => emulate(alloc, &words, device, desk, source, trace, out),
+        Ok(Command::Categories(words)) => {
+            file_categories(alloc, &words, device, desk, source, trace, out)
         }
         Err(WordsFault::Usage) => {
             let status = print_refusal(alloc, Status::Usage, out);

@@ -1,6 +1,7 @@
 // Hints for whoever called, on standard error. Nothing is promised of them: what can't be said is left out.
 use crate::answer::Answer;
 use crate::report::Report;
+use dlp_args::MessageText;
 use dlp_replies::{Reply, read_reply};
 use folder_files::JOURNAL;
 use hotsync_looks::{Status, push_name};
@@ -13,6 +14,9 @@ use std::alloc::{AllocError, Global};
 
 // The function whose reply tells when the handheld was synchronised last.
 const READ_USER_INFO: u8 = 0x10;
+
+// The number of the request for the handheld's databases.
+const READ_DB_LIST: u8 = 0x16;
 
 /// Says what may help with the words of a run that was done.
 pub fn hint_words<R: Eprint + AllocGlobal>(
@@ -101,7 +105,9 @@ pub fn hint_folders<R: Eprint + AllocGlobal, H: Folder + Drop, D: Folder + Drop>
                 hint_database(rt, database);
             }
             hint_names(rt, &mut device);
-            hint_names(rt, &mut desk);
+            if asks_lists(&report.issued) {
+                hint_names(rt, &mut desk);
+            }
         }
         Status::DesktopFolder => hint_journal(rt, &mut desk),
         _ => {}
@@ -126,6 +132,13 @@ fn hint_database<R: Eprint + AllocGlobal>(rt: &R, database: &DbReport) {
         }
         _ => {}
     }
+}
+
+// Whether a session asked for the handheld's databases. One that restores files of any ending doesn't.
+fn asks_lists(requests: &[MessageText]) -> bool {
+    requests
+        .iter()
+        .any(|request| request.bytes().first() == Some(&READ_DB_LIST))
 }
 
 // Files that would be databases were their endings in lower case.

@@ -1,7 +1,7 @@
 // What the program does with the words that it was called with.
 ghost use Rattle.std.specs.Prelude.{◌≡◌, ◌↔◌, IfOk, IsErr, IsErrOf, None, drop};
 ghost use Rattle.std.specs.Process.{exit_status};
-ghost use Rattle.hotsync_run.specs.Calls.{HasSession, IsCall, OfCall, paths_of, task_in};
+ghost use Rattle.hotsync_run.specs.Calls.{HasSession, IsCall, OfCall, ReadsFirst, paths_of, task_in};
 ghost use Rattle.hotsync_looks.specs.Codes.{code_of};
 ghost use Rattle.hotsync_run.specs.Refusals.{BlamesHandheld, BlamesSource};
 ghost use Rattle.hotsync_run.specs.Reports.{IsNotStarted};
@@ -56,7 +56,8 @@ pub fn run_program<H: Folder, D: Folder, S: Source, T: Sink, O: Sink>(
         → IsNotStarted result.answer.report }
 
     // What is judged later is not touched, and neither is what the words give no path.
-    ensures source_first { BlamesSource result.answer.status
+    ensures source_first { ReadsFirst (task_in now (drop 1 args.now))
+        → BlamesSource result.answer.status
         → (result.answer.device ≡ device) × (result.answer.desk ≡ desk) }
     ensures handheld_first { result.answer.report.end ≡ SessionEnd.NotStarted
         → BlamesHandheld result.answer.status → result.answer.desk ≡ desk }

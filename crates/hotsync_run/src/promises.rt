@@ -2,33 +2,43 @@
 //! call, and what else holds of calls. Each function here does nothing: its contract is the law.
 ghost use Rattle.std.specs.Prelude.{◌≡◌, ◌<◌, ℕ, List, None, Some, true};
 ghost use Rattle.std.specs.List.{AllByRecursion};
+ghost use Rattle.hs_folders.specs.Moments.{EachMomentSince};
+ghost use Rattle.std.specs.Option.{option_map};
 ghost use Rattle.line_script.specs.Rules.{RuleValue};
 ghost use Rattle.trace_check.specs.Judging.{IsProperTrace};
 ghost use Rattle.run_words.specs.Betweens.{Between};
-ghost use Rattle.run_words.specs.Commands.{Install, LookAt, Make};
+ghost use Rattle.run_words.specs.Captures.{Capture};
+ghost use Rattle.run_words.specs.Commands.{Emulate, Categories, Install, LookAt, Make, Restore};
 ghost use Rattle.run_words.specs.declared.look.Look.{Look};
 ghost use Rattle.run_words.specs.Runs.{Run};
+ghost use Rattle.desk_journal.specs.Overlays.{FinishesAs, finished};
 ghost use Rattle.desk_store.specs.Desks.{StaysOpenable};
 ghost use Rattle.session_plan.specs.Limits.{first_over};
 ghost use Rattle.session_plan.specs.Tasks.{Meeting};
+ghost use Rattle.category_mirror.specs.Sides.{filing_of};
 ghost use Rattle.front_laws.specs.Answered.{IsAnsweredExchange};
 ghost use Rattle.hotsync_run.specs.Again.{AllRan, AreOfOneKind, AreTold, EndsAsOne, IsRepeat};
 ghost use Rattle.hotsync_run.specs.Calls.{Call, IsAnsweredCall, IsNothing};
 ghost use Rattle.hotsync_run.specs.Causes.{HasBegun};
 ghost use Rattle.hotsync_run.specs.Clean.{GoesThrough, HasNoLines};
+ghost use Rattle.hotsync_run.specs.Emulations.{SaysAll};
 ghost use Rattle.hotsync_run.specs.Equal.{EndsEqual};
+ghost use Rattle.hotsync_run.specs.FilingCalls.{IsSecondCall, StandsTogether};
+ghost use Rattle.hotsync_run.specs.Filings.{CategoriesRan, EndedFiling, StoppedFiling, categories_command};
 ghost use Rattle.hotsync_run.specs.Headline.{ActsOnce, FairStaysUp, Headline, IsAnsweredRun, IsWhatItSays, LeavesTheMerge, RunCall, TellsCause};
 ghost use Rattle.hotsync_run.specs.Installs.{EndedInstall, InstallRan, install_command};
 ghost use Rattle.hotsync_run.specs.LineRuns.{exchanges_in, frames_in};
 ghost use Rattle.hotsync_looks.specs.Looks.{IsLook};
 ghost use Rattle.hotsync_run.specs.Meetings.{Meets};
 ghost use Rattle.hotsync_looks.specs.PrintedNames.{is_printable, printed_name};
+ghost use Rattle.hotsync_run.specs.Restores.{EndedRestore, RestoreRan, StandsBeside, restore_command};
+ghost use Rattle.hotsync_looks.specs.declared.status.Status.TheVariants.{Done};
 ghost use Rattle.hotsync_run.specs.Runs.{run_command};
 ghost use Rattle.hotsync_run.specs.Scripts.{IsScripted};
-ghost use Rattle.hotsync_run.specs.SessionCalls.{SentNothing};
+ghost use Rattle.hotsync_run.specs.SessionCalls.{SentNothing, StaysAsItWas};
 ghost use Rattle.hotsync_run.specs.Told.{CallTold};
 ghost use Rattle.hotsync_run.specs.Undisturbed.{AreGood, EndsWell, IsCalm, IsUndisturbed};
-ghost use Rattle.hotsync_run.specs.declared.report.SessionEnd.TheVariants.{Ended, NotStarted};
+ghost use Rattle.hotsync_run.specs.declared.report.SessionEnd.TheVariants.{Ended, NotStarted, Stopped};
 
 /// What is promised of each run whose session began, on one page.
 pub fn a_run_keeps_what_it_promises()
@@ -164,6 +174,70 @@ pub fn an_install_keeps_what_it_promises()
         → call.task ≡ Some (Install words) → call.report.end ≡ Ended
         → (ran : InstallRan words call.before call.after call.status call.report)
         × EndedInstall ran.device ran.database call.after.palm call.report }
+{}
+
+/// A restore that is refused before its session changes nothing, and however it goes nothing in its folder is changed. Once it ended,
+/// the handheld has each database of the folder that is not read-only in place of the one of its name, and all else as it was. However
+/// it stopped, the handheld has its user and all databases that are not installed, and at each moment those in front of one are.
+pub fn a_restore_keeps_what_it_promises()
+    ensures refused { (call : Call) (words : Between) → IsAnsweredCall call
+        → call.task ≡ Some (Restore words) → call.report.end ≡ NotStarted
+        → SentNothing (restore_command words) call.before call.after call.status call.report }
+    ensures folder { (call : Call) (words : Between) → IsAnsweredCall call
+        → call.task ≡ Some (Restore words) → StaysAsItWas call.before.desk call.after.desk }
+    ensures ended { (call : Call) (words : Between) → IsAnsweredCall call
+        → call.task ≡ Some (Restore words) → call.report.end ≡ Ended
+        → (ran : RestoreRan words call.before call.after call.status call.report)
+        × EndedRestore ran.device ran.databases call.after.palm call.report }
+    ensures stopped { (call : Call) (words : Between) → IsAnsweredCall call
+        → call.task ≡ Some (Restore words) → HasBegun call.report.end
+        → (ran : RestoreRan words call.before call.after call.status call.report)
+        × EachMomentSince (StandsBeside ran.device ran.databases) call.before.palm.moments
+        call.after.palm.moments }
+{}
+
+/// A handheld over captured bytes whose talk ended said all that is to be said to their packets up to that, and no other byte; it did
+/// each of their requests once.
+pub fn a_handheld_says_what_is_to_be_said()
+    ensures { (call : Call) (capture : Capture) → IsAnsweredCall call
+        → call.task ≡ Some (Emulate capture) → call.status ≡ Done
+        → SaysAll call.before call.after call.report }
+{}
+
+/// Categories that are refused before their session change nothing of the handheld, nor what the desktop's folder stands for. Once their
+/// session ended, both folders stand for what it makes of both sides; one that stopped left the desktop's folder standing for what it stood
+/// for, or for what the session makes of it.
+pub fn categories_keep_what_they_promise()
+    ensures refused { (call : Call) (words : Between) → IsAnsweredCall call
+        → call.task ≡ Some (Categories words) → call.report.end ≡ NotStarted
+        → SentNothing (categories_command words) call.before call.after call.status call.report }
+    ensures ended { (call : Call) (words : Between) → IsAnsweredCall call
+        → call.task ≡ Some (Categories words) → call.report.end ≡ Ended
+        → (ran : CategoriesRan words call.before call.after call.status call.report)
+        × EndedFiling (filing_of ran.device ran.slots) call.after.palm call.after.desk call.report }
+    ensures stopped { (call : Call) (words : Between) → IsAnsweredCall call
+        → call.task ≡ Some (Categories words) → call.report.end ≡ Stopped
+        → (ran : CategoriesRan words call.before call.after call.status call.report)
+        × StoppedFiling (filing_of ran.device ran.slots) call.before.desk call.after.desk
+        call.report }
+{}
+
+/// Categories that were brought together stay as they are: a session behind one that ended, with nothing edited between them and whatever
+/// the words of both are, leaves the desktop's folder alone, and both sides as they were. One that ends behind a session that left the
+/// desktop as it was makes up for it.
+pub fn categories_that_are_together_stay()
+    ensures untouched { (first second : Call) → IsSecondCall first second
+        → first.report.end ≡ Ended → HasBegun second.report.end
+        → second.after.desk.contents ≡ option_map finished second.before.desk.contents }
+    ensures ended { (first second : Call) → (is : IsSecondCall first second)
+        → first.report.end ≡ Ended → second.report.end ≡ Ended
+        → (ran : CategoriesRan is.words first.before first.after first.status first.report)
+        × StandsTogether (filing_of ran.device ran.slots) second.after }
+    ensures stopped { (first second : Call) → (is : IsSecondCall first second)
+        → HasBegun first.report.end → FinishesAs first.before.desk.contents first.after.desk.contents
+        → second.report.end ≡ Ended
+        → (ran : CategoriesRan is.words first.before first.after first.status first.report)
+        × StandsTogether (filing_of ran.device ran.slots) second.after }
 {}
 
 /// No two names of files are printed alike, and each is printed in ASCII from the space to `~`.

@@ -33,8 +33,8 @@ pub fn open_trace<T: Sink>(trace: &mut T, path: Option<&str>) -> Result<(), Stat
     }
 }
 
-// Opens the trace at this path.
-fn open_named<T: Sink>(trace: &mut T, path: &str) -> Result<(), Status>
+/// Opens the trace at this path.
+pub fn open_named<T: Sink>(trace: &mut T, path: &str) -> Result<(), Status>
     ensures refused { IfErr result IsTraceRefusal }
     ensures failed { IsErrOf result Status.TraceWrite → Rose (T.faults trace.old)
         (T.faults trace.new) }

@@ -7,7 +7,8 @@ use Rattle.hotsync_looks.specs.Told.{sink_told, source_told}
 use Rattle.hotsync_run.specs.Told.{CallTold, folder_told}
 use Rattle.hotsync_run.proofs.CallLaws.{only_memory, unread_call}
 use Rattle.hotsync_run.proofs.MakeWords.{few_asked}
-use Rattle.hotsync_run.proofs.PathLaws.{backup_desktop, backup_handheld, backup_source, backup_trace, copied_none, install_handheld, install_source, install_trace, look_source, run_desktop, run_handheld, run_source, run_trace}
+use Rattle.hotsync_run.proofs.PathLaws.{backup_desktop, backup_handheld, backup_source, backup_trace, categories_desktop, categories_handheld, categories_source, categories_trace, capture_handheld, capture_source, capture_trace, copied_none, install_handheld, install_source, install_trace, look_source, restore_desktop, restore_handheld, restore_source, restore_trace}
+use Rattle.hotsync_run.proofs.PathLaws.{run_desktop, run_handheld, run_source, run_trace}
 use Rattle.hotsync_run.proofs.command.hotsync.Goals as goal
 
 pub make-status-requires : goal.make-status-requires
@@ -83,3 +84,51 @@ pub returns-in-Ok-Backup-clause-trace : goal.returns-in-Ok-Backup-clause-trace
 returns-in-Ok-Backup-clause-trace g c = λ none.
     c.backup_folder.ensures.trace (copied_none _
     (backup_trace (c.in-Ok-Backup.ensures.command ∙ ap (λ (command : Command). Some (task_view command)) c.in-Ok-Backup.field-0-is) none))
+
+pub returns-in-Ok-Restore-clause-device : goal.returns-in-Ok-Restore-clause-device
+returns-in-Ok-Restore-clause-device g c = λ none.
+    absurd (restore_handheld (c.in-Ok-Restore.ensures.command ∙ ap (λ (command : Command). Some (task_view command)) c.in-Ok-Restore.field-0-is) none)
+
+pub returns-in-Ok-Restore-clause-desk : goal.returns-in-Ok-Restore-clause-desk
+returns-in-Ok-Restore-clause-desk g c = λ none.
+    absurd (restore_desktop (c.in-Ok-Restore.ensures.command ∙ ap (λ (command : Command). Some (task_view command)) c.in-Ok-Restore.field-0-is) none)
+
+pub returns-in-Ok-Restore-clause-source : goal.returns-in-Ok-Restore-clause-source
+returns-in-Ok-Restore-clause-source g c = λ none.
+    c.restore_folder.ensures.source (copied_none _
+    (restore_source (c.in-Ok-Restore.ensures.command ∙ ap (λ (command : Command). Some (task_view command)) c.in-Ok-Restore.field-0-is) none))
+
+pub returns-in-Ok-Restore-clause-trace : goal.returns-in-Ok-Restore-clause-trace
+returns-in-Ok-Restore-clause-trace g c = λ none.
+    c.restore_folder.ensures.trace (copied_none _
+    (restore_trace (c.in-Ok-Restore.ensures.command ∙ ap (λ (command : Command). Some (task_view command)) c.in-Ok-Restore.field-0-is) none))
+
+pub returns-in-Ok-Device-clause-device : goal.returns-in-Ok-Device-clause-device
+returns-in-Ok-Device-clause-device g c = λ none.
+    absurd (capture_handheld (c.in-Ok-Device.ensures.command ∙ ap (λ (command : Command). Some (task_view command)) c.in-Ok-Device.field-0-is) none)
+
+pub returns-in-Ok-Device-clause-source : goal.returns-in-Ok-Device-clause-source
+returns-in-Ok-Device-clause-source g c = λ none.
+    absurd (capture_source (c.in-Ok-Device.ensures.command ∙ ap (λ (command : Command). Some (task_view command)) c.in-Ok-Device.field-0-is) none)
+
+pub returns-in-Ok-Device-clause-trace : goal.returns-in-Ok-Device-clause-trace
+returns-in-Ok-Device-clause-trace g c = λ none.
+    absurd (capture_trace (c.in-Ok-Device.ensures.command ∙ ap (λ (command : Command). Some (task_view command)) c.in-Ok-Device.field-0-is) none)
+
+pub returns-in-Ok-Categories-clause-device : goal.returns-in-Ok-Categories-clause-device
+returns-in-Ok-Categories-clause-device g c = λ none.
+    absurd (categories_handheld (c.in-Ok-Categories.ensures.command ∙ ap (λ (command : Command). Some (task_view command)) c.in-Ok-Categories.field-0-is) none)
+
+pub returns-in-Ok-Categories-clause-desk : goal.returns-in-Ok-Categories-clause-desk
+returns-in-Ok-Categories-clause-desk g c = λ none.
+    absurd (categories_desktop (c.in-Ok-Categories.ensures.command ∙ ap (λ (command : Command). Some (task_view command)) c.in-Ok-Categories.field-0-is) none)
+
+pub returns-in-Ok-Categories-clause-source : goal.returns-in-Ok-Categories-clause-source
+returns-in-Ok-Categories-clause-source g c = λ none.
+    c.file_categories.ensures.source (copied_none _
+    (categories_source (c.in-Ok-Categories.ensures.command ∙ ap (λ (command : Command). Some (task_view command)) c.in-Ok-Categories.field-0-is) none))
+
+pub returns-in-Ok-Categories-clause-trace : goal.returns-in-Ok-Categories-clause-trace
+returns-in-Ok-Categories-clause-trace g c = λ none.
+    c.file_categories.ensures.trace (copied_none _
+    (categories_trace (c.in-Ok-Categories.ensures.command ∙ ap (λ (command : Command). Some (task_view command)) c.in-Ok-Categories.field-0-is) none))

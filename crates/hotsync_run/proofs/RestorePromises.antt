@@ -1,0 +1,44 @@
+-- What a restore promises, by what is known of its call.
+use Rattle.std.proofs.Common.{◌≡◌, subst, sym}
+use Rattle.std.specs.Prelude.{Option, Some}
+use Rattle.hs_folders.specs.Moments.{EachMomentSince}
+use Rattle.run_words.specs.Betweens.{Between}
+use Rattle.run_words.specs.Commands.{Restore, Task}
+use Rattle.hotsync_run.specs.Calls.{Call, IsAnsweredCall, IsCall}
+use Rattle.hotsync_run.specs.Causes.{ByEnd, HasBegun}
+use Rattle.hotsync_run.specs.Restores.{EndedRestore, IsRestore, RestoreRan, StandsBeside, restore_command}
+use Rattle.hotsync_run.specs.SessionCalls.{SentNothing, StaysAsItWas}
+use Rattle.hotsync_run.proofs.HeadlineLaws.{begun_by}
+use Rattle.hotsync_run.specs.declared.report.SessionEnd.{SessionEnd}
+use Rattle.hotsync_run.specs.declared.report.SessionEnd.TheVariants.{Ended, NotStarted, Stopped}
+
+module _ (call : Call) (words : Between) (is : IsAnsweredCall call) (task : call.task ≡ Some (Restore words)) where
+  abbrev Silent : Type 0
+  Silent = SentNothing (restore_command words) call.before call.after call.status call.report
+
+  abbrev Session : Type 0
+  Session = RestoreRan words call.before call.after call.status call.report
+
+  answered : IsRestore words call.before call.after call.out call.out_after call.status call.report
+  answered = subst (λ (task : Option Task). IsCall task call.before call.after call.out call.out_after call.status call.report) task is
+
+  pub restore_refused : call.report.end ≡ NotStarted → Silent
+  restore_refused none = subst (λ (e : SessionEnd). ByEnd e Silent Session) none answered.ran.shown
+
+  pub restore_ran : HasBegun call.report.end → Session
+  restore_ran begun = begun_by call.report.end Silent Session answered.ran.shown begun
+
+  pub restore_folder : StaysAsItWas call.before.desk call.after.desk
+  restore_folder = by call.report.end answered.ran.shown
+    where
+      by : (end : SessionEnd) → ByEnd end Silent Session → StaysAsItWas call.before.desk call.after.desk
+      by NotStarted silent = silent.desktop
+      by Ended ran = ran.desktop
+      by Stopped ran = ran.desktop
+
+  pub restore_ended : call.report.end ≡ Ended → (ran : Session) × EndedRestore ran.device ran.databases call.after.palm call.report
+  restore_ended ended = let ran = restore_ran (subst HasBegun (sym ended) tt) in (ran, ran.had.left.ended ended)
+
+  pub restore_stopped : HasBegun call.report.end
+      → (ran : Session) × EachMomentSince (StandsBeside ran.device ran.databases) call.before.palm.moments call.after.palm.moments
+  restore_stopped begun = let ran = restore_ran begun in (ran, ran.had.left.each_moment)

@@ -1,0 +1,36 @@
+use Rattle.std.proofs.Common.{◌≡◌, ◌∙◌, ap}
+use Rattle.run_words.specs.Views.{between_view}
+use Rattle.hotsync_looks.specs.Lines.{done_lines}
+use Rattle.hotsync_looks.specs.Told.{sink_told, source_told}
+use Rattle.hotsync_run.specs.Told.{CallTold, folder_told}
+use Rattle.hotsync_looks.proofs.PrintedLaws.{printed_weaken}
+use Rattle.hotsync_run.proofs.FilingRuns.{filing_printed}
+use Rattle.hotsync_run.proofs.FilingWell.{filing_ends_well}
+use Rattle.hotsync_run.proofs.categories.file_categories.Goals as goal
+
+pub returns-clause-categories : goal.returns-clause-categories
+returns-clause-categories g c =
+    let words = between_view c.args.words.now in
+    let before : CallTold = record {
+      palm = folder_told g.H.Folder.contents g.H.Folder.moments g.H.Folder.paths g.H.Folder.faults c.args.device;
+      desk = folder_told g.D.Folder.contents g.D.Folder.moments g.D.Folder.paths g.D.Folder.faults c.args.desk;
+      source = source_told g.S.Source.left g.S.Source.paths g.S.Source.faults c.args.source.now;
+      trace = sink_told g.T.Sink.taken g.T.Sink.paths g.T.Sink.faults c.args.trace.now;
+    } in
+    let answer = c.judged_categories-answer.result in
+    let after : CallTold = record {
+      palm = folder_told g.H.Folder.contents g.H.Folder.moments g.H.Folder.paths g.H.Folder.faults answer.device;
+      desk = folder_told g.D.Folder.contents g.D.Folder.moments g.D.Folder.paths g.D.Folder.faults answer.desk;
+      source = source_told g.S.Source.left g.S.Source.paths g.S.Source.faults c.judged_categories-answer.new.source;
+      trace = sink_told g.T.Sink.taken g.T.Sink.paths g.T.Sink.faults c.judged_categories-answer.new.trace;
+    } in
+    let out = sink_told g.O.Sink.taken g.O.Sink.paths g.O.Sink.faults c.args.out.now in
+    let out_after = sink_told g.O.Sink.taken g.O.Sink.paths g.O.Sink.faults c.print_status-status.new.out in
+    let printed = c.print_status-status.ensures.printed in
+    let status = c.print_status-status.result in
+    let ran = filing_printed c.judged_categories-answer.ensures.ran status c.print_status-status.ensures.status in
+    record {
+      ran = ran;
+      complete = filing_ends_well words before after out out_after status answer.report ran printed;
+      printed = printed_weaken (λ text. text ≡ done_lines answer.report.databases.items) (λ text is. is ∙ ap done_lines c.deref.ensures.value) printed;
+    }
