@@ -3,6 +3,7 @@ ghost use Rattle.std.specs.Prelude.{◌≡◌, true};
 
 use crate::fake::{FakeLink, Then};
 use crate::lines::{cause_text, frames_text, messages_text, numbers_of};
+use crate::ported::over_port;
 use crate::said::records_text;
 use crate::session::session;
 use crate::talk::{requests_in, talk};
@@ -68,6 +69,7 @@ impl Cases {
             ("session", _) => self.over_server(rest),
             ("fake", _) => over_fake(alloc, word(words, 1), rest.get(1..).unwrap_or(&[])),
             ("talk", _) => self.over_line(rest),
+            ("port", _) => over_port(alloc, rest),
             ("frames", Some(log)) => frames_text(alloc, &log.frames, rest),
             ("replies", Some(log)) => messages_text(alloc, &log.replies),
             _ => String::from_str(alloc, "what?"),

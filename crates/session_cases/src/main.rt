@@ -22,6 +22,11 @@
 //!   after the other. A request is bytes, or `read*COUNT`: ReadRecord by index of so many records of the open database. It
 //!   prints why the line is down, how many frames there are, how many bytes and packets each end's reader took, and how many
 //!   requests were issued, performed and answered. `frames N..`: the trace of these frames. `replies`: what the handheld replied.
+//! - A port: `port GOOD PIECES REQUEST..` greets a handheld over a port in memory and sends these requests, one after the
+//!   other. PIECES are what comes, a read each, with a comma between them; an empty one is a tick of silence, and behind the
+//!   last one all is silent. The port fails behind GOOD calls, with `-` never. It prints why the link answered no more, how many
+//!   requests were answered, and what was said and heard: `D` and the bytes of a packet, `H` and a packet's transaction and
+//!   body, `-` for a tick.
 #![tactic(auto)]
 
 mod answer;
@@ -30,6 +35,7 @@ mod cases;
 mod fake;
 mod lines;
 mod plans;
+mod ported;
 mod said;
 mod session;
 mod talk;

@@ -1,0 +1,75 @@
+-- The calls of a link.
+use Rattle.std.proofs.Common.{◌≡◌, ℕ, List, [], ◌∷◌, ◌++◌, refl, sym, subst, inl, inr, true}
+use Rattle.std.specs.Prelude.{Option, Some, None, Result}
+use Rattle.std.specs.Result.{result_err}
+use Rattle.hs_folders.specs.Causes.{HasCause}
+use Rattle.port_line.specs.declared.port_fault.PortFault.{PortFault}
+use Rattle.slp_frames.proofs.ScanLaws.{continues_start}
+use Rattle.port_link.specs.declared.awaited.Awaited.{Awaited}
+use Rattle.port_link.specs.declared.desk.Desk.{Desk}
+use Rattle.port_link.specs.declared.port_cause.PortCause.{PortCause}
+use Rattle.port_link.specs.declared.port_cause.PortCause.TheVariants.{PortFailed}
+use Rattle.port_link.specs.declared.turn.Turn.{Turn}
+use Rattle.port_link.specs.Calls.{Asks, Bears, Call, Converses, Greets, IsCall, LinkValue, Says, SaysHello, Since, is_quiet}
+use Rattle.port_link.specs.Listening.{Listens}
+use Rattle.port_link.specs.declared.awaited.Awaited.TheVariants.{Tick}
+use Rattle.port_link.specs.Courses.{Course, Scene}
+use Rattle.port_link.specs.Desks.{Event, Awaits, reacts}
+use Rattle.port_link.specs.Greetings.{id_behind}
+use Rattle.port_link.proofs.CourseLaws.{course-one, course-then}
+use Rattle.port_link.proofs.TellLaws.{tells-nothing, written-none}
+
+-- a message is awaited
+pub awaits : (id : ℕ) (old : Scene) (desk : Desk) → desk ≡ (reacts old.desk (Awaits id)).desk
+    → Course (Awaits id ∷ []) None old (record { given = old.given; taken = old.taken; held = old.held; desk = desk; log = old.log })
+awaits id old desk is = course-one (Awaits id) (continues_start old.held) (written-none old.given) is (tells-nothing old.taken old.log)
+
+-- something was done before
+pub says-behind : (awaited : Awaited) (first later : List Event) (old mid new : Scene) (answer : Result Turn PortFault) → Course first None old mid
+    → Says awaited later mid new answer → Says awaited (first ++ later) old new answer
+says-behind awaited first later old mid new answer did (inl says) = inl (says.0, course-then did says.1, says.2)
+says-behind awaited first later old mid new answer did (inr says) = inr (says.0, says.1, course-then did says.2)
+
+-- a request was asked
+pub asks-by : (request reply : List ℕ) (old new : LinkValue) (cause : Option PortCause) → new.cause ≡ cause → new.id ≡ id_behind old.id
+    → new.begun ≡ old.begun → new.paths ≡ old.paths → Converses new.id request reply old.scene new.scene cause
+    → HasCause old.faults new.faults (cause ≡ Some PortFailed) → Asks request reply old new
+asks-by request reply old new cause is id begun paths converses faults =
+    record {
+      converses = subst (λ (cause : Option PortCause). Converses new.id request reply old.scene new.scene cause) (sym is) converses;
+      id = id;
+      begun = begun;
+      goes_on = record {
+        paths = paths;
+        faults = subst (λ (cause : Option PortCause). HasCause old.faults new.faults (cause ≡ Some PortFailed)) (sym is) faults;
+      };
+    }
+
+-- a handheld was awaited and greeted
+pub hello-by : (result : Result ℕ PortCause) (old new : LinkValue) → new.cause ≡ result_err result
+    → (new.cause ≡ None → new.begun ≡ true) → (¬ (new.cause ≡ None) → new.begun ≡ old.begun) → new.id ≡ old.id → new.paths ≡ old.paths
+    → Greets old.scene new.scene result → HasCause old.faults new.faults (result_err result ≡ Some PortFailed) → SaysHello result old new
+hello-by result old new is begun not_begun id paths greets faults =
+    record {
+      greets = greets;
+      cause = is;
+      begun = begun;
+      not_begun = not_begun;
+      id = id;
+      goes_on = record {
+        paths = paths;
+        faults = subst (λ (cause : Option PortCause). HasCause old.faults new.faults (cause ≡ Some PortFailed)) (sym is) faults;
+      };
+    }
+
+-- one call was made
+pub since-one : (call : Call) (old new : LinkValue) (cause : Option PortCause) → old.cause ≡ cause → IsCall cause call old new → Since old new
+since-one call old new cause is it =
+    (call ∷ [], (new, subst (λ (cause : Option PortCause). IsCall cause call old new) (sym is) it, refl))
+
+-- one tick more
+pub bears-then : (ticks : List Scene) (a b c : Scene) (answer : Result Turn PortFault) → Bears ticks a b → is_quiet answer ≡ true → Listens Tick b c answer
+    → Bears (ticks ++ c ∷ []) a c
+bears-then [] a b c answer bears quiet next =
+    (answer, quiet, subst (λ (s : Scene). Listens Tick s c answer) bears next, refl)
+bears-then (tick ∷ ticks) a b c answer bears quiet next = (bears.0, bears.1, bears.2, bears-then ticks tick b c answer bears.3 quiet next)

@@ -1,0 +1,5 @@
+pub mod TellLaws
+pub mod CourseLaws
+pub mod CallLaws
+pub mod WholeLaws
+pub mod PartLaws

@@ -1,0 +1,9 @@
+pub mod Desks
+pub mod Logs
+pub mod Courses
+pub mod Listening
+pub mod Causes
+pub mod Greetings
+pub mod Calls
+pub mod SinceLaws
+pub mod Answered

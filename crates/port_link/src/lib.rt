@@ -1,0 +1,35 @@
+//! A link to a handheld behind a port: the desktop's end of a cable.
+//!
+//! `PortLink` is a `Link` of `dlp_commands`, so a session runs over it as over any other. `hello` awaits the
+//! handheld's wake and says the init, `exchange` says a request and takes the reply to it. Its end is one of
+//! `padp_end`, with some patience for silence: a read of the port that brings nothing is a tick, at
+//! which the piece that waits goes once more, and the program needs no clock.
+//!
+//! It relies on nothing that the port gives. What it says to packets and to silence is `reacts` of
+//! `specs/Desks.antt`, and each call says that what was said and heard is a run of that (`Course` of
+//! `specs/Courses.antt`). It keeps all that was said and heard in memory, in order, and `into_parts`
+//! hands it out with the port and the reason why the link answered no more, if there is one.
+//!
+//! It tells nothing of a device behind the port.
+#![tactic(auto)]
+
+mod awaited;
+mod cable;
+mod desk;
+mod entry;
+mod greeting;
+mod laws;
+mod link;
+mod listening;
+mod log;
+mod port_cause;
+mod port_link;
+mod talking;
+mod turn;
+
+pub use entry::{Entry, HeardPacket};
+pub use laws::{
+    a_reply_came_behind_its_request, packets_are_those_of_the_bytes, transactions_come_round,
+};
+pub use port_cause::PortCause;
+pub use port_link::PortLink;

@@ -1,0 +1,98 @@
+//! A link over a port as a link.
+ghost use Rattle.std.specs.Prelude.{◌≡◌, false, true, Err, IfSome, IsErrOf, OnErr, OnOk};
+ghost use Rattle.std.specs.Result.{result_err};
+ghost use Rattle.dlp_commands.specs.Links.{MayExchange, WentDown, first_fault};
+ghost use Rattle.dlp_commands.specs.Talks.{Answered, Unanswered};
+ghost use Rattle.port_link.specs.Calls.{AnswersExchange, AnswersHello};
+
+use crate::greeting::id_of_next;
+use crate::port_cause::fault_of;
+use crate::port_link::PortLink;
+use crate::talking::{converse, greet};
+use dlp_commands::{Link, LinkFault, Message};
+use port_line::Port;
+
+// Beside the trait's clauses each method says what the machine of a desktop's end did at the port.
+impl<P: Port> Link for PortLink<P> {
+    ghost use Rattle.std.specs.Prelude.{None};
+    ghost use Rattle.std.specs.Option.{option_map};
+    ghost use Rattle.port_link.specs.Calls.{Since};
+    ghost use Rattle.port_link.specs.Causes.{downs_of, link_fault};
+    ghost use Rattle.port_link.specs.SinceLaws.{since_itself, since_more};
+
+    ghost downs = { λ link. downs_of (option_map link_fault link.cause) };
+
+    ghost begun = { λ link. link.begun };
+
+    ghost fault = { λ link. option_map link_fault link.cause };
+
+    ghost talk = { λ _. None };
+
+    ghost since = { λ first last. Since first last };
+
+    fn hello(&mut self) -> Result<u32, LinkFault>
+        requires { ⟦<Self as Link>⟧.begun self.old ≡ false }
+        ensures begun { OnOk result (⟦<Self as Link>⟧.begun self.new ≡ true) }
+        ensures not_begun { OnErr result (⟦<Self as Link>⟧.begun self.new ≡ false) }
+        ensures talk { ⟦<Self as Link>⟧.talk self.new ≡ ⟦<Self as Link>⟧.talk self.old }
+        ensures fault { ⟦<Self as Link>⟧.fault self.new
+            ≡ first_fault (⟦<Self as Link>⟧.fault self.old) (result_err result) }
+        ensures again { IfSome (⟦<Self as Link>⟧.fault self.old) (λ fault. result ≡ Err fault) }
+        ensures cause { WentDown (⟦<Self as Link>⟧.fault self.old)
+            (⟦<Self as Link>⟧.downs self.old) (⟦<Self as Link>⟧.downs self.new)
+            (IsErrOf result LinkFault.Down) }
+        ensures since { ⟦<Self as Link>⟧.since self.old self.new }
+
+        ensures answers { AnswersHello self.old.cause self.old self.new result }
+    {
+        if let Some(cause) = self.cause {
+            return Err(fault_of(cause));
+        }
+        match greet(&mut self.cable, &mut self.reader) {
+            Ok(rate) => {
+                self.begun = true;
+                Ok(rate)
+            }
+            Err(cause) => {
+                self.cause = Some(cause);
+                Err(fault_of(cause))
+            }
+        }
+    }
+
+    fn exchange(&mut self, request: &Message, reply: &mut Message) -> Result<(), LinkFault>
+        requires { MayExchange (⟦<Self as Link>⟧.begun self.old) (⟦<Self as Link>⟧.fault self.old) }
+        ensures answered { OnOk result (Answered (⟦<Self as Link>⟧.talk self.old)
+            request.now reply.new (⟦<Self as Link>⟧.talk self.new)) }
+        ensures unanswered { OnErr result (Unanswered (⟦<Self as Link>⟧.talk self.old)
+            request.now (⟦<Self as Link>⟧.talk self.new)) }
+        ensures stays { IfSome (⟦<Self as Link>⟧.fault self.old) (λ fault. (result ≡ Err fault)
+            × (⟦<Self as Link>⟧.talk self.new ≡ ⟦<Self as Link>⟧.talk self.old)) }
+        ensures begun { ⟦<Self as Link>⟧.begun self.new ≡ ⟦<Self as Link>⟧.begun self.old }
+        ensures fault { ⟦<Self as Link>⟧.fault self.new
+            ≡ first_fault (⟦<Self as Link>⟧.fault self.old) (result_err result) }
+        ensures cause { WentDown (⟦<Self as Link>⟧.fault self.old)
+            (⟦<Self as Link>⟧.downs self.old) (⟦<Self as Link>⟧.downs self.new)
+            (IsErrOf result LinkFault.Down) }
+        ensures since { ⟦<Self as Link>⟧.since self.old self.new }
+
+        ensures answers { AnswersExchange self.old.cause request.now reply.new
+            self.old self.new (result_err result) }
+    {
+        if let Some(cause) = self.cause {
+            return Err(fault_of(cause));
+        }
+        self.id = id_of_next(self.id);
+        match converse(&mut self.cable, &mut self.reader, self.id, request, reply) {
+            Ok(()) => Ok(()),
+            Err(cause) => {
+                self.cause = Some(cause);
+                Err(fault_of(cause))
+            }
+        }
+    }
+
+    ghost since_itself = { since_itself };
+
+    ghost since_more = { since_more };
+}

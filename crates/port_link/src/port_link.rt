@@ -1,0 +1,109 @@
+//! A link over a port.
+ghost use Rattle.std.specs.Prelude.{◌≡◌, ◌≤◌, IfErr, IfOk};
+ghost use Rattle.port_link.specs.Calls.{LeavesWith, first_link};
+ghost use Rattle.port_link.specs.Logs.{log_entries};
+
+use crate::cable::Cable;
+use crate::desk::Desk;
+use crate::entry::Entry;
+use crate::greeting::GREETING_ID;
+use crate::log::Log;
+use crate::port_cause::PortCause;
+use crate::talking::linger;
+use port_line::Port;
+use slp_frames::SlpReader;
+use std::alloc::{AllocError, Global};
+use std::marker::Model;
+
+/// A link to a handheld behind a port. It keeps all that it said and heard, in order.
+#[derive(Drop)]
+pub struct PortLink<P: Port> {
+    pub(crate) cable: Cable<P>,
+    pub(crate) reader: SlpReader,
+    // The transaction of the last message.
+    pub(crate) id: u8,
+    pub(crate) begun: bool,
+    pub(crate) cause: Option<PortCause>,
+}
+
+impl<P: Port> Model for PortLink<P> {
+    ghost use Rattle.port_link.specs.Calls.{LinkValue};
+    ghost use Rattle.port_link.specs.Courses.{scene};
+    ghost use Rattle.port_link.specs.Logs.{log_entries};
+
+    ghost Value = { LinkValue };
+
+    ghost view = { λ link. record {
+      scene = scene (P.given link.cable.port) (P.taken link.cable.port) link.reader.held
+          link.cable.desk (log_entries link.cable.log.entries);
+      paths = P.paths link.cable.port;
+      faults = P.faults link.cable.port;
+      id = link.id;
+      begun = link.begun;
+      cause = link.cause;
+    } };
+}
+
+impl<P: Port> PortLink<P> {
+    /// A link over this port, which is open. For want of memory the port comes back.
+    pub fn new(alloc: Global, port: P) -> Result<PortLink<P>, (AllocError, P)>
+        ensures link { IfOk result (λ link. link
+            ≡ first_link (P.given port) (P.taken port) (P.paths port) (P.faults port)) }
+        ensures back { IfErr result (λ refused. refused.1 ≡ port) }
+    {
+        match Desk::new(alloc) {
+            Ok(desk) => Ok(PortLink {
+                cable: Cable {
+                    port,
+                    desk,
+                    log: Log::new(alloc),
+                },
+                reader: SlpReader::new(),
+                id: GREETING_ID,
+                begun: false,
+                cause: None,
+            }),
+            Err(refused) => Err((refused, port)),
+        }
+    }
+
+    /// Why it answers no more, if it doesn't.
+    pub fn cause(&self) -> Option<PortCause>
+        ensures { result ≡ self.now.cause }
+    {
+        self.cause
+    }
+
+    /// The port, all that was said and heard, and why the link answered no more. Where a handheld was
+    /// greeted and nothing went wrong it lingers before that: it acknowledges what comes once more,
+    /// until three ticks in a row brought nothing, or ten in all, since its last acknowledgement may be
+    /// lost.
+    pub fn into_parts(self) -> (P, Vec<Entry>, Option<PortCause>)
+        ensures leaves { LeavesWith self.begun self.cause self.scene
+            (P.given result.0) (P.taken result.0) (log_entries result.1) }
+        ensures cause { result.2 ≡ self.cause }
+        ensures paths { P.paths result.0 ≡ self.paths }
+        ensures later { self.faults ≤ P.faults result.0 }
+    {
+        let PortLink {
+            mut cable,
+            mut reader,
+            id: _id,
+            begun,
+            cause,
+        } = self;
+        if begun && cause.is_none() {
+            linger(&mut cable, &mut reader);
+        }
+        let Cable {
+            port,
+            desk: _desk,
+            log,
+        } = cable;
+        let Log {
+            alloc: _alloc,
+            entries,
+        } = log;
+        (port, entries, cause)
+    }
+}
