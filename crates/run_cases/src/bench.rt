@@ -1,5 +1,5 @@
 // The objects that a call is given, and what the lines do with them.
-use crate::shown::{files_text, report_text, trace_lines};
+use crate::shown::{files_text, hex_line, report_text, trace_lines};
 use crate::words::words_text;
 use case_words::{bytes_in, number_in};
 use hotsync_run::{Answer, Ended, Report, run_program};
@@ -50,6 +50,7 @@ impl Bench {
             "names" => return self.shown(false),
             "files" => return self.shown(true),
             "trace" => return Ok(trace_lines(self.alloc, &self.trace, rest)?),
+            "taken" => return Ok(hex_line(self.alloc, &self.trace)?),
             "words" => return Ok(words_text(self.alloc, self.now, rest)?),
             "moments" => return Ok(self.moments()?),
             _ => self.prepare(word, rest)?,

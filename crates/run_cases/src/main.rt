@@ -12,7 +12,8 @@
 //!   the session did: the number of its requests, writes and frames, the bytes and the packets that the reader of each end took,
 //!   the ids that new records got, and the frames that were harmed where the line is down.
 //! - `print WORDS` calls likewise, and prints the exit status and what was printed alone.
-//! - `names` and `files` print what the folders then hold, `trace` the trace, or its lines of the numbers behind it.
+//! - `names` and `files` print what the folders then hold, `trace` the trace, or its lines of the numbers behind it, and `taken`
+//!   its bytes in hexadecimal.
 //! - `words WORDS` prints what these words are read as: `usage` where they are out of the form, and else each word, the date in
 //!   seconds and an option that isn't given as `-`; behind `actions` the names with their actions, and what is done with
 //!   `MemoDB`.

@@ -46,6 +46,13 @@ pub fn trace_lines(alloc: Global, trace: &[u8], numbers: &str) -> Result<String,
     Ok(shown)
 }
 
+/// These bytes in hexadecimal, on a line.
+pub fn hex_line(alloc: Global, bytes: &[u8]) -> Result<String, AllocError> {
+    let mut line = hex::encode(alloc, bytes)?;
+    line.push('\n')?;
+    Ok(line)
+}
+
 /// What a session did, in numbers. Nothing where none began.
 pub fn report_text(alloc: Global, report: &Report) -> Result<String, AllocError> {
     let end = match report.end {

@@ -1,8 +1,8 @@
 // What words say.
 use pdb_values::DbName;
 use run_clap::{
-    BetweenWords, Command, ExportForm, ImportForm, Look, LookWords, RunWords, WordsFault,
-    read_command,
+    BetweenWords, CaptureWords, Command, ExportForm, ImportForm, Look, LookWords, RunWords,
+    WordsFault, read_command,
 };
 use run_words::{ActionWord, Target, action_of, command_of, read_actions};
 use std::alloc::{AllocError, Global};
@@ -23,7 +23,10 @@ pub fn words_text(alloc: Global, now: Option<u32>, line: &str) -> Result<String,
             format!(in alloc; "make seed {} count {}\n", make.seed, make.count)
         }
         Ok(Command::Install(words)) => install_text(alloc, &words),
-        Ok(Command::Backup(words)) => backup_text(alloc, &words),
+        Ok(Command::Backup(words)) => between_text(alloc, "backup", &words),
+        Ok(Command::Restore(words)) => between_text(alloc, "restore", &words),
+        Ok(Command::Categories(words)) => categories_text(alloc, &words),
+        Ok(Command::Device(words)) => device_text(alloc, &words),
         Err(WordsFault::Usage) if !in_form => String::from_str(alloc, "usage\n"),
         Err(_) => String::from_str(alloc, "no memory\n"),
     }
@@ -38,13 +41,34 @@ fn install_text(alloc: Global, words: &BetweenWords<'_>) -> Result<String, Alloc
     )
 }
 
-fn backup_text(alloc: Global, words: &BetweenWords<'_>) -> Result<String, AllocError> {
+fn between_text(
+    alloc: Global,
+    command: &str,
+    words: &BetweenWords<'_>,
+) -> Result<String, AllocError> {
     format!(in alloc;
-        "backup handheld {} other {} script {} trace {}\n",
+        "{command} handheld {} other {} script {} trace {}\n",
         words.handheld,
         words.other,
         words.script.unwrap_or("-"),
         words.trace.unwrap_or("-")
+    )
+}
+
+fn categories_text(alloc: Global, words: &BetweenWords<'_>) -> Result<String, AllocError> {
+    format!(in alloc;
+        "categories handheld {} other {} script {} trace {}\n",
+        words.handheld,
+        words.other,
+        words.script.unwrap_or("-"),
+        words.trace.unwrap_or("-")
+    )
+}
+
+fn device_text(alloc: Global, words: &CaptureWords<'_>) -> Result<String, AllocError> {
+    format!(in alloc;
+        "device handheld {} in {} out {}\n",
+        words.handheld, words.input, words.output
     )
 }
 
