@@ -3,7 +3,7 @@ _hotsync() {
     local word=${COMP_WORDS[COMP_CWD]}
     COMPREPLY=()
     if [ "$COMP_CWD" -eq 1 ]; then
-        COMPREPLY=($(compgen -W 'run check show export import verify picture packet install backup make' -- "$word"))
+        COMPREPLY=($(compgen -W 'run check show export import verify picture packet install backup restore device categories make' -- "$word"))
         return
     fi
     case ${COMP_WORDS[1]} in
@@ -41,7 +41,7 @@ _hotsync() {
         *) COMPREPLY=($(compgen -f -- "$word")) ;;
         esac
         ;;
-    backup)
+    backup | restore | categories)
         case $word in
         -*)
             COMPREPLY=($(compgen -W '--script= --trace=' -- "$word"))
@@ -50,6 +50,17 @@ _hotsync() {
             fi
             ;;
         *) COMPREPLY=($(compgen -f -- "$word")) ;;
+        esac
+        ;;
+    device)
+        case $word in
+        -*)
+            COMPREPLY=($(compgen -W '--in= --out=' -- "$word"))
+            if [ "${#COMPREPLY[@]}" -eq 1 ]; then
+                compopt -o nospace
+            fi
+            ;;
+        *) COMPREPLY=($(compgen -d -- "$word")) ;;
         esac
         ;;
     check | show | verify | picture) COMPREPLY=($(compgen -f -- "$word")) ;;

@@ -13,6 +13,9 @@ _hotsync() {
         'packet:print the packets in bytes'
         'install:put a database file onto a handheld'
         'backup:put the databases of a handheld into a folder of files'
+        'restore:put the databases of a folder of files onto a handheld'
+        'categories:give both sides one table of categories'
+        'device:answer captured bytes as a handheld does'
         'make:print what a run over made folders does'
     )
     if ((CURRENT == 2)); then
@@ -36,10 +39,15 @@ _hotsync() {
         ;;
     import) _arguments '1:file:_files' '--as=[the form]:form:(txt)' ;;
     install) _arguments '1:handheld:_files -/' '2:file:_files' '--trace=[the file for the trace]:file:_files' ;;
-    backup)
+    backup | restore)
         _arguments '1:handheld:_files -/' '2:folder:_files -/' '--script=[the line script]:file:_files' \
             '--trace=[the file for the trace]:file:_files'
         ;;
+    categories)
+        _arguments '1:handheld:_files -/' '2:desktop:_files -/' '--script=[the line script]:file:_files' \
+            '--trace=[the file for the trace]:file:_files'
+        ;;
+    device) _arguments '1:handheld:_files -/' '--in=[the captured bytes]:file:_files' '--out=[the file for what is said]:file:_files' ;;
     check | show | verify | picture) _arguments '1:file:_files' ;;
     packet) _arguments '1:bytes in hexadecimal digits:' ;;
     make) _arguments '1:seed:' '2:how many records:' ;;
