@@ -1,33 +1,44 @@
 -- Categories that were brought together stay as they are, and those of a session that stopped are made up for.
-use Rattle.std.proofs.Common.{◌≡◌, ◌∙◌, ap, arith, refl, subst, sym, ℕ, List, [], ◌∷◌, length, take}
+use Rattle.std.proofs.Math.Seq.{map-set_same}
+use Rattle.std.proofs.Common.{◌≡◌, ◌∙◌, ap, arith, inl, inr, refl, subst, sym, ℕ, false, List, [], ◌∷◌, length, take}
 use Rattle.std.specs.Prelude.{IsErr, IsOk, Option, None, Some, Result, Ok, Err}
 use Rattle.std.specs.Option.{option_map}
 use Rattle.hs_folders.specs.FileMaps.{FileMap}
+use Rattle.pdb_values.specs.Slots.{slot_for}
 use Rattle.pdb_values.specs.declared.user.UserInfo.{UserInfo}
 use Rattle.palm_device.specs.Devices.{Device}
+use Rattle.folder_files.specs.Slots.{users_of}
 use Rattle.handheld_files.specs.Openings.{Stands}
 use Rattle.desk_journal.specs.Overlays.{FinishesAs, finished}
 use Rattle.desk_store.specs.Desks.{IsDesk}
-use Rattle.desk_store.specs.Shelves.{SlotValue}
+use Rattle.desk_store.specs.Shelves.{SlotValue, new_slot, number_of}
 use Rattle.desk_journal.proofs.FinishLaws.{plain_finished}
 use Rattle.desktop_session.specs.Acts.{text}
+use Rattle.desktop_session.specs.Greetings.{user_with}
 use Rattle.desktop_session.specs.Requests.{reading_user}
 use Rattle.desktop_session.specs.Says.{IsPrefix}
 use Rattle.desktop_session.specs.declared.fault.SessionFault.{SessionFault}
-use Rattle.category_mirror.specs.FilingEnds.{IsFileable, seat_of}
-use Rattle.category_mirror.specs.Sides.{Filing, device_among, filed_device, filed_slots, filing_changes, filing_of, names}
+use Rattle.category_mirror.specs.FilingEnds.{IsFileable, StandsFiled, seat_of, users_in}
+use Rattle.category_mirror.specs.Sides.{Filing, block_writes, device_among, filed_device, filed_slots, filing_changes, filing_of, names}
 use Rattle.category_mirror.proofs.DoneLaws.{filed_closed}
 use Rattle.category_mirror.proofs.RepeatLaws.{second_changes, second_device, second_slots, stopped_device, stopped_slots}
+use Rattle.run_words.specs.Betweens.{Between}
+use Rattle.hotsync_looks.specs.declared.status.Status.{Status}
 use Rattle.hotsync_run.specs.Calls.{Call}
 use Rattle.hotsync_run.specs.Causes.{HasBegun}
 use Rattle.hotsync_run.specs.FilingCalls.{IsSecondCall, StandsTogether}
-use Rattle.hotsync_run.specs.Filings.{CategoriesRan, EndedFiling}
+use Rattle.hotsync_run.specs.Filings.{CategoriesRan, EndedFiling, StoppedFiling}
 use Rattle.hotsync_run.specs.LineRuns.{log_in}
+use Rattle.hotsync_run.specs.Told.{CallTold}
+use Rattle.hotsync_run.specs.declared.report.Report.{Report}
+use Rattle.hotsync_run.specs.declared.report.SessionEnd.{SessionEnd}
 use Rattle.hotsync_run.proofs.FilingPromises.{filing_ran}
 use Rattle.hotsync_run.proofs.FilingSaid.{one-more, two-first}
+use Rattle.hotsync_run.proofs.FilingUnseated.{unseated_changes}
+use Rattle.hotsync_run.proofs.FilingWritten.{written_all}
 use Rattle.hotsync_run.proofs.LeftLaws.{prefix-length}
 use Rattle.hotsync_run.proofs.OneLaws.{IsOne, same_handheld, same_slots, told_slots}
-use Rattle.hotsync_run.specs.declared.report.SessionEnd.TheVariants.{Ended}
+use Rattle.hotsync_run.specs.declared.report.SessionEnd.TheVariants.{Ended, NotStarted, Stopped}
 
 same_device : (one other : Device) → one.databases ≡ other.databases → one.user ≡ other.user → one.handles ≡ other.handles → one ≡ other
 same_device one other databases user handles = grind arith
@@ -36,6 +47,36 @@ same_device one other databases user handles = grind arith
 still : (told : Option FileMap) {slots : List SlotValue} → IsDesk told slots → IsDesk (option_map finished told) slots
 still None desk = desk
 still (Some held) {slots} desk = subst (λ (f : FileMap). IsDesk (Some f) slots) (sym (plain_finished held desk.stands.no_journal)) desk
+
+-- a session leaves the users of the slots as they are
+filed_users : (filing : Filing) → users_in (record { device = filed_device filing; slots = filed_slots filing; picked = filing.picked }) ≡ users_in filing
+unfolding filed_slots
+filed_users filing = ap users_of (map-set_same (λ (s : SlotValue). s.marks) filing.slots filing.picked _ (new_slot (number_of filing.slots)) refl)
+
+-- ---- a session that ended
+
+module _ (words : Between) (before after : CallTold) (status : Status) (report : Report) (ran : CategoriesRan words before after status report)
+    (over : report.end ≡ Ended) where
+  abbrev own : Filing
+  own = filing_of ran.device ran.slots
+
+  not_alone : IsPrefix (log_in report).issued (text reading_user ∷ []) → ⊥
+  not_alone prefix =
+      let few = prefix-length prefix in
+      let same = ap (λ (l : List (List ℕ)). length l) (ran.had.left.ended over).said.issued in
+      let more = one-more own in
+      let some = two-first own in
+      omega (arith, few, same, more, some)
+
+  -- it had a slot for the handheld's user
+  seated : IsOk (seat_of own)
+  seated = by (seat_of own) refl
+    where
+      by : (seat : Result UserInfo SessionFault) → seat_of own ≡ seat → IsOk (seat_of own)
+      by (Ok user) here = subst IsOk (sym here) refl
+      by (Err why) here = absurd (not_alone (ran.had.left.unseated (subst IsErr (sym here) refl)))
+
+-- ---- a session behind another
 
 module _ (first second : Call) (is : IsSecondCall first second)
     (one : CategoriesRan is.words first.before first.after first.status first.report)
@@ -58,80 +99,122 @@ module _ (first second : Call) (is : IsSecondCall first second)
         desktop = subst (λ (s : List SlotValue). IsDesk second.after.desk.contents s) (ap filed_slots same ∙ slots) last.desktop;
       }
 
-  -- ---- behind a session that ended
+  -- the handheld that the first one left
+  left_palm : (last : Device) → Stands first.after.palm.contents last.databases last.user
+      → IsOne two.device.databases last.databases two.device.user last.user
+  left_palm last stands =
+      same_handheld second.before.palm.contents last two.device is.told_next.palm
+      (subst (λ (t : Option FileMap). Stands t last.databases last.user) (sym is.palm) stands) two.handheld
+
+  -- ---- behind one that left both sides filed
+
+  module _ (palm : IsOne two.device.databases (filed_device filing).databases two.device.user (filed_device filing).user)
+      (desk : StandsFiled filing first.after.desk.contents) where
+    slots_same : two.slots ≡ filed_slots filing
+    slots_same = told_slots second.before.desk.contents is.told_next.desk (subst (StandsFiled filing) (sym is.desk) desk) two.desktop
+
+    again_is : again ≡ filing_of (filed_device filing) (filed_slots filing)
+    again_is = alike (filed_device filing) (filed_slots filing)
+        (same_device two.device (filed_device filing) palm.databases palm.user_is
+        (two.closed ∙ sym (filed_closed filing one.had.left.sound.rests))) slots_same
+
+    fileable : IsOk (seat_of filing) → IsFileable one.device one.slots
+    fileable seat = record {
+      rests = one.had.left.sound.rests;
+      formed = one.desktop.formed;
+      ordered = one.desktop.ordered;
+      bounded = one.had.left.sound.bounded;
+      seated = seat;
+    }
+
+    -- both have the same users, and the same slot for the handheld's
+    same_seat : seat_of again ≡ seat_of filing
+    unfolding filed_device
+    same_seat =
+        ap seat_of again_is
+        ∙ ap (λ (users : List ℕ). user_with users one.device.user (slot_for users one.device.user.user false)) (filed_users filing)
+
+    -- no row changes any more
+    no_changes : filing_changes again ≡ []
+    no_changes = by (seat_of filing) refl
+      where
+        by : (seat : Result UserInfo SessionFault) → seat_of filing ≡ seat → filing_changes again ≡ []
+        by (Ok user) here = ap filing_changes again_is ∙ second_changes one.device one.slots (fileable (subst IsOk (sym here) refl))
+        by (Err why) here = unseated_changes two.device two.slots (subst IsErr (sym (same_seat ∙ here)) refl)
+
+    untouched_so : second.after.desk.contents ≡ option_map finished second.before.desk.contents
+    untouched_so = two.had.left.untouched no_changes
+
+    together_so : second.report.end ≡ Ended → StandsTogether filing second.after
+    together_so over =
+        let may = fileable (subst IsOk same_seat (seated is.other second.before second.after second.status second.report two over)) in
+        stand_so again_is (second_device one.device one.slots may) (second_slots one.device one.slots may) over
+
+  -- ---- behind one that ended
 
   module _ (ended : first.report.end ≡ Ended) where
     left : EndedFiling filing first.after.palm first.after.desk first.report
     left = one.had.left.ended ended
 
-    not_alone : IsPrefix (log_in first.report).issued (text reading_user ∷ []) → ⊥
-    not_alone prefix =
-        let few = prefix-length prefix in
-        let same = ap (λ (l : List (List ℕ)). length l) left.said.issued in
-        let more = one-more filing in
-        let some = two-first filing in
-        omega (arith, few, same, more, some)
+    filed_palm : IsOne two.device.databases (filed_device filing).databases two.device.user (filed_device filing).user
+    filed_palm = left_palm (filed_device filing) left.handheld
 
-    seated : IsOk (seat_of filing)
-    seated = by (seat_of filing) refl
-      where
-        by : (seat : Result UserInfo SessionFault) → seat_of filing ≡ seat → IsOk (seat_of filing)
-        by (Ok user) here = subst IsOk (sym here) refl
-        by (Err why) here = absurd (not_alone (one.had.left.unseated (subst IsErr (sym here) refl)))
-
-    fileable : IsFileable one.device one.slots
-    fileable = record {
-      rests = one.had.left.sound.rests;
-      formed = one.desktop.formed;
-      ordered = one.desktop.ordered;
-      bounded = one.had.left.sound.bounded;
-      seated = seated;
-    }
-
-    palm_same : IsOne two.device.databases (filed_device filing).databases two.device.user (filed_device filing).user
-    palm_same = same_handheld second.before.palm.contents (filed_device filing) two.device is.told_next.palm
-        (subst (λ (t : Option FileMap). Stands t (filed_device filing).databases (filed_device filing).user) (sym is.palm) left.handheld) two.handheld
-
-    slots_same : two.slots ≡ filed_slots filing
-    slots_same = told_slots second.before.desk.contents is.told_next.desk
-        (still second.before.desk.contents (subst (λ (t : Option FileMap). IsDesk t (filed_slots filing)) (sym is.desk) left.desktop)) two.desktop
-
-    again_is : again ≡ filing_of (filed_device filing) (filed_slots filing)
-    again_is = alike (filed_device filing) (filed_slots filing)
-        (same_device two.device (filed_device filing) palm_same.databases palm_same.user_is
-        (two.closed ∙ sym (filed_closed filing one.had.left.sound.rests))) slots_same
+    filed_desk : StandsFiled filing first.after.desk.contents
+    filed_desk = still first.after.desk.contents left.desktop
 
     pub untouched_again : second.after.desk.contents ≡ option_map finished second.before.desk.contents
-    untouched_again = two.had.left.untouched (ap filing_changes again_is ∙ second_changes one.device one.slots fileable)
+    untouched_again = untouched_so filed_palm filed_desk
 
-    pub together_again : second.report.end ≡ Ended → StandsTogether filing second.after
-    together_again = stand_so again_is (second_device one.device one.slots fileable) (second_slots one.device one.slots fileable)
+    together_again : second.report.end ≡ Ended → StandsTogether filing second.after
+    together_again = together_so filed_palm filed_desk
 
-  -- ---- behind one that left the desktop as it was
+  -- ---- behind one that stopped
 
-  module _ (stays : FinishesAs first.before.desk.contents first.after.desk.contents) where
-    abbrev reached : Device
-    reached = one.had.left.handheld.reached
+  abbrev reached : Device
+  reached = one.had.left.handheld.reached
 
-    abbrev done : List (List ℕ)
-    done = take one.had.left.handheld.behind.count (names filing)
+  abbrev done : List (List ℕ)
+  done = take one.had.left.handheld.behind.count (names filing)
 
-    palm_some : IsOne two.device.databases reached.databases two.device.user reached.user
-    palm_some = same_handheld second.before.palm.contents reached two.device is.told_next.palm
-        (subst (λ (t : Option FileMap). Stands t reached.databases reached.user) (sym is.palm) one.had.left.handheld.stands) two.handheld
+  palm_some : IsOne two.device.databases reached.databases two.device.user reached.user
+  palm_some = left_palm reached one.had.left.handheld.stands
 
-    slots_stay : two.slots ≡ one.slots
-    slots_stay = same_slots first.before.desk.contents second.before.desk.contents is.told.desk is.told_next.desk
-        (subst (λ (t : Option FileMap). FinishesAs first.before.desk.contents t) (sym is.desk) stays) one.desktop two.desktop
+  device_some : two.device ≡ device_among filing done
+  unfolding device_among
+  device_some = same_device two.device (device_among filing done) (palm_some.databases ∙ one.had.left.handheld.behind.databases)
+      (palm_some.user_is ∙ one.had.left.handheld.behind.user) (two.closed ∙ sym one.closed)
 
-    device_some : two.device ≡ device_among filing done
-    unfolding device_among
-    device_some = same_device two.device (device_among filing done) (palm_some.databases ∙ one.had.left.handheld.behind.databases)
-        (palm_some.user_is ∙ one.had.left.handheld.behind.user) (two.closed ∙ sym one.closed)
+  all_palm : first.report.writes ≡ block_writes filing
+      → IsOne two.device.databases (filed_device filing).databases two.device.user (filed_device filing).user
+  unfolding filed_device
+  all_palm written =
+      let behind = one.had.left.handheld.behind in
+      record {
+        databases = palm_some.databases ∙ behind.databases
+            ∙ written_all filing one.had.left.sound.rests behind.count (sym written ∙ behind.written);
+        user_is = palm_some.user_is ∙ behind.user;
+      }
 
-    pub made_up_for : second.report.end ≡ Ended → StandsTogether filing second.after
-    made_up_for = stand_so (alike (device_among filing done) one.slots device_some slots_stay) (stopped_device one.device one.slots done)
-        (stopped_slots one.device one.slots done)
+  pub untouched_filed : StandsFiled filing first.after.desk.contents → first.report.writes ≡ block_writes filing
+      → second.after.desk.contents ≡ option_map finished second.before.desk.contents
+  untouched_filed desk written = untouched_so (all_palm written) desk
+
+  made_up_for : StoppedFiling filing first.before.desk first.after.desk first.report → second.report.end ≡ Ended → StandsTogether filing second.after
+  made_up_for (inl stays) =
+      let slots_stay : two.slots ≡ one.slots =
+      same_slots first.before.desk.contents second.before.desk.contents is.told.desk is.told_next.desk
+      (subst (λ (t : Option FileMap). FinishesAs first.before.desk.contents t) (sym is.desk) stays) one.desktop two.desktop in
+      stand_so (alike (device_among filing done) one.slots device_some slots_stay) (stopped_device one.device one.slots done)
+      (stopped_slots one.device one.slots done)
+  made_up_for (inr filed) = together_so (all_palm filed.1) filed.0
+
+  pub behind_any : HasBegun first.report.end → second.report.end ≡ Ended → StandsTogether filing second.after
+  behind_any begun over = by first.report.end refl begun
+    where
+      by : (end : SessionEnd) → first.report.end ≡ end → HasBegun end → StandsTogether filing second.after
+      by NotStarted is begun = absurd begun
+      by Ended is begun = together_again is over
+      by Stopped is begun = made_up_for (one.had.left.stopped is) over
 
 -- ---- by both calls
 module _ (first second : Call) (is : IsSecondCall first second) where
@@ -148,14 +231,13 @@ module _ (first second : Call) (is : IsSecondCall first second) where
       → second.after.desk.contents ≡ option_map finished second.before.desk.contents
   desktop_untouched ended begun = untouched_again first second is (one_ran (subst HasBegun (sym ended) tt)) (two_ran begun) ended
 
-  pub stay_together : first.report.end ≡ Ended → second.report.end ≡ Ended
-      → (ran : One) × StandsTogether (filing_of ran.device ran.slots) second.after
-  stay_together ended over =
-      let one = one_ran (subst HasBegun (sym ended) tt) in
-      (one, together_again first second is one (two_ran (subst HasBegun (sym over) tt)) ended over)
+  pub desktop_behind : (ran : One) → StandsFiled (filing_of ran.device ran.slots) first.after.desk.contents
+      → first.report.writes ≡ block_writes (filing_of ran.device ran.slots) → HasBegun second.report.end
+      → second.after.desk.contents ≡ option_map finished second.before.desk.contents
+  desktop_behind ran desk written begun = untouched_filed first second is ran (two_ran begun) desk written
 
-  pub come_together : HasBegun first.report.end → FinishesAs first.before.desk.contents first.after.desk.contents → second.report.end ≡ Ended
+  pub come_together : HasBegun first.report.end → second.report.end ≡ Ended
       → (ran : One) × StandsTogether (filing_of ran.device ran.slots) second.after
-  come_together begun stays over =
+  come_together begun over =
       let one = one_ran begun in
-      (one, made_up_for first second is one (two_ran (subst HasBegun (sym over) tt)) stays over)
+      (one, behind_any first second is one (two_ran (subst HasBegun (sym over) tt)) begun over)

@@ -19,7 +19,9 @@ pub mod FilingPromises
 pub mod FilingRuns
 pub mod FilingSaid
 pub mod FilingSpoke
+pub mod FilingUnseated
 pub mod FilingWell
+pub mod FilingWritten
 pub mod FinishedFiles
 pub mod FrontLaws
 pub mod FrontMoments

@@ -11,11 +11,12 @@ ghost use Rattle.run_words.specs.Captures.{Capture};
 ghost use Rattle.run_words.specs.Commands.{Emulate, Categories, Install, LookAt, Make, Restore};
 ghost use Rattle.run_words.specs.declared.look.Look.{Look};
 ghost use Rattle.run_words.specs.Runs.{Run};
-ghost use Rattle.desk_journal.specs.Overlays.{FinishesAs, finished};
+ghost use Rattle.desk_journal.specs.Overlays.{finished};
 ghost use Rattle.desk_store.specs.Desks.{StaysOpenable};
 ghost use Rattle.session_plan.specs.Limits.{first_over};
 ghost use Rattle.session_plan.specs.Tasks.{Meeting};
-ghost use Rattle.category_mirror.specs.Sides.{filing_of};
+ghost use Rattle.category_mirror.specs.FilingEnds.{StandsFiled};
+ghost use Rattle.category_mirror.specs.Sides.{block_writes, filing_of};
 ghost use Rattle.front_laws.specs.Answered.{IsAnsweredExchange};
 ghost use Rattle.hotsync_run.specs.Again.{AllRan, AreOfOneKind, AreTold, EndsAsOne, IsRepeat};
 ghost use Rattle.hotsync_run.specs.Calls.{Call, IsAnsweredCall, IsNothing};
@@ -222,20 +223,21 @@ pub fn categories_keep_what_they_promise()
         call.report }
 {}
 
-/// Categories that were brought together stay as they are: a session behind one that ended, with nothing edited between them and whatever
-/// the words of both are, leaves the desktop's folder alone, and both sides as they were. One that ends behind a session that left the
-/// desktop as it was makes up for it.
+/// Categories that were brought together stay as they are: a session behind one that ended, or that stopped behind the desktop's commit,
+/// with nothing edited between them and whatever the words of both are, leaves the desktop's folder alone. One that ends behind a session
+/// that began, however that went, leaves both sides as the first alone would have left them, had it ended.
 pub fn categories_that_are_together_stay()
     ensures untouched { (first second : Call) → IsSecondCall first second
         → first.report.end ≡ Ended → HasBegun second.report.end
         → second.after.desk.contents ≡ option_map finished second.before.desk.contents }
-    ensures ended { (first second : Call) → (is : IsSecondCall first second)
-        → first.report.end ≡ Ended → second.report.end ≡ Ended
+    ensures committed { (first second : Call) → (is : IsSecondCall first second)
         → (ran : CategoriesRan is.words first.before first.after first.status first.report)
-        × StandsTogether (filing_of ran.device ran.slots) second.after }
-    ensures stopped { (first second : Call) → (is : IsSecondCall first second)
-        → HasBegun first.report.end → FinishesAs first.before.desk.contents first.after.desk.contents
-        → second.report.end ≡ Ended
+        → StandsFiled (filing_of ran.device ran.slots) first.after.desk.contents
+        → first.report.writes ≡ block_writes (filing_of ran.device ran.slots)
+        → HasBegun second.report.end
+        → second.after.desk.contents ≡ option_map finished second.before.desk.contents }
+    ensures again { (first second : Call) → (is : IsSecondCall first second)
+        → HasBegun first.report.end → second.report.end ≡ Ended
         → (ran : CategoriesRan is.words first.before first.after first.status first.report)
         × StandsTogether (filing_of ran.device ran.slots) second.after }
 {}
