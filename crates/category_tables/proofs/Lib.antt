@@ -10,3 +10,4 @@ pub mod RoundLaws
 pub mod SetLaws
 pub mod Settled
 pub mod TextLaws
+pub mod WrittenLaws

@@ -11,34 +11,41 @@ use Rattle.palm_records.specs.Strings.{front, until_zero}
 use Rattle.category_tables.specs.Tables.{EntryValue, IsTable, TableValue, entry_at, no_entry}
 use Rattle.category_tables.specs.Texts.{HasText, HoldsTable, IsLabel, entry_in, id_of, label_bytes, label_text, table_in, table_text}
 
+-- each label is short
+abbrev pub AreShort : List EntryValue → Type 0
+AreShort entries = (k : ℕ) → k < length entries → length (entry_at entries k).label < 16
+
 -- each is a label
 abbrev AreLabels : List EntryValue → Type 0
 AreLabels entries = (k : ℕ) → k < length entries → IsLabel (entry_at entries k)
+
+short_of : (entries : List EntryValue) → AreLabels entries → AreShort entries
+short_of entries are k less = (are k less).short
 
 length-label : (entry : EntryValue) → length entry.label < 16 → length (label_text entry) ≡ 16
 length-label entry less =
     omega (arith, length-append entry.label (replicate {A = ℕ} (16 - length entry.label) 0), length-replicate {A = ℕ} (16 - length entry.label) 0)
 
-later : (entry : EntryValue) (entries : List EntryValue) → AreLabels (entry ∷ entries) → AreLabels entries
+later : (entry : EntryValue) (entries : List EntryValue) → AreShort (entry ∷ entries) → AreShort entries
 later entry entries are k less = are (suc k) (omega arith)
 
-length-labels : (entries : List EntryValue) → AreLabels entries → length (flat_map label_text entries) ≡ 16 * length entries
+length-labels : (entries : List EntryValue) → AreShort entries → length (flat_map label_text entries) ≡ 16 * length entries
 length-labels [] are = refl
 length-labels (entry ∷ entries) are =
-    let whole = length-label entry (are 0 (omega arith)).short in
+    let whole = length-label entry (are 0 (omega arith)) in
     let rest = length-labels entries (later entry entries are) in
     omega (arith, length-append (label_text entry) (flat_map label_text entries), whole, rest)
 
 -- the n-th label among all
-label-at : (entries : List EntryValue) (n : ℕ) (rest : List ℕ) → AreLabels entries → n < length entries
+label-at : (entries : List EntryValue) (n : ℕ) (rest : List ℕ) → AreShort entries → n < length entries
     → take 16 (drop (16 * n) (flat_map label_text entries ++ rest)) ≡ label_text (entry_at entries n)
 label-at [] n rest are less = absurd (omega arith)
 label-at (entry ∷ entries) zero rest are less =
-    let whole = length-label entry (are 0 (omega arith)).short in
+    let whole = length-label entry (are 0 (omega arith)) in
     rw append_assoc (take-append-le 16 (label_text entry) (flat_map label_text entries ++ rest) (omega (arith, whole))
     ∙ take_all 16 (label_text entry) (omega (arith, whole)))
 label-at (entry ∷ entries) (suc n) rest are less =
-    let whole = length-label entry (are 0 (omega arith)).short in
+    let whole = length-label entry (are 0 (omega arith)) in
     let far : 16 * suc n ≡ length (label_text entry) + 16 * n = omega (arith, whole) in
     ap (λ k. take 16 (drop k (flat_map label_text (entry ∷ entries) ++ rest))) far
     ∙ ap (λ (l : List ℕ). take 16 (drop (length (label_text entry) + 16 * n) l)) (append_assoc (label_text entry) (flat_map label_text entries) rest)
@@ -73,14 +80,14 @@ labels_of table = flat_map label_text table.entries
 behind : TableValue → List ℕ
 behind table = map id_of table.entries ++ table.last ∷ 0 ∷ []
 
-label-in : (table : TableValue) (n : ℕ) → AreLabels table.entries → length table.entries ≡ 16 → n < 16
+pub label-in : (table : TableValue) (n : ℕ) → AreShort table.entries → length table.entries ≡ 16 → n < 16
     → label_bytes (table_text table) n ≡ label_text (entry_at table.entries n)
 unfolding table_text
 label-in table n are whole less =
     ap (take {A = ℕ} 16) (drop-append-add ((table.flags / 256) ∷ (table.flags % 256) ∷ []) (flat_map label_text table.entries ++ (map id_of table.entries ++ table.last ∷ 0 ∷ [])) (16 * n))
     ∙ label-at table.entries n (map id_of table.entries ++ table.last ∷ 0 ∷ []) are (omega arith)
 
-id-in : (table : TableValue) (n : ℕ) → AreLabels table.entries → length table.entries ≡ 16 → n < 16
+pub id-in : (table : TableValue) (n : ℕ) → AreShort table.entries → length table.entries ≡ 16 → n < 16
     → get_or (table_text table) (258 + n) 0 ≡ (entry_at table.entries n).id
 unfolding table_text
 id-in table n are whole less =
@@ -92,7 +99,7 @@ id-in table n are whole less =
     ∙ get_or_append_left (map id_of table.entries) (table.last ∷ 0 ∷ []) 0 n (omega (arith, whole, length-map table.entries id_of))
     ∙ get_or-map id_of table.entries n no_entry 0 (omega arith)
 
-last-in : (table : TableValue) → AreLabels table.entries → length table.entries ≡ 16 → get_or (table_text table) 274 0 ≡ table.last
+pub last-in : (table : TableValue) → AreShort table.entries → length table.entries ≡ 16 → get_or (table_text table) 274 0 ≡ table.last
 unfolding table_text
 last-in table are whole =
     let head : List ℕ = (table.flags / 256) ∷ (table.flags % 256) ∷ flat_map label_text table.entries in
@@ -109,7 +116,7 @@ flags-in : (table : TableValue) → get_or (table_text table) 0 0 * 256 + get_or
 unfolding table_text
 flags-in table = omega arith
 
-length-text : (table : TableValue) → AreLabels table.entries → length table.entries ≡ 16 → length (table_text table) ≡ 276
+pub length-text : (table : TableValue) → AreShort table.entries → length table.entries ≡ 16 → length (table_text table) ≡ 276
 unfolding table_text
 length-text table are whole =
     let long = length-labels table.entries are in
@@ -129,8 +136,8 @@ same_entry entry label id e f = rw (e, f) refl
 entry-in : (table : TableValue) (n : ℕ) → AreLabels table.entries → length table.entries ≡ 16 → n < 16
     → entry_in (table_text table) n ≡ entry_at table.entries n
 entry-in table n are whole less =
-    same_entry (entry_at table.entries n) _ _ (ap until_zero (label-in table n are whole less) ∙ label-read (entry_at table.entries n) (are n (omega arith)))
-    (id-in table n are whole less)
+    same_entry (entry_at table.entries n) _ _ (ap until_zero (label-in table n (short_of table.entries are) whole less) ∙ label-read (entry_at table.entries n) (are n (omega arith)))
+    (id-in table n (short_of table.entries are) whole less)
 
 same_table : (table : TableValue) (flags last : ℕ) (entries : List EntryValue) → flags ≡ table.flags → entries ≡ table.entries → last ≡ table.last
     → record { flags = flags; entries = entries; last = last } ≡ table
@@ -146,14 +153,14 @@ table-read table has =
     let whole = has.table_is.whole in
     same_table table _ _ _ (flags-in table)
     (sym (fill_by_all (entry_in (table_text table)) table.entries 16 no_entry whole (λ k less. sym (entry-in table k are whole less))))
-    (last-in table are whole)
+    (last-in table (short_of table.entries are) whole)
 
 pub text_holds : (table : TableValue) → HasText table → HoldsTable (table_text table)
 text_holds table has =
     let are = labels table has in
     let whole = has.table_is.whole in
     record {
-      long = omega (arith, length-text table are whole);
+      long = omega (arith, length-text table (short_of table.entries are) whole);
       ended = λ n less. subst (λ (e : EntryValue). length e.label < 16) (sym (entry-in table n are whole less)) (are n (omega arith)).short;
       table = subst IsTable (sym (table-read table has)) has.table_is;
     }

@@ -32,6 +32,11 @@ pub record HoldsTable (bytes : List ℕ) : Type 0 where
   pub ended : (number : ℕ) → number < 16 → length (entry_in bytes number).label < 16
   pub table : IsTable (table_in bytes)
 
+-- behind the end of each label stand zero bytes alone
+abbrev pub AreFilled : List ℕ → Type 0
+AreFilled bytes = (number : ℕ) → number < 16 → All (λ byte. byte ≡ 0)
+    (drop (length (entry_in bytes number).label) (label_bytes bytes number))
+
 -- a label, filled with zero bytes
 abbrev pub label_text : EntryValue → List ℕ
 label_text entry = entry.label ++ replicate (16 - length entry.label) 0

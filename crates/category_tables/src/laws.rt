@@ -1,8 +1,8 @@
 // What holds of merged tables.
-ghost use Rattle.std.specs.Prelude.{◌≡◌, ◌<◌, ◌≤◌, Some, slice_index, true, ℕ};
+ghost use Rattle.std.specs.Prelude.{◌≡◌, ◌<◌, ◌≤◌, All, List, Some, slice_index, take, true, ℕ};
 ghost use Rattle.category_tables.specs.Tables.{IsTable, TableValue, entry_at, is_used};
 ghost use Rattle.category_tables.specs.Merges.{merged_table, of_id, places_of};
-ghost use Rattle.category_tables.specs.Texts.{HasText, HoldsTable, table_in, table_text};
+ghost use Rattle.category_tables.specs.Texts.{AreFilled, HasText, HoldsTable, table_in, table_text};
 ghost use Rattle.category_tables.specs.Swaps.{IsSwapOf, swapped};
 
 /// The merge of two tables is a table, and each of the desktop's numbers goes to one that is used in it.
@@ -48,4 +48,11 @@ pub fn a_number_goes_where_its_id_is()
 pub fn a_table_is_read_again()
     ensures holds { (table : TableValue) → HasText table → HoldsTable (table_text table) }
     ensures table { (table : TableValue) → HasText table → table_in (table_text table) ≡ table }
+{}
+
+/// The table at the head of an app block is written as the bytes that it was read from, but for the last one, which is not
+/// looked at. What stands behind the end of a label is to be zero bytes.
+pub fn a_table_is_written_again()
+    ensures { (bytes : List ℕ) → All (λ byte. byte < 256) bytes → HoldsTable bytes → AreFilled bytes
+        → take 275 (table_text (table_in bytes)) ≡ take 275 bytes }
 {}
