@@ -1,11 +1,13 @@
 pub mod ActLaws
 pub mod AnswerLaws
 pub mod AskLaws
+pub mod CameLaws
 pub mod ChangeRows
 pub mod CopyLaws
 pub mod GreetLaws
 pub mod GrowLaws
 pub mod IdListLaws
+pub mod IdsCameLaws
 pub mod LastLaws
 pub mod LentLaws
 pub mod ListLaws
@@ -18,7 +20,9 @@ pub mod RepliedLaws
 pub mod RequestFits
 pub mod RowLaws
 pub mod SaysLaws
+pub mod StartLaws
 pub mod StopLaws
 pub mod TellLaws
+pub mod UntoldLaws
 pub mod UserLaws
 pub mod WholeListLaws

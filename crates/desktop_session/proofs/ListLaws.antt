@@ -1,5 +1,5 @@
 -- Lists that come in several replies grow by one request.
-use Rattle.std.proofs.Common.{◌≡◌, ◌∙◌, ◌<◌, ◌+◌, ◌-◌, ◌*◌, refl, ap, sym, inl, inr, ℕ, zero, suc, true, false, List, [], ◌∷◌, ◌++◌, map, below_more}
+use Rattle.std.proofs.Common.{◌≡◌, ◌∙◌, ◌<◌, ◌+◌, ◌-◌, ◌*◌, refl, ap, sym, subst, inl, inr, ℕ, zero, suc, true, false, List, [], ◌∷◌, ◌++◌, map, below_more}
 use Rattle.std.proofs.Common.{arith}
 use Rattle.std.proofs.lemmas.List.{map-append}
 use Rattle.std.specs.Prelude.{◌⊎◌, Option, Some, None, IfSome, Ok, Err}
@@ -20,7 +20,10 @@ use Rattle.desktop_session.specs.Requests.{listing, listing_ids}
 use Rattle.desktop_session.specs.Says.{said, saying}
 use Rattle.desktop_session.specs.Sessions.{SessionValue}
 use Rattle.desktop_session.specs.Stops.{Asked, Does, Stops}
+use Rattle.desktop_session.specs.Starts.{next_start}
+use Rattle.desktop_session.proofs.StartLaws.{more_follow, told_end, told_next}
 use Rattle.desktop_session.proofs.StopLaws.{does_none, does_then, fell_none, stops_none, stops_then}
+use Rattle.desktop_session.proofs.UntoldLaws.{does_none_told, stops_none_told}
 use Rattle.desktop_session.proofs.TellLaws.{IfDone, done_then, said_device}
 use Rattle.desktop_session.specs.Tellings.{device_after}
 use Rattle.std.proofs.lemmas.Grind.{common_steps}
@@ -139,13 +142,22 @@ more_but_last : (o : Option Talk) (count : ℕ) → IfSome o (λ talk. (k : ℕ)
     → IfSome o (λ talk. (k : ℕ) → k + 1 < count + 1 → has_more (list_reply talk.device k) ≡ true)
 more_but_last o count before = grind (arith, common_steps, nat_tests)
 
-last_is : (o : Option Talk) {count : ℕ} (bytes : List ℕ) → IfSome o (λ talk. reply_at 0x16 bytes ≡ list_reply talk.device count)
-    → (count ≡ 65535) ⊎ (has_more (reply_at 0x16 bytes) ≡ false)
+last_is : (o : Option Talk) {count : ℕ} (bytes : List ℕ) → IfSome o (λ talk. reply_at 0x16 bytes ≡ list_reply talk.device count) → count < 65536
+    → next_start count (reply_at 0x16 bytes) ≡ None
     → IfSome o (λ talk. (count + 1 ≡ 65536) ⊎ (has_more (list_reply talk.device (count + 1 - 1)) ≡ false))
-last_is None bytes is ends = tt
-last_is (Some talk) bytes is (inl full) = inl (omega arith)
-last_is (Some talk) {count} bytes is (inr none) = inr (ap (λ n. has_more (list_reply talk.device n)) (let same : count + 1 - 1
-    ≡ count = omega arith in same) ∙ ap has_more (sym is) ∙ none)
+last_is None bytes is few ends = tt
+last_is (Some talk) {count} bytes is few ends = by (told_end talk.device count few (sym (ap (next_start count) is) ∙ ends))
+  where
+    by : (count ≡ 65535) ⊎ (has_more (list_reply talk.device count) ≡ false)
+        → (count + 1 ≡ 65536) ⊎ (has_more (list_reply talk.device (count + 1 - 1)) ≡ false)
+    by (inl full) = inl (omega arith)
+    by (inr none) = inr (ap (λ n. has_more (list_reply talk.device n)) (let same : count + 1 - 1 ≡ count = omega arith in same) ∙ none)
+
+-- behind the device's reply the list goes on at the next index
+next_is : (o : Option Talk) {start next : ℕ} (bytes : List ℕ) → IfSome o (λ talk. reply_at 0x16 bytes ≡ list_reply talk.device start) → start < 65536
+    → next_start start (reply_at 0x16 bytes) ≡ Some next → IfSome o (λ talk. start + 1 ≡ next)
+next_is None bytes is few goes = tt
+next_is (Some talk) {start} {next} bytes is few goes = sym (told_next talk.device start next few (sym (ap (next_start start) is) ∙ goes))
 
 module _ {L : Type 0} {talk : L → Option Talk} {since : L → L → Type 0} {fault : L → Option LinkFault} {downs : L → ℕ} {heads : List DbHead}
     {old : SessionValue L} where
@@ -191,11 +203,27 @@ module _ {L : Type 0} {talk : L → Option Talk} {since : L → L → Type 0} {f
         abandoned = cc;
       }
 
+  -- where nothing is told, any number of requests says the same
+  recounted : {count other : ℕ} {now : SessionValue L} → IfSome (talk old.link) (λ talk. count ≡ other)
+      → ListsSoFar talk since fault downs count heads old now → ListsSoFar talk since fault downs other heads old now
+  recounted {count} {other} {now} same before = by (talk old.link) refl same
+    where
+      by : (o : Option Talk) → talk old.link ≡ o → IfSome o (λ talk. count ≡ other) → ListsSoFar talk since fault downs other heads old now
+      by (Some told) is same = subst (λ (n : ℕ). ListsSoFar talk since fault downs n heads old now) same before
+      by None is same = record {
+        does = does_none_told talk (listings count) (listings other) old.link now.link is before.does;
+        stops = stops_none_told (map text (listings other)) is before.stops;
+        more = rw is tt;
+        heads = rw is tt;
+        user = before.user;
+        abandoned = before.abandoned;
+      }
+
   -- ---- where it ended
 
   pub lists_done : (since_more : (a b c : L) → since a b → since b c → since a c) {count : ℕ} {all : List DbHead} {now new : SessionValue L}
       → ListsSoFar talk since fault downs count heads old now → Asked talk since fault downs (listing count) now new → fault new.link ≡ None → count < 65536
-      → (count ≡ 65535) ⊎ (has_more (reply_at 0x16 new.reply) ≡ false) → all ≡ heads ++ heads_in (reply_at 0x16 new.reply)
+      → next_start count (reply_at 0x16 new.reply) ≡ None → all ≡ heads ++ heads_in (reply_at 0x16 new.reply)
       → Lists talk since fault downs old.link new.link (Ok all)
   lists_done since_more {count} {new} before asked none few ends added =
       let here = reply_on before asked none in
@@ -207,7 +235,7 @@ module _ {L : Type 0} {talk : L → Option Talk} {since : L → L → Type 0} {f
         more = more_but_last (talk old.link) count before.more;
         does = does_on before asked none;
         heads = heads_on (talk old.link) count heads new.reply before.heads here added;
-        last = last_is (talk old.link) new.reply here ends;
+        last = last_is (talk old.link) new.reply here few ends;
       }
 
   pub lists_failed : (since_more : (a b c : L) → since a b → since b c → since a c) {count : ℕ} {now new : SessionValue L} (why : SessionFault)
@@ -223,3 +251,13 @@ module _ {L : Type 0} {talk : L → Option Talk} {since : L → L → Type 0} {f
     heads = tt;
     last = tt;
   }
+
+-- the list goes on behind a reply
+pub lists_goes_on : {L : Type 0} {talk : L → Option Talk} {since : L → L → Type 0} {fault : L → Option LinkFault} {downs : L → ℕ} {heads : List DbHead}
+    {old : SessionValue L} (since_more : (a b c : L) → since a b → since b c → since a c) {start next : ℕ} {more_heads : List DbHead}
+    {now new : SessionValue L} → ListsSoFar talk since fault downs start heads old now → Asked talk since fault downs (listing start) now new
+    → fault new.link ≡ None → start < 65536 → next_start start (reply_at 0x16 new.reply) ≡ Some next
+    → more_heads ≡ heads ++ heads_in (reply_at 0x16 new.reply) → ListsSoFar talk since fault downs next more_heads old new
+lists_goes_on {talk} {old} since_more {start} {next} {new} before asked none few goes added =
+    recounted (next_is (talk old.link) new.reply (reply_on before asked none) few goes)
+    (lists_on since_more before asked none (more_follow (reply_at 0x16 new.reply) start next goes) added)

@@ -75,10 +75,10 @@ abbrev pub ids_of : ReplyValue → List ℕ
 ids_of (reply.ReadRecordIdList ids) = ids
 ids_of other = []
 
--- the flags of a list of databases, and its entries
-abbrev pub list_of : ReplyValue → ℕ × List (ℕ × DbHead)
-list_of (reply.ReadDbList last flags entries) = (flags, entries)
-list_of other = (0, [])
+-- the last index of a list of databases, its flags, and its entries
+abbrev pub list_of : ReplyValue → ℕ × ℕ × List (ℕ × DbHead)
+list_of (reply.ReadDbList last flags entries) = (last, flags, entries)
+list_of other = (0, 0, [])
 
 -- the bytes of a block
 abbrev pub block_of : ReplyValue → List ℕ

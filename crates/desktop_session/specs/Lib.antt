@@ -13,5 +13,6 @@ pub mod Replies
 pub mod Requests
 pub mod Says
 pub mod Sessions
+pub mod Starts
 pub mod Stops
 pub mod Tellings

@@ -1,5 +1,5 @@
 // What holds of what a session says.
-ghost use Rattle.std.specs.Prelude.{◌≡◌, ◌++◌, ◌+◌, ◌-◌, ◌^◌, ◌<◌, ◌≤◌, ◌⊎◌, ℕ, List, Err, Ok, Some, false, length, map, max, slice_get, true};
+ghost use Rattle.std.specs.Prelude.{◌≡◌, ◌++◌, ◌+◌, ◌-◌, ◌^◌, ◌<◌, ◌≤◌, ◌⊎◌, ℕ, List, Err, Ok, Some, None, false, length, map, max, slice_get, true};
 ghost use Rattle.pdb_values.specs.declared.head.DbHead.{DbHead};
 ghost use Rattle.pdb_values.specs.declared.record.Record.{Record};
 ghost use Rattle.pdb_values.specs.declared.resource.Resource.{Resource};
@@ -23,6 +23,7 @@ ghost use Rattle.desktop_session.specs.Opens.{IsOpenAs, LeavesOpen};
 ghost use Rattle.desktop_session.specs.Requests.{closing, making, opening_in, reading_at, reading_next, reading_of, reading_resource};
 ghost use Rattle.desktop_session.specs.Says.{said};
 ghost use Rattle.desktop_session.specs.Sessions.{SessionValue};
+ghost use Rattle.desktop_session.specs.Starts.{next_start};
 ghost use Rattle.desktop_session.specs.Stops.{Asked};
 ghost use Rattle.desktop_session.specs.Tellings.{AreSayable, IsProper, IsSayable, device_after, exchanges, number_of, told};
 
@@ -78,7 +79,8 @@ pub fn first_handle_is_one()
 {}
 
 /// Over a device whose values keep their bounds a list of its databases takes as many requests as there are, and one where there
-/// is none; and it is the list of their heads, without their seeds.
+/// is none; and it is the list of their heads, without their seeds. Over any device the list goes on one index behind each start, so
+/// that the requests are for the indices from 0 on, one after the other.
 pub fn lists_are_whole()
     ensures heads { (device : Device) (count : ℕ) → IsProper device
         → length device.databases ≤ count → count ≤ 65536
@@ -87,6 +89,11 @@ pub fn lists_are_whole()
         → ((k : ℕ) → k + 1 < count → has_more (list_reply device k) ≡ true)
         → (count ≡ 65536) ⊎ (has_more (list_reply device (count - 1)) ≡ false)
         → count ≡ max 1 (length device.databases) }
+    ensures next { (device : Device) (start next : ℕ) → start < 2 ^ 16
+        → next_start start (list_reply device start) ≡ Some next → next ≡ start + 1 }
+    ensures end { (device : Device) (start : ℕ) → start < 2 ^ 16
+        → next_start start (list_reply device start) ≡ None
+        → (start ≡ 65535) ⊎ (has_more (list_reply device start) ≡ false) }
 {}
 
 /// An open database's handle stands for it, in its mode, from the opening to the closing, whatever is

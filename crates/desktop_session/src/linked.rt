@@ -73,6 +73,13 @@ impl<L: Link> Linked<L> {
         self.reply.bytes()
     }
 
+    // The last reply is taken for none.
+    pub(crate) fn forget_reply(&mut self)
+        ensures { self.new ≡ record self.old { reply = [] } }
+    {
+        self.reply.clear();
+    }
+
     // An open database is left without being closed.
     pub(crate) fn abandon(&mut self)
         ensures { self.new ≡ record self.old { abandoned = true } }

@@ -1,31 +1,37 @@
 // Lists that come in several replies.
-ghost use Rattle.std.specs.Prelude.{◌≡◌, ◌++◌, ◌*◌, IfErr, IfOk, IfSome, None, OnErr, OnOk, false, map};
+ghost use Rattle.std.specs.Prelude.{◌≡◌, ◌++◌, ◌*◌, ◌≤◌, IfErr, IfOk, IfSome, IsOk, None, OnErr, OnOk, false, length, map};
 ghost use Rattle.dlp_replies.specs.ReplyReading.{reply_at};
 ghost use Rattle.desktop_session.specs.Acts.{text};
-ghost use Rattle.desktop_session.specs.Answers.{mapped};
+ghost use Rattle.desktop_session.specs.Answers.{ids_of, mapped, said_in};
 ghost use Rattle.desktop_session.specs.Lasts.{IsByLastReply};
-ghost use Rattle.desktop_session.specs.Lists.{HasCause, IsByReplyTo, IsNotMissing, Lists, has_more, heads_in};
+ghost use Rattle.desktop_session.specs.Lists.{HasCause, IsByReplyTo, IsNotMissing, Lists, heads_in};
 ghost use Rattle.desktop_session.specs.Lists.{id_listings, id_parts, ids_in, ids_listed};
 ghost use Rattle.desktop_session.specs.Requests.{listing, listing_ids};
+ghost use Rattle.desktop_session.specs.Starts.{IsCounted, IsListedUpTo, next_start};
 ghost use Rattle.desktop_session.specs.Stops.{Asked, Does, Stops};
 
 use crate::fault::SessionFault;
 use crate::linked::Linked;
 use crate::open_db::OpenDb;
 use crate::replies::{add_heads, add_ids};
-use dlp_commands::{Link, Request};
+use dlp_commands::{Link, ReplyFault, Request};
 use pdb_values::{DbHead, RecordId};
 use std::alloc::Global;
 
 impl<L: Link> Linked<L> {
-    // Asks for the databases from an index on, appends their heads, and answers whether more follow.
+    // Asks for the databases from an index on, appends their heads, and answers where the list goes on.
     #[tactic(auto, using(crate::proofs::RequestFits::list_fits, crate::proofs::AnswerLaws::cause_of_link, crate::proofs::AnswerLaws::cause_of_reply, crate::proofs::AnswerLaws::fault_none))]
-    fn list_from(&mut self, start: u16, heads: &mut Vec<DbHead>) -> Result<bool, SessionFault>
+    fn list_from(
+        &mut self,
+        start: u16,
+        heads: &mut Vec<DbHead>,
+    ) -> Result<Option<u16>, SessionFault>
         ensures asked { Asked L.talk L.since L.fault L.downs (listing start) self.old self.new }
         ensures none { OnOk result (L.fault self.new.link ≡ None) }
         ensures heads { OnOk result (heads.new.items ≡ heads.old.items ++ heads_in (reply_at 0x16
             self.new.reply)) }
-        ensures more { IfOk result (λ more. more ≡ has_more (reply_at 0x16 self.new.reply)) }
+        ensures next { IfOk result (λ next. next ≡ next_start start
+            (reply_at 0x16 self.new.reply)) }
         ensures cause { IfErr result (HasCause (L.fault self.new.link) (reply_at 0x16
             self.new.reply)) }
         ensures last { IfErr result (IsByLastReply (L.talk self.new.link)) }
@@ -36,7 +42,7 @@ impl<L: Link> Linked<L> {
             card: 0,
             start,
         })?;
-        add_heads(self.reply(), heads)
+        add_heads(self.reply(), start, heads)
     }
 
     // Asks for at most 8,000 ids from an index on and appends them.
@@ -52,6 +58,7 @@ impl<L: Link> Linked<L> {
         ensures none { OnOk result (L.fault self.new.link ≡ None) }
         ensures ids { OnOk result (ids.new.items ≡ ids.old.items ++ ids_in (reply_at 0x31
             self.new.reply)) }
+        ensures read { OnOk result (IsOk (said_in ids_of (reply_at 0x31 self.new.reply))) }
         ensures cause { IfErr result (HasCause (L.fault self.new.link) (reply_at 0x31
             self.new.reply)) }
         ensures last { IfErr result (IsByLastReply (L.talk self.new.link)) }
@@ -67,13 +74,16 @@ impl<L: Link> Linked<L> {
 }
 
 impl<L: Link> Linked<L> {
-    /// The heads of the handheld's databases, without their seeds. One request goes out for each
-    /// index from 0 on, until no
-    /// more follow or 65,536 went out.
+    /// The heads of the handheld's databases, without their seeds, in the order of the replies. The first request is for those
+    /// from index 0 on, and each other one for those behind the last index of the reply before it, whatever gaps the indices
+    /// have. The list ends where a reply says that no more follow, names a last index below the one that was asked for, or
+    /// names 65,535. Over a device that is told there are no gaps, and so one request goes out for each index from 0 on.
     pub fn list(&mut self, alloc: Global) -> Result<Vec<DbHead>, SessionFault>
         requires { self.old.abandoned ≡ false }
         ensures lists { Lists L.talk L.since L.fault L.downs self.old.link self.new.link
             (mapped (λ heads. heads.items) result) }
+        ensures listed { IfOk result (λ heads. IsListedUpTo (reply_at 0x16 self.new.reply)
+            heads.items) }
         ensures cause { IfErr result (HasCause (L.fault self.new.link) (reply_at 0x16
             self.new.reply)) }
         ensures last { IfErr result (IsByLastReply (L.talk self.new.link)) }
@@ -85,63 +95,76 @@ impl<L: Link> Linked<L> {
         let mut heads = Vec::new(alloc);
         let mut start = 0;
         'start: loop {
-            let more = self.list_from(start, &mut heads)?;
-            if !more {
+            let Some(next) = self.list_from(start, &mut heads)? else {
                 return Ok(heads);
-            }
-            if start == u16::MAX {
-                return Ok(heads);
-            }
-            start += 1;
+            };
+            start = next;
         }
     }
 
-    // The ids of an open database that has so many records.
+    // The ids of an open database that has so many records: each request begins behind those that came. A reply without
+    // ids where some are due is taken for none.
     fn ids_of(
         &mut self,
         alloc: Global,
         handle: u8,
         count: u16,
     ) -> Result<Vec<RecordId>, SessionFault>
-        ensures stops { Stops L.talk L.since L.fault L.downs (map text (id_listings handle
-            (id_parts count)))
+        ensures stops { IsCounted (L.talk self.old.link) handle count
+            → Stops L.talk L.since L.fault L.downs (map text (id_listings handle (id_parts count)))
             self.old.link self.new.link }
-        ensures does { OnOk result (Does L.talk (id_listings handle (id_parts count))
-            self.old.link self.new.link) }
-        ensures ids { IfOk result (λ ids. IfSome (L.talk self.old.link)
+        ensures does { OnOk result (IsCounted (L.talk self.old.link) handle count
+            → Does L.talk (id_listings handle (id_parts count)) self.old.link self.new.link) }
+        ensures ids { IfOk result (λ ids. IsCounted (L.talk self.old.link) handle count
+            → IfSome (L.talk self.old.link)
             (λ talk. ids.items ≡ ids_listed talk.device handle (id_parts count))) }
+        ensures whole { IfOk result (λ ids. count ≤ length ids.items) }
         ensures cause { IfErr result (HasCause (L.fault self.new.link) (reply_at 0x31
             self.new.reply)) }
-        ensures last { IfErr result (IsByLastReply (L.talk self.new.link)) }
-        ensures replied { OnErr result (IsByReplyTo L.talk L.fault (id_parts count)
+        ensures last { IfErr result (λ cause. IsCounted (L.talk self.old.link) handle count
+            → IsByLastReply (L.talk self.new.link) cause) }
+        ensures replied { OnErr result (IsCounted (L.talk self.old.link) handle count
+            → IsByReplyTo L.talk L.fault (id_parts count)
             (λ part. listing_ids handle (8000 * part)) self.old self.new) }
         ensures rest { (self.new.user ≡ self.old.user) × (self.new.abandoned ≡ self.old.abandoned) }
     {
         let mut ids = Vec::new(alloc);
-        for part in 0..count.div_ceil(8_000) {
-            self.ids_from(handle, 8_000 * part, &mut ids)?;
+        'part: while ids.len() < usize::from(count) {
+            let before = ids.len();
+            self.ids_from(handle, before as u16, &mut ids)?;
+            if ids.len() == before {
+                self.forget_reply();
+                return Err(SessionFault::BadReply(ReplyFault::Wrapper(0)));
+            }
         }
         Ok(ids)
     }
 }
 
 impl<'s, L: Link> OpenDb<'s, L> {
-    /// The ids of the records, in their order, where there are so many: 8,000 in each request, and
-    /// none for no record.
+    /// The ids of the records, in their order, where there are so many, as `count` says. Each request is for those behind the
+    /// ones that came, however many a reply has, and none goes out for no record. There are never fewer: a reply without
+    /// ids where some are due is taken for none. Over a device that is told 8,000 come in each reply but the last.
     pub fn ids(&mut self, alloc: Global, count: u16) -> Result<Vec<RecordId>, SessionFault>
         ensures same_reference { self.new.linked.ghost_name ≡ self.old.linked.ghost_name }
         ensures same_handle { self.new.handle ≡ self.old.handle }
-        ensures stops { Stops L.talk L.since L.fault L.downs
+        ensures stops { IsCounted (L.talk self.old.linked.now.link) self.old.handle count
+            → Stops L.talk L.since L.fault L.downs
             (map text (id_listings self.old.handle (id_parts count)))
             self.old.linked.now.link self.new.linked.now.link }
-        ensures does { OnOk result (Does L.talk (id_listings self.old.handle (id_parts count))
+        ensures does { OnOk result (IsCounted (L.talk self.old.linked.now.link) self.old.handle
+            count → Does L.talk (id_listings self.old.handle (id_parts count))
             self.old.linked.now.link self.new.linked.now.link) }
-        ensures ids { IfOk result (λ ids. IfSome (L.talk self.old.linked.now.link)
+        ensures ids { IfOk result (λ ids. IsCounted (L.talk self.old.linked.now.link)
+            self.old.handle count → IfSome (L.talk self.old.linked.now.link)
             (λ talk. ids.items ≡ ids_listed talk.device self.old.handle (id_parts count))) }
+        ensures whole { IfOk result (λ ids. count ≤ length ids.items) }
         ensures cause { IfErr result (HasCause (L.fault self.new.linked.now.link)
             (reply_at 0x31 self.new.linked.now.reply)) }
-        ensures last { IfErr result (IsByLastReply (L.talk self.new.linked.now.link)) }
-        ensures replied { OnErr result (IsByReplyTo L.talk L.fault (id_parts count)
+        ensures last { IfErr result (λ cause. IsCounted (L.talk self.old.linked.now.link)
+            self.old.handle count → IsByLastReply (L.talk self.new.linked.now.link) cause) }
+        ensures replied { OnErr result (IsCounted (L.talk self.old.linked.now.link) self.old.handle
+            count → IsByReplyTo L.talk L.fault (id_parts count)
             (λ part. listing_ids self.old.handle (8000 * part))
             self.old.linked.now self.new.linked.now) }
         ensures rest { (self.new.linked.now.user ≡ self.old.linked.now.user)

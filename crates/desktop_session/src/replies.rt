@@ -1,5 +1,5 @@
 // What the replies of the handheld say.
-ghost use Rattle.std.specs.Prelude.{◌≡◌, ◌++◌, ◌∷◌, [], IfErr, IfOk, None, OnOk};
+ghost use Rattle.std.specs.Prelude.{◌≡◌, ◌++◌, ◌∷◌, [], IfErr, IfOk, IsOk, None, OnOk};
 ghost use Rattle.std.specs.Option.{option_map};
 ghost use Rattle.dlp_args.specs.Views.{Gives};
 ghost use Rattle.dlp_replies.specs.ReplyReading.{reply_at};
@@ -10,6 +10,7 @@ ghost use Rattle.desktop_session.specs.Answers.{record_of, resource_of, said_in,
 ghost use Rattle.desktop_session.specs.Lent.{lent_resource, lent_value};
 ghost use Rattle.desktop_session.specs.Lists as lists;
 ghost use Rattle.desktop_session.specs.Replies.{AnswersTo};
+ghost use Rattle.desktop_session.specs.Starts.{next_start};
 
 use crate::fault::SessionFault;
 use crate::lent::{RecordLent, ResourceLent};
@@ -225,12 +226,16 @@ pub(crate) fn user_in(bytes: &[u8]) -> Result<UserInfo, SessionFault>
     }
 }
 
-// The entries in a reply to ReadDBList.
-fn entries_in(bytes: &[u8]) -> Result<(u8, Entries<'_>), SessionFault>
+// The last index, the flags and the entries in a reply to ReadDBList.
+fn entries_in(bytes: &[u8]) -> Result<(u16, u8, Entries<'_>), SessionFault>
     ensures { Gives (λ found. found) result (said_in list_of (reply_at 0x16 bytes.now)) }
 {
     match reply_in(0x16, bytes)? {
-        Reply::ReadDbList { flags, entries, .. } => Ok((flags, entries)),
+        Reply::ReadDbList {
+            last,
+            flags,
+            entries,
+        } => Ok((last, flags, entries)),
         _ => unreachable!(),
     }
 }
@@ -245,29 +250,38 @@ fn ids_in(bytes: &[u8]) -> Result<Ids<'_>, SessionFault>
     }
 }
 
-// Appends the heads in a reply to ReadDBList, and answers whether more follow. Error 5 says that none is left.
-pub(crate) fn add_heads(bytes: &[u8], heads: &mut Vec<DbHead>) -> Result<bool, SessionFault>
+// Appends the heads in a reply to ReadDBList from a start on, and answers where the list goes on. Error 5 says that none
+// is left.
+pub(crate) fn add_heads(
+    bytes: &[u8],
+    start: u16,
+    heads: &mut Vec<DbHead>,
+) -> Result<Option<u16>, SessionFault>
     ensures heads { OnOk result (heads.new.items ≡ heads.old.items ++ lists.heads_in
         (reply_at 0x16 bytes.now)) }
-    ensures more { IfOk result (λ more. more ≡ lists.has_more (reply_at 0x16 bytes.now)) }
+    ensures next { IfOk result (λ next. next ≡ next_start start (reply_at 0x16 bytes.now)) }
     ensures cause { IfErr result (lists.HasCause None (reply_at 0x16 bytes.now)) }
     ensures others { IfErr result lists.IsNotMissing }
 {
-    let Some((flags, entries)) = or_none(entries_in(bytes))? else {
-        return Ok(false);
+    let Some((last, flags, entries)) = or_none(entries_in(bytes))? else {
+        return Ok(None);
     };
     for place in 0..entries.len() {
         let entry = entries.get(place).unwrap();
         let (_, head) = entry;
         push(heads, head)?;
     }
-    Ok(flags & 0x80 != 0)
+    if flags & 0x80 == 0 || last < start || last == u16::MAX {
+        return Ok(None);
+    }
+    Ok(Some(last + 1))
 }
 
 // Appends the ids in a reply to ReadRecordIDList.
 pub(crate) fn add_ids(bytes: &[u8], all: &mut Vec<RecordId>) -> Result<(), SessionFault>
     ensures ids { OnOk result (all.new.items ≡ all.old.items ++ lists.ids_in
         (reply_at 0x31 bytes.now)) }
+    ensures read { OnOk result (IsOk (said_in ids_of (reply_at 0x31 bytes.now))) }
     ensures cause { IfErr result (lists.HasCause None (reply_at 0x31 bytes.now)) }
 {
     let ids = ids_in(bytes)?;

@@ -166,7 +166,8 @@ fn put_rows<D: Folder>(names: &mut Vec<DbName>, desk: &Desk<D>) -> Result<(), Al
 }
 
 /// The databases of a session, in byte order of their names: those whose heads the handheld listed, and those that have rows in
-/// the picked slot. `agree` says whether both sides agree.
+/// the picked slot. Of two heads of one name the first counts, and their database is there once. `agree` says whether both sides
+/// agree.
 #[tactic(auto, unfolding(crate::specs::Jobs::jobs_of))]
 pub fn jobs_of<D: Folder>(
     alloc: Global,

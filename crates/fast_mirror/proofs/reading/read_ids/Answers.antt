@@ -6,7 +6,7 @@ use Rattle.desktop_session.specs.Lists.{id_listings, id_parts}
 use Rattle.desktop_session.specs.Requests.{counting}
 use Rattle.desktop_session.proofs.StopLaws.{stops_more}
 use Rattle.slow_mirror.specs.Reads.{entries_of}
-use Rattle.fast_mirror.proofs.ListingLaws.{listing_done, listing_ids, listing_stops}
+use Rattle.fast_mirror.proofs.ListingLaws.{listing_done, listing_ids, listing_last, listing_stops}
 use Rattle.desktop_session.specs.Answers.{count_of}
 use Rattle.desktop_session.proofs.LastLaws.{last_refused}
 use Rattle.fast_mirror.proofs.reading.read_ids.Goals as goal
@@ -40,3 +40,8 @@ pub returns-in_err-count-clause-last : goal.returns-in_err-count-clause-last
 returns-in_err-count-clause-last g c =
     let p = err_from_is_err_and c.from_residual.result c.from_residual.ensures.1 in
     rw (p.1, p.2) (last_refused count_of _ c.in_err-count.ensures.asked c.in_err-count.ensures.answer)
+
+pub returns-clause-last : goal.returns-clause-last
+returns-clause-last g c =
+    listing_last c.ids.new.self.linked.now.link c.ids.result c.in_ok-count.ensures.same_handle c.in_ok-count.ensures.answer c.in_ok-count.ensures.asked
+    c.ids.ensures.last

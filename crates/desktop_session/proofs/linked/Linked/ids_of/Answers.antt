@@ -1,35 +1,75 @@
--- A list of ids grows by 8,000.
-use Rattle.std.proofs.Common.{◌≤◌, ◌<◌, ◌+◌, ◌*◌, refl, arith}
+-- A list of ids grows by those that come.
+use Rattle.std.proofs.Common.{◌≡◌, ◌∙◌, ◌≤◌, ◌<◌, ap, length, arith, rules}
 use Rattle.std.proofs.lemmas.Result.{err_from_is_err_and}
-use Rattle.desktop_session.specs.Lists.{id_parts}
-use Rattle.desktop_session.proofs.IdListLaws.{ids_begin, ids_none, ids_on, ids_stop}
-use Rattle.desktop_session.proofs.RepliedLaws.{ids_replied}
+use Rattle.dlp_replies.specs.ReplyReading.{reply_at}
+use Rattle.desktop_session.proofs.IdsCameLaws.{came_all_does, came_all_stops, came_more, came_none, asked_at, came_replied, came_stops, none_read, short_untold, tells_on}
 use Rattle.desktop_session.proofs.linked.Linked.ids_of.Goals as goal
 
-pub loop-part-init : goal.loop-part-init
-loop-part-init g c =
-    ids_none g.met.L.Link.since_itself
-    c.new-ids.ensures.items
+pub part-init : goal.part-init
+part-init g c = came_none g.met.L.Link.since_itself c.new-ids.ensures.items
 
-pub loop-part-preserved : goal.loop-part-preserved
-loop-part-preserved g c =
-    ids_on g.met.L.Link.since_more (8000 * c.loop-part.part)
-    refl c.loop-part.invariant
-    c.in_ok-ids_from.ensures.asked c.in_ok-ids_from.ensures.none c.in_ok-ids_from.ensures.ids
+pub part-preserved : goal.part-preserved
+part-preserved g c =
+    let less : length c.part.ids.items < c.args.count = omega arith in
+    let start : c.len-before.result ≡ length c.part.ids.items = search rules in
+    came_more g.met.L.Link.since_more c.part.invariant less (asked_at c.part.ids.items start c.in_ok-ids_from.ensures.asked) c.in_ok-ids_from.ensures.none
+    c.in_ok-ids_from.ensures.read c.in_ok-ids_from.ensures.ids
 
 pub returns-in_err-ids_from-clause-stops : goal.returns-in_err-ids_from-clause-stops
 returns-in_err-ids_from-clause-stops g c =
-    let within : c.loop-part.part + 1 ≤ id_parts c.args.count = omega (arith, c.div_ceil-part-end.ensures, c.loop-part-test.true) in
-    ids_begin c.args.handle (c.loop-part.part + 1) (id_parts c.args.count)
-    within
-    (ids_stop g.met.L.Link.since_more
-    (8000 * c.loop-part.part) refl c.loop-part.invariant
-    c.in_err-ids_from.ensures.asked)
+    let less : length c.part.ids.items < c.args.count = omega arith in
+    let start : c.len-before.result ≡ length c.part.ids.items = search rules in
+    came_stops g.met.L.Link.since_more c.part.invariant less (asked_at c.part.ids.items start c.in_err-ids_from.ensures.asked)
 
 pub returns-in_err-ids_from-clause-replied : goal.returns-in_err-ids_from-clause-replied
 returns-in_err-ids_from-clause-replied g c =
     let p = err_from_is_err_and c.from_residual.result c.from_residual.ensures.1 in
-    let within : c.loop-part.part < id_parts c.args.count = omega (arith, c.div_ceil-part-end.ensures, c.loop-part-test.true) in
-    rw p.1
-    (ids_replied (id_parts c.args.count)
-    c.loop-part.invariant c.in_err-ids_from.ensures.asked within)
+    let less : length c.part.ids.items < c.args.count = omega arith in
+    let start : c.len-before.result ≡ length c.part.ids.items = search rules in
+    rw p.1 (came_replied c.part.invariant less (asked_at c.part.ids.items start c.in_err-ids_from.ensures.asked))
+
+pub returns-then-len-before-clause-stops : goal.returns-then-len-before-clause-stops
+returns-then-len-before-clause-stops g c =
+    let less : length c.part.ids.items < c.args.count = omega arith in
+    let start : c.len-before.result ≡ length c.part.ids.items = search rules in
+    let asked = asked_at c.part.ids.items start c.in_ok-ids_from.ensures.asked in
+    let link : c.forget_reply.new.self.link ≡ c.ids_from.new.self.link = ap (λ v. v.link) c.forget_reply.ensures in
+    rw link (came_stops g.met.L.Link.since_more c.part.invariant less asked)
+
+pub returns-then-len-before-clause-cause : goal.returns-then-len-before-clause-cause
+returns-then-len-before-clause-cause g c =
+    (ap (λ v. g.L.Link.fault v.link) c.forget_reply.ensures ∙ c.in_ok-ids_from.ensures.none, ap (λ v. reply_at 0x31 v.reply) c.forget_reply.ensures ∙ none_read 0x31)
+
+pub returns-then-len-before-clause-last : goal.returns-then-len-before-clause-last
+returns-then-len-before-clause-last g c = λ counted.
+    let less : length c.part.ids.items < c.args.count = omega arith in
+    let start : c.len-before.result ≡ length c.part.ids.items = search rules in
+    let asked = asked_at c.part.ids.items start c.in_ok-ids_from.ensures.asked in
+    let link : c.forget_reply.new.self.link ≡ c.ids_from.new.self.link = ap (λ v. v.link) c.forget_reply.ensures in
+    let same : length c.ids_from.new.ids.items ≡ length c.part.ids.items = search rules in
+    let untold = short_untold c.part.invariant less asked c.in_ok-ids_from.ensures.none c.in_ok-ids_from.ensures.read c.in_ok-ids_from.ensures.ids same
+    counted in
+    let came = came_more g.met.L.Link.since_more c.part.invariant less asked c.in_ok-ids_from.ensures.none c.in_ok-ids_from.ensures.read
+    c.in_ok-ids_from.ensures.ids in
+    rw (link, tells_on came untold) tt
+
+pub returns-then-len-before-clause-replied : goal.returns-then-len-before-clause-replied
+returns-then-len-before-clause-replied g c = λ counted none.
+    let less : length c.part.ids.items < c.args.count = omega arith in
+    let start : c.len-before.result ≡ length c.part.ids.items = search rules in
+    let asked = asked_at c.part.ids.items start c.in_ok-ids_from.ensures.asked in
+    let link : c.forget_reply.new.self.link ≡ c.ids_from.new.self.link = ap (λ v. v.link) c.forget_reply.ensures in
+    let same : length c.ids_from.new.ids.items ≡ length c.part.ids.items = search rules in
+    let untold = short_untold c.part.invariant less asked c.in_ok-ids_from.ensures.none c.in_ok-ids_from.ensures.read c.in_ok-ids_from.ensures.ids same
+    counted in
+    rw untold tt
+
+pub returns-clause-stops : goal.returns-clause-stops
+returns-clause-stops g c =
+    let all : c.args.count ≤ length c.part.ids.items = omega arith in
+    came_all_stops c.part.invariant all
+
+pub returns-clause-does : goal.returns-clause-does
+returns-clause-does g c =
+    let all : c.args.count ≤ length c.part.ids.items = omega arith in
+    came_all_does c.part.invariant all

@@ -1,5 +1,9 @@
-use Rattle.desktop_session.proofs.IdListLaws.{IdsSoFar}
+use Rattle.std.proofs.Common.{◌-◌, length}
+use Rattle.desktop_session.proofs.IdsCameLaws.{IdsCame}
 use Rattle.desktop_session.proofs.linked.Linked.ids_of.Given as goal
 
-abbrev pub invariant-loop-part : goal.invariant-loop-part
-invariant-loop-part g l = IdsSoFar g.L.Link.talk g.L.Link.since g.L.Link.fault g.L.Link.downs l.handle l.part l.ids.items l.initial.self l.self
+abbrev pub invariant-part : goal.invariant-part
+invariant-part g l = IdsCame g.L.Link.talk g.L.Link.since g.L.Link.fault g.L.Link.downs l.handle l.count l.ids.items l.initial.self l.self
+
+abbrev pub decreases-part : goal.decreases-part
+decreases-part g l = l.count - length l.ids.items

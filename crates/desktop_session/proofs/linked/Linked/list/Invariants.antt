@@ -1,9 +1,12 @@
-use Rattle.std.proofs.Common.{◌-◌}
+use Rattle.std.proofs.Common.{◌-◌, ◌<◌}
+use Rattle.desktop_session.specs.Starts.{ListedTo}
 use Rattle.desktop_session.proofs.ListLaws.{ListsSoFar}
 use Rattle.desktop_session.proofs.linked.Linked.list.Given as goal
 
 abbrev pub invariant-start : goal.invariant-start
-invariant-start g l = ListsSoFar g.L.Link.talk g.L.Link.since g.L.Link.fault g.L.Link.downs l.start l.heads.items l.initial.self l.self
+invariant-start g l =
+    ListsSoFar g.L.Link.talk g.L.Link.since g.L.Link.fault g.L.Link.downs l.start l.heads.items l.initial.self l.self
+    × ListedTo l.start l.heads.items × (l.start < 65536)
 
 abbrev pub decreases-start : goal.decreases-start
 decreases-start g l = 65536 - l.start
