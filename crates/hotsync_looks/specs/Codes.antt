@@ -4,7 +4,8 @@ use Rattle.hotsync_looks.specs.declared.status.Status.{Status}
 use Rattle.hotsync_looks.specs.declared.status.Status.TheVariants.{Done, Usage, BadScript, TooLong, BadFile, TooMany, HandheldFolder, DesktopFolder, SourceRead}
 use Rattle.hotsync_looks.specs.declared.status.Status.TheVariants.{TraceWrite, OutWrite, NoMemory, LineDown, Unplugged, Aborted, Undetected, OtherUser}
 use Rattle.hotsync_looks.specs.declared.status.Status.TheVariants.{TooManyUsers, Limit, NewHandheld, WrongSide, InUse, CannotExport, BadRecord, BadText, Overfull, BadTrace, NotProper, CannotInstall, NotBackupFolder, SameDatabase}
-use Rattle.hotsync_looks.specs.declared.status.Status.TheVariants.{StreamEnded, StreamAborted, BadHello}
+use Rattle.hotsync_looks.specs.declared.status.Status.TheVariants.{StreamEnded, StreamAborted, BadHello, Refused, BadReply}
+use Rattle.hotsync_looks.specs.declared.status.Status.TheVariants.{PortFailed, NoHandheld, LineSilent, LineEndless, PeerAborted}
 
 -- the exit status for each status of a call
 abbrev pub code_of : Status → ℕ
@@ -42,3 +43,10 @@ code_of (SameDatabase _ _) = 7
 code_of StreamEnded = 6
 code_of StreamAborted = 6
 code_of BadHello = 6
+code_of PortFailed = 4
+code_of NoHandheld = 6
+code_of LineSilent = 6
+code_of LineEndless = 6
+code_of PeerAborted = 6
+code_of (Refused _ _) = 6
+code_of (BadReply _) = 6

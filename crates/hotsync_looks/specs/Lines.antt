@@ -19,7 +19,8 @@ use Rattle.hotsync_looks.specs.declared.status.Status.{Status}
 use Rattle.hotsync_looks.specs.declared.status.Status.TheVariants.{Done, Usage, BadScript, TooLong, BadFile, TooMany, HandheldFolder, DesktopFolder, SourceRead}
 use Rattle.hotsync_looks.specs.declared.status.Status.TheVariants.{TraceWrite, OutWrite, NoMemory, LineDown, Unplugged, Aborted, Undetected, OtherUser}
 use Rattle.hotsync_looks.specs.declared.status.Status.TheVariants.{TooManyUsers, Limit, NewHandheld, WrongSide, InUse, CannotExport, BadRecord, BadText, Overfull, BadTrace, NotProper, CannotInstall, NotBackupFolder, SameDatabase}
-use Rattle.hotsync_looks.specs.declared.status.Status.TheVariants.{StreamEnded, StreamAborted, BadHello}
+use Rattle.hotsync_looks.specs.declared.status.Status.TheVariants.{StreamEnded, StreamAborted, BadHello, Refused, BadReply}
+use Rattle.hotsync_looks.specs.declared.status.Status.TheVariants.{PortFailed, NoHandheld, LineSilent, LineEndless, PeerAborted}
 use Rattle.session_parts.specs.declared.report.Counts.{Counts}
 use Rattle.session_parts.specs.declared.report.DbReport.{DbReport}
 use Rattle.session_parts.specs.declared.report.Did.{Did}
@@ -108,6 +109,20 @@ same_line first second =
     codes "same database "
     ++ (printed_name first ++ (codes " and " ++ (printed_name second ++ line_feed)))
 
+-- a function, in hexadecimal
+abbrev pub function_text : ℕ → List ℕ
+function_text function = encode_lower (function ∷ [])
+
+-- `handheld refused HH error N`
+unfoldable pub refused_line : ℕ → ℕ → List ℕ
+refused_line function code =
+    codes "handheld refused "
+    ++ (function_text function ++ (codes " error " ++ (decimal code ++ line_feed)))
+
+-- `bad reply HH`
+unfoldable pub bad_reply_line : ℕ → List ℕ
+bad_reply_line function = codes "bad reply " ++ (function_text function ++ line_feed)
+
 -- what a text has too many of
 abbrev pub surplus_word : Surplus → List ℕ
 surplus_word surplus.Categories = codes "categories"
@@ -161,6 +176,13 @@ refusal_line (SameDatabase first second) =
 refusal_line StreamEnded = codes "stream ended" ++ line_feed
 refusal_line StreamAborted = codes "stream aborted" ++ line_feed
 refusal_line BadHello = codes "bad hello" ++ line_feed
+refusal_line PortFailed = codes "port failed" ++ line_feed
+refusal_line NoHandheld = codes "no handheld" ++ line_feed
+refusal_line LineSilent = codes "line silent" ++ line_feed
+refusal_line LineEndless = codes "line endless" ++ line_feed
+refusal_line PeerAborted = codes "handheld aborted" ++ line_feed
+refusal_line (Refused function code) = refused_line function code.0
+refusal_line (BadReply function) = bad_reply_line function
 
 -- how the handheld's database was read
 abbrev pub mode_word : Bool → List ℕ

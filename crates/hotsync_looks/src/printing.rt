@@ -1,11 +1,13 @@
 // The lines that a call prints, and the status that stands once they are printed.
 ghost use Rattle.std.specs.Prelude.{◌≡◌, ◌≢◌, ◌⊎◌, ◌≤◌, ◌++◌, IfOk, OnOk, string_bytes};
+ghost use Rattle.hotsync_looks.specs.Lines.{bad_reply_line as line_of_bad_reply, refused_line as line_of_refused};
 ghost use Rattle.hotsync_looks.specs.Lines.{bad_file_line as line_of_bad_file, count_text, counts_text as text_of_counts, database_line as line_of_database, did_text as text_of_did, done_lines as lines_of_done, end_word as word_of_end, export_line as line_of_export, form_word as word_of_form, folder_word as word_of_folder, mode_word as word_of_mode, no_memory_line, number_line as line_of_number, record_line as line_of_record, refusal_line as line_of_refusal, same_line as line_of_same, rule_word as word_of_rule, skip_word, surplus_word as word_of_surplus, users_line as line_of_users, word_line as line_of_word};
 ghost use Rattle.hotsync_looks.specs.Printed.{IsPrinted, IsPrintedStatus, IsRefusal};
 ghost use Rattle.hs_folders.specs.Appends.{AppendsPrefix};
 
 use crate::printed_name::push_name;
 use crate::status::{FileSide, Status, Surplus};
+use dlp_replies::ErrorCode;
 use hs_folders::{Sink, SinkFault};
 use pdb_files::BadKind;
 use pdb_values::DbName;
@@ -295,6 +297,13 @@ fn refusal_line(alloc: Global, refusal: &Status) -> Result<String, AllocError>
         Status::StreamEnded => String::from_str(alloc, "stream ended\n"),
         Status::StreamAborted => String::from_str(alloc, "stream aborted\n"),
         Status::BadHello => String::from_str(alloc, "bad hello\n"),
+        Status::PortFailed => String::from_str(alloc, "port failed\n"),
+        Status::NoHandheld => String::from_str(alloc, "no handheld\n"),
+        Status::LineSilent => String::from_str(alloc, "line silent\n"),
+        Status::LineEndless => String::from_str(alloc, "line endless\n"),
+        Status::PeerAborted => String::from_str(alloc, "handheld aborted\n"),
+        Status::Refused { function, code } => refused_line(alloc, *function, *code),
+        Status::BadReply(function) => bad_reply_line(alloc, *function),
     }
 }
 
@@ -365,6 +374,31 @@ fn users_line(alloc: Global, handheld: u32, desktop: u32) -> Result<String, Allo
     line.push_str(one.as_str())?;
     line.push_str(" ")?;
     line.push_str(two.as_str())?;
+    line.push_str("\n")?;
+    Ok(line)
+}
+
+// The line of a request that the handheld refused.
+#[tactic(auto, unfolding(crate::specs::Lines::refused_line))]
+fn refused_line(alloc: Global, function: u8, code: ErrorCode) -> Result<String, AllocError>
+    ensures { IfOk result (λ line. string_bytes line ≡ line_of_refused function code.0) }
+{
+    let function = hex::encode(alloc, [function])?;
+    let mut line = String::from_str(alloc, "handheld refused ")?;
+    line.push_str(function.as_str())?;
+    let ErrorCode(number) = code;
+    write!(line, " error {number}\n")?;
+    Ok(line)
+}
+
+// The line of a reply that can't be read.
+#[tactic(auto, unfolding(crate::specs::Lines::bad_reply_line))]
+fn bad_reply_line(alloc: Global, function: u8) -> Result<String, AllocError>
+    ensures { IfOk result (λ line. string_bytes line ≡ line_of_bad_reply function) }
+{
+    let function = hex::encode(alloc, [function])?;
+    let mut line = String::from_str(alloc, "bad reply ")?;
+    line.push_str(function.as_str())?;
     line.push_str("\n")?;
     Ok(line)
 }

@@ -5,6 +5,7 @@ ghost use Rattle.hotsync_looks.specs.declared.status.Status.TheVariants as statu
 
 use backup_files::BackupFault;
 use desk_store::DeskOpenFault;
+use dlp_replies::ErrorCode;
 use handheld_store::OpenFault;
 use pdb_files::BadKind;
 use pdb_values::DbName;
@@ -117,6 +118,23 @@ pub enum Status {
     StreamAborted,
     /// The first message of the other end is no init.
     BadHello,
+    /// The port failed.
+    PortFailed,
+    /// No handheld woke the port.
+    NoHandheld,
+    /// All that was said over the port was acknowledged, and nothing came.
+    LineSilent,
+    /// What came over the port never ended.
+    LineEndless,
+    /// The handheld behind the port ended the connection.
+    PeerAborted,
+    /// The handheld refused a request of this function with this error.
+    Refused {
+        function: u8,
+        code: ErrorCode,
+    },
+    /// The reply to a request of this function can't be read, or says less than it must.
+    BadReply(u8),
 }
 
 impl From<AllocError> for Status {
@@ -225,7 +243,8 @@ impl Status {
             | Status::InUse(_)
             | Status::SourceRead
             | Status::TraceWrite
-            | Status::OutWrite => 4,
+            | Status::OutWrite
+            | Status::PortFailed => 4,
             Status::NoMemory => 5,
             Status::LineDown(_)
             | Status::Unplugged(_)
@@ -233,7 +252,13 @@ impl Status {
             | Status::Undetected(_)
             | Status::StreamEnded
             | Status::StreamAborted
-            | Status::BadHello => 6,
+            | Status::BadHello
+            | Status::NoHandheld
+            | Status::LineSilent
+            | Status::LineEndless
+            | Status::PeerAborted
+            | Status::Refused { .. }
+            | Status::BadReply(_) => 6,
             Status::OtherUser { .. }
             | Status::TooManyUsers
             | Status::Limit(_)

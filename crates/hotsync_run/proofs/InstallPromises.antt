@@ -1,8 +1,10 @@
 -- What an install promises, by what is known of its call.
-use Rattle.std.proofs.Common.{◌≡◌, subst, sym}
+use Rattle.std.proofs.Common.{◌≡◌, subst, sym, [], ◌∷◌}
 use Rattle.std.specs.Prelude.{Option, Some}
+use Rattle.hs_folders.specs.Moments.{EachMomentSince}
 use Rattle.run_words.specs.Betweens.{Between}
 use Rattle.run_words.specs.Commands.{Install, Task}
+use Rattle.hotsync_run.specs.Besides.{StandsBeside}
 use Rattle.hotsync_run.specs.Calls.{Call, IsAnsweredCall, IsCall}
 use Rattle.hotsync_run.specs.Causes.{ByEnd, HasBegun}
 use Rattle.hotsync_run.specs.Clean.{GoesThrough}
@@ -33,4 +35,8 @@ module _ (call : Call) (words : Between) (is : IsAnsweredCall call) (task : call
   install_through begun = spoke_through (install_ran begun).had.spoke
 
   pub install_ended : call.report.end ≡ Ended → (ran : Session) × EndedInstall ran.device ran.database call.after.palm call.report
-  install_ended ended = let ran = install_ran (subst HasBegun (sym ended) tt) in (ran, ran.had.left ended)
+  install_ended ended = let ran = install_ran (subst HasBegun (sym ended) tt) in (ran, ran.had.left.ended ended)
+
+  pub install_stopped : HasBegun call.report.end
+      → (ran : Session) × EachMomentSince (StandsBeside ran.device (ran.database ∷ [])) call.before.palm.moments call.after.palm.moments
+  install_stopped begun = let ran = install_ran begun in (ran, ran.had.left.each_moment)

@@ -1,6 +1,7 @@
 -- What is known of an install with a session, from before its folder was opened on, whatever is printed of it.
-use Rattle.std.proofs.Common.{◌≡◌, ◌∙◌, ◌^◌, ◌-◌, ◌≤◌, inl, inr, refl, sym, subst}
+use Rattle.std.proofs.Common.{◌≡◌, ◌∙◌, ◌^◌, ◌-◌, ◌≤◌, inl, inr, refl, sym, subst, [], ◌∷◌}
 use Rattle.std.specs.Prelude.{IfSome}
+use Rattle.hs_folders.specs.Moments.{EachMomentSince, Moments}
 use Rattle.pdb_values.specs.Databases.{DatabaseValue}
 use Rattle.palm_device.specs.Devices.{Device}
 use Rattle.palm_device.specs.Handles.{no_handles}
@@ -11,6 +12,7 @@ use Rattle.hotsync_looks.specs.InstallFiles.{IsInstallFile}
 use Rattle.hotsync_looks.specs.Opening.{Opens, OpensGiven, OpensGivenAtMost}
 use Rattle.hotsync_looks.specs.Printed.{IsPrintedStatus}
 use Rattle.hotsync_looks.specs.Told.{SinkTold, SourceTold}
+use Rattle.hotsync_run.specs.Besides.{StandsBeside}
 use Rattle.hotsync_run.specs.Installs.{HadInstall, HasInstalled, InstallRan, InstallRefuses, IsInstallTalk, install_command}
 use Rattle.hotsync_run.specs.Refusals.{BlamesSource}
 use Rattle.hotsync_run.specs.SessionCalls.{SentNothing, StaysAsItWas}
@@ -66,7 +68,16 @@ module _ {words : Between} (before after : CallTold) {palm : FolderTold} {trace 
     device = device;
     handheld = opened.handheld;
     closed = opened.closed;
-    had = record { spoke = spoke_from opened.stays had.spoke; left = had.left; shows = had.shows };
+    had = record {
+      spoke = spoke_from opened.stays had.spoke;
+      left = record {
+        ended = had.left.ended;
+        beside = had.left.beside;
+        each_moment = subst (λ (m : Moments). EachMomentSince (StandsBeside device (database ∷ [])) m after.palm.moments) opened.stays.moments
+            had.left.each_moment;
+      };
+      shows = had.shows;
+    };
     desktop = desk;
     traced = traced_from before.trace opened.trace_taken opened.trace_later traced.traced;
   }

@@ -4,6 +4,7 @@ use Rattle.std.specs.Prelude.{IfErr, IfOk, IsErrOf, Option, None, Some, Result, 
 use Rattle.std.specs.Global.{Vec}
 use Rattle.hs_folders.specs.FileMaps.{FileMap}
 use Rattle.hs_folders.specs.Moments.{Moments}
+use Rattle.hs_folders.proofs.MomentLaws.{moments_weaken}
 use Rattle.pdb_values.specs.Databases.{DatabaseValue}
 use Rattle.pdb_values.specs.Heads.{is_read_only}
 use Rattle.pdb_values.specs.declared.user.UserInfo.{UserInfo}
@@ -22,12 +23,14 @@ use Rattle.session_parts.specs.declared.stop.Stop.TheVariants as stop
 use Rattle.install_backup.specs.declared.moved.Moved.{Moved}
 use Rattle.install_backup.specs.InstallActs.{install_acts, is_installable}
 use Rattle.install_backup.specs.InstallEnds.{InstallEnds, IsInstallStop}
+use Rattle.hotsync_run.specs.Besides.{StandsBeside}
 use Rattle.hotsync_run.specs.Closings.{Closes, left_databases, left_end, left_in}
 use Rattle.hotsync_run.specs.Installs.{EndedInstall, HadInstall, InstallLeft, IsInstallTalk, ShowsInstall}
 use Rattle.hotsync_run.specs.Moves.{TellsMoves}
 use Rattle.hotsync_run.specs.declared.moved.Way.TheVariants.{ToHandheld}
-use Rattle.hotsync_run.specs.Sessions.{KeptSilent}
+use Rattle.hotsync_run.specs.Sessions.{KeptSilent, StandsAtFront}
 use Rattle.hotsync_run.specs.Told.{FolderTold, SidesTold, folder_told}
+use Rattle.hotsync_run.proofs.BesideLaws.{stands_beside}
 use Rattle.hotsync_run.proofs.EndLaws.{logged_all}
 use Rattle.hotsync_run.proofs.FrontLaws.{issued_begins}
 use Rattle.hotsync_run.proofs.InstallActLaws.{installed-after}
@@ -106,8 +109,18 @@ install_spoke {F} {contents} {moments} {paths} {faults} fault downs {database} {
     let begins : IsPrefix new.log.issued asked = issued_begins old new asked silent tells.log ends.stops.only in
     let of = install_said fault database old.server.device old new is new.cause answer told closes.left.status begins in
     let spoken = spoke asked stands silent since closes of in
-    let left : InstallLeft old.server.device database palm_after report = λ ended.
-    ended_install rests bounded writable is sides (told_by answer report told.ended closes.left.databases closes.left.end ended) in
+    let left : InstallLeft old.server.device database palm palm_after report = record {
+      ended = λ ended. ended_install rests bounded writable is sides (told_by answer report told.ended closes.left.databases closes.left.end ended);
+      beside = stands_beside rests (bounded, tt) palm_after.contents (record {
+        writes = report.writes;
+        given = report.given.items;
+        reached = spoken.line.last;
+        front = spoken.front;
+        stands = spoken.line.stands;
+      });
+      each_moment = moments_weaken (StandsAtFront old.server.device asked) (StandsBeside old.server.device (database ∷ [])) palm.moments palm_after.moments
+          spoken.fronts (stands_beside rests (bounded, tt));
+    } in
     let had : HadInstall old.server.device database palm palm_after status report =
     record {
       spoke = rw no_script at spoken;

@@ -7,6 +7,7 @@ pub mod BackupRuns
 pub mod BackupSaid
 pub mod BackupSpoke
 pub mod BackupWell
+pub mod BesideLaws
 pub mod CallLaws
 pub mod CallPrinted
 pub mod CleanLaws

@@ -40,7 +40,8 @@ use Rattle.hotsync_looks.specs.declared.status.Status.{Status}
 use Rattle.hotsync_looks.specs.declared.status.Status.TheVariants.{Done, Usage, BadScript, TooLong, BadFile, TooMany, HandheldFolder, DesktopFolder, SourceRead}
 use Rattle.hotsync_looks.specs.declared.status.Status.TheVariants.{TraceWrite, OutWrite, NoMemory, LineDown, Unplugged, Aborted, Undetected, OtherUser}
 use Rattle.hotsync_looks.specs.declared.status.Status.TheVariants.{TooManyUsers, Limit, NewHandheld, WrongSide, InUse, CannotExport, BadRecord, BadText, Overfull, BadTrace, NotProper, CannotInstall, NotBackupFolder, SameDatabase}
-use Rattle.hotsync_looks.specs.declared.status.Status.TheVariants.{StreamEnded, StreamAborted, BadHello}
+use Rattle.hotsync_looks.specs.declared.status.Status.TheVariants.{StreamEnded, StreamAborted, BadHello, Refused, BadReply}
+use Rattle.hotsync_looks.specs.declared.status.Status.TheVariants.{PortFailed, NoHandheld, LineSilent, LineEndless, PeerAborted}
 use Rattle.hotsync_run.proofs.MadeItems.{drawn_short}
 use Rattle.hotsync_run.proofs.MadeLimits.{none_lost, none_over}
 use Rattle.hotsync_run.proofs.MadeReports.{AsksNothing, made_device, made_meeting, made_meets, made_slot, reports_are}
@@ -157,6 +158,13 @@ module _ {items : List Item} (after : SidesTold) (report : Report) (are : AreIte
   by_status StreamEnded asks ends unsaid up caused numbered shows palm desk = absurd ends
   by_status StreamAborted asks ends unsaid up caused numbered shows palm desk = absurd ends
   by_status BadHello asks ends unsaid up caused numbered shows palm desk = absurd ends
+  by_status PortFailed asks ends unsaid up caused numbered shows palm desk = absurd ends
+  by_status NoHandheld asks ends unsaid up caused numbered shows palm desk = absurd ends
+  by_status LineSilent asks ends unsaid up caused numbered shows palm desk = absurd ends
+  by_status LineEndless asks ends unsaid up caused numbered shows palm desk = absurd ends
+  by_status PeerAborted asks ends unsaid up caused numbered shows palm desk = absurd ends
+  by_status (Refused function code) asks ends unsaid up caused numbered shows palm desk = absurd ends
+  by_status (BadReply function) asks ends unsaid up caused numbered shows palm desk = absurd ends
   by_status HandheldFolder asks ends unsaid up caused numbered shows palm desk = absurd (no_rise (subst (Rose 0) calm (palm refl)))
   by_status DesktopFolder asks ends unsaid up caused numbered shows palm desk = absurd (no_rise (subst (Rose 0) steady (desk refl)))
   by_status TraceWrite asks ends unsaid up caused numbered shows palm desk = absurd unsaid

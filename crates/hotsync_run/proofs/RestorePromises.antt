@@ -4,9 +4,10 @@ use Rattle.std.specs.Prelude.{Option, Some}
 use Rattle.hs_folders.specs.Moments.{EachMomentSince}
 use Rattle.run_words.specs.Betweens.{Between}
 use Rattle.run_words.specs.Commands.{Restore, Task}
+use Rattle.hotsync_run.specs.Besides.{StandsBeside}
 use Rattle.hotsync_run.specs.Calls.{Call, IsAnsweredCall, IsCall}
 use Rattle.hotsync_run.specs.Causes.{ByEnd, HasBegun}
-use Rattle.hotsync_run.specs.Restores.{EndedRestore, IsRestore, RestoreRan, StandsBeside, restore_command}
+use Rattle.hotsync_run.specs.Restores.{EndedRestore, IsRestore, RestoreRan, restore_command}
 use Rattle.hotsync_run.specs.SessionCalls.{SentNothing, StaysAsItWas}
 use Rattle.hotsync_run.proofs.HeadlineLaws.{begun_by}
 use Rattle.hotsync_run.specs.declared.report.SessionEnd.{SessionEnd}

@@ -13,7 +13,8 @@ use Rattle.trace_text.specs.declared.frame.End.TheVariants as line_end
 use Rattle.hotsync_looks.specs.Opening.{Opens, OpensGiven, OpensGivenAtMost}
 use Rattle.hotsync_looks.specs.Printed.{IsPrintedStatus}
 use Rattle.hotsync_looks.specs.Told.{SinkTold, SourceTold}
-use Rattle.hotsync_run.specs.Restores.{HadRestore, HasRestored, IsRestoreTalk, RestoreRan, RestoreRefuses, StandsBeside, restore_command}
+use Rattle.hotsync_run.specs.Besides.{StandsBeside}
+use Rattle.hotsync_run.specs.Restores.{HadRestore, HasRestored, IsRestoreTalk, RestoreRan, RestoreRefuses, restore_command}
 use Rattle.hotsync_run.specs.Refusals.{BlamesSource}
 use Rattle.hotsync_run.specs.Scripts.{IsScripted}
 use Rattle.hotsync_run.specs.SessionCalls.{SentNothing, StaysAsItWas}

@@ -25,14 +25,14 @@ use Rattle.session_parts.specs.declared.stop.Stop.{Stop}
 use Rattle.install_backup.specs.declared.moved.Moved.{Moved}
 use Rattle.install_backup.specs.InstallActs.{install_acts}
 use Rattle.install_backup.specs.InstallEnds.{InstallEnds}
-use Rattle.install_backup.proofs.StayLaws.{others_stay, user_stays}
-use Rattle.install_backup.proofs.TurnLaws.{fronts_stand}
+use Rattle.hotsync_run.specs.Besides.{StandsBeside}
 use Rattle.hotsync_run.specs.Closings.{Closes, left_databases, left_end, left_in}
 use Rattle.hotsync_run.specs.Moves.{TellsMoves}
-use Rattle.hotsync_run.specs.Restores.{EndedRestore, HadRestore, IsRestoreTalk, RestoreLeft, ShowsRestore, StandsBeside}
+use Rattle.hotsync_run.specs.Restores.{EndedRestore, HadRestore, IsRestoreTalk, RestoreLeft, ShowsRestore}
 use Rattle.hotsync_run.specs.declared.moved.Way.TheVariants.{ToHandheld}
 use Rattle.hotsync_run.specs.Sessions.{KeptSilent, StandsAtFront}
 use Rattle.hotsync_run.specs.Told.{FolderTold, SidesTold, folder_told}
+use Rattle.hotsync_run.proofs.BesideLaws.{stands_beside}
 use Rattle.hotsync_run.proofs.EndLaws.{logged_all}
 use Rattle.hotsync_run.proofs.FrontLaws.{issued_begins}
 use Rattle.hotsync_run.proofs.InstallSpoke.{no_desk}
@@ -67,17 +67,6 @@ ended_restore {databases = databases} {old} {new} {palm_after} {report} rests bo
           (ap (λ (d : Device). d.user) logged.device ∙ on.user) tells.stands);
       told = told.told;
     }
-
--- at each front of it
-stands_beside : {device : Device} {databases : List DatabaseValue} → IsAtRest device → AllByRecursion IsBoundedDatabase databases → (told : Option FileMap)
-    → StandsAtFront device (map text (install_acts databases)) told → StandsBeside device databases told
-stands_beside {device} {databases} rests bounded told at = record {
-  reached = at.reached;
-  stands = at.stands;
-  user = user_stays device at.reached databases at.writes at.given rests.closed bounded at.front;
-  others = λ name none. others_stay device at.reached databases at.writes at.given name rests.closed bounded at.front none;
-  in_turn = λ room. fronts_stand device at.reached databases at.writes at.given rests bounded room at.front;
-}
 
 -- what is told is what the answer says
 told_by : {F : Type 0} {databases : List DatabaseValue} {device : Device} {old new : WorldValue F} (answer : Result (Vec DbReport) Stop) (report : Report)

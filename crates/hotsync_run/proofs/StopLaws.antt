@@ -18,7 +18,8 @@ use Rattle.hotsync_looks.specs.declared.status.Status.{Status}
 use Rattle.hotsync_looks.specs.declared.status.Status.TheVariants.{Done, Usage, BadScript, TooLong, BadFile, TooMany, HandheldFolder, DesktopFolder, SourceRead}
 use Rattle.hotsync_looks.specs.declared.status.Status.TheVariants.{TraceWrite, OutWrite, NoMemory, LineDown, Unplugged, Aborted, Undetected, OtherUser}
 use Rattle.hotsync_looks.specs.declared.status.Status.TheVariants.{TooManyUsers, Limit, NewHandheld, WrongSide, InUse, CannotExport, BadRecord, BadText, Overfull, BadTrace, NotProper, CannotInstall, NotBackupFolder, SameDatabase}
-use Rattle.hotsync_looks.specs.declared.status.Status.TheVariants.{StreamEnded, StreamAborted, BadHello}
+use Rattle.hotsync_looks.specs.declared.status.Status.TheVariants.{StreamEnded, StreamAborted, BadHello, Refused, BadReply}
+use Rattle.hotsync_looks.specs.declared.status.Status.TheVariants.{PortFailed, NoHandheld, LineSilent, LineEndless, PeerAborted}
 
 -- all that is known of a status and the frames behind it
 pub record Spoken (asked : List (List ℕ)) (status : Status) (report : Report) (answered : ℕ) : Type 0 where
@@ -64,6 +65,13 @@ module _ {asked : List (List ℕ)} {report : Report} {answered : ℕ} where
   tells_stop StreamEnded it why by = absurd it.ends
   tells_stop StreamAborted it why by = absurd it.ends
   tells_stop BadHello it why by = absurd it.ends
+  tells_stop PortFailed it why by = absurd it.ends
+  tells_stop NoHandheld it why by = absurd it.ends
+  tells_stop LineSilent it why by = absurd it.ends
+  tells_stop LineEndless it why by = absurd it.ends
+  tells_stop PeerAborted it why by = absurd it.ends
+  tells_stop (Refused function code) it why by = absurd it.ends
+  tells_stop (BadReply function) it why by = absurd it.ends
   tells_stop (OtherUser handheld desktop) it why by = absurd (none_answered it tt by)
   tells_stop TooManyUsers it why by = absurd (none_answered it tt by)
   tells_stop (Limit name) it why by = absurd (none_answered it tt by)

@@ -41,7 +41,8 @@ use Rattle.hotsync_looks.specs.declared.status.Status.{Status}
 use Rattle.hotsync_looks.specs.declared.status.Status.TheVariants.{Done, Usage, BadScript, TooLong, BadFile, TooMany, HandheldFolder, DesktopFolder, SourceRead}
 use Rattle.hotsync_looks.specs.declared.status.Status.TheVariants.{TraceWrite, OutWrite, NoMemory, LineDown, Unplugged, Aborted, Undetected, OtherUser}
 use Rattle.hotsync_looks.specs.declared.status.Status.TheVariants.{TooManyUsers, Limit, NewHandheld, WrongSide, InUse, CannotExport, BadRecord, BadText, Overfull, BadTrace, NotProper, CannotInstall, NotBackupFolder, SameDatabase}
-use Rattle.hotsync_looks.specs.declared.status.Status.TheVariants.{StreamEnded, StreamAborted, BadHello}
+use Rattle.hotsync_looks.specs.declared.status.Status.TheVariants.{StreamEnded, StreamAborted, BadHello, Refused, BadReply}
+use Rattle.hotsync_looks.specs.declared.status.Status.TheVariants.{PortFailed, NoHandheld, LineSilent, LineEndless, PeerAborted}
 
 -- ---- the frames tell one story
 
@@ -198,6 +199,13 @@ module _ {asked : List (List ℕ)} where
   whole_over StreamEnded some over short whole = absurd over.ends
   whole_over StreamAborted some over short whole = absurd over.ends
   whole_over BadHello some over short whole = absurd over.ends
+  whole_over PortFailed some over short whole = absurd over.ends
+  whole_over NoHandheld some over short whole = absurd over.ends
+  whole_over LineSilent some over short whole = absurd over.ends
+  whole_over LineEndless some over short whole = absurd over.ends
+  whole_over PeerAborted some over short whole = absurd over.ends
+  whole_over (Refused function code) some over short whole = absurd over.ends
+  whole_over (BadReply function) some over short whole = absurd over.ends
   whole_over (OtherUser handheld desktop) some over short whole = absurd (stopped_short whole (short tt))
   whole_over TooManyUsers some over short whole = absurd (stopped_short whole (short tt))
   whole_over (Limit name) some over short whole = absurd (stopped_short whole (short tt))
@@ -292,9 +300,15 @@ some_issued silent closes of which =
 
 -- ---- under another status
 
+-- what holds, or else another thing with an excuse, holds so with another excuse
+excused : {A P Q B C : Type 0} → Q → A ⊎ (P × B × C) → A ⊎ (Q × B × C)
+excused excuse (inl whole) = inl whole
+excused excuse (inr (_, less, story)) = inr (excuse, less, story)
+
 done_as : {status : Status} (other : Status) {log : LogValue} {answered : ℕ} {frames : List FrameValue} → (IsLineDown other → ⊥)
     → (log.issued ≡ []) ⊎ TellsDone status log answered frames → (log.issued ≡ []) ⊎ TellsDone other log answered frames
-done_as other up e = grind (arith, common_steps)
+done_as other up (inl none) = inl none
+done_as other up (inr told) = inr (record { requests = excused up told.requests; replies = excused up told.replies })
 
 -- where neither the line nor the handheld's folder is blamed, nor a limit
 pub dealt_as : {asked : List (List ℕ)} {status other : Status} {report : Report} {answered : ℕ} → (IsLineDown other → ⊥) → (IsFallen other → ⊥)

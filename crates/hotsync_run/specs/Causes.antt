@@ -12,7 +12,8 @@ use Rattle.hotsync_looks.specs.declared.status.Status.{Status}
 use Rattle.hotsync_looks.specs.declared.status.Status.TheVariants.{Done, Usage, BadScript, TooLong, BadFile, TooMany, HandheldFolder, DesktopFolder, SourceRead}
 use Rattle.hotsync_looks.specs.declared.status.Status.TheVariants.{TraceWrite, OutWrite, NoMemory, LineDown, Unplugged, Aborted, Undetected, OtherUser}
 use Rattle.hotsync_looks.specs.declared.status.Status.TheVariants.{TooManyUsers, Limit, NewHandheld, WrongSide, InUse, CannotExport, BadRecord, BadText, Overfull, BadTrace, NotProper, CannotInstall, NotBackupFolder, SameDatabase}
-use Rattle.hotsync_looks.specs.declared.status.Status.TheVariants.{StreamEnded, StreamAborted, BadHello}
+use Rattle.hotsync_looks.specs.declared.status.Status.TheVariants.{StreamEnded, StreamAborted, BadHello, Refused, BadReply}
+use Rattle.hotsync_looks.specs.declared.status.Status.TheVariants.{PortFailed, NoHandheld, LineSilent, LineEndless, PeerAborted}
 
 -- ---- the status of a session
 
@@ -78,6 +79,13 @@ EndsAs (SameDatabase _ _) end = ⊥
 EndsAs StreamEnded end = ⊥
 EndsAs StreamAborted end = ⊥
 EndsAs BadHello end = ⊥
+EndsAs PortFailed end = ⊥
+EndsAs NoHandheld end = ⊥
+EndsAs LineSilent end = ⊥
+EndsAs LineEndless end = ⊥
+EndsAs PeerAborted end = ⊥
+EndsAs (Refused _ _) end = ⊥
+EndsAs (BadReply _) end = ⊥
 EndsAs other end = end ≡ Stopped
 
 -- why the line is down, with the frames that the report names

@@ -1,5 +1,6 @@
 -- What holds of every install: all objects before it, and all of them after it.
 use Rattle.std.specs.Prelude.{◌≡◌, ◌⊎◌, ⊤, ℕ, true, false, List, [], ◌∷◌, ◌++◌, map, Option, None, Some, IfSome}
+use Rattle.hs_folders.specs.Moments.{EachMomentSince}
 use Rattle.pdb_values.specs.Databases.{DatabaseValue}
 use Rattle.palm_device.specs.Devices.{Device}
 use Rattle.palm_device.specs.Handles.{no_handles}
@@ -18,6 +19,7 @@ use Rattle.hotsync_looks.specs.InstallFiles.{FileRefuses, IsInstallFile}
 use Rattle.hotsync_looks.specs.Told.{SinkTold}
 use Rattle.hotsync_looks.specs.declared.status.Status.{Status}
 use Rattle.hotsync_looks.specs.declared.status.Status.TheVariants.{DesktopFolder, Limit, NewHandheld, OtherUser, TooManyUsers}
+use Rattle.hotsync_run.specs.Besides.{StandsBeside}
 use Rattle.hotsync_run.specs.Causes.{IsCutShort}
 use Rattle.hotsync_run.specs.LineRuns.{SaidAll, frames_in}
 use Rattle.hotsync_run.specs.Refusals.{HandheldRefuses, HasHandheld, TraceRefuses}
@@ -69,10 +71,13 @@ pub record EndedInstall (device : Device) (database : DatabaseValue) (palm_after
   pub handheld : Stands palm_after.contents (with_installed database device.databases) device.user
   pub told : report.databases.items ≡ install_report database ∷ []
 
--- what an install leaves, where it ended
-abbrev pub InstallLeft : Device → DatabaseValue → FolderTold → Report → Type 0
-InstallLeft device database palm_after report =
-    report.end ≡ Ended → EndedInstall device database palm_after report
+-- what an install leaves where it ended, and however it ended, at each moment
+pub record InstallLeft (device : Device) (database : DatabaseValue) (before after : FolderTold)
+    (report : Report) : Type 0 where
+  pub ended : report.end ≡ Ended → EndedInstall device database after report
+  pub beside : StandsBeside device (database ∷ []) after.contents
+  pub each_moment : EachMomentSince (StandsBeside device (database ∷ [])) before.moments
+      after.moments
 
 -- it stopped for want of room for this database: no more was asked for than that it be made
 pub record StopsFull (device : Device) (database : DatabaseValue) (report : Report)
@@ -101,7 +106,7 @@ pub record ShowsInstall (device : Device) (database : DatabaseValue) (status : S
 -- status shows
 abbrev pub HadInstall : Device → DatabaseValue → FolderTold → FolderTold → Status → Report → Type 0
 HadInstall device database before after status report =
-    HadSession (InstallLeft device database after) (ShowsInstall device database)
+    HadSession (InstallLeft device database before after) (ShowsInstall device database)
     (install_agenda device database) before after status report
 
 -- whatever is written of it

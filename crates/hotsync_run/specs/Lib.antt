@@ -1,5 +1,6 @@
 pub mod Again
 pub mod Backups
+pub mod Besides
 pub mod Calls
 pub mod Causes
 pub mod Clean

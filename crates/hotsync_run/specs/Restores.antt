@@ -1,10 +1,9 @@
 -- What holds of every restore: all objects before it, and all of them after it.
-use Rattle.std.specs.Prelude.{◌≡◌, ◌⊎◌, ⊤, ◌≤◌, ℕ, List, ◌∷◌, ◌++◌, filter, length, map, Option, None, Some, IfSome, if◌then◌else◌}
+use Rattle.std.specs.Prelude.{◌≡◌, ◌⊎◌, ⊤, ◌≤◌, ℕ, List, ◌∷◌, ◌++◌, length, map, Option, None, Some, IfSome, if◌then◌else◌}
 use Rattle.std.specs.FinMap as finmap
 use Rattle.hs_folders.specs.FileMaps.{FileMap}
 use Rattle.hs_folders.specs.Moments.{EachMomentSince}
 use Rattle.pdb_values.specs.Databases.{DatabaseValue}
-use Rattle.pdb_values.specs.NamedDatabases.{database_of}
 use Rattle.pdb_files.specs.declared.bad_kind.BadKind.{BadKind}
 use Rattle.palm_device.specs.Devices.{Device, most_databases}
 use Rattle.palm_device.specs.Handles.{no_handles}
@@ -20,13 +19,13 @@ use Rattle.session_parts.specs.declared.report.Did.TheVariants.{Installed, Skipp
 use Rattle.session_parts.specs.declared.skip.Skip.TheVariants.{ReadOnly}
 use Rattle.install_backup.specs.InstallActs.{install_acts, installs_of, is_installable, written_count}
 use Rattle.install_backup.specs.InstallEnds.{all_installed, first_full}
-use Rattle.install_backup.specs.InstallFronts.{StandsInTurn}
 use Rattle.install_backup.specs.Installs.{making_acts}
 use Rattle.run_words.specs.Betweens.{Between}
 use Rattle.hotsync_looks.specs.FolderFaults.{backup_status}
 use Rattle.hotsync_looks.specs.Told.{SinkTold}
 use Rattle.hotsync_looks.specs.declared.status.Status.{Status}
 use Rattle.hotsync_looks.specs.declared.status.Status.TheVariants.{DesktopFolder, Limit, NewHandheld, OtherUser, TooManyUsers}
+use Rattle.hotsync_run.specs.Besides.{StandsBeside}
 use Rattle.hotsync_run.specs.Causes.{IsCutShort}
 use Rattle.hotsync_run.specs.LineRuns.{SaidAll, frames_in}
 use Rattle.hotsync_run.specs.Refusals.{HandheldRefuses, HasHandheld, IsDesktopFailure, TraceRefuses}
@@ -89,19 +88,6 @@ pub record EndedRestore (device : Device) (databases : List DatabaseValue)
   pub said : SaidAll (map text (install_acts databases)) report
   pub handheld : Stands palm_after.contents (all_installed databases device.databases) device.user
   pub told : report.databases.items ≡ map restore_report databases
-
--- However far a restore came, the handheld has its user, and each of its databases whose name none
--- of these has that is installed. Where there is room for all, those in front of one are installed,
--- that one is as it was, or gone, or made anew with a beginning of its blocks and entries, and each
--- of another name is as it was then.
-pub record StandsBeside (device : Device) (databases : List DatabaseValue)
-    (told : Option FileMap) : Type 0 where
-  pub reached : Device
-  pub stands : Stands told reached.databases reached.user
-  pub user : reached.user ≡ device.user
-  pub others : (name : List ℕ) → database_of name (filter is_installable databases) ≡ None
-      → database_of name reached.databases ≡ database_of name device.databases
-  pub in_turn : first_full databases device.databases ≡ None → StandsInTurn databases device reached
 
 -- what a restore leaves where it ended, and however it ended, at each moment
 pub record RestoreLeft (device : Device) (databases : List DatabaseValue)

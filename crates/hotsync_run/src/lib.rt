@@ -40,8 +40,11 @@ mod tracing;
 mod wishes;
 
 pub use answer::Answer;
+pub use clock::seconds_now;
 pub use command::hotsync;
 pub use hotsync_looks::{FileSide, Status};
-pub use program::{Ended, run_on_system, run_program};
+pub use program::{Ended, arguments, run_on_system, run_program};
 pub use report::{Report, SessionEnd};
 pub use session_parts::{Counts, DbReport, Did, FiledCounts, Skip};
+pub use sides::open_desktop;
+pub use tracing::{open_trace, write_text};

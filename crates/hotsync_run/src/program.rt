@@ -204,9 +204,9 @@ fn say_no_memory<H: Folder, D: Folder, O: Sink>(
     }
 }
 
-// The words that the program was called with, its name first. Those that are no text, or that the system does not hand
-// over, are out of the form.
-fn arguments<R: Env + AllocGlobal>(rt: &R) -> Result<Vec<String>, WordsFault> {
+/// The words that the program was called with, its name first. Those that are no text, or that the system does not hand
+/// over, are out of the form.
+pub fn arguments<R: Env + AllocGlobal>(rt: &R) -> Result<Vec<String>, WordsFault> {
     match fetched(rt) {
         Ok(args) => Ok(args),
         Err(error) => Err(fault_of(error.kind())),

@@ -1,6 +1,6 @@
 //! The sentences of the README's "What you can rely on", as laws over what the contract of [`hotsync`](crate::hotsync) says of a
 //! call, and what else holds of calls. Each function here does nothing: its contract is the law.
-ghost use Rattle.std.specs.Prelude.{◌≡◌, ◌<◌, ℕ, List, None, Some, true};
+ghost use Rattle.std.specs.Prelude.{◌≡◌, ◌<◌, ℕ, List, [], ◌∷◌, None, Some, true};
 ghost use Rattle.std.specs.List.{AllByRecursion};
 ghost use Rattle.hs_folders.specs.Moments.{EachMomentSince};
 ghost use Rattle.std.specs.Option.{option_map};
@@ -19,6 +19,7 @@ ghost use Rattle.category_mirror.specs.FilingEnds.{StandsFiled};
 ghost use Rattle.category_mirror.specs.Sides.{block_writes, filing_of};
 ghost use Rattle.front_laws.specs.Answered.{IsAnsweredExchange};
 ghost use Rattle.hotsync_run.specs.Again.{AllRan, AreOfOneKind, AreTold, EndsAsOne, IsRepeat};
+ghost use Rattle.hotsync_run.specs.Besides.{StandsBeside};
 ghost use Rattle.hotsync_run.specs.Calls.{Call, IsAnsweredCall, IsNothing};
 ghost use Rattle.hotsync_run.specs.Causes.{HasBegun};
 ghost use Rattle.hotsync_run.specs.Clean.{GoesThrough, HasNoLines};
@@ -32,7 +33,7 @@ ghost use Rattle.hotsync_run.specs.LineRuns.{exchanges_in, frames_in};
 ghost use Rattle.hotsync_looks.specs.Looks.{IsLook};
 ghost use Rattle.hotsync_run.specs.Meetings.{Meets};
 ghost use Rattle.hotsync_looks.specs.PrintedNames.{is_printable, printed_name};
-ghost use Rattle.hotsync_run.specs.Restores.{EndedRestore, RestoreRan, StandsBeside, restore_command};
+ghost use Rattle.hotsync_run.specs.Restores.{EndedRestore, RestoreRan, restore_command};
 ghost use Rattle.hotsync_looks.specs.declared.status.Status.TheVariants.{Done};
 ghost use Rattle.hotsync_run.specs.Runs.{run_command};
 ghost use Rattle.hotsync_run.specs.Scripts.{IsScripted};
@@ -163,7 +164,9 @@ pub fn a_run_is_never_refused()
 {}
 
 /// An install that is refused before its session changes nothing. In its session neither end says anything twice, and no line stops
-/// it. Once it ended, the handheld has the file's database in place of the one of its name, and all else as it was.
+/// it. Once it ended, the handheld has the file's database in place of the one of its name, and all else as it was. However it stopped,
+/// at each moment the handheld has its user and all other databases, and where there is room, of that one what it had, or nothing, or as
+/// much of the file's as came.
 pub fn an_install_keeps_what_it_promises()
     ensures refused { (call : Call) (words : Between) → IsAnsweredCall call
         → call.task ≡ Some (Install words) → call.report.end ≡ NotStarted
@@ -175,6 +178,11 @@ pub fn an_install_keeps_what_it_promises()
         → call.task ≡ Some (Install words) → call.report.end ≡ Ended
         → (ran : InstallRan words call.before call.after call.status call.report)
         × EndedInstall ran.device ran.database call.after.palm call.report }
+    ensures stopped { (call : Call) (words : Between) → IsAnsweredCall call
+        → call.task ≡ Some (Install words) → HasBegun call.report.end
+        → (ran : InstallRan words call.before call.after call.status call.report)
+        × EachMomentSince (StandsBeside ran.device (ran.database ∷ []))
+        call.before.palm.moments call.after.palm.moments }
 {}
 
 /// A restore that is refused before its session changes nothing, and however it goes nothing in its folder is changed. Once it ended,

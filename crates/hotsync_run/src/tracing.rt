@@ -77,8 +77,8 @@ pub fn write_frames<T: Sink>(
     }
 }
 
-// Writes a text of frames.
-fn write_text<T: Sink>(status: Status, text: &[u8], trace: &mut T) -> Status
+/// Writes the text of a trace, and says which status stands then.
+pub fn write_text<T: Sink>(status: Status, text: &[u8], trace: &mut T) -> Status
     requires { IsUnsaid status }
     ensures { TracesText text.now (sink_told T.taken T.paths T.faults trace.old)
         (sink_told T.taken T.paths T.faults trace.new) status result }
