@@ -3,7 +3,7 @@ _hotsync() {
     local word=${COMP_WORDS[COMP_CWD]}
     COMPREPLY=()
     if [ "$COMP_CWD" -eq 1 ]; then
-        COMPREPLY=($(compgen -W 'run check show export import verify picture packet install backup restore device categories make' -- "$word"))
+        COMPREPLY=($(compgen -W 'run check show export import verify picture packet install backup restore device categories sync make' -- "$word"))
         return
     fi
     case ${COMP_WORDS[1]} in
@@ -61,6 +61,17 @@ _hotsync() {
             fi
             ;;
         *) COMPREPLY=($(compgen -d -- "$word")) ;;
+        esac
+        ;;
+    sync)
+        case $word in
+        -*)
+            COMPREPLY=($(compgen -W '--date=now --date= --only= --trace= --slow --actions= --actions=*: --add-user' -- "$word"))
+            if [ "${#COMPREPLY[@]}" -eq 1 ] && [ "${COMPREPLY[0]%[=:]}" != "${COMPREPLY[0]}" ]; then
+                compopt -o nospace
+            fi
+            ;;
+        *) COMPREPLY=($(compgen -f -- "$word")) ;;
         esac
         ;;
     check | show | verify | picture) COMPREPLY=($(compgen -f -- "$word")) ;;

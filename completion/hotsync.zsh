@@ -16,6 +16,7 @@ _hotsync() {
         'restore:put the databases of a folder of files onto a handheld'
         'categories:give both sides one table of categories'
         'device:answer captured bytes as a handheld does'
+        'sync:synchronise a folder with a handheld behind a serial port'
         'make:print what a run over made folders does'
     )
     if ((CURRENT == 2)); then
@@ -48,6 +49,13 @@ _hotsync() {
             '--trace=[the file for the trace]:file:_files'
         ;;
     device) _arguments '1:handheld:_files -/' '--in=[the captured bytes]:file:_files' '--out=[the file for what is said]:file:_files' ;;
+    sync)
+        _arguments '1:port:_files' '2:desktop:_files -/' \
+            '--date=[the date of the session]:date:(now)' '--only=[the databases that are touched]:stems:' \
+            '--trace=[the file for the trace]:file:_files' '--slow[read all records]' \
+            '--actions=[what is done with each database]:actions:' \
+            '--add-user[give the handheld a user of its own on the desktop]'
+        ;;
     check | show | verify | picture) _arguments '1:file:_files' ;;
     packet) _arguments '1:bytes in hexadecimal digits:' ;;
     make) _arguments '1:seed:' '2:how many records:' ;;

@@ -1,9 +1,13 @@
-//! The program `hotsync`: the call of the same name over real folders, files and standard output.
+//! The program `hotsync`: the call of the same name over real folders, files and standard output, and the one over a port.
 #![tactic(auto)]
 
-use hotsync_run::run_on_system;
+use hotsync_run::{arguments, run_on_system};
+use port_run::{asks_sync, sync_on_system};
 use std::process::ExitCode;
 
 fn main(rt: HostRuntime) -> ExitCode {
-    run_on_system(&rt)
+    match arguments(&rt) {
+        Ok(args) if asks_sync(&args) => sync_on_system(&rt, &args),
+        _ => run_on_system(&rt),
+    }
 }

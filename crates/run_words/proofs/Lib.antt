@@ -1,6 +1,7 @@
 pub mod ActionLaws
 pub mod ItemLaws
 pub mod NumberLaws
+pub mod OnlyLaws
 pub mod SplitLaws
 pub mod StemLaws
 pub mod WordLaws

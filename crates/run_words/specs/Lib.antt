@@ -1,5 +1,6 @@
 pub mod Actions
 pub mod Betweens
+pub mod Cables
 pub mod Captures
 pub mod Commands
 pub mod Exports

@@ -1,12 +1,14 @@
 -- What contracts see of words, and of what they give.
 use Rattle.std.specs.Prelude.{map, option_copied}
 use Rattle.run_words.specs.Betweens.{Between}
+use Rattle.run_words.specs.Cables.{Cable}
 use Rattle.run_words.specs.Captures.{Capture}
 use Rattle.run_words.specs.Commands.{Task, Sync, LookAt, Scan, Make, Install, Backup, Restore, Emulate, Categories}
 use Rattle.run_words.specs.Forms.{Form, NamedOption}
 use Rattle.run_words.specs.Runs.{Run}
 use Rattle.run_words.specs.Words.{bytes_of}
 use Rattle.run_words.specs.declared.between.BetweenWords.{BetweenWords}
+use Rattle.run_words.specs.declared.cable.CableWords.{CableWords}
 use Rattle.run_words.specs.declared.capture.CaptureWords.{CaptureWords}
 use Rattle.run_words.specs.declared.command.Command.{Command}
 use Rattle.run_words.specs.declared.command.Command.TheVariants as commands
@@ -37,6 +39,19 @@ run_view run = record {
   actions = option_copied run.actions;
   slow = run.slow;
   add_user = run.add_user;
+}
+
+-- the session over a cable of the words
+abbrev pub cable_view : CableWords → Cable
+cable_view cable = record {
+  port = cable.port.now;
+  desktop = cable.desktop.now;
+  date = cable.date;
+  only = option_copied cable.only;
+  trace = option_copied cable.trace;
+  actions = option_copied cable.actions;
+  slow = cable.slow;
+  add_user = cable.add_user;
 }
 
 -- both paths of the words

@@ -15,8 +15,8 @@ fn stem_in(item: &str) -> &str
     }
 }
 
-// The first item of some, and those behind the first comma.
-fn first_item(items: &str) -> (&str, Option<&str>)
+/// The first item of some, and those behind the first comma.
+pub(crate) fn first_item(items: &str) -> (&str, Option<&str>)
     ensures items { items_of (Some items.entry.now)
         ≡ result.0.now ∷ items_of (option_copied result.1) }
     ensures shorter { IfSome result.1 (λ more. length more.now < length items.entry.now) }

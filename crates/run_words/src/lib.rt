@@ -4,7 +4,8 @@
 //! `check FILE`, `show FILE`, `export FILE --as=FORM [--date=D] [--without-private] [--keep-broken]`, `import FILE --as=txt`,
 //! `verify FILE`, `picture FILE`, `packet HEX`, `make SEED N`, `install HANDHELD FILE [--trace=F]`, `backup` or
 //! `restore HANDHELD FOLDER [--script=F] [--trace=F]`, `device HANDHELD --in=F --out=F` or
-//! `categories HANDHELD DESKTOP [--script=F] [--trace=F]`. The form of the words behind it is a table, and they stand in
+//! `categories HANDHELD DESKTOP [--script=F] [--trace=F]`; and `sync PORT DESKTOP --date=D [--only=L] [--trace=F] [--slow]
+//! [--actions=L] [--add-user]`, which has a call of its own. The form of the words behind it is a table, and they stand in
 //! any order. A plain word is not empty and does not begin with `-`. A date is written, or it is `now`, the date that the
 //! caller hands over. No call takes memory but for the list of actions.
 #![tactic(auto)]
@@ -12,12 +13,14 @@
 mod action;
 mod action_list;
 mod between;
+mod cable;
 mod capture;
 mod command;
 mod form;
 mod hexadecimal;
 mod look;
 mod number;
+mod only;
 mod run;
 mod stem;
 mod word;
@@ -25,6 +28,7 @@ mod word;
 pub use action::{ActionWord, NamedAction, Target, action_of};
 pub use action_list::{is_actions, read_actions};
 pub use between::{BETWEEN, BetweenWords};
+pub use cable::{CABLE, CableWords, is_sync, sync_words};
 pub use capture::{CAPTURE, CaptureWords};
 pub use command::{
     Command, EXPORT, FILE, IMPORT, MAKE, MakeWords, PACKET, PacketWords, command_of,
@@ -32,4 +36,5 @@ pub use command::{
 pub use form::{ValueOption, WordForm};
 pub use look::{Export, ExportForm, ImportForm, Look, LookWords, export_form_in, import_form_in};
 pub use number::{count_in, number_in};
+pub use only::{cable_actions, only_these_are_touched};
 pub use run::{RUN, RunWords, date_in};

@@ -76,8 +76,8 @@ fn later_date(seconds: Option<u32>) -> Option<PalmDate>
     }
 }
 
-// Whether the actions, where the words give any, are the text of some.
-fn are_actions_right(words: &[String]) -> bool
+/// Whether the actions, where the words give any, are the text of some.
+pub(crate) fn are_actions_right(words: &[String]) -> bool
     ensures { result ≡ are_right (map string_bytes words.now) }
 {
     match value_of(words, "actions") {

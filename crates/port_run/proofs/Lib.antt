@@ -1,0 +1,5 @@
+pub mod LinkLaws
+pub mod LogLaws
+pub mod CloseLaws
+pub mod TalkLaws
+pub mod SyncLaws

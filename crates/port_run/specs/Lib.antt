@@ -1,0 +1,10 @@
+pub mod Causes
+pub mod Refusals
+pub mod Reports
+pub mod Wishes
+pub mod LogTexts
+pub mod Told
+pub mod Links
+pub mod Talks
+pub mod Syncs
+pub mod Systems

@@ -1,0 +1,124 @@
+-- What holds of every call over a cable, whatever stands behind the port.
+use Rattle.std.specs.Prelude.{◌≡◌, ◌⊎◌, Option, None, Some, []}
+use Rattle.std.specs.Option.{option_map}
+use Rattle.hs_folders.specs.Causes.{Rose}
+use Rattle.desk_journal.specs.Overlays.{finished}
+use Rattle.run_words.specs.Cables.{Cable}
+use Rattle.trace_text.specs.declared.frame.End.TheVariants as end
+use Rattle.port_link.specs.Logs.{log_entries}
+use Rattle.hotsync_looks.specs.Lines.{done_lines}
+use Rattle.hotsync_looks.specs.Opening.{Opens, OpensAtMost, OpensGiven, OpensGivenAtMost}
+use Rattle.hotsync_looks.specs.Printed.{IsPrinted, IsPrintedStatus}
+use Rattle.hotsync_looks.specs.Told.{SinkTold}
+use Rattle.hotsync_looks.specs.declared.status.Status.{Status}
+use Rattle.hotsync_looks.specs.declared.status.Status.TheVariants.{Usage, NoMemory, PortFailed, DesktopFolder, InUse, TraceWrite}
+use Rattle.hotsync_run.specs.Causes.{ByEnd, HasBegun, IsTracedStatus}
+use Rattle.hotsync_run.specs.Refusals.{HasDesktop, LeavesDesktopUnread}
+use Rattle.hotsync_run.specs.Runs.{StandsAsItDid}
+use Rattle.hotsync_run.specs.SessionCalls.{StaysAsItWas}
+use Rattle.hotsync_run.specs.Told.{FolderTold}
+use Rattle.hotsync_run.specs.Traces.{IsTraced, TracesFrames}
+use Rattle.hotsync_run.specs.declared.report.SessionEnd.{SessionEnd}
+use Rattle.port_run.specs.Links.{LinkRan}
+use Rattle.port_run.specs.LogTexts.{log_text}
+use Rattle.port_run.specs.Refusals.{IsRefused}
+use Rattle.port_run.specs.Reports.{IsOver, IsSilent}
+use Rattle.port_run.specs.Talks.{DesktopRan, HasTalked, StaysUnsaid}
+use Rattle.port_run.specs.Told.{PortTold, SyncTold}
+use Rattle.port_run.specs.declared.synced.CableReport.{CableReport}
+
+-- ---- a call without a session
+
+-- Memory ran out, or what is judged before a session refuses the call. Nothing was said over the
+-- port, the desktop's folder stands for what it stood for, and the trace took nothing.
+pub record SentNothing (cable : Cable) (before after : SyncTold) (status : Status)
+    (report : CableReport) : Type 0 where
+  pub judged : (status ≡ NoMemory) ⊎ IsRefused cable before.desk.contents status
+  pub silent : IsSilent report
+  pub port : StaysUnsaid before.port after.port
+  pub desktop : StandsAsItDid before.desk after.desk
+  pub unread : LeavesDesktopUnread status → StaysAsItWas before.desk after.desk
+  pub trace : after.trace.taken ≡ before.trace.taken
+
+-- ---- a session
+
+-- the status of a session over a cable, once its trace was to be written
+pub record TellsSession (report : CableReport) (status : Status) : Type 0 where
+  pub said : Status
+  pub over : IsOver report.end report.cause said
+  pub traced : IsTracedStatus said status
+
+-- What was said over the port that was opened, what became of the desktop's folder, what the status
+-- says of both, and what the trace took.
+pub record SessionRan (cable : Cable) (before after : SyncTold) (status : Status)
+    (report : CableReport) : Type 0 where
+  pub desktop : HasDesktop before.desk.contents
+  pub opened : PortTold
+  pub unsaid : StaysUnsaid before.port opened
+  pub link : LinkRan opened after.port report.cause (log_entries report.log)
+  pub changed : DesktopRan (option_map finished before.desk.contents) before.desk after.desk
+      report.end
+  pub tells : TellsSession report status
+  pub traced : IsTraced cable.trace (log_text (log_entries report.log)) before.trace after.trace
+      status
+
+-- a session over an opened port, whose trace was to be written then
+pub record TracesTalk (cable : Cable) (port : PortTold) (desk : FolderTold) (trace : SinkTold)
+    (after : SyncTold) (status : Status) (report : CableReport) : Type 0 where
+  pub said : Status
+  pub talked : HasTalked port after.port desk after.desk said report
+  pub traces : TracesFrames cable.trace (log_text (log_entries report.log)) trace after.trace said
+      status
+  pub silent : report.log.items ≡ [] → after.trace.taken ≡ trace.taken
+
+-- ---- every call
+
+-- a status that blames an object shows that object's count rise
+pub record BlamesByCount (before after : SyncTold) (status : Status) : Type 0 where
+  pub port : status ≡ PortFailed → Rose before.port.faults after.port.faults
+  pub desktop : status ≡ DesktopFolder → Rose before.desk.faults after.desk.faults
+  pub in_use : status ≡ InUse end.Desktop → Rose before.desk.faults after.desk.faults
+  pub trace : status ≡ TraceWrite → Rose before.trace.faults after.trace.faults
+
+-- Each object was opened at the path that the words give it, or not at all, and where a session
+-- began it was.
+pub record OpensNamed (cable : Cable) (before after : SyncTold) (end : SessionEnd) : Type 0 where
+  pub port : OpensAtMost cable.port before.port.paths after.port.paths
+  pub desktop : OpensAtMost cable.desktop before.desk.paths after.desk.paths
+  pub trace : OpensGivenAtMost cable.trace before.trace.paths after.trace.paths
+  pub port_opened : HasBegun end → Opens cable.port before.port.paths after.port.paths
+  pub desktop_opened : HasBegun end → Opens cable.desktop before.desk.paths after.desk.paths
+  pub trace_opened : HasBegun end → OpensGiven cable.trace before.trace.paths after.trace.paths
+
+-- what is known of a call before its lines are printed: it sent nothing, or it had its session
+pub record HasSynced (cable : Cable) (before after : SyncTold) (status : Status)
+    (report : CableReport) : Type 0 where
+  pub shown : ByEnd report.end (SentNothing cable before after status report)
+      (SessionRan cable before after status report)
+  pub blames : BlamesByCount before after status
+  pub opened : OpensNamed cable before after report.end
+
+-- What is known of a call: this of a status, and that standard output took exactly the lines of the
+-- one that stands once they were to be printed.
+pub record IsSync (cable : Cable) (before after : SyncTold) (out out_after : SinkTold)
+    (status : Status) (report : CableReport) : Type 0 where
+  pub found : Status
+  pub ran : HasSynced cable before after found report
+  pub status_is : IsPrintedStatus found status
+  pub printed : IsPrinted (λ text. text ≡ done_lines report.databases.items) out out_after status
+
+-- words out of the form give the usage line, and nothing is done
+pub record IsNothing (before after : SyncTold) (out out_after : SinkTold) (status : Status)
+    (report : CableReport) : Type 0 where
+  pub ended : (status ≡ Usage) ⊎ (status ≡ NoMemory)
+  pub same : after ≡ before
+  pub silent : IsSilent report
+  pub printed : IsPrinted (λ text. ⊥) out out_after status
+
+-- what is known of a call, by what its words ask for
+abbrev pub IsSyncCall : Option Cable → SyncTold → SyncTold → SinkTold → SinkTold → Status
+    → CableReport → Type 0
+IsSyncCall None before after out out_after status report =
+    IsNothing before after out out_after status report
+IsSyncCall (Some cable) before after out out_after status report =
+    IsSync cable before after out out_after status report

@@ -1,0 +1,68 @@
+-- A session over a cable, whatever is written of it.
+use Rattle.std.specs.Prelude.{◌≡◌, ◌⊎◌, ℕ, List, Option}
+use Rattle.std.specs.List.{AllByRecursion}
+use Rattle.std.specs.Option.{option_map}
+use Rattle.hs_folders.specs.Causes.{Rose}
+use Rattle.hs_folders.specs.FileMaps.{FileMap}
+use Rattle.hs_folders.specs.Moments.{EachMomentSince, Moments}
+use Rattle.desk_journal.specs.Entries.{EntryValue}
+use Rattle.desk_journal.specs.Overlays.{FinishesAs, put_all}
+use Rattle.sync_session.specs.Leaving.{IsSlotsFile}
+use Rattle.port_link.specs.Logs.{log_entries}
+use Rattle.hotsync_looks.specs.declared.status.Status.{Status}
+use Rattle.hotsync_looks.specs.declared.status.Status.TheVariants.{NoMemory, PortFailed, DesktopFolder}
+use Rattle.hotsync_run.specs.Causes.{ByEnd}
+use Rattle.hotsync_run.specs.Told.{FolderTold}
+use Rattle.hotsync_run.specs.declared.report.SessionEnd.{SessionEnd}
+use Rattle.hotsync_run.specs.declared.report.SessionEnd.TheVariants.{Ended}
+use Rattle.port_run.specs.Links.{LinkRan}
+use Rattle.port_run.specs.Reports.{IsOver, IsSilent}
+use Rattle.port_run.specs.Told.{PortTold}
+use Rattle.port_run.specs.declared.synced.CableReport.{CableReport}
+
+-- nothing was said or heard
+pub record StaysUnsaid (before after : PortTold) : Type 0 where
+  pub given : after.given ≡ before.given
+  pub taken : after.taken ≡ before.taken
+
+-- The desktop's folder, whose files are these once a journal that was left is finished, was changed
+-- once at most, whatever came over the port: an ended session has put some files over the others,
+-- all of one slot or the information file. One that stopped left it standing for what it stood for
+-- at first, or for that. At each moment it stood for the one, and from some moment on for the other.
+pub record DesktopRan (opened : Option FileMap) (before after : FolderTold) (end : SessionEnd)
+    : Type 0 where
+  pub entries : List EntryValue
+  pub place : ℕ
+  pub files : AllByRecursion (λ (entry : EntryValue). IsSlotsFile place entry.name) entries
+  pub written : end ≡ Ended → after.contents ≡ option_map (put_all entries) opened
+  pub stands : FinishesAs before.contents after.contents
+      ⊎ FinishesAs (option_map (put_all entries) opened) after.contents
+  pub between : Moments
+  pub unchanged : EachMomentSince (FinishesAs before.contents) before.moments between
+  pub changed : EachMomentSince (FinishesAs (option_map (put_all entries) opened)) between
+      after.moments
+
+-- memory ran out before anything was said, and the port and the folder are as they were
+pub record KeptSilent (before after : PortTold) (desk desk_after : FolderTold) (status : Status)
+    (report : CableReport) : Type 0 where
+  pub memory : status ≡ NoMemory
+  pub silent : IsSilent report
+  pub port : after ≡ before
+  pub desktop : desk_after ≡ desk
+
+-- what was said and heard, what became of the desktop's folder, and what the status says of both
+pub record Talked (before after : PortTold) (desk desk_after : FolderTold) (status : Status)
+    (report : CableReport) : Type 0 where
+  pub link : LinkRan before after report.cause (log_entries report.log)
+  pub changed : DesktopRan desk.contents desk desk_after report.end
+  pub over : IsOver report.end report.cause status
+
+-- what is known of a session over an opened port: it kept silent, or it had the session
+pub record HasTalked (before after : PortTold) (desk desk_after : FolderTold) (status : Status)
+    (report : CableReport) : Type 0 where
+  pub shown : ByEnd report.end (KeptSilent before after desk desk_after status report)
+      (Talked before after desk desk_after status report)
+  pub port : status ≡ PortFailed → Rose before.faults after.faults
+  pub desktop : status ≡ DesktopFolder → Rose desk.faults desk_after.faults
+  pub port_paths : after.paths ≡ before.paths
+  pub desk_paths : desk_after.paths ≡ desk.paths

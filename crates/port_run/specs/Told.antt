@@ -1,0 +1,43 @@
+-- What the objects of a call over a cable tell at one moment.
+use Rattle.std.specs.Prelude.{ℕ, List, Option}
+use Rattle.hs_folders.specs.declared.folder.Folder.{Ghosts as FolderMembers}
+use Rattle.hs_folders.specs.declared.sink.Sink.{Ghosts as SinkMembers}
+use Rattle.port_line.specs.declared.port.Port.{Ghosts as PortMembers}
+use Rattle.hotsync_looks.specs.Told.{SinkTold, sink_told}
+use Rattle.hotsync_run.specs.Told.{FolderTold, folder_told}
+
+-- what a port tells
+pub record PortTold : Type 0 where
+  pub given : Option (List (List ℕ))
+  pub taken : Option (List ℕ)
+  pub paths : Option (List (List ℕ))
+  pub faults : ℕ
+
+-- what the objects of a call tell before it, or after it, beside standard output
+pub record SyncTold : Type 0 where
+  pub port : PortTold
+  pub desk : FolderTold
+  pub trace : SinkTold
+
+-- what a port tells, by the members of its trait
+abbrev pub port_told : {P : Type 0} → PortMembers P → P → PortTold
+port_told ports port = record {
+  given = ports.given port;
+  taken = ports.taken port;
+  paths = ports.paths port;
+  faults = ports.faults port;
+}
+
+-- what a folder tells, by the members of its trait
+abbrev pub desk_told : {D : Type 0} → FolderMembers D → D → FolderTold
+desk_told desks desk =
+    folder_told desks.contents desks.moments desks.paths desks.faults desk
+
+-- what the objects of a call tell, by the members of their traits
+abbrev pub sync_told : {P D T : Type 0} → PortMembers P → FolderMembers D → SinkMembers T
+    → P → D → T → SyncTold
+sync_told ports desks traces port desk trace = record {
+  port = port_told ports port;
+  desk = desk_told desks desk;
+  trace = sink_told traces.taken traces.paths traces.faults trace;
+}

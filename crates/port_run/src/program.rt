@@ -1,0 +1,73 @@
+// The program where its first word is `sync`.
+ghost use Rattle.std.specs.Prelude.{◌≡◌, drop, map, string_bytes};
+ghost use Rattle.std.specs.Process.{exit_status};
+ghost use Rattle.hotsync_looks.specs.Codes.{code_of};
+ghost use Rattle.hotsync_looks.specs.Told.{sink_told};
+ghost use Rattle.port_run.specs.Systems.{AreUntold, EndsSync, IsSystemSync};
+ghost use Rattle.port_run.specs.Told.{sync_told};
+ghost use Rattle.run_words.specs.Cables.{begins_sync, sync_of};
+
+use crate::synced::Synced;
+use crate::syncing::sync;
+use hotsync_run::seconds_now;
+use hs_folders::{DirFolder, FileSink, Folder, Sink, StdoutSink};
+use port_line::{Port, TtyPort};
+use run_words::is_sync;
+use std::alloc::Global;
+use std::fs::File;
+use std::process::ExitCode;
+use std::rt::Files;
+use std::time::Clock;
+
+/// Whether the first word behind the program's name asks for a session over a cable.
+pub fn asks_sync(args: &[String]) -> bool
+    ensures { result ≡ begins_sync (map string_bytes (drop 1 args.now)) }
+{
+    is_sync(words_of(args))
+}
+
+// The words behind the program's name.
+fn words_of(args: &[String]) -> &[String]
+    ensures { result.now ≡ drop 1 args.now }
+{
+    args.get(1..).unwrap_or(&[])
+}
+
+/// Has the session over a cable that these words ask for, the program's name first, over a port, a folder, a file and the
+/// standard output of the system.
+pub fn sync_on_system<R: Clock + Files<File = File> + Print + AllocGlobal>(
+    rt: &R,
+    args: &[String],
+) -> ExitCode
+    ensures { EndsSync (map string_bytes (drop 1 args.now)) (exit_status result) }
+{
+    let alloc = rt.alloc();
+    let code = sync_untold(
+        alloc,
+        seconds_now(rt),
+        words_of(args),
+        TtyPort::new(rt),
+        DirFolder::new(rt, alloc),
+        &mut FileSink::new(rt, alloc),
+        &mut StdoutSink::new(rt),
+    );
+    ExitCode::from(code)
+}
+
+// The session over objects that tell nothing, and the exit status of the program.
+fn sync_untold<P: Port + Drop, D: Folder + Drop, T: Sink, O: Sink>(
+    alloc: Global,
+    now: Option<u32>,
+    words: &[String],
+    port: P,
+    desk: D,
+    trace: &mut T,
+    out: &mut O,
+) -> u8
+    requires { AreUntold (sync_told P.Port D.Folder T.Sink port desk trace.old)
+        (sink_told O.taken O.paths O.faults out.old) }
+    ensures { IsSystemSync (sync_of now (map string_bytes words.now)) result }
+{
+    let Synced { status, .. } = sync(alloc, now, words, port, desk, trace, out);
+    status.code()
+}

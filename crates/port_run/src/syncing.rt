@@ -1,0 +1,124 @@
+// A session over a cable: what comes before it, and what it prints.
+ghost use Rattle.std.specs.Prelude.{◌≡◌, ◌≢◌, IfSome, None, map, string_bytes};
+ghost use Rattle.hotsync_looks.specs.Told.{sink_told};
+ghost use Rattle.port_run.specs.Syncs.{HasSynced, IsSyncCall, TracesTalk};
+ghost use Rattle.port_run.specs.Told.{desk_told, port_told, sync_told};
+ghost use Rattle.run_words.specs.Cables.{sync_of};
+ghost use Rattle.run_words.specs.Views.{cable_view};
+
+use crate::opening::open_port;
+use crate::synced::Synced;
+use crate::talk::talk;
+use crate::tracing::trace_log;
+use desk_store::Desk;
+use hotsync_looks::{Status, print_refusal, print_status};
+use hotsync_run::{open_desktop, open_trace};
+use hs_folders::{Folder, Sink};
+use port_line::Port;
+use run_words::{CableWords, sync_words};
+use std::alloc::Global;
+
+/// Has the session over a cable that the words ask for, and prints the lines of its status on `out`.
+///
+/// `now` are the seconds of the date now, if it can be told, and `words` those after the program's name, `sync` first. The
+/// port and the desktop's folder are handed back with every status.
+pub fn sync<P: Port, D: Folder, T: Sink, O: Sink>(
+    alloc: Global,
+    now: Option<u32>,
+    words: &[String],
+    port: P,
+    desk: D,
+    trace: &mut T,
+    out: &mut O,
+) -> Synced<P, D>
+    ensures call { IsSyncCall (sync_of now (map string_bytes words.now))
+        (sync_told P.Port D.Folder T.Sink port desk trace.old)
+        (sync_told P.Port D.Folder T.Sink result.port result.desk trace.new)
+        (sink_told O.taken O.paths O.faults out.old) (sink_told O.taken O.paths O.faults out.new)
+        result.status result.report }
+
+    // Words out of the form touch nothing, and the trace is touched only where one is named.
+    ensures untraced { IfSome (sync_of now (map string_bytes words.now)) (λ cable.
+        cable.trace ≡ None → trace.new ≡ trace.old) }
+    ensures untouched { sync_of now (map string_bytes words.now) ≡ None
+        → (result.port ≡ port) × (result.desk ≡ desk) × (trace.new ≡ trace.old) }
+{
+    let Some(cable) = sync_words(now, words) else {
+        let status = print_refusal(alloc, Status::Usage, out);
+        return Synced::not_started(alloc, status, port, desk);
+    };
+    let synced = judged(alloc, &cable, port, desk, trace);
+    let Synced {
+        status,
+        report,
+        port,
+        desk,
+    } = synced;
+    let status = print_status(alloc, status, &report.databases, out);
+    Synced {
+        status,
+        report,
+        port,
+        desk,
+    }
+}
+
+// Opens the port, judges the desktop's folder, opens the trace, in this order, and has the session.
+fn judged<P: Port, D: Folder, T: Sink>(
+    alloc: Global,
+    words: &CableWords<'_>,
+    port: P,
+    desk: D,
+    trace: &mut T,
+) -> Synced<P, D>
+    ensures ran { HasSynced (cable_view words.now)
+        (sync_told P.Port D.Folder T.Sink port desk trace.old)
+        (sync_told P.Port D.Folder T.Sink result.port result.desk trace.new)
+        result.status result.report }
+    ensures unprinted { result.status ≢ Status.OutWrite }
+    ensures untraced { words.now.trace ≡ None → trace.new ≡ trace.old }
+{
+    let port = match open_port(port, words.port) {
+        Ok(port) => port,
+        Err((refusal, port)) => return Synced::not_started(alloc, refusal, port, desk),
+    };
+    let desk = match open_desktop(alloc, desk, words.desktop) {
+        Ok(desk) => desk,
+        Err((refusal, desk)) => return Synced::not_started(alloc, refusal, port, desk),
+    };
+    match open_trace(trace, words.trace) {
+        Ok(()) => traced_talk(alloc, words, port, desk, trace),
+        Err(refusal) => Synced::not_started(alloc, refusal, port, desk.into_folder()),
+    }
+}
+
+// Has the session, and writes its trace.
+fn traced_talk<P: Port, D: Folder, T: Sink>(
+    alloc: Global,
+    words: &CableWords<'_>,
+    port: P,
+    desk: Desk<D>,
+    trace: &mut T,
+) -> Synced<P, D>
+    ensures talked { TracesTalk (cable_view words.now) (port_told P.Port port)
+        (desk_told D.Folder desk.folder) (sink_told T.taken T.paths T.faults trace.old)
+        (sync_told P.Port D.Folder T.Sink result.port result.desk trace.new)
+        result.status result.report }
+    ensures unprinted { result.status ≢ Status.OutWrite }
+    ensures untraced { words.now.trace ≡ None → trace.new ≡ trace.old }
+{
+    let synced = talk(alloc, words, port, desk);
+    let Synced {
+        status,
+        report,
+        port,
+        desk,
+    } = synced;
+    let status = trace_log(alloc, words.trace, status, &report.log, trace);
+    Synced {
+        status,
+        report,
+        port,
+        desk,
+    }
+}

@@ -1,0 +1,38 @@
+// The trace of a session over a cable.
+ghost use Rattle.std.specs.Prelude.{◌≡◌, [], None, map, option_copied};
+ghost use Rattle.hotsync_looks.specs.Told.{sink_told};
+ghost use Rattle.hotsync_run.specs.Causes.{IsUnsaid};
+ghost use Rattle.hotsync_run.specs.Traces.{TracesFrames};
+ghost use Rattle.port_link.specs.Logs.{entry_value};
+ghost use Rattle.port_run.specs.LogTexts.{log_text};
+
+use crate::log_text::write_log;
+use hotsync_looks::Status;
+use hotsync_run::write_text;
+use hs_folders::Sink;
+use port_link::Entry;
+use std::alloc::{AllocError, Global};
+
+/// Writes the text of what was said and heard where the words name a trace, and says which status stands then.
+pub fn trace_log<T: Sink>(
+    alloc: Global,
+    path: Option<&str>,
+    status: Status,
+    log: &[Entry],
+    trace: &mut T,
+) -> Status
+    requires { IsUnsaid status }
+    ensures traces { TracesFrames (option_copied path.entry) (log_text (map entry_value log.now))
+        (sink_told T.taken T.paths T.faults trace.old)
+        (sink_told T.taken T.paths T.faults trace.new) status result }
+    ensures untouched { path.entry ≡ None → trace.new ≡ trace.old }
+    ensures silent { log.now ≡ [] → trace.new ≡ trace.old }
+{
+    if path.is_none() || log.is_empty() {
+        return status;
+    }
+    match write_log(alloc, log) {
+        Ok(text) => write_text(status, &text, trace),
+        Err(AllocError) => Status::NoMemory,
+    }
+}
